@@ -25,6 +25,8 @@ pub fn run(work: &Work) {
     black_box(back_all(&map));
     begin(BELOW);
     assert_eq!(below_all(&map, &work.prefixes), work.walked());
+    begin(RANGE);
+    assert_eq!(range_all(&map, &work.asked), count);
     begin(CLONE);
     let copy = map.clone();
     begin(WALK_CLONE);
@@ -89,6 +91,16 @@ fn below_all(map: &Map, prefixes: &Keys) -> u64 {
         for (_, value) in from.take_while(|(key, _)| key.starts_with(prefix)) {
             count += u64::from(*value > 0);
         }
+    }
+    count
+}
+
+#[inline(never)]
+fn range_all(map: &Map, asked: &Keys) -> u64 {
+    let mut count = 0;
+    for key in asked.iter() {
+        let mut pairs = map.range::<[u8], _>((Included(key), Unbounded));
+        count += u64::from(pairs.next().is_some_and(|(first, _)| first.len() == key.len()));
     }
     count
 }

@@ -22,6 +22,9 @@ pub const BELOW: usize = 10;
 /// How many walks below a prefix there are, at least.
 const WALKS: usize = 10_000;
 
+/// What the name of a deep shape begins with, before its number of levels.
+const DEEP: &str = "deep-";
+
 struct Random(u64);
 
 impl Random {
@@ -52,6 +55,12 @@ impl Keys {
         }
     }
 
+    /// The keys without the zero that ends each.
+    pub fn texts(&self) -> Keys {
+        let texts: Vec<Vec<u8>> = self.iter().map(|key| key[..key.len() - 1].to_vec()).collect();
+        Keys::new(&texts)
+    }
+
     pub fn count(&self) -> usize {
         self.ends.len()
     }
@@ -74,6 +83,21 @@ fn lines(file: &str, count: usize) -> Vec<Vec<u8>> {
     lines.take(count).map(|line| [line, b"\0"].concat()).collect()
 }
 
+/// Keys that part from one another at so many levels, with shared pieces of 19 bytes between these: each is one level
+/// deeper than the one before. There are as many sets of them as have together 400 bytes for each key that is asked for.
+fn deep_keys(levels: usize, count: usize) -> Vec<Vec<u8>> {
+    let mut keys = Vec::new();
+    for set in 0..(count * 40 / (levels * levels)).max(1) as u32 {
+        let mut stem = set.to_be_bytes().to_vec();
+        for _ in 0..levels {
+            stem.extend(b"/a-shared-piece-of-");
+            keys.push([&stem, &b"x\0"[..]].concat());
+            stem.push(b'y');
+        }
+    }
+    keys
+}
+
 /// The keys of a shape, in the order in which they are put in. A shape with a slash is the name of a file.
 fn keys_of(shape: &str, count: usize, random: &mut Random) -> Vec<Vec<u8>> {
     match shape {
@@ -88,6 +112,11 @@ fn keys_of(shape: &str, count: usize, random: &mut Random) -> Vec<Vec<u8>> {
                     format!("/srv/www/site-{site:02}/pages/{page:08x}/index\0").into_bytes()
                 })
                 .collect();
+            random.shuffle(&mut keys);
+            keys
+        }
+        deep if deep.starts_with(DEEP) => {
+            let mut keys = deep_keys(deep[DEEP.len()..].parse().unwrap(), count);
             random.shuffle(&mut keys);
             keys
         }
@@ -145,7 +174,7 @@ impl Work {
         random.shuffle(&mut keys);
         let asked = Keys::new(&keys);
         keys.sort();
-        let mut found = prefixes_of(&keys, BELOW);
+        let mut found = if shape.starts_with(DEEP) { Vec::new() } else { prefixes_of(&keys, BELOW) };
         random.shuffle(&mut found);
         let walks = WALKS.next_multiple_of(found.len().max(1));
         let walked: Vec<_> = found.iter().cycle().take(walks).cloned().collect();

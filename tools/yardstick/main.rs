@@ -10,6 +10,7 @@ mod linked;
 mod parts;
 mod peers;
 mod proved;
+mod strings;
 mod tree;
 
 use keys::Work;
@@ -19,6 +20,8 @@ fn run(map: &str, work: &Work) {
         "library" => proved::byte_map(work),
         "kit" => proved::kit_map(work),
         "store" => proved::store(work),
+        "texts" => proved::text_map(work),
+        "strings" => strings::run(work),
         "btree" => btree::run(work),
         "linked" => linked::run_linked(work),
         "plain" => linked::run_plain(work),

@@ -4,7 +4,7 @@ use crate::heap;
 use std::hint::black_box;
 use std::ptr::addr_of_mut;
 
-pub const NAMES: [&str; 21] = [
+pub const NAMES: [&str; 22] = [
     "insert",
     "get",
     "get_mut",
@@ -25,6 +25,7 @@ pub const NAMES: [&str; 21] = [
     "store_insert",
     "store_get",
     "store_remove",
+    "range",
     "rest",
 ];
 
@@ -41,7 +42,8 @@ pub const DROP_CLONE: usize = 9;
 pub const REMOVE: usize = 10;
 pub const AGAIN: usize = 11;
 pub const CLEAR: usize = 12;
-pub const REST: usize = 20;
+pub const RANGE: usize = 20;
+pub const REST: usize = 21;
 
 /// What is written between two parts where caches are to be cold.
 const EVICTED: usize = 96 << 20;

@@ -12,6 +12,7 @@ struct Counts {
     walked: u64,
     back: u64,
     below: u64,
+    ranged: u64,
     cloned: u64,
     taken: u64,
     again: u64,
@@ -40,6 +41,18 @@ unsafe extern "C" {
     fn bench_kit_map(
         keys: *const u8,
         keys_len: usize,
+        ends: *const u64,
+        ends_len: usize,
+        asked: *const u8,
+        asked_len: usize,
+        asked_ends: *const u64,
+        asked_ends_len: usize,
+        counts: &mut Counts,
+    );
+
+    fn bench_text_map(
+        texts: *const u8,
+        texts_len: usize,
         ends: *const u64,
         ends_len: usize,
         asked: *const u8,
@@ -83,8 +96,8 @@ pub fn byte_map(work: &Work) {
         );
     }
     let count = keys.count() as u64;
-    let told = [counts.stored, counts.found, counts.written, counts.matched, counts.taken, counts.again, counts.over];
-    assert_eq!(told, [count; 7]);
+    let told = [counts.stored, counts.found, counts.written, counts.matched, counts.ranged, counts.taken, counts.again, counts.over];
+    assert_eq!(told, [count; 8]);
     assert_eq!(counts.below, work.walked());
     assert!([counts.back, counts.cloned].iter().all(|sum| *sum == counts.walked));
     assert_eq!(counts.compacted, keys.bytes.len() as u64 + 7 * count);
@@ -129,4 +142,24 @@ pub fn store(work: &Work) {
         );
     }
     assert_eq!([counts.stored, counts.found, counts.taken], [keys.count() as u64; 3]);
+}
+
+pub fn text_map(work: &Work) {
+    let mut counts = Counts::default();
+    let (texts, asked) = (work.keys.texts(), work.asked.texts());
+    unsafe {
+        bench_text_map(
+            texts.bytes.as_ptr(),
+            texts.bytes.len(),
+            texts.ends.as_ptr(),
+            texts.ends.len(),
+            asked.bytes.as_ptr(),
+            asked.bytes.len(),
+            asked.ends.as_ptr(),
+            asked.ends.len(),
+            &mut counts,
+        );
+    }
+    let told = [counts.stored, counts.found, counts.matched, counts.taken, counts.again, counts.more];
+    assert_eq!(told, [texts.count() as u64; 6]);
 }

@@ -4,6 +4,7 @@ use crate::parts::{begin, between};
 use crate::{Counts, parts};
 use art_operations::map::ByteMap;
 use std::alloc::Global;
+use std::ops::Bound;
 
 const PREFIX_LEN: usize = 16;
 
@@ -36,6 +37,8 @@ pub fn work(
     counts.back = back_all(&map);
     begin(alloc, parts::BELOW);
     counts.below = below_all(&map, prefixes, prefix_ends);
+    begin(alloc, parts::RANGE);
+    counts.ranged = range_all(&map, asked, asked_ends);
     counts.cloned = clone_all(&map, alloc);
     begin(alloc, parts::REMOVE);
     counts.taken = remove_all(&mut map, asked, asked_ends);
@@ -194,6 +197,29 @@ fn below_all(map: &Map, prefixes: &[u8], ends: &[u64]) -> u64 {
     count
 }
 
+/// Takes the first pair of the range from each key on. Returns how many are that key's.
+#[inline(never)]
+fn range_all(map: &Map, asked: &[u8], ends: &[u64]) -> u64 {
+    let (mut count, mut from) = (0u64, 0);
+    for end in ends {
+        let to = *end as usize;
+        let key_bytes = between(asked, from, to);
+        let is_first = is_first_from(map, key_bytes);
+        count = count.wrapping_add(u64::from(is_first));
+        from = to;
+    }
+    count
+}
+
+#[inline(always)]
+fn is_first_from(map: &Map, key_bytes: &[u8]) -> bool {
+    let mut pairs = map.range((Bound::Included(key_bytes), Bound::Unbounded));
+    match pairs.next() {
+        Some((key, _)) => key.len() == key_bytes.len(),
+        None => false,
+    }
+}
+
 /// Clones the map, walks the clone and lets it go. Returns what `walk_all` does.
 #[inline(always)]
 fn clone_all(map: &Map, alloc: Global) -> u64 {
@@ -237,10 +263,7 @@ fn remove_all(map: &mut Map, asked: &[u8], ends: &[u64]) -> u64 {
 
 #[inline(always)]
 fn is_taken(map: &mut Map, key_bytes: &[u8]) -> bool {
-    match map.remove(key_bytes) {
-        Ok(taken) => taken.is_some(),
-        Err(_) => false,
-    }
+    map.remove(key_bytes).unwrap().is_some()
 }
 
 #[inline(never)]

@@ -8,6 +8,7 @@ mod byte_map;
 mod kit_map;
 mod parts;
 mod store_calls;
+mod text_map;
 
 /// How many keys or pairs each part came to.
 #[repr(C)]
@@ -20,6 +21,7 @@ pub struct Counts {
     pub walked: u64,
     pub back: u64,
     pub below: u64,
+    pub ranged: u64,
     pub cloned: u64,
     pub taken: u64,
     pub again: u64,
@@ -76,4 +78,17 @@ pub extern "C" fn bench_store(
     counts: &mut Counts,
 ) {
     store_calls::work(alloc, keys, ends, asked, asked_ends, counts);
+}
+
+/// Works on a map of strings by text, with the same keys without the zero that ends each.
+#[unsafe(no_mangle)]
+pub extern "C" fn bench_text_map(
+    alloc: Global,
+    texts: &[u8],
+    ends: &[u64],
+    asked: &[u8],
+    asked_ends: &[u64],
+    counts: &mut Counts,
+) {
+    text_map::work(alloc, texts, ends, asked, asked_ends, counts);
 }

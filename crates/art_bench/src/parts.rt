@@ -43,7 +43,9 @@ pub const STORE_GET: usize = 18;
 
 pub const STORE_REMOVE: usize = 19;
 
-pub const REST: usize = 20;
+pub const RANGE: usize = 20;
+
+pub const REST: usize = 21;
 
 /// Tells the heap that a part begins, by a request that none can meet.
 #[inline(never)]

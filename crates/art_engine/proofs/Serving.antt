@@ -1,17 +1,16 @@
 -- Lines that are answered one after another.
-use Rattle.std.proofs.Common.{◌≡◌, ℕ, ◌+◌, List, [], ◌∷◌, ◌++◌, length, Option, Some, None, IfSome, Result, Ok, Err, IfOk, IsOk, IsOkAnd, ◌==◌, if◌then◌else◌, refl, ap, sym, subst, inl, inr, arith, append_assoc, append-nil}
+use Rattle.std.proofs.Common.{◌≡◌, ℕ, ◌+◌, List, [], ◌∷◌, ◌++◌, length, Option, Some, None, IfSome, Result, Ok, Err, IfOk, IsOk, IsOkAnd, ◌≢◌, refl, ap, sym, subst, inl, inr, arith, append_assoc, append-nil}
 use Rattle.std.proofs.lemmas.Bool.{false≢true}
-use Rattle.std.specs.Io.KnownBytes.{Appends, Keeps, prepend_known}
-use Rattle.std.specs.Io.Buffered.{reader_remaining, reader_inner, reader_buffer, reader_capacity}
-use Rattle.std.specs.declared.io.buffered.BufReader.{BufReader}
+use Rattle.std.specs.Io.KnownBytes.{Appends, Keeps}
 use Rattle.art_lines.specs.declared.line.Request.{Request}
 use Rattle.art_keeping.specs.declared.status.Ending.{Ending}
 use Rattle.art_keeping.specs.declared.status.Ending.TheVariants.{Input, BadLine}
 use Rattle.art_keeping.specs.declared.tree.KeptTree.{KeptTree}
-use Rattle.text_lines.proofs.Writing.{keeps_itself}
+use Rattle.art_keeping.specs.KeptTrees.{state_of}
+use Rattle.text_lines.proofs.Writing.{appends_kept, keeps_both, keeps_itself}
 use Rattle.text_lines.specs.Lines.{lines}
 use Rattle.art_engine.specs.Shown.{IsReplied}
-use Rattle.art_engine.specs.Served.{AllAsk, AreServed, AsksFor, AsksForNothing, IsClone, OneAsksForNothing, refusal}
+use Rattle.art_engine.specs.Served.{AllAsk, AreServed, AreServedAnew, AsksFor, AsksForNothing, IsClone, OneAsksForNothing, refusal}
 
 -- Whatever the lines that are left come to from here, all lines come to from the start.
 abbrev pub GoesOn : ℕ → KeptTree → KeptTree → Option (List ℕ) → Option (List ℕ) → List (List ℕ) → Type 0
@@ -52,18 +51,14 @@ one_asks_for_nothing (line ∷ ls) number tree old new (inr (request, left, repl
     let (before, bad, after, are, ask, nothing) = one_asks_for_nothing ls (number + 1) left kept new served in
     (line ∷ before, bad, after, ap (λ all. line ∷ all) are, ((request, asked), ask), nothing)
 
-unread_from : (size : ℕ) (held : List ℕ) (known : Option (List ℕ)) (Holds : List ℕ → Type 0) → size ≡ 8192 → held ≡ [] →
-    IfSome (if size == 0 then None else prepend_known held known) Holds → IfSome known Holds
-unread_from size held None Holds e none h = tt
-unread_from size held (Some bs) Holds e none h =
-    let some : IfSome (prepend_known held (Some bs)) Holds = subst (λ n. IfSome (if n == 0 then None else prepend_known held (Some bs)) Holds) e h in
-    subst (λ front. Holds (front ++ bs)) none some
-
--- what a reader has left is what a buffered one has that holds nothing yet
-pub unread : {T A : Type 0} (remaining : T → Option (List ℕ)) (reader : BufReader T A) (inner : T) (Holds : List ℕ → Type 0) → reader_capacity reader ≡ 8192 →
-    reader_buffer reader ≡ [] → reader_inner reader ≡ inner → IfSome (reader_remaining remaining reader) Holds → IfSome (remaining inner) Holds
-unread remaining reader inner Holds size none is h =
-    subst (λ x. IfSome (remaining x) Holds) is (unread_from (reader_capacity reader) (reader_buffer reader) (remaining (reader_inner reader)) Holds size none h)
+-- what was served stays so where what was written stays
+still_served : (ls : List (List ℕ)) (number : ℕ) (tree : KeptTree) (old now new : Option (List ℕ)) (why : Ending) →
+    AreServed ls number tree old why now → Keeps now new → AreServed ls number tree old why new
+still_served [] number tree old now new why served keeps = (served.0, keeps_both old now new served.1 keeps)
+still_served (line ∷ ls) number tree old now new why (inl (nothing, is, refused)) keeps =
+    inl (nothing, is, appends_kept old now new (refusal number) refused keeps)
+still_served (line ∷ ls) number tree old now new why (inr (request, left, replied, kept, asked, reply, same, served)) keeps =
+    inr (request, left, replied, kept, asked, reply, same, still_served ls (number + 1) left kept now new why served keeps)
 
 module _ (text : Option (List ℕ)) (tree : KeptTree) (old new : Option (List ℕ)) where
   -- what is known of the lines where they were served to this end
@@ -91,3 +86,18 @@ module _ (text : Option (List ℕ)) (tree : KeptTree) (old new : Option (List �
   refused (Ok Input) (Ok u) status served whole failed two = absurd (omega (arith, whole refl refl))
   refused (Ok why) (Err e) status served whole failed two = absurd (omega (arith, failed (λ both. false≢true both.1)))
   refused (Err e) written status served whole failed two = absurd (omega (arith, failed (λ both. false≢true both.0)))
+
+  pub served : {E F : Type 0} (end : Result Ending E) (written : Result (Unit {0}) F) (status : ℕ) (last : Option (List ℕ)) → IfOk end Served → Keeps new last →
+      (state_of tree).root ≡ None → (¬ (IsOk end × IsOk written) → status ≡ 1) → status ≢ 1 → IfSome text (λ bs. AreServedAnew (lines bs) old last)
+  served (Ok why) (Ok u) status last done keeps empty failed other = anew text done
+    where
+      anew : (text : Option (List ℕ)) → IfSome text (λ bs. AreServed (lines bs) 1 tree old why new) → IfSome text (λ bs. AreServedAnew (lines bs) old last)
+      anew None h = tt
+      anew (Some bs) h = (tree, why, empty, still_served (lines bs) 1 tree old new last why h keeps)
+  served (Ok why) (Err e) status last done keeps empty failed other = absurd (other (failed (λ both. false≢true both.1)))
+  served (Err e) written status last done keeps empty failed other = absurd (other (failed (λ both. false≢true both.0)))
+
+-- a status other than 1 tells that the last writing succeeded
+pub was_written : {E F : Type 0} (end : Result Ending E) (written : Result (Unit {0}) F) (status : ℕ) → (¬ (IsOk end × IsOk written) → status ≡ 1) → status ≢ 1 → IsOk written
+was_written end (Ok u) status failed other = refl
+was_written end (Err e) status failed other = absurd (other (failed (λ both. false≢true both.1)))

@@ -1,5 +1,5 @@
 -- What the lines of a text come to.
-use Rattle.std.specs.Prelude.{◌≡◌, ◌≢◌, ℕ, ◌+◌, ◌⊎◌, List, [], ◌∷◌, ◌++◌, codes, Option, vec_len}
+use Rattle.std.specs.Prelude.{◌≡◌, ◌≢◌, ℕ, ◌+◌, ◌⊎◌, List, [], ◌∷◌, ◌++◌, codes, Option, None, vec_len}
 use Rattle.std.specs.Fmt.{decimal}
 use Rattle.std.specs.List.{AllByRecursion as Each, AllZip}
 use Rattle.std.specs.Io.KnownBytes.{Appends, Keeps}
@@ -10,6 +10,7 @@ use Rattle.art_keeping.specs.declared.status.Ending.{Ending}
 use Rattle.art_keeping.specs.declared.status.Ending.TheVariants.{Input, BadLine}
 use Rattle.art_keeping.specs.declared.tree.KeptTree.{KeptTree}
 use Rattle.art_keeping.specs.KeptKeys.{Key}
+use Rattle.art_keeping.specs.KeptTrees.{state_of}
 use Rattle.art_engine.specs.Shown.{IsReplied}
 
 -- the line is how the request is written, and its value is one that a request can have
@@ -51,3 +52,8 @@ AreServed (line ∷ lines) number tree old why new =
     ((request : Request) × (left : KeptTree) × (replied : Option (List ℕ)) × (kept : Option (List ℕ)) ×
     AsksFor line request × IsReplied IsClone request tree left old replied × Keeps replied kept ×
     AreServed lines (number + 1) left kept why new)
+
+-- each line is answered in its turn, the first one by no tree
+abbrev pub AreServedAnew : List (List ℕ) → Option (List ℕ) → Option (List ℕ) → Type 0
+AreServedAnew lines old new =
+    (tree : KeptTree) × (why : Ending) × ((state_of tree).root ≡ None) × AreServed lines 1 tree old why new

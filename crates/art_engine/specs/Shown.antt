@@ -14,7 +14,7 @@ use Rattle.art_operations.specs.declared.run.Side.{Side}
 use Rattle.art_operations.specs.declared.well_formed.MalformedTreeError.{MalformedTreeError}
 use Rattle.art_operations.specs.declared.well_formed.WellFormedTreeStats.{WellFormedTreeStats}
 use Rattle.art_keeping.specs.declared.tree.KeptTree.{KeptTree}
-use Rattle.art_keeping.specs.Commands.{IsCommandFor}
+use Rattle.art_keeping.specs.Commands.{AsksForCommand, IsCommandFor}
 use Rattle.art_keeping.specs.KeptTrees.{state_of, state_before}
 use Rattle.art_keeping.specs.KeptKeys.{Key, key_bytes}
 use Rattle.art_engine.specs.NodeLines.{nodes_text}
@@ -57,11 +57,11 @@ IsShown Check tree old new = ShowsCheck tree old new
 IsShown Nodes tree old new = ShowsNodes tree old new
 IsShown request tree old new = ⊥
 
--- What is appended for a request: that there was no memory, and then the tree is as before; or the reply to a run of the
--- one command that is asked for; or what is asked to be seen of the tree, which is as before.
+-- What is appended for a request: where it asks for a command, that there was no memory, and then the tree is as before; or
+-- the reply to a run of that one command; or what is asked to be seen of the tree, which is as before.
 abbrev pub IsReplied : (Key × ℕ → Key × ℕ → Type 0) → Request → KeptTree → KeptTree → Option (List ℕ) → Option (List ℕ) → Type 0
 IsReplied IsClone request tree after old new =
-    ((state_of after ≡ state_of tree) × Appends old new (codes "no memory\n")) ⊎
+    (AsksForCommand request × (state_of after ≡ state_of tree) × Appends old new (codes "no memory\n")) ⊎
     (((command : Command Key ℕ) × (reply : Reply Key ℕ) × (side : Side) × IsCommandFor request (Some command) ×
     IsRun key_bytes 4 IsClone (state_of tree) (command ∷ []) (reply ∷ []) (state_before side after) ×
     Appends old new (reply_text reply ++ codes "\n")) ⊎

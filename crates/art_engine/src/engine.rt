@@ -1,10 +1,10 @@
 //! Lines in, replies out.
-ghost use Rattle.std.specs.Prelude.{◌≡◌, ◌≤◌, None, IfOk, IfSome, OnOk};
-ghost use Rattle.std.specs.Io.Buffered.{reader_remaining};
+ghost use Rattle.std.specs.Prelude.{◌≡◌, ◌≢◌, ◌≤◌, [], None, IfOk, IfSome, OnOk};
+ghost use Rattle.std.specs.Io.Buffered.{reader_remaining, writer_buffer, writer_contents};
 ghost use Rattle.art_parts.specs.LeafClones.{IsPairClone};
 ghost use Rattle.art_keeping.specs.Commands.{IsAnswered, IsCommandFor};
 ghost use Rattle.art_keeping.specs.KeptTrees.{IsKept};
-ghost use Rattle.art_engine.specs.Served.{AllAsk, AreServed, OneAsksForNothing};
+ghost use Rattle.art_engine.specs.Served.{AllAsk, AreServed, AreServedAnew, OneAsksForNothing};
 ghost use Rattle.art_engine.specs.Shown.{IsReplied, IsShown};
 ghost use Rattle.text_lines.specs.Lines.{lines};
 
@@ -21,25 +21,26 @@ use std::io;
 use std::io::{BufReader, BufWriter, ErrorKind, Read, Write};
 use text_lines::lines::{next_line, write_out};
 
-/// Answers each line of the input on the output. Returns the status: 0 at the end of the input, 2
-/// after a line that asks for nothing that there is, and 1 where the input can't be read, the output
-/// can't be written, or there is no memory for a buffer or a line.
-///
-/// It reads and writes by buffers of its own, as `answer_lines` does.
-pub fn serve<R: Read + Drop, W: Write + Drop>(alloc: Global, input: R, output: W) -> u8
-    ensures ended { result ≡ 0 → IfSome (R.remaining input) (λ text. AllAsk (lines text)) }
-    ensures refused { result ≡ 2 → IfSome (R.remaining input) (λ text.
+/// Answers each line of the input on the output, by commands on a new tree, and flushes the output.
+/// Returns the status: 0 at the end of the input, 2 after a line that asks for nothing that there is,
+/// and 1 if the input can't be read, the output can't be written, or an allocation fails.
+pub fn serve<R: Read, W: Write + Drop>(
+    alloc: Global,
+    input: &mut BufReader<R>,
+    output: &mut BufWriter<W>,
+) -> u8
+    ensures served { result ≢ 1 → IfSome (reader_remaining R.remaining input.old) (λ text.
+        AreServedAnew (lines text) (writer_contents W.contents output.old)
+        (writer_contents W.contents output.new)) }
+    ensures flushed { result ≢ 1 → writer_buffer output.new ≡ [] }
+    ensures ended { result ≡ 0 → IfSome (reader_remaining R.remaining input.old) (λ text.
+        AllAsk (lines text)) }
+    ensures refused { result ≡ 2 → IfSome (reader_remaining R.remaining input.old) (λ text.
         OneAsksForNothing (lines text)) }
     ensures few { result ≤ 2 }
 {
-    let Ok(mut input) = BufReader::new(alloc, input) else {
-        return 1;
-    };
-    let Ok(mut output) = BufWriter::new(alloc, output) else {
-        return 1;
-    };
     let mut tree = KeptTree::new(alloc);
-    let end = answer_lines(alloc, &mut tree, &mut input, &mut output);
+    let end = answer_lines(alloc, &mut tree, input, output);
     let written = output.flush();
     status_of(end, written)
 }

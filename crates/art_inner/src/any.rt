@@ -30,6 +30,21 @@ pub enum AnyInner<const P: usize> {
     Node256(InnerNodeDirect<P>),
 }
 
+impl<const P: usize> Clone for AnyInner<P> {
+    ghost is_clone = { λ node copy. copy ≡ node };
+
+    ghost is_infallible = { λ _. ⊤ };
+
+    fn clone(&self) -> Result<Self, AllocError> {
+        Ok(match self {
+            AnyInner::Node4(node) => AnyInner::Node4(node.clone()?),
+            AnyInner::Node16(node) => AnyInner::Node16(node.clone()?),
+            AnyInner::Node48(node) => AnyInner::Node48(node.clone()?),
+            AnyInner::Node256(node) => AnyInner::Node256(node.clone()?),
+        })
+    }
+}
+
 /// A reference to an inner node of one of four types.
 pub enum InnerRefOf<'a, A, B, C, D> {
     Node4(&'a A),

@@ -1,5 +1,5 @@
 //! Names with a place for each byte.
-ghost use Rattle.std.specs.Prelude.{◌≡◌, ℕ, ◌<◌, ◌≤◌, [], length, Some, None};
+ghost use Rattle.std.specs.Prelude.{◌≡◌, ℕ, ◌<◌, ◌≤◌, [], length, Some, None, ⊤};
 
 use crate::beside::nearest;
 use crate::children::Children;
@@ -43,6 +43,8 @@ impl Model for Direct {
 
 impl Clone for Direct {
     ghost is_clone = { λ table copy. copy ≡ table };
+
+    ghost is_infallible = { λ _. ⊤ };
 
     fn clone(&self) -> Result<Self, AllocError> {
         Ok(Direct {

@@ -1,5 +1,5 @@
 //! Up to 48 names, with a table of the places of bytes.
-ghost use Rattle.std.specs.Prelude.{◌≡◌, ◌≢◌, ℕ, ◌+◌, ◌<◌, ◌≤◌, [], length, Some, None, replicate, slice_index_or};
+ghost use Rattle.std.specs.Prelude.{◌≡◌, ◌≢◌, ℕ, ◌+◌, ◌<◌, ◌≤◌, [], length, Some, None, replicate, slice_index_or, ⊤};
 
 use crate::beside::nearest;
 use crate::children::Children;
@@ -37,6 +37,8 @@ impl Model for Indexed {
 
 impl Clone for Indexed {
     ghost is_clone = { λ table copy. copy ≡ table };
+
+    ghost is_infallible = { λ _. ⊤ };
 
     fn clone(&self) -> Result<Self, AllocError> {
         Ok(Indexed {

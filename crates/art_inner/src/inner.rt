@@ -1,5 +1,5 @@
 //! Inner nodes of each kind.
-ghost use Rattle.std.specs.Prelude.{◌≡◌, ◌-◌, ◌<◌, ◌≤◌, min, length, slice_get, Some, All, IsTrue, ◌↔◌};
+ghost use Rattle.std.specs.Prelude.{◌≡◌, ◌-◌, ◌<◌, ◌≤◌, min, length, slice_get, Some, All, IsTrue, ◌↔◌, ⊤};
 
 use crate::any::AnyInner;
 use crate::children::Children;
@@ -148,6 +148,8 @@ impl<const P: usize> Model for InnerNode4<P> {
 impl<const P: usize> Clone for InnerNode4<P> {
     ghost is_clone = { λ node copy. copy ≡ node };
 
+    ghost is_infallible = { λ _. ⊤ };
+
     fn clone(&self) -> Result<Self, AllocError> {
         Ok(InnerNode4 {
             header: self.header,
@@ -267,6 +269,8 @@ impl<const P: usize> Model for InnerNode16<P> {
 
 impl<const P: usize> Clone for InnerNode16<P> {
     ghost is_clone = { λ node copy. copy ≡ node };
+
+    ghost is_infallible = { λ _. ⊤ };
 
     fn clone(&self) -> Result<Self, AllocError> {
         Ok(InnerNode16 {
@@ -388,6 +392,8 @@ impl<const P: usize> Model for InnerNode48<P> {
 impl<const P: usize> Clone for InnerNode48<P> {
     ghost is_clone = { λ node copy. copy ≡ node };
 
+    ghost is_infallible = { λ _. ⊤ };
+
     fn clone(&self) -> Result<Self, AllocError> {
         Ok(InnerNode48 {
             header: self.header,
@@ -507,6 +513,8 @@ impl<const P: usize> Model for InnerNodeDirect<P> {
 
 impl<const P: usize> Clone for InnerNodeDirect<P> {
     ghost is_clone = { λ node copy. copy ≡ node };
+
+    ghost is_infallible = { λ _. ⊤ };
 
     fn clone(&self) -> Result<Self, AllocError> {
         Ok(InnerNodeDirect {

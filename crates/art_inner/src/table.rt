@@ -1,5 +1,5 @@
 //! Up to so many names under rising bytes.
-ghost use Rattle.std.specs.Prelude.{◌≡◌, ◌+◌, ◌-◌, ◌<◌, ◌≤◌, [], ◌∷◌, ◌++◌, length, take, drop, remove, slice_get};
+ghost use Rattle.std.specs.Prelude.{◌≡◌, ◌+◌, ◌-◌, ◌<◌, ◌≤◌, [], ◌∷◌, ◌++◌, length, take, drop, remove, slice_get, ⊤};
 ghost use Rattle.std.specs.Option.{option_map};
 
 use crate::children::Children;
@@ -36,6 +36,8 @@ impl<const N: usize> Model for Table<N> {
 
 impl<const N: usize> Clone for Table<N> {
     ghost is_clone = { λ table copy. copy ≡ table };
+
+    ghost is_infallible = { λ _. ⊤ };
 
     fn clone(&self) -> Result<Self, AllocError> {
         Ok(Table {

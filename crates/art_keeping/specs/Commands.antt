@@ -28,6 +28,14 @@ IsCommandFor Nodes None = ⊤
 IsCommandFor Check None = ⊤
 IsCommandFor request command = ⊥
 
+-- the request asks for a command, and not to see the tree
+abbrev pub AsksForCommand : Request → Type 0
+AsksForCommand Walk = ⊥
+AsksForCommand Back = ⊥
+AsksForCommand Nodes = ⊥
+AsksForCommand Check = ⊥
+AsksForCommand request = ⊤
+
 -- the tree is as before, or after a run of the one command that is asked for
 abbrev pub IsAnswered : (Key × ℕ → Key × ℕ → Type 0) → Request → KeptTree → KeptTree → Type 0
 IsAnswered IsClone request old new =

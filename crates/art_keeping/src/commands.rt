@@ -1,17 +1,19 @@
 //! The commands that requests ask for.
-ghost use Rattle.std.specs.Prelude.{IfOk};
-ghost use Rattle.art_keeping.specs.Commands.{IsCommandFor};
+ghost use Rattle.std.specs.Prelude.{IfOk, OnErr};
+ghost use Rattle.art_keeping.specs.Commands.{AsksForCommand, IsCommandFor};
 
 use art_lines::line::Request;
 use art_operations::run::Command;
 use std::alloc::{AllocError, Global};
 
-/// The command that a request asks for, where it asks for one. An `Err` is want of memory for its key.
+/// The command that a request asks for, where it asks for one. It fails only if the allocation of its
+/// key fails, and never for a request that asks to see the tree.
 pub fn command_of(
     alloc: Global,
     request: Request<'_>,
 ) -> Result<Option<Command<Vec<u8>, u32>>, AllocError>
-    ensures { IfOk result (IsCommandFor request.entry) }
+    ensures command { IfOk result (IsCommandFor request.entry) }
+    ensures refused { OnErr result (AsksForCommand request.entry) }
 {
     Ok(Some(match request {
         Request::Insert(key, value) => Command::Insert(key.copy(alloc)?, value),

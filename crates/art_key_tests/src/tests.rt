@@ -3,6 +3,7 @@ mod drawn_set;
 mod entries;
 mod joined;
 mod keys;
+mod longest;
 mod map;
 mod memory;
 mod set;

@@ -13,12 +13,11 @@ use Rattle.art_model.specs.Keys.{IsFront, are_same, is_front}
 use Rattle.art_model.specs.Pairs.{of_key}
 use Rattle.art_model.specs.Parts.{below, between, is_from, is_up_to, not_below, without_below}
 use Rattle.art_model.proofs.lists.Filters.{Each-filter}
-use Rattle.art_map.specs.MapAnswers.{ShrinksNode}
 use Rattle.art_keyed.specs.KeyedPairs.{HaveKeys, OnBound, is_key_from, is_key_up_to, keys_between, pairs_with_first, pairs_without_first, set_below, set_between, set_with_first, strings_below, strings_not_below, without_first_with}
 use denote.Ref.{Bor}
 
 -- two tests that agree on each element leave the same
-filter_same : {A : Type 0} (P : A → Type 0) (test other : A → Bool) → ((x : A) → P x → test x ≡ other x) → (xs : List A) → Each P xs → filter test xs ≡ filter other xs
+pub filter_same : {A : Type 0} (P : A → Type 0) (test other : A → Bool) → ((x : A) → P x → test x ≡ other x) → (xs : List A) → Each P xs → filter test xs ≡ filter other xs
 filter_same P test other same [] all = refl
 filter_same P test other same (x ∷ xs) all = go (filter_same P test other same xs all.1) (other x) refl
   where
@@ -82,24 +81,9 @@ module _ {K : Type 0} (is_key : K → Type 0) (bytes : K → List ℕ) where
     below_strings = below_by (λ x. x.0)
 
     -- the other pairs are those whose strings don't begin so
-    not_below_strings : (text : K → List ℕ) (key : K) (beginning : List ℕ) → BeginsAs is_key bytes text key beginning → (pairs : List (K × V)) → HaveKeys is_key pairs →
+    pub not_below_strings : (text : K → List ℕ) (key : K) (beginning : List ℕ) → BeginsAs is_key bytes text key beginning → (pairs : List (K × V)) → HaveKeys is_key pairs →
         not_below (of_key bytes) beginning pairs ≡ strings_not_below text (text key) pairs
     not_below_strings text key beginning begins pairs all = filter_same (λ x. is_key x.0) _ _ (λ x of_x. ap not (begins x.0 of_x)) pairs all
-
-    pub strings_taken : {E : Type 0} (text : K → List ℕ) (key : K) (beginning : List ℕ) → BeginsAs is_key bytes text key beginning → (r : Result ℕ E) (pairs new : List (K × V)) →
-        HaveKeys is_key pairs → OnOk r (new ≡ not_below (of_key bytes) beginning pairs) → OnOk r (new ≡ strings_not_below text (text key) pairs)
-    strings_taken text key beginning begins (Ok n) pairs new all is = is ∙ not_below_strings text key beginning begins pairs all
-    strings_taken text key beginning begins (Err e) pairs new all is = tt
-
-    pub strings_counted : {E : Type 0} (text : K → List ℕ) (key : K) (beginning : List ℕ) → BeginsAs is_key bytes text key beginning → (r : Result ℕ E) (pairs : List (K × V)) →
-        HaveKeys is_key pairs → IfOk r (λ n. n ≡ length (below (of_key bytes) beginning pairs)) → IfOk r (λ n. n ≡ length (strings_below text (text key) pairs))
-    strings_counted text key beginning begins (Ok n) pairs all is = is ∙ ap length (below_strings text key beginning begins pairs all)
-    strings_counted text key beginning begins (Err e) pairs all is = tt
-
-    pub strings_refused : {E : Type 0} (text : K → List ℕ) (key : K) (beginning : List ℕ) → BeginsAs is_key bytes text key beginning → (r : Result ℕ E) (pairs : List (K × V)) →
-        HaveKeys is_key pairs → OnErr r (ShrinksNode (of_key bytes) pairs (below (of_key bytes) beginning pairs)) → OnErr r (ShrinksNode (of_key bytes) pairs (strings_below text (text key) pairs))
-    strings_refused text key beginning begins (Ok n) pairs all refused = tt
-    strings_refused text key beginning begins (Err e) pairs all refused = subst (ShrinksNode (of_key bytes) pairs) (below_strings text key beginning begins pairs all) refused
 
     -- the first pair whose string begins so is the first one whose key does
     pub without_string : (text : K → List ℕ) (key : K) (beginning : List ℕ) → BeginsAs is_key bytes text key beginning → (pairs : List (K × V)) → HaveKeys is_key pairs →

@@ -1,5 +1,5 @@
 -- Keys that are never in conflict stay so, and stand in the order of their type.
-use Rattle.std.proofs.Common.{◌≡◌, ℕ, List, [], ◌∷◌, Bool, true, false, ◌||◌, ◌&&◌, if◌then◌else◌, not, ◌⊎◌, inl, inr, Option, Some, None, Result, Ok, Err, OnOk, OnErr, refl, sym, ◌∙◌}
+use Rattle.std.proofs.Common.{◌≡◌, ℕ, List, [], ◌∷◌, Bool, true, false, ◌||◌, ◌&&◌, if◌then◌else◌, not, ◌⊎◌, inl, inr, Option, Some, None, Result, Ok, Err, IsOk, OnOk, OnErr, refl, sym, ◌∙◌}
 use Rattle.std.specs.List.{AllByRecursion as Each}
 use Rattle.std.specs.declared.cmp.Ordering.{Ordering}
 use Rattle.std.specs.declared.cmp.Ordering.TheVariants.{Less}
@@ -73,11 +73,6 @@ module _ {K : Type 0} (V : Type 0) (is_key : K → Type 0) (bytes : K → List �
       stored None e = of_key'
       stored (Some old) e = first_has (λ x. is_key x.0) _ old (Each-filter (λ x. is_key x.0) _ pairs all) e
 
-  -- what a call leaves, be it an Ok or an Err
-  pub left_keeps : {A E : Type 0} (r : Result A E) (old done new : List (K × V)) → OnOk r (new ≡ done) → OnErr r (new ≡ old) → HaveKeys is_key old → HaveKeys is_key done → HaveKeys is_key new
-  left_keeps (Ok x) old done new ok err h k = rw ok k
-  left_keeps (Err e) old done new ok err h k = rw err h
-
   pub last_keeps : (pairs : List (K × V)) → HaveKeys is_key pairs → HaveKeys is_key (without_last pairs)
   last_keeps pairs all = Each-without_last (λ x. is_key x.0) pairs all
 
@@ -135,10 +130,6 @@ module _ {K : Type 0} (V : Type 0) (is_key : K → Type 0) (bytes : K → List �
   pub key_first_keeps : (keys : List K) → Each is_key keys → Each is_key (without_first keys)
   key_first_keeps [] all = tt
   key_first_keeps (x ∷ keys) all = all.1
-
-  pub key_left_keeps : {A E : Type 0} (r : Result A E) (old done new : List K) → OnOk r (new ≡ done) → OnErr r (new ≡ old) → Each is_key old → Each is_key done → Each is_key new
-  key_left_keeps (Ok x) old done new ok err h k = rw ok k
-  key_left_keeps (Err e) old done new ok err h k = rw err h
 
   pub keys_rise : {order : K → K → Ordering} → KeepsOrder is_key bytes order → (keys : List K) → Each is_key keys → IsMap bytes keys → KeysRiseBy order keys
   keys_rise keeps [] all sorted = tt

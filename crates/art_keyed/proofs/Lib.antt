@@ -1,4 +1,5 @@
 pub mod Keyed
 pub mod Between
-pub mod Ended
 pub mod Retained
+pub mod Fronts
+pub mod CutTexts

@@ -3,7 +3,7 @@ use Rattle.std.specs.Prelude.{ℕ, List, Option, Result}
 use Rattle.std.specs.Borrow.{LendsIf, LendsIfOk, Fml, RattleType, MutBor}
 use Rattle.art_model.specs.Pairs.{of_key, put}
 use Rattle.art_map.specs.MapAnswers.{with_value_at}
-use Rattle.art_keyed.specs.contracts.map.KeyedMap.{the_row}
+use Rattle.art_keyed.specs.contracts.map.TreeMap.{the_row}
 
 -- what a clause has as K.NoPrefixesBytes
 abbrev pub KeyMembers : Type 0 → Type 1

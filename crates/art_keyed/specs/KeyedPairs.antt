@@ -26,6 +26,10 @@ module _ {K V : Type 0} where
   abbrev pub strings_not_below : (K → List ℕ) → List ℕ → List (K × V) → List (K × V)
   strings_not_below text prefix pairs = filter (λ pair. not (is_front prefix (text pair.0))) pairs
 
+  -- the pairs whose strings are prefixes of this one, or the same: they rise, so that the last has the longest
+  abbrev pub strings_in_front : (K → List ℕ) → List ℕ → List (K × V) → List (K × V)
+  strings_in_front text string pairs = filter (λ pair. is_front (text pair.0) string) pairs
+
 module _ {A B V : Type 0} where
   -- the pairs of two keys and a value whose first key has these bytes
   abbrev pub pairs_with_first : (A → List ℕ) → List ℕ → List ((A × B) × V) → List ((A × B) × V)

@@ -1,3 +1,4 @@
 pub mod KeyedPairs
 pub mod KeyedRefusals
 pub mod KeyedLends
+pub mod Matches

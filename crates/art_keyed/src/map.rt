@@ -1,15 +1,15 @@
 //! An ordered map whose keys are never in conflict. Its contracts speak of lists of pairs alone.
-ghost use Rattle.std.specs.Prelude.{◌≡◌, ◌≢◌, ◌↔◌, ◌<◌, ◌^◌, ℕ, List, [], length, false, IfOk, IfErr, IsSome, IsTrue, OnOk, OnErr, Some, None, option_copied};
+ghost use Rattle.std.specs.Prelude.{◌≡◌, ◌≢◌, ◌↔◌, ◌<◌, ◌^◌, ℕ, List, [], length, false, IsOk, IfOk, IfErr, IsSome, IsTrue, OnOk, OnErr, Some, None, option_copied};
 ghost use Rattle.std.specs.Borrow.{Bor, sem};
 ghost use Rattle.std.specs.Fn.{FnOnceReturnsAt};
 ghost use Rattle.std.specs.Option.{UnwrapsOrElse, option_copied_mut, option_map, unwrap_or};
-ghost use Rattle.art_map.specs.MapAnswers.{MayRefuseRemoval, value_at};
+ghost use Rattle.art_map.specs.MapAnswers.{value_at};
 ghost use Rattle.art_map.specs.MapItems.{deref_pair, keys_of, values_of};
 ghost use Rattle.art_keyed.specs.KeyedPairs.{IsNeverInConflict};
 
 use art_keys::laws::{CloneBytes, NoPrefixesBytes};
 use art_map::map::{
-    ByteMap, IntoIter, IntoKeys, IntoValues, Keys, MapInsertError, MapIter, MapRefused, Values,
+    ByteMap, IntoIter, IntoKeys, IntoValues, Keys, MapInsertError, MapIter, Values,
 };
 use std::alloc::{AllocError, Global};
 use std::fmt;
@@ -22,11 +22,13 @@ mod each;
 mod entry;
 mod extend;
 mod joined;
+mod matches;
 mod ordered;
 mod retain;
 mod strings;
 
-pub use entry::{KeyedEntry, KeyedEntryOf};
+pub use entry::{TreeEntry, TreeEntryOf};
+pub use matches::{Matches, MatchesOf, Nested};
 pub(crate) use ordered::bytes_of;
 
 /// A pair that was not put in, for want of memory.
@@ -37,8 +39,9 @@ pub struct PairRefused<K, V> {
     pub value: V,
 }
 
-/// The pair that a `ByteMap` hands back. Keys of this kind are never in conflict, so no conflict is lost.
-impl<K, V> From<MapInsertError<K, V>> for PairRefused<K, V> {
+/// The pair of an error of a `ByteMap` whose keys are of a type that has no conflicts: what failed is
+/// always an allocation.
+impl<K: NoPrefixesBytes, V> From<MapInsertError<K, V>> for PairRefused<K, V> {
     ghost use Rattle.art_keyed.specs.KeyedRefusals.{IsHandedBack};
 
     ghost from_gives = { IsHandedBack };
@@ -54,11 +57,11 @@ impl<K, V> From<MapInsertError<K, V>> for PairRefused<K, V> {
 /// A map whose keys are in the order of their bytes. No key of the type is a prefix of another, so that a
 /// pair is refused only for want of memory.
 #[derive(Drop)]
-pub struct KeyedMap<K: NoPrefixesBytes, V, const P: usize> {
+pub struct TreeMap<K: NoPrefixesBytes, V, const P: usize> {
     map: ByteMap<K, V, P>,
 }
 
-impl<K: NoPrefixesBytes, V, const P: usize> Model for KeyedMap<K, V, P> {
+impl<K: NoPrefixesBytes, V, const P: usize> Model for TreeMap<K, V, P> {
     ghost use Rattle.std.specs.Prelude.{List};
     ghost use Rattle.std.specs.Coded.{coded×, coded_list};
 
@@ -73,7 +76,7 @@ impl<K: NoPrefixesBytes, V, const P: usize> Model for KeyedMap<K, V, P> {
     ghost invariant = { λ m. HaveKeys K.is_key m.map };
 }
 
-impl<K: NoPrefixesBytes + Drop, V: Drop, const P: usize> KeyedMap<K, V, P> {
+impl<K: NoPrefixesBytes + Drop, V: Drop, const P: usize> TreeMap<K, V, P> {
     ghost use Rattle.art_model.specs.Pairs.{IsMap, first_of, has_key, last_of, of_key, put, put_reply, remove_key, remove_reply, with_key, without_first, without_last};
     ghost use Rattle.art_keyed.specs.KeyedPairs.{HaveKeys};
     ghost use Rattle.art_keyed.specs.KeyedLends.{lends_put, lends_value};
@@ -82,7 +85,7 @@ impl<K: NoPrefixesBytes + Drop, V: Drop, const P: usize> KeyedMap<K, V, P> {
     pub fn new(alloc: Global) -> Self
         ensures { result ≡ [] }
     {
-        KeyedMap {
+        TreeMap {
             map: ByteMap::new(alloc),
         }
     }
@@ -265,51 +268,41 @@ impl<K: NoPrefixesBytes + Drop, V: Drop, const P: usize> KeyedMap<K, V, P> {
 
     /// Returns an entry, which is the map with a key: it reads or changes the value of the key, or puts the key in.
     /// This reads no node.
-    pub fn entry(&mut self, key: K) -> KeyedEntry<'_, K, V, P>
+    pub fn entry(&mut self, key: K) -> TreeEntry<'_, K, V, P>
         ensures same_map { result.map.ghost_name ≡ self.entry.ghost_name }
         ensures pairs { result.map.now ≡ self.old }
         ensures key { result.key ≡ key }
     {
-        KeyedEntryOf { map: self, key }
+        TreeEntryOf { map: self, key }
     }
 
-    /// Takes out the pair of a key, and returns it. It is refused only where a node of 5, 17 or 49 children gives way
-    /// to a smaller one, and there is no memory for that.
-    pub fn remove(&mut self, key: &K) -> Result<Option<(K, V)>, MapRefused>
-        ensures pairs { OnOk result
-            (self.new ≡ remove_key (of_key K.bytes) (K.bytes key.now) self.old) }
-        ensures removed { IfOk result (λ removed.
-            removed ≡ remove_reply (of_key K.bytes) (K.bytes key.now) self.old) }
-        ensures gone { OnOk result (value_at K.bytes (K.bytes key.now) self.new ≡ None) }
-        ensures others { OnOk result ((other : List ℕ) → other ≢ K.bytes key.now →
-            value_at K.bytes other self.new ≡ value_at K.bytes other self.old) }
-        ensures kept { OnErr result (self.new ≡ self.old) }
-        ensures refused { OnErr result (MayRefuseRemoval (of_key K.bytes) self.old
-            (remove_reply (of_key K.bytes) (K.bytes key.now) self.old)) }
+    // ---- Removals. None of them takes memory, and none fails.
+
+    /// Removes the pair of a key and returns it.
+    pub fn remove(&mut self, key: &K) -> Option<(K, V)>
+        ensures pairs { self.new ≡ remove_key (of_key K.bytes) (K.bytes key.now) self.old }
+        ensures removed { result ≡ remove_reply (of_key K.bytes) (K.bytes key.now) self.old }
+        ensures gone { value_at K.bytes (K.bytes key.now) self.new ≡ None }
+        ensures others { (other : List ℕ) → other ≢ K.bytes key.now →
+            value_at K.bytes other self.new ≡ value_at K.bytes other self.old }
     {
-        self.map.remove(key.as_bytes())
+        self.map.remove_by(key.as_bytes())
     }
 
-    /// Takes out the first pair, and returns it. It is refused as `remove` is.
-    pub fn pop_first(&mut self) -> Result<Option<(K, V)>, MapRefused>
-        ensures pairs { OnOk result (self.new ≡ without_first self.old) }
-        ensures removed { IfOk result (λ removed. removed ≡ first_of self.old) }
-        ensures kept { OnErr result (self.new ≡ self.old) }
-        ensures refused { OnErr result (MayRefuseRemoval (of_key K.bytes) self.old
-            (first_of self.old)) }
+    /// Removes the first pair and returns it.
+    pub fn pop_first(&mut self) -> Option<(K, V)>
+        ensures pairs { self.new ≡ without_first self.old }
+        ensures removed { result ≡ first_of self.old }
     {
-        self.map.pop_first()
+        self.map.pop_first().unwrap()
     }
 
-    /// Takes out the last pair, and returns it. It is refused as `remove` is.
-    pub fn pop_last(&mut self) -> Result<Option<(K, V)>, MapRefused>
-        ensures pairs { OnOk result (self.new ≡ without_last self.old) }
-        ensures removed { IfOk result (λ removed. removed ≡ last_of self.old) }
-        ensures kept { OnErr result (self.new ≡ self.old) }
-        ensures refused { OnErr result (MayRefuseRemoval (of_key K.bytes) self.old
-            (last_of self.old)) }
+    /// Removes the last pair and returns it.
+    pub fn pop_last(&mut self) -> Option<(K, V)>
+        ensures pairs { self.new ≡ without_last self.old }
+        ensures removed { result ≡ last_of self.old }
     {
-        self.map.pop_last()
+        self.map.pop_last().unwrap()
     }
 
     /// Takes out all pairs, and takes no memory, as `clear` of a `ByteMap` does. The store keeps the room of the nodes.
@@ -328,7 +321,7 @@ impl<K: NoPrefixesBytes + Drop, V: Drop, const P: usize> KeyedMap<K, V, P> {
     }
 }
 
-impl<K: CloneBytes + Drop, V: Clone + Drop, const P: usize> KeyedMap<K, V, P> {
+impl<K: CloneBytes + Drop, V: Clone + Drop, const P: usize> TreeMap<K, V, P> {
     ghost use Rattle.art_model.specs.Clones.{AreClones};
 
     /// Returns a map of clones of all pairs, with a store of its own. An `Err` is for want of memory, for a
@@ -337,12 +330,11 @@ impl<K: CloneBytes + Drop, V: Clone + Drop, const P: usize> KeyedMap<K, V, P> {
         ensures { IfOk result (AreClones K.is_clone V.is_clone self.now) }
     {
         let map = self.map.clone()?;
-        Ok(KeyedMap { map })
+        Ok(TreeMap { map })
     }
 }
 
-impl<'a, K: NoPrefixesBytes + Drop, V: Drop, const P: usize> IntoIterator
-    for &'a KeyedMap<K, V, P> {
+impl<'a, K: NoPrefixesBytes + Drop, V: Drop, const P: usize> IntoIterator for &'a TreeMap<K, V, P> {
     type Item = (&'a K, &'a V);
 
     type IntoIter = MapIter<'a, K, V, P>;
@@ -354,7 +346,7 @@ impl<'a, K: NoPrefixesBytes + Drop, V: Drop, const P: usize> IntoIterator
     }
 }
 
-impl<K: NoPrefixesBytes + Drop, V: Drop, const P: usize> IntoIterator for KeyedMap<K, V, P> {
+impl<K: NoPrefixesBytes + Drop, V: Drop, const P: usize> IntoIterator for TreeMap<K, V, P> {
     type Item = (K, V);
 
     type IntoIter = IntoIter<K, V, P>;
@@ -367,7 +359,7 @@ impl<K: NoPrefixesBytes + Drop, V: Drop, const P: usize> IntoIterator for KeyedM
 }
 
 /// The value of a key, which has to be stored: that is a condition of the index, and no check at run time.
-impl<'b, K: NoPrefixesBytes + Drop, V: Drop, const P: usize> Index<&'b K> for KeyedMap<K, V, P> {
+impl<'b, K: NoPrefixesBytes + Drop, V: Drop, const P: usize> Index<&'b K> for TreeMap<K, V, P> {
     type Output = V;
 
     ghost use Rattle.art_map.specs.MapAnswers.{value_at};
@@ -382,7 +374,7 @@ impl<'b, K: NoPrefixesBytes + Drop, V: Drop, const P: usize> Index<&'b K> for Ke
 }
 
 impl<K: NoPrefixesBytes + fmt::Debug + Drop, V: fmt::Debug + Drop, const P: usize> fmt::Debug
-    for KeyedMap<K, V, P> {
+    for TreeMap<K, V, P> {
     fn fmt<W: fmt::Write>(&self, f: &mut fmt::Formatter<W>) -> fmt::Result {
         self.map.fmt(f)
     }

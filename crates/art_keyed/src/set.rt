@@ -1,12 +1,11 @@
 //! An ordered set of keys that are never in conflict. Its contracts speak of lists of keys alone.
-ghost use Rattle.std.specs.Prelude.{◌≡◌, ◌↔◌, ◌<◌, ◌^◌, [], length, false, not, IfOk, IfErr, IsTrue, OnOk, OnErr, option_copied};
+ghost use Rattle.std.specs.Prelude.{◌≡◌, ◌↔◌, ◌<◌, ◌^◌, [], length, false, not, IsOk, IfOk, IfErr, IsTrue, OnOk, OnErr, option_copied};
 ghost use Rattle.std.specs.List.{AllByRecursion as Each};
-ghost use Rattle.art_model.specs.Pairs.{IsMap, first_of, has_key, last_of, of_key, remove_key, remove_reply, replace_key, with_key, without_first, without_last};
-ghost use Rattle.art_map.specs.MapAnswers.{MayRefuseRemoval};
-ghost use Rattle.art_map.specs.SetKeys.{add_key, as_pairs};
+ghost use Rattle.art_model.specs.Pairs.{IsMap, first_of, has_key, last_of, remove_key, remove_reply, replace_key, with_key, without_first, without_last};
+ghost use Rattle.art_map.specs.SetKeys.{add_key};
 
 use art_keys::laws::NoPrefixesBytes;
-use art_map::map::{IntoKeys, Keys, MapRefused};
+use art_map::map::{IntoKeys, Keys};
 use art_map::set::{ByteSet, SetInsertError};
 use std::alloc::{AllocError, Global};
 use std::fmt;
@@ -19,6 +18,7 @@ mod extend;
 mod joined;
 mod ordered;
 mod retain;
+mod strings;
 
 /// A key that was not put in, for want of memory.
 #[derive(Debug, Drop, Error)]
@@ -30,11 +30,11 @@ pub struct KeyRefused<K> {
 /// A set of keys in the order of their bytes. No key of the type is a prefix of another, so that a key is
 /// refused only for want of memory.
 #[derive(Drop)]
-pub struct KeyedSet<K: NoPrefixesBytes, const P: usize> {
+pub struct TreeSet<K: NoPrefixesBytes, const P: usize> {
     set: ByteSet<K, P>,
 }
 
-impl<K: NoPrefixesBytes, const P: usize> Model for KeyedSet<K, P> {
+impl<K: NoPrefixesBytes, const P: usize> Model for TreeSet<K, P> {
     ghost use Rattle.std.specs.Prelude.{List};
     ghost use Rattle.std.specs.Coded.{coded_list};
     ghost use Rattle.std.specs.List.{AllByRecursion as Each};
@@ -48,12 +48,12 @@ impl<K: NoPrefixesBytes, const P: usize> Model for KeyedSet<K, P> {
     ghost invariant = { λ s. Each K.is_key s.set };
 }
 
-impl<K: NoPrefixesBytes + Drop, const P: usize> KeyedSet<K, P> {
+impl<K: NoPrefixesBytes + Drop, const P: usize> TreeSet<K, P> {
     /// Returns an empty set, and takes no memory.
     pub fn new(alloc: Global) -> Self
         ensures { result ≡ [] }
     {
-        KeyedSet {
+        TreeSet {
             set: ByteSet::new(alloc),
         }
     }
@@ -158,49 +158,36 @@ impl<K: NoPrefixesBytes + Drop, const P: usize> KeyedSet<K, P> {
         }
     }
 
-    /// Takes out a key, and returns whether it was there. It is refused only where a node of 5, 17 or 49
-    /// children gives way to a smaller one, and there is no memory for that.
-    pub fn remove(&mut self, key: &K) -> Result<bool, MapRefused>
-        ensures keys { OnOk result (self.new ≡ remove_key K.bytes (K.bytes key.now) self.old) }
-        ensures removed { IfOk result (λ removed.
-            removed ≡ has_key K.bytes (K.bytes key.now) self.old) }
-        ensures kept { OnErr result (self.new ≡ self.old) }
-        ensures refused { OnErr result (MayRefuseRemoval (of_key K.bytes) (as_pairs self.old)
-            (remove_reply (of_key K.bytes) (K.bytes key.now) (as_pairs self.old))) }
+    // ---- Removals. None of them takes memory, and none fails.
+
+    /// Removes a key, and returns whether it was there.
+    pub fn remove(&mut self, key: &K) -> bool
+        ensures keys { self.new ≡ remove_key K.bytes (K.bytes key.now) self.old }
+        ensures removed { result ≡ has_key K.bytes (K.bytes key.now) self.old }
     {
         self.set.remove(key.as_bytes())
     }
 
-    /// Takes out the stored key that is equal to a key, and returns it. It is refused as `remove` is.
-    pub fn take(&mut self, key: &K) -> Result<Option<K>, MapRefused>
-        ensures keys { OnOk result (self.new ≡ remove_key K.bytes (K.bytes key.now) self.old) }
-        ensures removed { IfOk result (λ removed.
-            removed ≡ remove_reply K.bytes (K.bytes key.now) self.old) }
-        ensures kept { OnErr result (self.new ≡ self.old) }
-        ensures refused { OnErr result (MayRefuseRemoval (of_key K.bytes) (as_pairs self.old)
-            (remove_reply (of_key K.bytes) (K.bytes key.now) (as_pairs self.old))) }
+    /// Removes the stored key that is equal to a key, and returns it.
+    pub fn take(&mut self, key: &K) -> Option<K>
+        ensures keys { self.new ≡ remove_key K.bytes (K.bytes key.now) self.old }
+        ensures removed { result ≡ remove_reply K.bytes (K.bytes key.now) self.old }
     {
         self.set.take(key.as_bytes())
     }
 
-    /// Takes out the first key, and returns it. It is refused as `remove` is.
-    pub fn pop_first(&mut self) -> Result<Option<K>, MapRefused>
-        ensures keys { OnOk result (self.new ≡ without_first self.old) }
-        ensures removed { IfOk result (λ removed. removed ≡ first_of self.old) }
-        ensures kept { OnErr result (self.new ≡ self.old) }
-        ensures refused { OnErr result (MayRefuseRemoval (of_key K.bytes) (as_pairs self.old)
-            (first_of (as_pairs self.old))) }
+    /// Removes the first key and returns it.
+    pub fn pop_first(&mut self) -> Option<K>
+        ensures keys { self.new ≡ without_first self.old }
+        ensures removed { result ≡ first_of self.old }
     {
         self.set.pop_first()
     }
 
-    /// Takes out the last key, and returns it. It is refused as `remove` is.
-    pub fn pop_last(&mut self) -> Result<Option<K>, MapRefused>
-        ensures keys { OnOk result (self.new ≡ without_last self.old) }
-        ensures removed { IfOk result (λ removed. removed ≡ last_of self.old) }
-        ensures kept { OnErr result (self.new ≡ self.old) }
-        ensures refused { OnErr result (MayRefuseRemoval (of_key K.bytes) (as_pairs self.old)
-            (last_of (as_pairs self.old))) }
+    /// Removes the last key and returns it.
+    pub fn pop_last(&mut self) -> Option<K>
+        ensures keys { self.new ≡ without_last self.old }
+        ensures removed { result ≡ last_of self.old }
     {
         self.set.pop_last()
     }
@@ -222,7 +209,7 @@ impl<K: NoPrefixesBytes + Drop, const P: usize> KeyedSet<K, P> {
     }
 }
 
-impl<'a, K: NoPrefixesBytes + Drop, const P: usize> IntoIterator for &'a KeyedSet<K, P> {
+impl<'a, K: NoPrefixesBytes + Drop, const P: usize> IntoIterator for &'a TreeSet<K, P> {
     type Item = &'a K;
 
     type IntoIter = Keys<'a, K, (), P>;
@@ -234,7 +221,7 @@ impl<'a, K: NoPrefixesBytes + Drop, const P: usize> IntoIterator for &'a KeyedSe
     }
 }
 
-impl<K: NoPrefixesBytes + Drop, const P: usize> IntoIterator for KeyedSet<K, P> {
+impl<K: NoPrefixesBytes + Drop, const P: usize> IntoIterator for TreeSet<K, P> {
     type Item = K;
 
     type IntoIter = IntoKeys<K, (), P>;
@@ -246,7 +233,7 @@ impl<K: NoPrefixesBytes + Drop, const P: usize> IntoIterator for KeyedSet<K, P> 
     }
 }
 
-impl<K: NoPrefixesBytes + fmt::Debug + Drop, const P: usize> fmt::Debug for KeyedSet<K, P> {
+impl<K: NoPrefixesBytes + fmt::Debug + Drop, const P: usize> fmt::Debug for TreeSet<K, P> {
     fn fmt<W: fmt::Write>(&self, f: &mut fmt::Formatter<W>) -> fmt::Result {
         self.set.fmt(f)
     }

@@ -1,1 +1,2 @@
 pub mod EndedTests
+mod Writes

@@ -8,7 +8,7 @@ use Rattle.art_keys.specs.Decoded.{ComesBack}
 use Rattle.art_keys.specs.Ended.{HasNoZero, ended_length}
 use Rattle.art_keys.specs.EndedLaws.{ended_length-is}
 use Rattle.art_keys.specs.Escapes.{IsPlain, escape, escape_inside, unescape}
-use Rattle.art_keys.specs.Prefixes.{HasNoPrefixes, KeepsOrder}
+use Rattle.art_keys.specs.Prefixes.{HasNoPrefixes, KeepsFronts, KeepsOrder}
 use Rattle.art_model.specs.Keys.{IsFront, is_front}
 
 pub unescape-escape : (text : List ℕ) → unescape (escape text) ≡ text
@@ -91,6 +91,22 @@ escape_begins (suc (suc m) ∷ text) [] = rw (ne_eqb (suc (suc m)) 0 (λ e. omeg
 escape_begins (suc (suc m) ∷ text) (zero ∷ other) = rw (ne_eqb (suc (suc m)) 1 (λ e. omega arith), ne_eqb (suc (suc m)) 0 (λ e. omega arith)) refl
 escape_begins (suc (suc m) ∷ text) (suc zero ∷ other) = rw (ne_eqb (suc (suc m)) 1 (λ e. omega arith)) refl
 escape_begins (suc (suc m) ∷ text) (suc (suc n) ∷ other) = ap (λ b. eqb (suc (suc m)) (suc (suc n)) && b) (escape_begins text other)
+
+-- escaped bytes begin others where the string begins the other string
+pub escape_keeps_fronts : KeepsFronts escape_inside
+escape_keeps_fronts [] other = refl
+escape_keeps_fronts (zero ∷ text) [] = refl
+escape_keeps_fronts (zero ∷ text) (zero ∷ other) = escape_keeps_fronts text other
+escape_keeps_fronts (zero ∷ text) (suc zero ∷ other) = refl
+escape_keeps_fronts (zero ∷ text) (suc (suc n) ∷ other) = rw (ne_eqb 1 (suc (suc n)) (λ e. omega arith), ne_eqb 0 (suc (suc n)) (λ e. omega arith)) refl
+escape_keeps_fronts (suc zero ∷ text) [] = refl
+escape_keeps_fronts (suc zero ∷ text) (zero ∷ other) = refl
+escape_keeps_fronts (suc zero ∷ text) (suc zero ∷ other) = escape_keeps_fronts text other
+escape_keeps_fronts (suc zero ∷ text) (suc (suc n) ∷ other) = rw (ne_eqb 1 (suc (suc n)) (λ e. omega arith)) refl
+escape_keeps_fronts (suc (suc m) ∷ text) [] = refl
+escape_keeps_fronts (suc (suc m) ∷ text) (zero ∷ other) = rw (ne_eqb (suc (suc m)) 1 (λ e. omega arith), ne_eqb (suc (suc m)) 0 (λ e. omega arith)) refl
+escape_keeps_fronts (suc (suc m) ∷ text) (suc zero ∷ other) = rw (ne_eqb (suc (suc m)) 1 (λ e. omega arith)) refl
+escape_keeps_fronts (suc (suc m) ∷ text) (suc (suc n) ∷ other) = ap (λ b. eqb (suc (suc m)) (suc (suc n)) && b) (escape_keeps_fronts text other)
 
 -- strings with one byte more are the same where both parts are
 pub snoc_same : (a b : List ℕ) (x y : ℕ) → a ++ x ∷ [] ≡ b ++ y ∷ [] → (a ≡ b) × (x ≡ y)

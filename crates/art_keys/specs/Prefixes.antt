@@ -1,8 +1,9 @@
 -- What the bytes of a type's values have to be so that no key is ever in conflict, and so that they stand in the order of the type.
-use Rattle.std.specs.Prelude.{◌≡◌, ℕ, List}
+use Rattle.std.specs.Prelude.{◌≡◌, ◌++◌, [], ◌∷◌, ℕ, List}
 use Rattle.std.specs.Cmp.Lexicographic.{slice_cmp}
 use Rattle.std.specs.Ordering.{nat_cmp}
 use Rattle.std.specs.declared.cmp.Ordering.{Ordering}
+use Rattle.art_keys.specs.Ended.{HasNoZero}
 use Rattle.art_model.specs.Keys.{IsFront, is_front}
 
 module _ {K : Type 0} (is_key : K → Type 0) (bytes : K → List ℕ) where
@@ -17,6 +18,14 @@ module _ {K : Type 0} (is_key : K → Type 0) (bytes : K → List ℕ) where
   -- these bytes begin those of a key just where this key's string begins the other's
   abbrev pub BeginsAs : (K → List ℕ) → K → List ℕ → Type 0
   BeginsAs text key beginning = (other : K) → is_key other → is_front beginning (bytes other) ≡ is_front (text key) (text other)
+
+  -- a key has the bytes of its string, each above zero, and then a zero
+  abbrev pub IsInside : (K → List ℕ) → (List ℕ → List ℕ) → Type 0
+  IsInside text inside = (key : K) → is_key key → (bytes key ≡ inside (text key) ++ 0 ∷ []) × HasNoZero (inside (text key))
+
+-- the bytes of a string begin those of another just where it begins the other
+abbrev pub KeepsFronts : (List ℕ → List ℕ) → Type 0
+KeepsFronts inside = (a b : List ℕ) → is_front (inside a) (inside b) ≡ is_front a b
 
 -- what is known of a key is known of its clones
 abbrev pub IsKept : {K : Type 0} → (K → Type 0) → (K → K → Type 0) → Type 0

@@ -15,6 +15,8 @@ use std::fmt;
 use std::hash::{Hash, Hasher};
 use std::marker::Model;
 
+mod write;
+
 /// Any string of bytes as a key. It is seen as the string, and its bytes are the escaped one.
 #[derive(Drop)]
 pub struct Escaped {
@@ -33,10 +35,13 @@ impl Model for Escaped {
 }
 
 impl Escaped {
-    /// Returns the key of a string. The only error is want of memory.
+    /// Returns the key of a string. The only error is that an allocation fails.
     pub fn encode(alloc: Global, text: &[u8]) -> Result<Self, AllocError>
         ensures { IfOk result (λ key. key ≡ text.now) }
     {
+        if Escaped::is_plain(text) {
+            return plain_key(alloc, text);
+        }
         let mut bytes = Vec::new(alloc);
         for byte in text {
             push_escaped(&mut bytes, *byte)?;
@@ -57,11 +62,11 @@ impl Escaped {
         ensures yes { OnTrue result (IsPlain text.now) }
         ensures no { OnFalse result (¬ IsPlain text.now) }
     {
-        let mut rest = text;
-        while let [2..=255, others @ ..] = rest {
-            rest = others;
+        let mut is_plain = true;
+        for byte in text {
+            is_plain &= *byte > 1;
         }
-        rest.is_empty()
+        is_plain
     }
 
     /// Returns the string. The only error is want of memory.
@@ -76,6 +81,17 @@ impl Escaped {
         }
         Ok(text)
     }
+}
+
+// Returns the key of a string that is its own escape but for the end.
+fn plain_key(alloc: Global, text: &[u8]) -> Result<Escaped, AllocError>
+    requires { IsPlain text.now }
+    ensures { IfOk result (λ key. key ≡ text.now) }
+{
+    let mut bytes = Vec::with_capacity(alloc, text.len().saturating_add(1))?;
+    bytes.extend_from_slice(text)?;
+    bytes.push(0)?;
+    Ok(Escaped { bytes })
 }
 
 impl fmt::Debug for Escaped {
@@ -181,7 +197,16 @@ impl OrderedBytes for Escaped {
 }
 
 impl StringBytes for Escaped {
+    ghost use Rattle.art_keys.specs.Escapes.{escape_inside};
+    ghost use Rattle.art_keys.specs.EscapeLaws.{escape_is, escape_keeps_fronts, inside_no_zero};
+
     ghost text = { λ text. text };
+
+    ghost inside = { escape_inside };
+
+    ghost is_inside = { λ text of_text. (escape_is text, inside_no_zero text) };
+
+    ghost keeps_fronts = { escape_keeps_fronts };
 
     fn beginning(&self) -> &[u8] {
         match self.bytes.split_last() {
@@ -199,6 +224,8 @@ impl DecodeBytes for Escaped {
     ghost key_of = { unescape };
 
     ghost length_of = { ended_length };
+
+    ghost allocates_nothing = { ⊥ };
 
     ghost comes_back = { escape_comes_back };
 

@@ -33,11 +33,14 @@ impl<const N: usize> CloneBytes for [u8; N] {
 }
 
 impl<const N: usize> DecodeBytes for [u8; N] {
+    ghost use Rattle.std.specs.Prelude.{⊤};
     ghost use Rattle.art_keys.specs.FixedLaws.{fixed_comes_back};
 
     ghost key_of = { λ bytes. bytes };
 
     ghost length_of = { λ bytes. N };
+
+    ghost allocates_nothing = { ⊤ };
 
     ghost comes_back = { fixed_comes_back N };
 

@@ -1,5 +1,5 @@
 //! Two keys as one.
-ghost use Rattle.std.specs.Prelude.{◌≡◌, IfOk};
+ghost use Rattle.std.specs.Prelude.{◌≡◌, IfOk, IsOk};
 ghost use Rattle.art_keys.specs.Joins.{AreKeys, joined_bytes, pair_cmp};
 ghost use Rattle.art_keys.specs.Prefixes.{KeepsOrder};
 
@@ -51,25 +51,28 @@ impl<A: DecodeBytes + Drop, B: DecodeBytes + Drop> Joined<A, B> {
         })
     }
 
-    /// Returns the first key. The only error is want of memory; numbers and arrays take none.
+    /// Returns the first key. It fails only if an allocation fails; numbers and arrays allocate nothing.
     pub fn first(&self, alloc: Global) -> Result<A, AllocError>
-        ensures { IfOk result (λ key. key ≡ self.now.0) }
+        ensures key { IfOk result (λ key. key ≡ self.now.0) }
+        ensures succeeds { A.allocates_nothing → IsOk result }
     {
         let middle = A::key_len(&self.bytes);
         A::from_key_bytes(alloc, &self.bytes[..middle])
     }
 
-    /// Returns the second key. The only error is want of memory; numbers and arrays take none.
+    /// Returns the second key. It fails only if an allocation fails; numbers and arrays allocate nothing.
     pub fn second(&self, alloc: Global) -> Result<B, AllocError>
-        ensures { IfOk result (λ key. key ≡ self.now.1) }
+        ensures key { IfOk result (λ key. key ≡ self.now.1) }
+        ensures succeeds { B.allocates_nothing → IsOk result }
     {
         let middle = A::key_len(&self.bytes);
         B::from_key_bytes(alloc, &self.bytes[middle..])
     }
 
-    /// Returns the two keys. The only error is want of memory; numbers and arrays take none.
+    /// Returns the two keys. It fails only if an allocation fails; numbers and arrays allocate nothing.
     pub fn split(&self, alloc: Global) -> Result<(A, B), AllocError>
-        ensures { IfOk result (λ keys. keys ≡ self.now) }
+        ensures keys { IfOk result (λ keys. keys ≡ self.now) }
+        ensures succeeds { A.allocates_nothing → B.allocates_nothing → IsOk result }
     {
         let middle = A::key_len(&self.bytes);
         let first = A::from_key_bytes(alloc, &self.bytes[..middle])?;
@@ -126,6 +129,8 @@ impl<A: DecodeBytes, B: DecodeBytes> DecodeBytes for Joined<A, B> {
     ghost key_of = { parted A.key_of A.length_of B.key_of };
 
     ghost length_of = { joined_length A.length_of B.length_of };
+
+    ghost allocates_nothing = { ⊥ };
 
     ghost comes_back = { joins_come_back A.is_key A.bytes B.is_key B.bytes
         A.key_of A.length_of B.key_of B.length_of A.comes_back B.comes_back };

@@ -1,7 +1,7 @@
 //! What a type of keys promises, proved for each type.
-ghost use Rattle.std.specs.Prelude.{◌≡◌, IfOk};
+ghost use Rattle.std.specs.Prelude.{◌≡◌, IfOk, IsOk};
 ghost use Rattle.art_keys.specs.Decoded.{BeginsWithKey, ComesBack, IsOfKey};
-ghost use Rattle.art_keys.specs.Prefixes.{BeginsAs, HasNoPrefixes, IsKept, KeepsOrder};
+ghost use Rattle.art_keys.specs.Prefixes.{BeginsAs, HasNoPrefixes, IsInside, IsKept, KeepsFronts, KeepsOrder};
 ghost use Rattle.art_model.specs.Clones.{KeepBytes};
 
 use art_nodes::node::AsBytes;
@@ -51,30 +51,47 @@ pub trait DecodeBytes: NoPrefixesBytes {
     /// How many of the bytes are those of the key that they begin with.
     ghost length_of: { List ℕ → ℕ };
 
+    /// That a key is made of its bytes without an allocation.
+    ghost allocates_nothing: { Type 0 };
+
     /// Returns how many of the bytes are those of the key that they begin with.
     fn key_len(bytes: &[u8]) -> usize
         requires { BeginsWithKey Self.is_key Self.bytes bytes.now }
         ensures { result ≡ length_of bytes.now };
 
-    /// Returns the key whose bytes these are. The only error is want of memory.
+    /// Returns the key whose bytes these are. It fails only if an allocation fails, and never where the
+    /// type allocates nothing.
     fn from_key_bytes(alloc: Global, bytes: &[u8]) -> Result<Self, AllocError>
         requires { IsOfKey Self.is_key Self.bytes bytes.now }
-        ensures { IfOk result (λ key. key ≡ key_of bytes.now) };
+        ensures key { IfOk result (λ key. key ≡ key_of bytes.now) }
+        ensures succeeds { allocates_nothing → IsOk result };
 
     /// A key comes back from its bytes, and their number from them and whatever stands after them.
     ghost comes_back: { ComesBack Self.is_key Self.bytes key_of length_of };
 }
 
-/// Keys that stand for strings of bytes.
+/// Keys that stand for strings of bytes. The bytes of a key are those of its string, and then a zero; the bytes
+/// of a string have no zero.
 pub trait StringBytes: OrderedBytes {
     ghost use Rattle.std.specs.Prelude.{List, ℕ};
 
     /// The string that a key stands for.
     ghost text: { Self → List ℕ };
 
-    /// Returns the bytes that begin those of each key whose string begins with this one's, and no others.
+    /// The bytes of a string.
+    ghost inside: { List ℕ → List ℕ };
+
+    /// Returns the bytes of the key's string. The bytes of each key whose string starts with this one start with
+    /// them, and those of no other key.
     fn beginning(&self) -> &[u8]
-        ensures { BeginsAs Self.is_key Self.bytes text self.now result.now };
+        ensures inside { result.now ≡ inside (text self.now) }
+        ensures begins { BeginsAs Self.is_key Self.bytes text self.now result.now };
+
+    /// A key has the bytes of its string, and then a zero.
+    ghost is_inside: { IsInside Self.is_key Self.bytes text inside };
+
+    /// The bytes of a string are a prefix of those of another just where it is a prefix of the other.
+    ghost keeps_fronts: { KeepsFronts inside };
 }
 
 /// Returns how two keys compare in the order of their type, by their bytes.

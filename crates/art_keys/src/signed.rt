@@ -228,12 +228,15 @@ impl<const N: usize> OrderedBytes for Signed<N> {
 }
 
 impl<const N: usize> DecodeBytes for Signed<N> {
+    ghost use Rattle.std.specs.Prelude.{⊤};
     ghost use Rattle.art_keys.specs.Numbers.{lowered, number_of};
     ghost use Rattle.art_keys.specs.NumberLaws.{signed_come_back};
 
     ghost key_of = { λ bytes. lowered N (number_of bytes) };
 
     ghost length_of = { λ bytes. N };
+
+    ghost allocates_nothing = { ⊤ };
 
     ghost comes_back = { signed_come_back N };
 

@@ -197,7 +197,15 @@ impl OrderedBytes for Terminated {
 }
 
 impl StringBytes for Terminated {
+    ghost use Rattle.std.proofs.Common.{refl};
+
     ghost text = { λ text. text };
+
+    ghost inside = { λ text. text };
+
+    ghost is_inside = { λ text of_text. (refl, of_text) };
+
+    ghost keeps_fronts = { λ a b. refl };
 
     fn beginning(&self) -> &[u8] {
         self.as_bytes_without_end()
@@ -211,6 +219,8 @@ impl DecodeBytes for Terminated {
     ghost key_of = { without_end };
 
     ghost length_of = { ended_length };
+
+    ghost allocates_nothing = { ⊥ };
 
     ghost comes_back = { ended_comes_back };
 

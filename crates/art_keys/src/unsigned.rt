@@ -205,12 +205,15 @@ impl<const N: usize> OrderedBytes for Unsigned<N> {
 }
 
 impl<const N: usize> DecodeBytes for Unsigned<N> {
+    ghost use Rattle.std.specs.Prelude.{⊤};
     ghost use Rattle.art_keys.specs.Numbers.{number_of};
     ghost use Rattle.art_keys.specs.NumberLaws.{numbers_come_back};
 
     ghost key_of = { number_of };
 
     ghost length_of = { λ bytes. N };
+
+    ghost allocates_nothing = { ⊤ };
 
     ghost comes_back = { numbers_come_back N };
 

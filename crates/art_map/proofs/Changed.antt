@@ -24,7 +24,7 @@ use Rattle.art_model.proofs.stores.Views.{leaf_or}
 use Rattle.art_reading.specs.Iterators.{IsIteratorOf}
 use Rattle.art_reading.proofs.Iterators as iterators
 use Rattle.art_map.specs.MapAnswers.{with_value_at}
-use Rattle.art_map.specs.MapCalls.{ChangesEach, ChangesValues}
+use Rattle.art_map.specs.MapCalls.{ChangesEach}
 use Rattle.art_map.specs.MapChanges.{ChangesLeaf}
 use Rattle.art_map.specs.MapItems.{IsWalk, keys_of, pairs_left, walk_len}
 use Rattle.art_map.specs.MapPairs.{HoldsPairs, pairs_at}
@@ -113,12 +113,12 @@ module _ {K V : Type 0} (bytes : K → List ℕ) (P : ℕ) where
 
     module _ {f : F} {s : Nodes K V} {walk : Option (LeafPtr × LeafPtr)} (now : Changing f s walk) where
       -- no leaf is left
-      pub ends : None ≡ first_of now.names → HoldsPairs (of_key bytes) P s root len (pairs_at s root) × ChangesValues g began before (pairs_at s root)
+      pub ends : None ≡ first_of now.names → HoldsPairs (of_key bytes) P s root len (pairs_at s root) × ChangesEach g began before (pairs_at s root) f
       ends none =
           let gone = none_first now.names none in
           let before_is : before ≡ now.seen = now.before_is ∙ ap (λ ns. now.seen ++ named_pairs s ns) gone ∙ append-nil now.seen in
           let after_is : pairs_at s root ≡ now.done = view_of (of_key bytes) P s now.held ∙ ap (λ ns. now.done ++ named_pairs s ns) gone ∙ append-nil now.done in
-          (holds (of_key bytes) P s now.held, (f, rw (before_is, after_is) now.changed))
+          (holds (of_key bytes) P s now.held, rw (before_is, after_is) now.changed)
 
       module _ {rest : Option (LeafPtr × LeafPtr)} {p : LeafPtr} {left : F} {t : Nodes K V} (first : Some (leaf_name p) ≡ first_of now.names)
           (after : IsIteratorOf s rest (without_first now.names)) (changes : ChangesLeaf g p f s left t) where

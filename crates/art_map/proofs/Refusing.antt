@@ -1,5 +1,5 @@
 -- The first pair of which a closure says false: its point, and what is left when it was taken out.
-use Rattle.std.proofs.Common.{◌≡◌, ℕ, Bool, List, [], Option, Some, None, Result, Ok, Err, IfSome, refl, ap, sym, ◌∙◌, subst}
+use Rattle.std.proofs.Common.{◌≡◌, ℕ, Bool, List, [], Option, Some, None, IfSome, refl, ap, sym, ◌∙◌, subst}
 use Rattle.art_nodes.specs.Nodes.{Nodes}
 use Rattle.art_parts.specs.declared.names.OpaqueNodePtr.{OpaqueNodePtr}
 use Rattle.art_model.specs.Canonical.{IsCanonicalTree}
@@ -13,7 +13,6 @@ use Rattle.art_writing.proofs.KeysFound.{point_some}
 use Rattle.art_map.specs.MapChanges.{HasTaken}
 use Rattle.art_map.specs.MapPairs.{HoldsPairs, pairs_at}
 use Rattle.art_map.specs.MapRetain.{FindsRefused, HasTakenRefused, Retains, StopsAt, TakesRefused, pairs_after}
-use Rattle.art_map.specs.declared.map.MapRefused.{MapRefused}
 use Rattle.art_map.proofs.Retained.{passed, stored_once}
 use Rattle.art_map.proofs.Views.{holds, view_of}
 
@@ -46,15 +45,13 @@ module _ {F K V : Type 0} (asks : F → K × V → Bool → F → Type 0) (bytes
   none_refused last f pairs e = subst (λ xs. Retains asks f (pairs_after (of_key bytes) last xs) (pairs_after (of_key bytes) last xs) f) (sym e) (refl, refl)
 
   module _ (last : Option (K × V)) (f left : F) (pairs : List (K × V)) (t : Nodes K V) (root : Option OpaqueNodePtr) (len : ℕ) where
-    -- the pair was taken out, or stays
-    pub refused_taken : {x : K × V} → StopsAt asks f (pairs_after (of_key bytes) last pairs) x left → (result : Result (Option (K × V)) MapRefused) →
-        HasTaken bytes P pairs (Some x) (remove_key (of_key bytes) (bytes x.0) pairs) result t root len → HasTakenRefused asks bytes P last f pairs result left t root len
-    refused_taken stops (Ok None) h = absurd cc
-    refused_taken {x} stops (Ok (Some y)) h =
-        subst (λ z. HasTakenRefused asks bytes P last f pairs (Ok (Some z)) left t root len) (sym (same_some h.1)) (remove_key (of_key bytes) (bytes x.0) pairs, h.0, (refl, stops))
-    refused_taken {x} stops (Err error) h = (pairs, h.0, (x, refl, stops, h.1))
+    -- the pair was taken out
+    pub refused_taken : {x : K × V} → StopsAt asks f (pairs_after (of_key bytes) last pairs) x left → (y : K × V) →
+        HasTaken bytes P (Some x) (remove_key (of_key bytes) (bytes x.0) pairs) (Some y) t root len → HasTakenRefused asks bytes P last f pairs (Some y) left t root len
+    refused_taken {x} stops y h =
+        subst (λ z. HasTakenRefused asks bytes P last f pairs (Some z) left t root len) (sym (same_some h.1)) (remove_key (of_key bytes) (bytes x.0) pairs, h.0, (refl, stops))
 
-    module _ (result : Result (Option (K × V)) MapRefused) (h : HasTakenRefused asks bytes P last f pairs result left t root len) where
+    module _ (result : Option (K × V)) (h : HasTakenRefused asks bytes P last f pairs result left t root len) where
       pub refused_holds : HoldsPairs (of_key bytes) P t root len (pairs_at t root)
       refused_holds = holds (of_key bytes) P t h.1
 

@@ -1,18 +1,21 @@
 -- What a change leaves, by the pairs that are read off.
-use Rattle.std.proofs.Common.{◌≡◌, ◌≢◌, ℕ, List, length, Option, Some, None, Result, Ok, Err, OnOk, OnErr, IfOk, IfErr, false, refl, ap, ◌∙◌, subst}
+use Rattle.std.proofs.Common.{◌≡◌, ◌≢◌, ℕ, List, length, Option, Some, None, Result, Ok, Err, IsOk, OnOk, OnErr, IfOk, IfErr, false, refl, ap, ◌∙◌, subst}
 use Rattle.art_nodes.specs.Nodes.{Nodes}
 use Rattle.art_parts.specs.declared.names.OpaqueNodePtr.{OpaqueNodePtr}
 use Rattle.art_model.specs.Pairs.{IsMap, first_of, is_conflict, of_key, overwrite, put, put_reply, related_to, remove_key, replace_key, with_key}
 use Rattle.art_model.specs.Parts.{below, not_below}
 use Rattle.art_model.proofs.keys.Keys.{not_same}
 use Rattle.art_writing.specs.declared.insert.Refused.{Refused}
-use Rattle.art_map.specs.MapAnswers.{IsRefusalOf, MayRefuseRemoval, ShrinksNode, value_at}
+use Rattle.art_map.specs.MapAnswers.{IsRefusalOf, value_at}
 use Rattle.art_map.specs.MapChanges.{HasPut, HasPutOver, HasReplaced, HasTaken, HasTakenBelow}
 use Rattle.art_map.specs.MapPairs.{HoldsPairs, pairs_at}
 use Rattle.art_map.specs.declared.map.MapInsertError.{MapInsertError}
-use Rattle.art_map.specs.declared.map.MapRefused.{MapRefused}
 use Rattle.art_map.proofs.CallerLaws.{value_elsewhere, value_gone, value_here, value_left}
 use Rattle.art_map.proofs.Views.{holds, view_of, view_sorted}
+
+-- what holds where a call succeeds holds after it did
+pub ok_told : {A E Q : Type 0} {r : Result A E} {x : A} → r ≡ Ok x → OnOk r Q → Q
+ok_told e h = rw e at h
 
 module _ {K V : Type 0} (bytes : K → List ℕ) where
   -- What a caller is told of a pair that is put.
@@ -41,21 +44,6 @@ module _ {K V : Type 0} (bytes : K → List ℕ) where
     pub accepted : OnOk result (is_conflict (of_key bytes) (bytes key) before ≡ false)
     pub refused : IfErr result (IsRefusalOf bytes key value before)
     pub kept : OnErr result (after ≡ before)
-
-  -- What a caller is told of the pairs below a prefix that are taken out.
-  pub record TellsBelow (prefix : List ℕ) (before after : List (K × V)) (result : Result ℕ MapRefused) : Type 0 where
-    pub pairs : OnOk result (after ≡ not_below (of_key bytes) prefix before)
-    pub removed : IfOk result (λ removed. removed ≡ length (below (of_key bytes) prefix before))
-    pub kept : OnErr result (after ≡ before)
-    pub refused : OnErr result (ShrinksNode (of_key bytes) before (below (of_key bytes) prefix before))
-
-  -- What a caller is told of a pair that is taken out.
-  pub record TellsTaken (pair : List (K × V) → Option (K × V)) (left : List (K × V) → List (K × V)) (before after : List (K × V)) (result : Result (Option (K × V)) MapRefused)
-      : Type 0 where
-    pub pairs : OnOk result (after ≡ left before)
-    pub removed : IfOk result (λ removed. removed ≡ pair before)
-    pub kept : OnErr result (after ≡ before)
-    pub refused : OnErr result (MayRefuseRemoval (of_key bytes) before (pair before))
 
 module _ {K V : Type 0} (bytes : K → List ℕ) (P : ℕ) (pairs : List (K × V)) (t : Nodes K V) (root : Option OpaqueNodePtr) (len : ℕ) where
   module _ (key : K) (value : V) where
@@ -116,40 +104,27 @@ module _ {K V : Type 0} (bytes : K → List ℕ) (P : ℕ) (pairs : List (K × V
         go (Err refused) (held, same_key, same_value, many) =
             record { pairs = tt; gone = tt; handed_back = (same_key, same_value); kept = view_of (of_key bytes) P t held; refused = many }
 
-  module _ (prefix : List ℕ) where
-    pub below_holds : (result : Result ℕ MapRefused) → HasTakenBelow bytes P pairs prefix result t root len → HoldsPairs (of_key bytes) P t root len (pairs_at t root)
-    below_holds (Ok removed) h = holds (of_key bytes) P t h.0
-    below_holds (Err error) h = holds (of_key bytes) P t h.0
+  module _ (prefix : List ℕ) (removed : ℕ) (h : HasTakenBelow bytes P pairs prefix removed t root len) where
+    pub below_holds : HoldsPairs (of_key bytes) P t root len (pairs_at t root)
+    below_holds = holds (of_key bytes) P t h.0
 
-    pub tells_below : {before : List (K × V)} → pairs ≡ before → (result : Result ℕ MapRefused) → HasTakenBelow bytes P pairs prefix result t root len →
-        TellsBelow bytes prefix before (pairs_at t root) result
-    tells_below same result h = subst (λ xs. TellsBelow bytes prefix xs (pairs_at t root) result) same (go result h)
-      where
-        go : (result : Result ℕ MapRefused) → HasTakenBelow bytes P pairs prefix result t root len → TellsBelow bytes prefix pairs (pairs_at t root) result
-        go (Ok removed) h = record { pairs = view_of (of_key bytes) P t h.0; removed = h.1; kept = tt; refused = tt }
-        go (Err error) h = record { pairs = tt; removed = tt; kept = view_of (of_key bytes) P t h.0; refused = h.1 }
+    -- what a caller is told of the pairs with a prefix that are taken out
+    pub tells_below : {before : List (K × V)} → pairs ≡ before → (pairs_at t root ≡ not_below (of_key bytes) prefix before) × (removed ≡ length (below (of_key bytes) prefix before))
+    tells_below same = (view_of (of_key bytes) P t h.0 ∙ ap (not_below (of_key bytes) prefix) same, h.1 ∙ ap (λ xs. length (below (of_key bytes) prefix xs)) same)
 
-  module _ (pair : List (K × V) → Option (K × V)) (left : List (K × V) → List (K × V)) where
-    pub taken_holds : (result : Result (Option (K × V)) MapRefused) → HasTaken bytes P pairs (pair pairs) (left pairs) result t root len → HoldsPairs (of_key bytes) P t root len (pairs_at t root)
-    taken_holds (Ok taken) h = holds (of_key bytes) P t h.0
-    taken_holds (Err error) h = holds (of_key bytes) P t h.0
+  module _ (pair : List (K × V) → Option (K × V)) (left : List (K × V) → List (K × V)) (taken : Option (K × V)) (h : HasTaken bytes P (pair pairs) (left pairs) taken t root len) where
+    pub taken_holds : HoldsPairs (of_key bytes) P t root len (pairs_at t root)
+    taken_holds = holds (of_key bytes) P t h.0
 
-    pub tells_taken : {before : List (K × V)} → pairs ≡ before → (result : Result (Option (K × V)) MapRefused) → HasTaken bytes P pairs (pair pairs) (left pairs) result t root len →
-        TellsTaken bytes pair left before (pairs_at t root) result
-    tells_taken same result h = subst (λ xs. TellsTaken bytes pair left xs (pairs_at t root) result) same (go result h)
-      where
-        go : (result : Result (Option (K × V)) MapRefused) → HasTaken bytes P pairs (pair pairs) (left pairs) result t root len → TellsTaken bytes pair left pairs (pairs_at t root) result
-        go (Ok taken) h = record { pairs = view_of (of_key bytes) P t h.0; removed = h.1; kept = tt; refused = tt }
-        go (Err error) h = record { pairs = tt; removed = tt; kept = view_of (of_key bytes) P t h.0; refused = h.1 }
+    -- what a caller is told of a pair that is taken out
+    pub tells_taken : {before : List (K × V)} → pairs ≡ before → (pairs_at t root ≡ left before) × (taken ≡ pair before)
+    tells_taken same = (view_of (of_key bytes) P t h.0 ∙ ap left same, h.1 ∙ ap pair same)
 
-module _ {K V E X : Type 0} (bytes : K → List ℕ) (key : List ℕ) (before after : List (K × V)) where
+module _ {K V : Type 0} (bytes : K → List ℕ) (key : List ℕ) (before after : List (K × V)) (removed : after ≡ remove_key (of_key bytes) key before) where
   -- under a key that was taken out nothing is found
-  pub none_found : (result : Result X E) → OnOk result (after ≡ remove_key (of_key bytes) key before) → OnOk result (value_at bytes key after ≡ None)
-  none_found (Ok x) e = ap (value_at bytes key) e ∙ value_gone bytes key before
-  none_found (Err x) e = tt
+  pub none_found : value_at bytes key after ≡ None
+  none_found = ap (value_at bytes key) removed ∙ value_gone bytes key before
 
   -- and under every other what was found before
-  pub rest_found : (result : Result X E) → OnOk result (after ≡ remove_key (of_key bytes) key before) →
-      OnOk result ((other : List ℕ) → other ≢ key → value_at bytes other after ≡ value_at bytes other before)
-  rest_found (Ok x) e = λ other off. ap (value_at bytes other) e ∙ value_left bytes other key before (not_same other key off)
-  rest_found (Err x) e = tt
+  pub rest_found : (other : List ℕ) → other ≢ key → value_at bytes other after ≡ value_at bytes other before
+  rest_found other off = ap (value_at bytes other) removed ∙ value_left bytes other key before (not_same other key off)

@@ -8,9 +8,8 @@ use Rattle.art_model.specs.Pairs.{IsMap, first_of, remove_key, with_key}
 use Rattle.art_model.specs.Parts.{is_between}
 use Rattle.art_model.proofs.keys.Keys.{front_same, precedes_apart, related_sym, same_related}
 use Rattle.art_model.proofs.pairs.MapLaws.{first_is_removed_by_key}
-use Rattle.art_map.specs.MapAnswers.{ShrinksNode}
 use Rattle.art_map.specs.MapItems.{keys_of}
-use Rattle.art_map.specs.MapRetain.{AsksPair, Retains, RetainsAll, RetainsUntil, StopsAt, pairs_after}
+use Rattle.art_map.specs.MapRetain.{AsksPair, Retains, StopsAt, pairs_after}
 use Rattle.art_map.specs.SetKeys.{AsksKey}
 
 -- a call at a pair that returned b
@@ -100,10 +99,10 @@ module _ {F A : Type 0} (asks : F → A → Bool → F → Type 0) where
 
     module _ {f : F} {pairs : List A} {last : Option A} (now : Retaining f pairs last) where
       -- f said true of all that was left
-      pub ends : (left : F) → Retains asks f (pairs_after bytes last pairs) (pairs_after bytes last pairs) left → RetainsAll asks began before pairs
+      pub ends : (left : F) → Retains asks f (pairs_after bytes last pairs) (pairs_after bytes last pairs) left → Retains asks began before pairs left
       ends left all =
           let rest = subst (λ zs. Retains asks f zs zs left) now.rest_is all in
-          (left, rw (now.before_is, now.pairs_are) (retains_more now.seen now.rest now.kept now.rest began f left now.retains rest))
+          rw (now.before_is, now.pairs_are) (retains_more now.seen now.rest now.kept now.rest began f left now.retains rest)
 
       module _ {left : F} {x : A} (stops : StopsAt asks f (pairs_after bytes last pairs) x left) where
         parts : now.rest ≡ stops.seen ++ x ∷ stops.rest
@@ -117,22 +116,6 @@ module _ {F A : Type 0} (asks : F → A → Bool → F → Type 0) where
 
         asked : Retains asks began (now.seen ++ stops.seen) (now.kept ++ stops.seen) stops.next
         asked = retains_more now.seen stops.seen now.kept stops.seen began f stops.next now.retains stops.kept
-
-        -- the pair may not be taken out
-        pub stays : ShrinksNode bytes pairs (x ∷ []) → RetainsUntil asks bytes began before pairs
-        stays shrinks = record {
-          seen = now.seen ++ stops.seen;
-          kept = now.kept ++ stops.seen;
-          refused = x;
-          rest = stops.rest;
-          next = stops.next;
-          left = left;
-          before_is = all;
-          after_is = whole;
-          retains = asked;
-          asked = stops.refused;
-          shrinks = shrinks;
-        }
 
         module _ (rising : IsMap bytes pairs) where
           risen : IsMap bytes ((now.kept ++ stops.seen) ++ x ∷ stops.rest)
@@ -167,42 +150,23 @@ module _ {F A : Type 0} (asks : F → A → Bool → F → Type 0) where
 
 module _ {C F A : Type 0} (asks : C → A → Bool → C → Type 0) (other : F → A → Bool → F → Type 0) (inside : C → F)
     (one : (s : C) (x : A) (b : Bool) (t : C) → asks s x b t → other (inside s) x b (inside t)) where
-  retains_inside : (s : C) (before kept : List A) (t : C) → Retains asks s before kept t → Retains other (inside s) before kept (inside t)
+  pub retains_inside : (s : C) (before kept : List A) (t : C) → Retains asks s before kept t → Retains other (inside s) before kept (inside t)
   retains_inside s [] kept t h = (h.0, ap inside h.1)
   retains_inside s (x ∷ xs) kept t (b, next, rest, asked, h, is) = (b, inside next, rest, one s x b next asked, retains_inside next xs rest t h, is)
 
-  pub all_inside : {E : Type 0} (r : Result (Unit {0}) E) (s : C) (before after : List A) → OnOk r (RetainsAll asks s before after) → OnOk r (RetainsAll other (inside s) before after)
-  all_inside (Ok done) s before after (left, h) = (inside left, retains_inside s before after left h)
-  all_inside (Err error) s before after h = tt
-
-  pub until_inside : {E : Type 0} (r : Result (Unit {0}) E) (bytes : A → List ℕ) (s : C) (before after : List A) → OnErr r (RetainsUntil asks bytes s before after) →
-      OnErr r (RetainsUntil other bytes (inside s) before after)
-  until_inside (Ok done) bytes s before after h = tt
-  until_inside (Err error) bytes s before after h = record {
-    seen = h.seen;
-    kept = h.kept;
-    refused = h.refused;
-    rest = h.rest;
-    next = inside h.next;
-    left = inside h.left;
-    before_is = h.before_is;
-    after_is = h.after_is;
-    retains = retains_inside s h.seen h.kept h.next h.retains;
-    asked = one h.next h.refused false h.left h.asked;
-    shrinks = h.shrinks;
-  }
+module _ {C A : Type 0} (asks : C → A → Bool → C → Type 0) where
+  -- what each call keeps of a closure's state, all of them keep
+  pub retains_hold : (Good : C → Type 0) → ((s : C) (x : A) (b : Bool) (t : C) → asks s x b t → Good s → Good t) →
+      (s : C) (before kept : List A) (t : C) → Retains asks s before kept t → Good s → Good t
+  retains_hold Good one s [] kept t h good = subst Good h.1 good
+  retains_hold Good one s (x ∷ xs) kept t (b, next, rest, asked, h, is) good = retains_hold Good one next xs rest t h (one s x b next asked good)
 
 module _ {F K : Type 0} (g : Mut F (Bor K × Unit {0}) Bool) where
-  keys_retained : (f : F) (pairs kept : List (K × Unit {0})) (left : F) → Retains (AsksKey g) f pairs kept left → Retains (CalledAt g) f (keys_of pairs) (keys_of kept) left
+  -- which keys stay of a set, by its pairs
+  pub keys_retained : (f : F) (pairs kept : List (K × Unit {0})) (left : F) → Retains (AsksKey g) f pairs kept left → Retains (CalledAt g) f (keys_of pairs) (keys_of kept) left
   keys_retained f [] kept left h = (ap keys_of h.0, h.1)
   keys_retained f (x ∷ xs) kept left (b, next, rest, asked, h, is) = (b, next, keys_of rest, asked, keys_retained next xs rest left h, ap keys_of is ∙ go b)
     where
       go : (b : Bool) → keys_of (cond b (x ∷ rest) rest) ≡ cond b (x.0 ∷ keys_of rest) (keys_of rest)
       go true = refl
       go false = refl
-
-  -- which keys stay of a set, by its pairs
-  pub keys_retained_all : {E : Type 0} (r : Result (Unit {0}) E) (f : F) (pairs kept : List (K × Unit {0})) → OnOk r (RetainsAll (AsksKey g) f pairs kept) →
-      OnOk r (RetainsAll (CalledAt g) f (keys_of pairs) (keys_of kept))
-  keys_retained_all (Ok done) f pairs kept (left, h) = (left, keys_retained f pairs kept left h)
-  keys_retained_all (Err error) f pairs kept h = tt

@@ -4,9 +4,10 @@ use Rattle.std.proofs.lemmas.Bool.{false≢true}
 use Rattle.std.specs.List.{AllByRecursion as Each}
 use Rattle.std.specs.Option.{option_map}
 use Rattle.std.specs.declared.ops.Bound.{Bound}
-use Rattle.art_model.specs.Keys.{Precedes, are_related, are_same, is_before}
+use Rattle.art_model.specs.Keys.{Precedes, are_related, are_same, is_before, is_front}
 use Rattle.art_model.specs.Pairs.{IsMap, add_in_order, first_of, has_key, is_conflict, last_of, of_key, put, put_reply, remove_key, remove_reply, replace_key, with_key, without_first, without_last}
 use Rattle.art_model.specs.Parts.{below, between}
+use Rattle.art_model.specs.Texts.{texts_in_front, text_of}
 use Rattle.art_model.proofs.pairs.Puts.{any_is_first, has_is_stored, put-new}
 use Rattle.art_map.specs.declared.map.MapInsertError.{MapInsertError}
 use Rattle.art_map.specs.declared.map.MapInsertError.TheVariants.{Conflict, Memory}
@@ -55,6 +56,16 @@ keys_where test (x ∷ xs) = go (keys_where test xs) (test x.0)
         cond b (x.0 ∷ filter test (keys_of xs)) (filter test (keys_of xs)) ≡ keys_of (cond b (x ∷ filter (λ y. test y.0) xs) (filter (λ y. test y.0) xs))
     go e true = ap (λ zs. x.0 ∷ zs) e
     go e false = e
+
+-- what is known of each key is known of the key of each pair
+pub keys_each : {K V : Type 0} (Q : K → Type 0) (pairs : List (K × V)) → Each Q (keys_of pairs) → Each (λ x. Q x.0) pairs
+keys_each Q [] h = tt
+keys_each Q (x ∷ xs) h = (h.0, keys_each Q xs h.1)
+
+-- the longest text of the keys is that of the pairs
+pub keys_longest : {K V : Type 0} (bytes : K → List ℕ) (query : List ℕ) (pairs : List (K × V)) →
+    last_of (texts_in_front bytes query (keys_of pairs)) ≡ option_map (λ x. x.0) (last_of (texts_in_front (of_key bytes) query pairs))
+keys_longest bytes query pairs = ap last_of (keys_where (λ k. is_front (text_of bytes k) query) pairs) ∙ keys_last (texts_in_front (of_key bytes) query pairs)
 
 pub flipped : (b d : Bool) → b ≡ not d → d ≡ not b
 flipped b true e = rw e refl

@@ -1,9 +1,18 @@
 -- What comes first of the keys that pass a test, and of two lists that are merged.
-use Rattle.std.proofs.Common.{◌≡◌, ◌≤◌, suc, List, [], ◌∷◌, Bool, ◌||◌, ◌&&◌, Option, Some, None, cond, filter, length, refl, ap, sym, ◌∙◌, subst, arith, true, false, not, is_some, Bor}
+use Rattle.std.proofs.Common.{◌≡◌, ℕ, ◌+◌, ◌≤◌, IfSome, suc, List, [], ◌∷◌, Bool, ◌||◌, ◌&&◌, Option, Some, None, cond, filter, length, refl, ap, sym, ◌∙◌, subst, arith, true, false, not, is_some, Bor}
+use Rattle.std.specs.Iterator.{UpTo, at_most}
 use Rattle.std.specs.List.{list_all, list_any}
-use Rattle.std.specs.Set.{sorted_merge}
+use Rattle.std.specs.Ordering.{match_ordering}
+use Rattle.std.specs.Set.{merge_step, sorted_merge}
 use Rattle.std.specs.declared.cmp.Ordering.{Ordering}
+use Rattle.std.specs.declared.cmp.Ordering.TheVariants.{Less, Equal, Greater}
 use Rattle.art_map.specs.MapItems.{ShowsFirst}
+use Rattle.art_map.specs.SetAlgebra.{IsSum}
+
+-- a number that a list's length is at most bounds its items
+pub up_to : (n : ℕ) (r : Option ℕ) → IfSome r (λ most. n ≤ most) → IfSome r (UpTo (at_most n))
+up_to n None few = tt
+up_to n (Some most) few = (tt, few)
 
 not-not : (b : Bool) → not (not b) ≡ b
 not-not true = refl
@@ -62,3 +71,34 @@ module _ {K : Type 0} (order : K → K → Ordering) (both : Bool) where
   first_alone before xs left ys r same e h =
       let alone : (zs : List K) → sorted_merge order both zs ys ≡ zs = λ zs. ap (sorted_merge order both zs) e ∙ lone zs in
       subst (λ zs. ShowsFirst zs r (sorted_merge order both left ys)) (sym (same ∙ alone xs)) (subst (λ zs. ShowsFirst xs r zs) (sym (alone left)) h)
+
+  fewer_step : (x : K) (xs : List K) (on : List K → List K) → ((ys : List K) → length (on ys) ≤ length xs + length ys) →
+      (ys : List K) → length (merge_step order both x xs on ys) ≤ suc (length xs) + length ys
+  fewer_step x xs on ih [] = omega arith
+  fewer_step x xs on ih (y ∷ ys) = by (order x y) (ih (y ∷ ys)) (ih ys) (fewer_step x xs on ih ys)
+    where
+      equal : (b : Bool) → length (on ys) ≤ length xs + length ys → length (cond b (x ∷ on ys) (on ys)) ≤ suc (length xs) + suc (length ys)
+      equal true few = omega arith
+      equal false few = omega arith
+
+      by : (o : Ordering) → length (on (y ∷ ys)) ≤ length xs + suc (length ys) → length (on ys) ≤ length xs + length ys →
+          length (merge_step order both x xs on ys) ≤ suc (length xs) + length ys →
+          length (match_ordering o (x ∷ on (y ∷ ys)) (cond both (x ∷ on ys) (on ys)) (y ∷ merge_step order both x xs on ys)) ≤ suc (length xs) + suc (length ys)
+      by Less first few second = omega arith
+      by Equal first few second = equal both few
+      by Greater first few second = omega arith
+
+  -- no more come than both lists have
+  pub few_merged : (xs ys : List K) → length (sorted_merge order both xs ys) ≤ length xs + length ys
+  few_merged [] ys = omega arith
+  few_merged (x ∷ xs) ys = fewer_step x xs (sorted_merge order both xs) (few_merged xs) ys
+
+  -- and so their number is a bound
+  pub bounded : (xs ys : List K) (a b r : Option ℕ) → IfSome a (λ n. n ≡ length xs) → IfSome b (λ n. n ≡ length ys) → IfSome r (IsSum a b) →
+      IfSome r (λ most. length (sorted_merge order both xs ys) ≤ most)
+  bounded xs ys a b None left right sum = tt
+  bounded xs ys a b (Some most) left right (n, m, first, second, is) =
+      let l : n ≡ length xs = subst (λ o. IfSome o (λ n. n ≡ length xs)) first left in
+      let k : m ≡ length ys = subst (λ o. IfSome o (λ n. n ≡ length ys)) second right in
+      let few = few_merged xs ys in
+      omega arith

@@ -22,17 +22,15 @@ use Rattle.art_model.specs.Trees.{Tree, leaf}
 use Rattle.art_model.proofs.stores.Canonical.{tree_radix}
 use Rattle.art_model.proofs.keys.Keys.{front_same}
 use Rattle.art_model.proofs.leaves.LeavesFound.{leaf_found}
-use Rattle.art_model.proofs.pairs.MapLaws.{keys_are_once, removal_counts, first_is_removed_by_key, last_is_removed_by_key}
+use Rattle.art_model.proofs.pairs.MapLaws.{keys_are_once, removal_counts, first_is_removed_by_key}
 use Rattle.art_model.proofs.places.Paths.{pairs_of-plug}
 use Rattle.art_model.proofs.pairs.Puts.{any_is_first}
 use Rattle.art_model.proofs.stores.StoreLaws.{has_one_map}
-use Rattle.art_reading.specs.declared.descent.End.{End}
-use Rattle.art_reading.specs.declared.descent.End.TheVariants.{First, Last}
 use Rattle.art_writing.specs.Deleted.{LeadsTo}
 use Rattle.art_writing.specs.Inserted.{unlinked_leaf}
 use Rattle.art_writing.specs.declared.delete.DeletePoint.{DeletePoint}
 use Rattle.art_writing.proofs.KeysFound.{deleted_pair}
-use Rattle.art_map.specs.MapAnswers.{end_of, value_at, without_end}
+use Rattle.art_map.specs.MapAnswers.{value_at}
 use Rattle.art_map.specs.MapChanges.{NamesPair}
 use Rattle.art_map.specs.MapPairs.{HoldsPairs, pairs_at}
 use Rattle.art_map.proofs.Puts.{at_root, at_some, is_some-map}
@@ -93,14 +91,9 @@ module _ {K V : Type 0} (bytes : K → List ℕ) (P : ℕ) {s : Nodes K V} {name
 
 -- to let the first pair go is to remove its key
 module _ {A : Type 0} (bytes : A → List ℕ) where
-  first_goes : (pairs : List A) (x : A) → IsMap bytes pairs → first_of pairs ≡ Some x → remove_key bytes (bytes x) pairs ≡ without_first pairs
+  pub first_goes : (pairs : List A) (x : A) → IsMap bytes pairs → first_of pairs ≡ Some x → remove_key bytes (bytes x) pairs ≡ without_first pairs
   first_goes [] x rising e = absurd cc
   first_goes (y ∷ rest) x rising e = let same : y ≡ x = cc in subst (λ q. remove_key bytes (bytes q) (y ∷ rest) ≡ rest) same (first_is_removed_by_key bytes y rest rising)
-
-  -- the same at either end
-  pub end_goes : (end : End) (pairs : List A) (x : A) → IsMap bytes pairs → end_of end pairs ≡ Some x → remove_key bytes (bytes x) pairs ≡ without_end end pairs
-  end_goes First pairs x rising e = first_goes pairs x rising e
-  end_goes Last pairs x rising e = last_is_removed_by_key bytes x pairs rising e
 
 -- ---- what is read off a leaf
 

@@ -8,8 +8,6 @@ use Rattle.art_model.specs.Keys.{are_same}
 use Rattle.art_model.specs.Pairs.{of_key, first_of, last_of, without_first, without_last, with_key, has_key, is_conflict}
 use Rattle.art_model.specs.Parts.{below}
 use Rattle.art_model.specs.Trees.{byte_at}
-use Rattle.art_reading.specs.declared.descent.End.{End}
-use Rattle.art_reading.specs.declared.descent.End.TheVariants.{First, Last}
 use Rattle.art_map.specs.declared.map.MapInsertError.{MapInsertError}
 use Rattle.art_map.specs.declared.map.MapInsertError.TheVariants.{Conflict, Memory}
 
@@ -24,34 +22,6 @@ IsRefusalOf bytes key value pairs (Memory k v) =
 -- The same of a pair whose value was made, where no equal key is stored.
 abbrev pub IsRefusalOfMade : {K V : Type 0} → (K → List ℕ) → K → (V → Type 0) → List (K × V) → MapInsertError K V → Type 0
 IsRefusalOfMade {K} {V} bytes key IsMade pairs error = (value : V) × IsMade value × IsRefusalOf bytes key value pairs error
-
-module _ {A : Type 0} (bytes : A → List ℕ) where
-  -- the different bytes that follow a place in the keys that begin with it, in rising order
-  abbrev pub next_bytes : List ℕ → List A → List ℕ
-  next_bytes place pairs = dedup ◌==◌ (map (byte_at bytes (length place)) (below bytes place pairs))
-
-  -- The pairs that go are those whose keys begin with some bytes, the place, and then one of the 5, 17 or 49 that follow there: when they go, a node gives way to a smaller one.
-  pub record ShrinksNode (pairs gone : List A) : Type 0 where
-    pub place : List ℕ
-    pub byte : ℕ
-    pub follows : IsIn byte (next_bytes place pairs)
-    pub gone_are : below bytes (place ++ byte ∷ []) pairs ≡ gone
-    pub count : IsIn (length (next_bytes place pairs)) (5 ∷ 17 ∷ 49 ∷ [])
-
-  -- a removal may be refused only of a pair that is there, and only where a node shrinks when that goes
-  abbrev pub MayRefuseRemoval : List A → Option A → Type 0
-  MayRefuseRemoval pairs None = ⊥
-  MayRefuseRemoval pairs (Some x) = ShrinksNode pairs (x ∷ [])
-
--- the pair at an end of a list
-abbrev pub end_of : {A : Type 0} → End → List A → Option A
-end_of First pairs = first_of pairs
-end_of Last pairs = last_of pairs
-
--- the pairs without the one at an end
-abbrev pub without_end : {A : Type 0} → End → List A → List A
-without_end First pairs = without_first pairs
-without_end Last pairs = without_last pairs
 
 -- the value under a key
 abbrev pub value_at : {K V : Type 0} → (K → List ℕ) → List ℕ → List (K × V) → Option V

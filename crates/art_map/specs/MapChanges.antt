@@ -20,12 +20,11 @@ use Rattle.art_writing.specs.Points.{IsRefusedFor}
 use Rattle.art_reading.specs.declared.end_node.InsertKind.TheVariants.{Exact}
 use Rattle.art_writing.specs.declared.insert.PrefixInsertResult.{PrefixInsertResult}
 use Rattle.art_writing.specs.declared.insert.Refused.{Refused}
-use Rattle.art_map.specs.MapAnswers.{IsRefusalOf, MayRefuseRemoval, ShrinksNode}
+use Rattle.art_map.specs.MapAnswers.{IsRefusalOf}
 use Rattle.art_map.specs.MapPairs.{HoldsPairs, pairs_at}
 use Rattle.art_map.specs.declared.map.MapInsertError.{MapInsertError}
 use Rattle.art_map.specs.MapCalls.{IsMakeRefusal}
 use Rattle.art_map.specs.declared.map.MapMakeError.{MapMakeError}
-use Rattle.art_map.specs.declared.map.MapRefused.{MapRefused}
 use Rattle.art_map.specs.declared.map.position.Position.{Position}
 use Rattle.art_map.specs.declared.map.position.Position.TheVariants as positions
 
@@ -126,23 +125,19 @@ module _ {K V : Type 0} (bytes : K → List ℕ) (P : ℕ) (pairs : List (K × V
       HoldsPairs (of_key bytes) P t root len pairs × (refused.key ≡ key) × (refused.value ≡ value) ×
       (length (related_to (of_key bytes) (bytes key) pairs) ≢ 1)
 
-  -- the pair was taken out and these are left, or the pairs are as before
-  abbrev pub HasTaken : Option (K × V) → List (K × V) → Result (Option (K × V)) MapRefused → Nodes K V →
-      Option OpaqueNodePtr → ℕ → Type 0
-  HasTaken pair left (Ok taken) t root len = HoldsPairs (of_key bytes) P t root len left × (taken ≡ pair)
-  HasTaken pair left (Err error) t root len =
-      HoldsPairs (of_key bytes) P t root len pairs × MayRefuseRemoval (of_key bytes) pairs pair
-
-  -- the pairs whose keys begin with a prefix were taken out, and so many they were, or the pairs are as before
-  abbrev pub HasTakenBelow : List ℕ → Result ℕ MapRefused → Nodes K V → Option OpaqueNodePtr → ℕ → Type 0
-  HasTakenBelow prefix (Ok removed) t root len =
+  -- the pairs whose keys begin with a prefix were taken out, and so many they were
+  abbrev pub HasTakenBelow : List ℕ → ℕ → Nodes K V → Option OpaqueNodePtr → ℕ → Type 0
+  HasTakenBelow prefix removed t root len =
       HoldsPairs (of_key bytes) P t root len (not_below (of_key bytes) prefix pairs) ×
       (removed ≡ length (below (of_key bytes) prefix pairs))
-  HasTakenBelow prefix (Err error) t root len =
-      HoldsPairs (of_key bytes) P t root len pairs × ShrinksNode (of_key bytes) pairs (below (of_key bytes) prefix pairs)
 
   -- a store, a root and a length stand for clones of the pairs
   abbrev pub HoldsClones : (K → K → Type 0) → (V → V → Type 0) → Nodes K V → Option OpaqueNodePtr → ℕ → Type 0
   HoldsClones is_key_clone is_value_clone t root len =
       (copies : List (K × V)) × AreClones is_key_clone is_value_clone pairs copies ×
       HoldsPairs (of_key bytes) P t root len copies
+
+-- this pair was taken out, where there is one, and these are left
+abbrev pub HasTaken : {K V : Type 0} → (K → List ℕ) → ℕ → Option (K × V) → List (K × V) → Option (K × V) → Nodes K V →
+    Option OpaqueNodePtr → ℕ → Type 0
+HasTaken bytes P pair left taken t root len = HoldsPairs (of_key bytes) P t root len left × (taken ≡ pair)

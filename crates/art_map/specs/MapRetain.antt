@@ -1,5 +1,5 @@
 -- What `retain` asked of the pairs of a map, and which it left.
-use Rattle.std.specs.Prelude.{◌≡◌, ℕ, Bool, false, cond, List, [], ◌∷◌, ◌++◌, Option, Some, None, Result, Ok, Err}
+use Rattle.std.specs.Prelude.{◌≡◌, ℕ, Bool, false, cond, List, [], ◌∷◌, ◌++◌, Option, Some, None}
 use Rattle.std.specs.Fn.{Called, Mut}
 use Rattle.std.specs.declared.ops.Bound.{Bound}
 use Rattle.std.specs.declared.ops.Bound.TheVariants.{Excluded, Unbounded}
@@ -10,10 +10,8 @@ use Rattle.art_nodes.specs.Nodes.{Nodes}
 use Rattle.art_parts.specs.declared.names.OpaqueNodePtr.{OpaqueNodePtr}
 use Rattle.art_writing.specs.Deleted.{LeadsTo, IsDeletePointIn}
 use Rattle.art_writing.specs.declared.delete.DeletePoint.{DeletePoint}
-use Rattle.art_map.specs.MapAnswers.{ShrinksNode}
 use Rattle.art_map.specs.MapItems.{deref_pair}
 use Rattle.art_map.specs.MapPairs.{HoldsPairs}
-use Rattle.art_map.specs.declared.map.MapRefused.{MapRefused}
 use denote.Ref.{Bor}
 
 -- A call of the closure f at a pair may return b, and leave f as it is then.
@@ -24,7 +22,7 @@ pub record AsksPair {F K V : Type 0} (g : Mut F (Bor K × (Bor V × Unit {0})) B
   pub called : Called g f (key, (value, tt)) b left
 
 module _ {F A : Type 0} (asks : F → A → Bool → F → Type 0) where
-  -- f was asked of each pair in turn, and these are left: those of which it returned true
+  -- f was asked of each pair in turn, once, and of nothing else. These are left: those of which it returned true.
   abbrev pub Retains : F → List A → List A → F → Type 0
   Retains f [] kept left = (kept ≡ []) × (f ≡ left)
   Retains f (x ∷ xs) kept left =
@@ -43,20 +41,6 @@ module _ {F A : Type 0} (asks : F → A → Bool → F → Type 0) where
     pub kept : Retains f seen seen next
     pub refused : asks next x false left
 
-  -- f was asked of each pair up to one of which it returned false and that may not be taken out for want of memory: it stays, with all after it
-  pub record RetainsUntil (bytes : A → List ℕ) (f : F) (before after : List A) : Type 0 where
-    pub seen : List A
-    pub kept : List A
-    pub refused : A
-    pub rest : List A
-    pub next : F
-    pub left : F
-    pub before_is : before ≡ seen ++ refused ∷ rest
-    pub after_is : after ≡ kept ++ refused ∷ rest
-    pub retains : Retains f seen kept next
-    pub asked : asks next refused false left
-    pub shrinks : ShrinksNode bytes after (refused ∷ [])
-
 -- ---- one step of it. No public clause cites what follows.
 
 -- the bound after the key of a pair, where there is one
@@ -69,18 +53,16 @@ abbrev pub pairs_after : {A : Type 0} → (A → List ℕ) → Option A → List
 pairs_after bytes last pairs = between bytes (after_pair bytes last) Unbounded pairs
 
 module _ {F K V : Type 0} (asks : F → K × V → Bool → F → Type 0) (bytes : K → List ℕ) where
-  -- the first pair after this one of which f returned false was taken out, or f returned true of all, or it may not be taken out
-  abbrev pub TakesRefused : Option (K × V) → F → List (K × V) → Result (Option (K × V)) MapRefused → F → List (K × V) → Type 0
-  TakesRefused last f before (Ok None) left after =
+  -- the first pair after this one of which f returned false was taken out, or f returned true of all
+  abbrev pub TakesRefused : Option (K × V) → F → List (K × V) → Option (K × V) → F → List (K × V) → Type 0
+  TakesRefused last f before None left after =
       (after ≡ before) × Retains asks f (pairs_after (of_key bytes) last before) (pairs_after (of_key bytes) last before) left
-  TakesRefused last f before (Ok (Some x)) left after =
+  TakesRefused last f before (Some x) left after =
       (after ≡ remove_key (of_key bytes) (bytes x.0) before) × StopsAt asks f (pairs_after (of_key bytes) last before) x left
-  TakesRefused last f before (Err error) left after =
-      (x : K × V) × (after ≡ before) × StopsAt asks f (pairs_after (of_key bytes) last before) x left × ShrinksNode (of_key bytes) before (x ∷ [])
 
 module _ {F K V : Type 0} (asks : F → K × V → Bool → F → Type 0) (bytes : K → List ℕ) (P : ℕ) where
   -- the same of what a store, a root and a length stand for
-  abbrev pub HasTakenRefused : Option (K × V) → F → List (K × V) → Result (Option (K × V)) MapRefused → F → Nodes K V → Option OpaqueNodePtr → ℕ → Type 0
+  abbrev pub HasTakenRefused : Option (K × V) → F → List (K × V) → Option (K × V) → F → Nodes K V → Option OpaqueNodePtr → ℕ → Type 0
   HasTakenRefused last f before result left t root len =
       (after : List (K × V)) × HoldsPairs (of_key bytes) P t root len after × TakesRefused asks bytes last f before result left after
 

@@ -1,5 +1,5 @@
 -- What two sets have together, by their lists of keys.
-use Rattle.std.specs.Prelude.{ℕ, Bool, true, false, cond, not, List, filter}
+use Rattle.std.specs.Prelude.{◌≡◌, ℕ, ◌+◌, Option, Some, Bool, true, false, cond, not, List, filter}
 use Rattle.std.specs.List.{list_all, list_any}
 use Rattle.std.specs.Cmp.Lexicographic.{slice_cmp}
 use Rattle.std.specs.Ordering.{nat_cmp}
@@ -43,3 +43,7 @@ module _ {K : Type 0} (bytes : K → List ℕ) where
   -- whether no key of the first set is in the second
   abbrev pub is_disjoint : List K → List K → Bool
   is_disjoint keys others = not (list_any (has_equal others) keys)
+
+-- both numbers are there, and this is their sum
+abbrev pub IsSum : Option ℕ → Option ℕ → ℕ → Type 0
+IsSum a b sum = (n : ℕ) × (m : ℕ) × (a ≡ Some n) × (b ≡ Some m) × (sum ≡ n + m)

@@ -1,5 +1,5 @@
 //! An ordered map from keys of bytes to values. Its contracts speak of lists of pairs alone.
-ghost use Rattle.std.specs.Prelude.{◌≡◌, ◌≢◌, ◌+◌, ◌^◌, ◌<◌, ◌↔◌, ℕ, List, [], length, false, IsTrue, IfOk, IfErr, OnOk, OnErr, None, Some, option_copied, IsSome};
+ghost use Rattle.std.specs.Prelude.{◌≡◌, ◌≢◌, ◌+◌, ◌^◌, ◌<◌, ◌↔◌, ℕ, List, [], length, false, IsOk, IsTrue, IfOk, IfErr, OnOk, OnErr, None, Some, option_copied, IsSome};
 ghost use Rattle.std.specs.FinMap as map;
 ghost use Rattle.std.specs.Borrow.{sem};
 ghost use Rattle.std.specs.Option.{option_copied_mut, option_map, unwrap_or};
@@ -12,16 +12,14 @@ ghost use Rattle.art_model.specs.Roots.{ForTree, IsCanonicalRoot};
 ghost use Rattle.art_model.specs.Stores.{pair_of};
 ghost use Rattle.art_writing.specs.Deleted.{IsDeletePoint, IsDeletePointIn, LeadsTo};
 ghost use Rattle.art_map.specs.declared.map.MapInsertError.TheVariants as errors;
-ghost use Rattle.art_map.specs.MapAnswers.{end_of, without_end};
 ghost use Rattle.art_map.specs.MapChanges.{HasPlanted, HasPut, HasPutOver, HasTaken, HoldsClones, gone_count};
 ghost use Rattle.art_map.specs.MapItems.{deref_pair, keys_of, values_of};
 ghost use Rattle.art_map.specs.MapPairs.{HoldsPairs, pairs_at};
 
 use art_nodes::node::{AsBytes, LeafPtr, OpaqueNodePtr};
 use art_nodes::store::NodeStore;
-use art_reading::descent::End;
 use art_reading::iterator::RawIterator;
-use art_reading::lookup::{Asked, find_unchecked, search_unchecked};
+use art_reading::lookup::{Asked, KeyQuery, find_unchecked, search_unchecked};
 use art_reading::minmax::{maximum_unchecked, minimum_unchecked};
 use art_reading::range::{
     first_from_unchecked, last_up_to_unchecked, prefix_unchecked, range_unchecked,
@@ -34,7 +32,6 @@ use art_writing::insert::{
     InsertPrefixError, InsertSearchError, PrefixInsertResult, Refused, plant,
     search_for_insert_point, search_for_prefix_insert_point,
 };
-use art_writing::taken;
 use std::alloc::{AllocError, Global};
 use std::fmt;
 use std::marker::Model;
@@ -51,10 +48,12 @@ mod lend;
 mod owned;
 mod parts;
 mod position;
+mod queried;
 mod range;
 mod remove;
 mod replace;
 mod retain;
+mod texts;
 
 pub use entry::{Entry, EntryOf};
 pub use iter::{Leaves, MapIter, MapIterOf};
@@ -92,7 +91,7 @@ pub enum MapMakeError<K, V, E> {
     Insert(MapInsertError<K, V>),
 }
 
-/// A removal that was not made, for want of memory.
+/// A removal that failed. No call returns one: a removal takes no memory.
 #[derive(Clone, Copy, PartialEq, Eq, Debug, Error)]
 #[error("memory allocation failed")]
 pub struct MapRefused;
@@ -123,7 +122,7 @@ impl<K: AsBytes, V, const P: usize> Model for ByteMap<K, V, P> {
 }
 
 impl<K: AsBytes + Drop, V: Drop, const P: usize> ByteMap<K, V, P> {
-    ghost use Rattle.art_map.specs.MapAnswers.{IsRefusalOf, MayRefuseRemoval, ShrinksNode, value_at};
+    ghost use Rattle.art_map.specs.MapAnswers.{IsRefusalOf, value_at};
     ghost use Rattle.art_map.specs.MapLends.{lends_put, lends_value};
 
     /// Returns an empty map, and takes no memory.
@@ -387,85 +386,55 @@ impl<K: AsBytes + Drop, V: Drop, const P: usize> ByteMap<K, V, P> {
         put_over(&mut self.store, &mut self.root, &mut self.len, key, value)
     }
 
-    /// Takes out the pair of the key with these bytes, by one descent, and returns it. It is refused only
-    /// where a node of 5, 17 or 49 children gives way to a smaller one, and there is no memory for that.
+    // ---- Removals. None of them takes memory, and none fails: see `NodeStore` for the slots that it keeps. Three return
+    // a `Result` which is always `Ok`.
+
+    /// Removes the pair of the key with these bytes, by one descent, and returns it. It never fails.
     pub fn remove(&mut self, key_bytes: &[u8]) -> Result<Option<(K, V)>, MapRefused>
-        ensures pairs { OnOk result
-            (self.new ≡ remove_key (of_key K.bytes) key_bytes.now self.old) }
+        ensures succeeds { IsOk result }
+        ensures pairs { self.new ≡ remove_key (of_key K.bytes) key_bytes.now self.old }
         ensures removed { IfOk result (λ removed.
             removed ≡ remove_reply (of_key K.bytes) key_bytes.now self.old) }
-        ensures gone { OnOk result (value_at K.bytes key_bytes.now self.new ≡ None) }
-        ensures others { OnOk result ((other : List ℕ) → other ≢ key_bytes.now →
-            value_at K.bytes other self.new ≡ value_at K.bytes other self.old) }
-        ensures kept { OnErr result (self.new ≡ self.old) }
-        ensures refused { OnErr result (MayRefuseRemoval (of_key K.bytes) self.old
-            (remove_reply (of_key K.bytes) key_bytes.now self.old)) }
+        ensures gone { value_at K.bytes key_bytes.now self.new ≡ None }
+        ensures others { (other : List ℕ) → other ≢ key_bytes.now →
+            value_at K.bytes other self.new ≡ value_at K.bytes other self.old }
     {
-        take_key(&mut self.store, &mut self.root, &mut self.len, key_bytes)
+        Ok(self.remove_by(key_bytes))
     }
 
-    /// Takes out the first pair, and returns it. It is refused as `remove` is.
+    /// Removes the first pair and returns it. It never fails.
     pub fn pop_first(&mut self) -> Result<Option<(K, V)>, MapRefused>
-        ensures pairs { OnOk result (self.new ≡ without_first self.old) }
+        ensures succeeds { IsOk result }
+        ensures pairs { self.new ≡ without_first self.old }
         ensures removed { IfOk result (λ removed. removed ≡ first_of self.old) }
-        ensures kept { OnErr result (self.new ≡ self.old) }
-        ensures refused { OnErr result (MayRefuseRemoval (of_key K.bytes) self.old
-            (first_of self.old)) }
     {
-        self.pop_end(End::First)
+        Ok(take_first(&mut self.store, &mut self.root, &mut self.len))
     }
 
-    /// Takes out the last pair, and returns it. It is refused as `remove` is.
+    /// Removes the last pair and returns it. It never fails.
     pub fn pop_last(&mut self) -> Result<Option<(K, V)>, MapRefused>
-        ensures pairs { OnOk result (self.new ≡ without_last self.old) }
+        ensures succeeds { IsOk result }
+        ensures pairs { self.new ≡ without_last self.old }
         ensures removed { IfOk result (λ removed. removed ≡ last_of self.old) }
-        ensures kept { OnErr result (self.new ≡ self.old) }
-        ensures refused { OnErr result (MayRefuseRemoval (of_key K.bytes) self.old
-            (last_of self.old)) }
     {
-        self.pop_end(End::Last)
+        Ok(take_last(&mut self.store, &mut self.root, &mut self.len))
     }
 
-    /// Takes out the first of the pairs whose keys begin with these bytes, and returns it. It is
-    /// refused as `remove` is.
-    pub fn pop_first_below(&mut self, prefix: &[u8]) -> Result<Option<(K, V)>, MapRefused>
-        ensures pairs { OnOk result
-            (self.new ≡ without_below (of_key K.bytes) prefix.now 1 self.old) }
-        ensures removed { IfOk result (λ removed.
-            removed ≡ first_of (below (of_key K.bytes) prefix.now self.old)) }
-        ensures kept { OnErr result (self.new ≡ self.old) }
-        ensures refused { OnErr result (MayRefuseRemoval (of_key K.bytes) self.old
-            (first_of (below (of_key K.bytes) prefix.now self.old))) }
+    /// Removes the first of the pairs whose keys start with these bytes, and returns it.
+    pub fn pop_first_below(&mut self, prefix: &[u8]) -> Option<(K, V)>
+        ensures pairs { self.new ≡ without_below (of_key K.bytes) prefix.now 1 self.old }
+        ensures removed { result ≡ first_of (below (of_key K.bytes) prefix.now self.old) }
     {
         take_below(&mut self.store, &mut self.root, &mut self.len, prefix)
     }
 
-    /// Takes out all pairs whose keys begin with these bytes, at once, and returns how many. It goes
-    /// down as `prefix` does, and frees what is below the node that it comes to.
-    ///
-    /// It is refused before any change, and only where the parent of that node gives way to a smaller
-    /// one, from 5, 17 or 49 children, and there is no memory for that.
-    pub fn remove_prefix(&mut self, prefix: &[u8]) -> Result<usize, MapRefused>
-        ensures pairs { OnOk result
-            (self.new ≡ not_below (of_key K.bytes) prefix.now self.old) }
-        ensures removed { IfOk result (λ removed.
-            removed ≡ length (below (of_key K.bytes) prefix.now self.old)) }
-        ensures kept { OnErr result (self.new ≡ self.old) }
-        ensures refused { OnErr result (ShrinksNode (of_key K.bytes) self.old
-            (below (of_key K.bytes) prefix.now self.old)) }
+    /// Removes all pairs whose keys start with these bytes, at once, and returns how many. It descends as `prefix`
+    /// does, and frees all nodes below the one that it comes to.
+    pub fn remove_prefix(&mut self, prefix: &[u8]) -> usize
+        ensures pairs { self.new ≡ not_below (of_key K.bytes) prefix.now self.old }
+        ensures removed { result ≡ length (below (of_key K.bytes) prefix.now self.old) }
     {
         take_all_below(&mut self.store, &mut self.root, &mut self.len, prefix)
-    }
-
-    // Takes out the pair at an end.
-    fn pop_end(&mut self, end: End) -> Result<Option<(K, V)>, MapRefused>
-        ensures pairs { OnOk result (self.new ≡ without_end end self.old) }
-        ensures removed { IfOk result (λ removed. removed ≡ end_of end self.old) }
-        ensures kept { OnErr result (self.new ≡ self.old) }
-        ensures refused { OnErr result (MayRefuseRemoval (of_key K.bytes) self.old
-            (end_of end self.old)) }
-    {
-        take_end(&mut self.store, &mut self.root, &mut self.len, end)
     }
 
     /// Takes out all pairs, and takes no memory. It goes over the slabs, down no tree. The store keeps
@@ -732,26 +701,26 @@ fn copy_tree<K: AsBytes + Clone + Drop, V: Clone + Drop, const P: usize>(
 }
 
 // Takes the pair of a key out of the tree.
-fn take_key<K: AsBytes + Drop, V: Drop, const P: usize>(
+fn take_key<Q: KeyQuery, K: AsBytes + Drop, V: Drop, const P: usize>(
     store: &mut NodeStore<K, V, P>,
     root: &mut Option<OpaqueNodePtr>,
     len: &mut usize,
-    key_bytes: &[u8],
-) -> Result<Option<(K, V)>, MapRefused>
+    query: Q,
+) -> Option<(K, V)>
     requires { HoldsPairs (of_key K.bytes) P store.old root.old len.old
         (pairs_at store.old root.old) }
-    ensures { HasTaken K.bytes P (pairs_at store.old root.old)
-        (remove_reply (of_key K.bytes) key_bytes.now (pairs_at store.old root.old))
-        (remove_key (of_key K.bytes) key_bytes.now (pairs_at store.old root.old)) result
+    ensures { HasTaken K.bytes P
+        (remove_reply (of_key K.bytes) (Q.key query) (pairs_at store.old root.old))
+        (remove_key (of_key K.bytes) (Q.key query) (pairs_at store.old root.old)) result
         store.new root.new len.new }
 {
     let Some(name) = *root else {
-        return Ok(None);
+        return None;
     };
-    let Some(point) = search_for_delete_point_by_lengths(store, name, key_bytes) else {
-        return Ok(None);
+    let Some(point) = search_for_delete_point_by_lengths(store, name, query) else {
+        return None;
     };
-    take_out(store, root, len, name, point)
+    Some(take_out(store, root, len, name, point))
 }
 
 // Takes the first of the pairs whose keys begin with a prefix out of the tree.
@@ -760,62 +729,61 @@ fn take_below<K: AsBytes + Drop, V: Drop, const P: usize>(
     root: &mut Option<OpaqueNodePtr>,
     len: &mut usize,
     prefix: &[u8],
-) -> Result<Option<(K, V)>, MapRefused>
+) -> Option<(K, V)>
     requires { HoldsPairs (of_key K.bytes) P store.old root.old len.old
         (pairs_at store.old root.old) }
-    ensures { HasTaken K.bytes P (pairs_at store.old root.old)
+    ensures { HasTaken K.bytes P
         (first_of (below (of_key K.bytes) prefix.now (pairs_at store.old root.old)))
         (without_below (of_key K.bytes) prefix.now 1 (pairs_at store.old root.old)) result
         store.new root.new len.new }
 {
     let Some(name) = *root else {
-        return Ok(None);
+        return None;
     };
     let Some(leaf) = prefix_unchecked(store, name, prefix).next(store) else {
-        return Ok(None);
+        return None;
     };
     let key_bytes = pair_at(store, leaf).0.as_bytes();
     let Some(point) = search_for_delete_point_by_lengths(store, name, key_bytes) else {
         unreachable!()
     };
-    take_out(store, root, len, name, point)
+    Some(take_out(store, root, len, name, point))
 }
 
-// Takes the pair at an end out of the tree.
-fn take_end<K: AsBytes + Drop, V: Drop, const P: usize>(
+// Takes the first pair out of the tree.
+fn take_first<K: AsBytes + Drop, V: Drop, const P: usize>(
     store: &mut NodeStore<K, V, P>,
     root: &mut Option<OpaqueNodePtr>,
     len: &mut usize,
-    end: End,
-) -> Result<Option<(K, V)>, MapRefused>
+) -> Option<(K, V)>
     requires { HoldsPairs (of_key K.bytes) P store.old root.old len.old
         (pairs_at store.old root.old) }
-    ensures { HasTaken K.bytes P (pairs_at store.old root.old)
-        (end_of end (pairs_at store.old root.old)) (without_end end (pairs_at store.old root.old))
-        result store.new root.new len.new }
+    ensures { HasTaken K.bytes P (first_of (pairs_at store.old root.old))
+        (without_first (pairs_at store.old root.old)) result store.new root.new len.new }
 {
     let Some(name) = *root else {
-        return Ok(None);
+        return None;
     };
-    let point = find_end_to_delete(store, name, end);
-    take_out(store, root, len, name, point)
+    let point = find_minimum_to_delete(store, name);
+    Some(take_out(store, root, len, name, point))
 }
 
-// The point of the leaf at an end of the tree.
-fn find_end_to_delete<K: AsBytes + Drop, V: Drop, const P: usize>(
-    store: &NodeStore<K, V, P>,
-    root: OpaqueNodePtr,
-    end: End,
-) -> DeletePoint
-    requires { IsCanonicalRoot (of_key K.bytes) P store.now root }
-    ensures point { ForTree (of_key K.bytes) P store.now root (λ pairs layout.
-        IsDeletePoint layout (end_of end pairs) (Some result)) }
-    ensures applies { IsDeletePointIn (of_key K.bytes) P store.now root result }
+// Takes the last pair out of the tree.
+fn take_last<K: AsBytes + Drop, V: Drop, const P: usize>(
+    store: &mut NodeStore<K, V, P>,
+    root: &mut Option<OpaqueNodePtr>,
+    len: &mut usize,
+) -> Option<(K, V)>
+    requires { HoldsPairs (of_key K.bytes) P store.old root.old len.old
+        (pairs_at store.old root.old) }
+    ensures { HasTaken K.bytes P (last_of (pairs_at store.old root.old))
+        (without_last (pairs_at store.old root.old)) result store.new root.new len.new }
 {
-    match end {
-        End::First => find_minimum_to_delete(store, root),
-        End::Last => find_maximum_to_delete(store, root),
-    }
+    let Some(name) = *root else {
+        return None;
+    };
+    let point = find_maximum_to_delete(store, name);
+    Some(take_out(store, root, len, name, point))
 }
 
 // Takes all pairs out, with the tree.
@@ -841,20 +809,20 @@ fn take_out<K: AsBytes + Drop, V: Drop, const P: usize>(
     len: &mut usize,
     name: OpaqueNodePtr,
     point: DeletePoint,
-) -> Result<Option<(K, V)>, MapRefused>
+) -> (K, V)
     requires root { root.old ≡ Some name }
     requires point { IsDeletePointIn (of_key K.bytes) P store.old name point }
     requires holds { HoldsPairs (of_key K.bytes) P store.old (Some name) len.old
         (pairs_at store.old (Some name)) }
     ensures { ForTree (of_key K.bytes) P store.old name (λ pairs layout.
         (x : K × V) → LeadsTo layout x point →
-        HasTaken K.bytes P pairs (Some x) (remove_key (of_key K.bytes) (K.bytes x.0) pairs) result
+        HasTaken K.bytes P (Some x) (remove_key (of_key K.bytes) (K.bytes x.0) pairs) (Some result)
         store.new root.new len.new) }
 {
-    let Some(done) = taken::take_out(point, store, name) else {
-        return Err(MapRefused);
+    let Ok(done) = point.apply(store, name) else {
+        unreachable!()
     };
     *root = done.new_root;
     *len -= 1;
-    Ok(Some((done.deleted_leaf.key, done.deleted_leaf.value)))
+    (done.deleted_leaf.key, done.deleted_leaf.value)
 }

@@ -1,12 +1,11 @@
 //! An ordered set of keys of bytes, on the map. Its contracts speak of lists of keys alone.
 #![tactic(auto, using(crate::proofs::SetLaws::set_laws))]
 
-ghost use Rattle.std.specs.Prelude.{◌≡◌, ◌↔◌, ◌<◌, ◌^◌, [], length, false, not, IsTrue, IfOk, IfErr, OnOk, OnErr, option_copied};
-ghost use Rattle.art_model.specs.Pairs.{IsMap, first_of, has_key, is_conflict, last_of, of_key, remove_key, remove_reply, replace_key, with_key, without_first, without_last};
-ghost use Rattle.art_map.specs.MapAnswers.{MayRefuseRemoval};
-ghost use Rattle.art_map.specs.SetKeys.{IsKeyRefusal, add_key, as_pairs, key_error};
+ghost use Rattle.std.specs.Prelude.{◌≡◌, ◌↔◌, ◌<◌, ◌^◌, [], length, false, not, IsOk, IsTrue, IfOk, IfErr, OnOk, OnErr, option_copied};
+ghost use Rattle.art_model.specs.Pairs.{IsMap, first_of, has_key, is_conflict, last_of, remove_key, remove_reply, replace_key, with_key, without_first, without_last};
+ghost use Rattle.art_map.specs.SetKeys.{IsKeyRefusal, add_key, key_error};
 
-use crate::map::{ByteMap, IntoKeys, Keys, MapInsertError, MapRefused};
+use crate::map::{ByteMap, IntoKeys, Keys, MapInsertError};
 use art_nodes::node::AsBytes;
 use art_writing::insert::InsertPrefixError;
 use std::alloc::{AllocError, Global};
@@ -17,11 +16,13 @@ use thiserror::Error;
 mod algebra;
 mod compared;
 mod extend;
+mod queried;
 mod range;
 mod retain;
 
 pub use algebra::{
     Difference, HasKey, Intersection, MergedOf, SelectedOf, SymmetricDifference, Union,
+    keys_of_two_sets,
 };
 pub use range::{KeyRange, KeyRangeOf};
 
@@ -164,70 +165,41 @@ impl<K: AsBytes + Drop, const P: usize> ByteSet<K, P> {
         }
     }
 
-    /// Takes out the key with these bytes, and returns whether it was there. It is refused only where a
-    /// node of 5, 17 or 49 children gives way to a smaller one, and there is no memory for that.
-    pub fn remove(&mut self, key_bytes: &[u8]) -> Result<bool, MapRefused>
-        ensures keys { OnOk result (self.new ≡ remove_key K.bytes key_bytes.now self.old) }
-        ensures removed { IfOk result (λ removed.
-            removed ≡ has_key K.bytes key_bytes.now self.old) }
-        ensures kept { OnErr result (self.new ≡ self.old) }
-        ensures refused { OnErr result (MayRefuseRemoval (of_key K.bytes) (as_pairs self.old)
-            (remove_reply (of_key K.bytes) key_bytes.now (as_pairs self.old))) }
+    // ---- Removals. None of them takes memory, and none fails.
+
+    /// Removes the key with these bytes, and returns whether it was there.
+    pub fn remove(&mut self, key_bytes: &[u8]) -> bool
+        ensures keys { self.new ≡ remove_key K.bytes key_bytes.now self.old }
+        ensures removed { result ≡ has_key K.bytes key_bytes.now self.old }
     {
-        let removed = match self.map.remove(key_bytes) {
-            Ok(removed) => removed,
-            Err(refused) => return Err(refused),
-        };
-        Ok(removed.is_some())
+        self.remove_by(key_bytes)
     }
 
-    /// Takes out the key with these bytes, and returns it. It is refused as `remove` is.
-    pub fn take(&mut self, key_bytes: &[u8]) -> Result<Option<K>, MapRefused>
-        ensures keys { OnOk result (self.new ≡ remove_key K.bytes key_bytes.now self.old) }
-        ensures removed { IfOk result (λ removed.
-            removed ≡ remove_reply K.bytes key_bytes.now self.old) }
-        ensures kept { OnErr result (self.new ≡ self.old) }
-        ensures refused { OnErr result (MayRefuseRemoval (of_key K.bytes) (as_pairs self.old)
-            (remove_reply (of_key K.bytes) key_bytes.now (as_pairs self.old))) }
+    /// Removes the key with these bytes, and returns it.
+    pub fn take(&mut self, key_bytes: &[u8]) -> Option<K>
+        ensures keys { self.new ≡ remove_key K.bytes key_bytes.now self.old }
+        ensures removed { result ≡ remove_reply K.bytes key_bytes.now self.old }
     {
-        let removed = match self.map.remove(key_bytes) {
-            Ok(removed) => removed,
-            Err(refused) => return Err(refused),
-        };
-        match removed {
-            Some((key, _)) => Ok(Some(key)),
-            None => Ok(None),
-        }
+        let (key, _) = self.map.remove_by(key_bytes)?;
+        Some(key)
     }
 
-    /// Takes out the first key, and returns it. It is refused as `remove` is.
-    pub fn pop_first(&mut self) -> Result<Option<K>, MapRefused>
-        ensures keys { OnOk result (self.new ≡ without_first self.old) }
-        ensures removed { IfOk result (λ removed. removed ≡ first_of self.old) }
-        ensures kept { OnErr result (self.new ≡ self.old) }
-        ensures refused { OnErr result (MayRefuseRemoval (of_key K.bytes) (as_pairs self.old)
-            (first_of (as_pairs self.old))) }
+    /// Removes the first key and returns it.
+    pub fn pop_first(&mut self) -> Option<K>
+        ensures keys { self.new ≡ without_first self.old }
+        ensures removed { result ≡ first_of self.old }
     {
-        match self.map.pop_first() {
-            Ok(Some((key, _))) => Ok(Some(key)),
-            Ok(None) => Ok(None),
-            Err(refused) => Err(refused),
-        }
+        let (key, _) = self.map.pop_first().unwrap()?;
+        Some(key)
     }
 
-    /// Takes out the last key, and returns it. It is refused as `remove` is.
-    pub fn pop_last(&mut self) -> Result<Option<K>, MapRefused>
-        ensures keys { OnOk result (self.new ≡ without_last self.old) }
-        ensures removed { IfOk result (λ removed. removed ≡ last_of self.old) }
-        ensures kept { OnErr result (self.new ≡ self.old) }
-        ensures refused { OnErr result (MayRefuseRemoval (of_key K.bytes) (as_pairs self.old)
-            (last_of (as_pairs self.old))) }
+    /// Removes the last key and returns it.
+    pub fn pop_last(&mut self) -> Option<K>
+        ensures keys { self.new ≡ without_last self.old }
+        ensures removed { result ≡ last_of self.old }
     {
-        match self.map.pop_last() {
-            Ok(Some((key, _))) => Ok(Some(key)),
-            Ok(None) => Ok(None),
-            Err(refused) => Err(refused),
-        }
+        let (key, _) = self.map.pop_last().unwrap()?;
+        Some(key)
     }
 
     /// Takes out all keys, and takes no memory. It goes over the slabs, down no tree. The store keeps the

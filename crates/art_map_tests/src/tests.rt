@@ -7,4 +7,5 @@ mod memory;
 mod owned;
 mod ranges;
 mod related;
+mod removals;
 mod sets;

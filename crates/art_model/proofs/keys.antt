@@ -2,3 +2,4 @@
 pub mod Keys
 pub mod KeyLaws
 pub mod Fronts
+pub mod Texts

@@ -3,3 +3,4 @@ pub mod MapLaws
 pub mod Between
 pub mod PutOver
 pub mod Puts
+pub mod TextLaws

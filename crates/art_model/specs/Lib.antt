@@ -3,6 +3,7 @@ pub mod Keys
 pub mod KeyLaws
 pub mod Pairs
 pub mod Parts
+pub mod Texts
 pub mod MapLaws
 pub mod Changes
 pub mod Clones

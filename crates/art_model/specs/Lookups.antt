@@ -38,6 +38,11 @@ abbrev pub FindsLeaf : {A : Type 0} → Tree OpaqueNodePtr A → List A → Opti
 FindsLeaf tree pairs None = pairs ≡ []
 FindsLeaf {A} tree pairs (Some name) = (x : A) × (pairs ≡ x ∷ []) × HasLeaf tree (leaf_name name) x
 
+-- the leaf of the last pair of the list is found, or none where there is no pair
+abbrev pub FindsLast : {A : Type 0} → Tree OpaqueNodePtr A → List A → Option LeafPtr → Type 0
+FindsLast tree pairs None = pairs ≡ []
+FindsLast {A} tree pairs (Some name) = (x : A) × (last_of pairs ≡ Some x) × HasLeaf tree (leaf_name name) x
+
 -- the pair of the leaf that a look-up names, if it names one
 abbrev pub pair_under : {K V : Type 0} → Nodes K V → Option LeafPtr → Option (K × V)
 pair_under s None = None

@@ -12,4 +12,5 @@ pub mod footprints;
 pub mod layouts;
 pub mod maps;
 pub mod order;
+pub mod texts;
 pub mod trees;

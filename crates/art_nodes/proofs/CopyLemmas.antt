@@ -1,9 +1,10 @@
 -- Slots with clones of other slots' values, and what the maps that they stand for have then.
-use Rattle.std.proofs.Common.{◌≡◌, ℕ, zero, suc, List, [], ◌∷◌, get_or, Option, Some, None, refl, ap}
+use Rattle.std.proofs.Common.{◌≡◌, ℕ, zero, suc, List, [], ◌∷◌, get_or, Option, Some, None, is_some, refl, ap}
 use Rattle.std.proofs.lemmas.List.Elements.{same_from_all_zip}
 use Rattle.std.specs.FinMap.{FinMap}
 use Rattle.std.specs.List.{AllZip}
-use Rattle.slab.specs.Slab.{IsSlotClone}
+use Rattle.std.specs.Prelude.{count_by}
+use Rattle.slab.specs.Slab.{Slab, IsSlotClone, slab_len}
 use Rattle.art_inner.specs.Inner.{Inner}
 use Rattle.art_parts.specs.LeafClones.{IsLeafCopy}
 use Rattle.art_parts.specs.Names.{leaf_cmp}
@@ -39,3 +40,6 @@ same_slot (Some node) (Some other) is = ap Some is
 -- slots of nodes that equal their clones are the same
 pub slots_kept : (slots copies : List (Option Inner)) → AllZip (IsSlotClone (λ node other. other ≡ node)) slots copies → copies ≡ slots
 slots_kept slots copies are = same_from_all_zip (IsSlotClone (λ node other. other ≡ node)) slots copies are same_slot
+
+pub len_kept : (old copy : Slab Inner) → AllZip (IsSlotClone (λ node other. other ≡ node)) old.slots copy.slots → slab_len copy ≡ slab_len old
+len_kept old copy are = ap (count_by is_some) (slots_kept old.slots copy.slots are)

@@ -13,6 +13,7 @@ pub use Rattle.art_writing.proofs.Freed.{first_freed}
 pub use Rattle.art_writing.proofs.FreedTrees.{all_can}
 pub use Rattle.art_writing.proofs.Elsewhere.{placement_elsewhere, tree_stays}
 pub use Rattle.art_map.proofs.CallerLaws.{map_laws, value_here, value_elsewhere, value_gone, value_left}
+pub use Rattle.art_map.proofs.RetainLaws.{retained_known}
 
 -- keys whose bytes are of one length are never in conflict
 pub same_length_free : {K V : Type 0} (bytes : K → List ℕ) (n : ℕ) (key : K) (pairs : List (K × V)) → length (bytes key) ≡ n → Each (λ x. length (bytes x.0) ≡ n) pairs →

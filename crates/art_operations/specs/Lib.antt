@@ -2,6 +2,7 @@
 pub use Rattle.art_model.specs.Keys
 pub use Rattle.art_model.specs.Pairs
 pub use Rattle.art_model.specs.Parts
+pub use Rattle.art_model.specs.Texts
 pub use Rattle.art_model.specs.Clones
 pub use Rattle.art_model.specs.Trees
 -- trees under the names of a store
@@ -27,13 +28,10 @@ pub use Rattle.art_reading.specs.EndNodes
 pub use Rattle.art_writing.specs.Points
 pub use Rattle.art_writing.specs.Inserted
 pub use Rattle.art_writing.specs.Conflicts
-pub use Rattle.art_writing.specs.Branches
 pub use Rattle.art_writing.specs.Overwritten
--- deletion, the freeing of trees, and copies
+-- deletion
 pub use Rattle.art_writing.specs.Deleted
 pub use Rattle.art_writing.specs.Subtrees
-pub use Rattle.art_writing.specs.Freed
-pub use Rattle.art_writing.specs.Cloned
 -- visitors, and what may be wrong with a store
 pub use Rattle.art_checking.specs.Folds
 pub use Rattle.art_model.specs.Faults
@@ -57,6 +55,7 @@ pub use Rattle.art_keys.specs.Joins
 pub use Rattle.art_keyed.specs.KeyedPairs
 pub use Rattle.art_keyed.specs.KeyedRefusals
 pub use Rattle.art_keyed.specs.KeyedLends
+pub use Rattle.art_keyed.specs.Matches
 -- runs of commands
 pub use Rattle.art_running.specs.Answers
 pub use Rattle.art_running.specs.Needs

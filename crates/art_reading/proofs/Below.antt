@@ -11,10 +11,12 @@ use Rattle.art_parts.specs.declared.names.InnerPtr.{InnerPtr}
 use Rattle.art_parts.specs.declared.names.OpaqueNodePtr.{OpaqueNodePtr}
 use Rattle.art_nodes.specs.Nodes.{Nodes}
 use Rattle.art_model.specs.Canonical.{IsCanonicalTree}
+use Rattle.art_model.specs.Footprints.{IsIn}
 use Rattle.art_model.specs.Keys.{IsFront, is_front}
+use Rattle.art_model.specs.Lookups.{nodes_on_way}
 use Rattle.art_model.specs.Parts.{below}
 use Rattle.art_model.specs.Paths.{pairs_before, pairs_after}
-use Rattle.art_model.specs.Radix.{pairs_of}
+use Rattle.art_model.specs.Radix.{bytes_of, pairs_of}
 use Rattle.art_model.specs.Trees.{Tree, leaf}
 use Rattle.art_model.proofs.keys.Keys.{front_from, front_is}
 use Rattle.art_model.proofs.lists.Lists.{filter_none, front_cut}
@@ -25,7 +27,9 @@ use Rattle.art_reading.specs.PartEnds.{IsNotBelow, EndsBelow}
 use Rattle.art_reading.specs.PathSteps.{path_of, step_down}
 use Rattle.art_reading.specs.declared.path.TreePath.{TreePath}
 use Rattle.art_reading.specs.declared.path.TreePath.TheVariants.{Root}
+use Rattle.art_reading.specs.Readings.{left_on_way, levels}
 use Rattle.art_reading.proofs.Descents.{IsDescent, start, front, front_len, child_there, each_under, down}
+use Rattle.art_reading.proofs.Left.{child_left}
 
 -- a key that goes on after a front with another byte than the prefix has there does not begin with the prefix
 other_byte : (prefix front x : List ℕ) (c : ℕ) → length front < length prefix → c ≢ get_or prefix (length front) 0 → IsFront (front ++ c ∷ []) x → is_front prefix x ≡ false
@@ -58,7 +62,7 @@ pub record IsWayBelow {A : Type 0} (bytes : A → List ℕ) (P : ℕ) (prefix : 
   pub path_is : path ≡ path_of descent.at.path
 
 -- it begins at the root
-pub way_begins : {K V : Type 0} {s : Nodes K V} {bytes : K × V → List ℕ} {P : ℕ} {root : OpaqueNodePtr} {pairs : List (K × V)} {layout : Tree OpaqueNodePtr (K × V)} (prefix : List ℕ) →
+abbrev pub way_begins : {K V : Type 0} {s : Nodes K V} {bytes : K × V → List ℕ} {P : ℕ} {root : OpaqueNodePtr} {pairs : List (K × V)} {layout : Tree OpaqueNodePtr (K × V)} (prefix : List ℕ) →
     IsCanonicalTree bytes P s root pairs layout → {path : TreePath} → path ≡ Root → IsWayBelow bytes P prefix layout path root 0
 way_begins prefix by is = record { descent = start by; path_is = is }
 
@@ -112,9 +116,21 @@ module _ {A : Type 0} {bytes : A → List ℕ} {P : ℕ} (prefix : List ℕ) {tr
 
       -- the way goes on below the child
       pub goes_down : {to : OpaqueNodePtr} → child_at shown.children (get_or prefix (depth + len) 0) ≡ Some to →
-          IsWayBelow bytes P prefix tree (step_down path p (get_or prefix (depth + len) 0)) to (depth + len + 1)
+          (next : IsWayBelow bytes P prefix tree (step_down path p (get_or prefix (depth + len) 0)) to (depth + len + 1))
+          × (left_on_way bytes prefix depth d.at.node ≤ left_on_way bytes prefix (depth + len + 1) next.descent.at.node + 1)
       goes_down {to} there =
-          subst (λ n. IsWayBelow bytes P prefix tree (step_down path p (get_or prefix (depth + len) 0)) to (depth + n + 1)) (sym len_is) (record {
-            descent = down d at (get_or prefix (depth + len) 0) there (λ c i less x leads. off c (λ e. omega arith) x leads) (λ c i more x leads. off c (λ e. omega arith) x leads);
-            path_is = ap (λ z. step_down z p (get_or prefix (depth + len) 0)) way.path_is;
-          })
+          let b = get_or prefix (depth + len) 0 in
+          let low : (c : ℕ) → IsIn c (bytes_of at.children) → c < b → (x : A) → IsFront (front d at ++ c ∷ []) (bytes x) → IsNotBelow bytes prefix x =
+          λ c i less x leads. off c (λ e. omega arith) x leads in
+          let high : (c : ℕ) → IsIn c (bytes_of at.children) → b < c → (x : A) → IsFront (front d at ++ c ∷ []) (bytes x) → IsNotBelow bytes prefix x =
+          λ c i more x leads. off c (λ e. omega arith) x leads in
+          subst (λ n. (next : IsWayBelow bytes P prefix tree (step_down path p b) to (depth + n + 1))
+          × (left_on_way bytes prefix depth d.at.node ≤ left_on_way bytes prefix (depth + n + 1) next.descent.at.node + 1)) (sym len_is)
+          (record { descent = down d at b there low high; path_is = ap (λ z. step_down z p b) way.path_is }, child_left d prefix at b (ap (λ n. get_or prefix (depth + n) 0) len_is) there low high)
+
+-- Such a descent, and what it has read: the nodes above that are on the way of the prefix, and at most one for each level.
+pub record IsReadBelow {K V : Type 0} (bytes : K × V → List ℕ) (P : ℕ) (s : Nodes K V) (root : OpaqueNodePtr) (prefix : List ℕ) (tree : Tree OpaqueNodePtr (K × V)) (path : TreePath)
+    (name : OpaqueNodePtr) (depth number : ℕ) : Type 0 where
+  pub way : IsWayBelow bytes P prefix tree path name depth
+  pub at_least : length (nodes_on_way bytes prefix tree) ≤ number + left_on_way bytes prefix depth way.descent.at.node
+  pub at_most : number + levels s name ≤ levels s root

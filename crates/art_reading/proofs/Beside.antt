@@ -1,5 +1,5 @@
 -- the way down to a node beside a key
-use Rattle.std.proofs.Common.{◌≡◌, ◌≢◌, ℕ, suc, ◌+◌, ◌<◌, ◌≤◌, ◌⊎◌, List, [], ◌∷◌, ◌++◌, length, take, drop, get_or, refl, ap, sym, ◌∙◌, arith, subst, length-append, append_assoc, Some, None, Bool, IsTrue, ◌↔◌, inl, inr}
+use Rattle.std.proofs.Common.{◌≡◌, ◌≢◌, ℕ, suc, ◌+◌, ◌*◌, ◌<◌, ◌≤◌, ◌⊎◌, List, [], ◌∷◌, ◌++◌, length, take, drop, get_or, refl, ap, sym, ◌∙◌, arith, subst, length-append, append_assoc, Option, Some, None, Bool, IsTrue, ◌↔◌, inl, inr}
 use Rattle.std.specs.List.{AllByRecursion as Each, starts_with}
 use Rattle.std.specs.Ordering.{is_lt}
 use Rattle.std.specs.FinMap as map
@@ -9,7 +9,7 @@ use Rattle.std.proofs.lemmas.List.{take_all, take_at, take-append-drop}
 use Rattle.art_inner.specs.Beside.{IsNextTo}
 use Rattle.art_inner.specs.Inner.{Inner, child_at}
 use Rattle.art_nodes.specs.Nodes.{Nodes}
-use Rattle.art_parts.specs.Names.{inner_name, leaf_name}
+use Rattle.art_parts.specs.Names.{inner_name}
 use Rattle.art_parts.specs.declared.leaf.LeafNode.{LeafNode}
 use Rattle.art_parts.specs.declared.names.InnerPtr.{InnerPtr}
 use Rattle.art_parts.specs.declared.names.LeafPtr.{LeafPtr}
@@ -18,10 +18,10 @@ use Rattle.art_parts.specs.declared.names.OpaqueNodePtr.{OpaqueNodePtr}
 use Rattle.art_model.specs.Canonical.{IsCanonicalTree}
 use Rattle.art_model.specs.Footprints.{IsIn}
 use Rattle.art_model.specs.Keys.{IsFront, Precedes, is_before, is_front}
-use Rattle.art_model.specs.Lookups.{HasFirstLeaf}
+use Rattle.art_model.specs.Lookups.{nodes_on_way}
+use Rattle.art_model.specs.Paths.{IsPath}
 use Rattle.art_model.specs.Places.{prefix_of}
 use Rattle.art_model.specs.Radix.{IsRadix, bytes_of, pairs_of}
-use Rattle.art_model.specs.Roots.{IsFullTree}
 use Rattle.art_model.specs.Stores.{header_at, pair_of}
 use Rattle.art_model.specs.Layouts.{slots_of}
 use Rattle.art_model.specs.Trees.{Tree, leaf, inner, Subtrees, child, no_child}
@@ -31,11 +31,13 @@ use Rattle.art_model.proofs.places.Places.{prefix_is}
 use Rattle.art_model.proofs.radix.Radix.{parts}
 use Rattle.art_model.proofs.radix.Rebuild.{radix_below, radix_way}
 use Rattle.art_model.proofs.stores.Shown.{IsShown, inner_shown}
-use Rattle.art_model.proofs.radix.TreeLaws.{have_two_children, one_child}
+use Rattle.art_reading.specs.EndNodes.{IsAt}
 use Rattle.art_reading.specs.PartEnds.{IsPlaced, StandsBeside}
+use Rattle.art_reading.specs.PathSteps.{path_of}
+use Rattle.art_reading.specs.Readings.{guide_cost, left_on_way, levels}
 use Rattle.art_reading.proofs.Below.{front_within, starts_front}
-use Rattle.art_reading.proofs.Descents.{IsDescent, start, shown_radix, front, front_len, part_len, child_there, each_under, down}
-use Rattle.art_reading.proofs.Parts.{least_is, node_full}
+use Rattle.art_reading.proofs.Left.{child_left}
+use Rattle.art_reading.proofs.Descents.{IsDescent, start, shown_radix, front, front_len, part_len, child_there, each_under, down, down_leads}
 use Rattle.art_reading.proofs.Sides.{apart_left, apart_right, ended_left, ended_right, whole_front}
 
 slots_long : {N A : Type 0} (cs : Subtrees N A) → length (slots_of cs) ≡ length (bytes_of cs)
@@ -45,6 +47,7 @@ slots_long (child b t cs) = ap suc (slots_long cs)
 -- A node of the tree at a place that is a front of the key.
 pub record IsOnKey {A : Type 0} (bytes : A → List ℕ) (P : ℕ) (key : List ℕ) (tree : Tree OpaqueNodePtr A) (name : OpaqueNodePtr) (depth : ℕ) : Type 0 where
   pub descent : IsDescent bytes P (λ x. Precedes (bytes x) key) (λ x. Precedes key (bytes x)) tree name depth
+  pub leads : IsPath bytes P descent.place descent.at.path
   pub on_way : IsFront descent.place key
 
 module _ {A : Type 0} {bytes : A → List ℕ} {P : ℕ} {key : List ℕ} {tree : Tree OpaqueNodePtr A} {name : OpaqueNodePtr} {depth : ℕ} where
@@ -118,13 +121,17 @@ module _ {A : Type 0} {bytes : A → List ℕ} {P : ℕ} {key : List ℕ} {tree 
         above_key c more x f = parts bytes (front o.descent at) (get_or key (depth + len) 0) c key (bytes x) key_byte f more
 
         -- the key goes on below a child
-        pub onto_child : {to : OpaqueNodePtr} → child_at shown.children (get_or key (depth + len) 0) ≡ Some to → IsOnKey bytes P key tree to (depth + len + 1)
+        pub onto_child : {to : OpaqueNodePtr} → child_at shown.children (get_or key (depth + len) 0) ≡ Some to →
+            (next : IsOnKey bytes P key tree to (depth + len + 1)) × (left_on_way bytes key depth o.descent.at.node ≤ left_on_way bytes key (depth + len + 1) next.descent.at.node + 1)
         onto_child {to} there =
-            subst (λ n. IsOnKey bytes P key tree to (depth + n + 1)) (sym len_is)
-            (record {
-              descent = down o.descent at (get_or key (depth + len) 0) there (λ c i less. below_key c less) (λ c i more. above_key c more);
-              on_way = key_byte;
-            })
+            let b = get_or key (depth + len) 0 in
+            let low : (c : ℕ) → IsIn c (bytes_of at.children) → c < b → (x : A) → IsFront (front o.descent at ++ c ∷ []) (bytes x) → Precedes (bytes x) key = λ c i less. below_key c less in
+            let high : (c : ℕ) → IsIn c (bytes_of at.children) → b < c → (x : A) → IsFront (front o.descent at ++ c ∷ []) (bytes x) → Precedes key (bytes x) = λ c i more. above_key c more in
+            subst (λ n. (next : IsOnKey bytes P key tree to (depth + n + 1))
+            × (left_on_way bytes key depth o.descent.at.node ≤ left_on_way bytes key (depth + n + 1) next.descent.at.node + 1)) (sym len_is) (
+              record { descent = down o.descent at b there low high; leads = down_leads o.descent at o.leads b there low high; on_way = key_byte },
+              child_left o.descent key at b (ap (λ n. get_or key (depth + n) 0) len_is) there low high,
+            )
 
         -- there is no child for the key's byte, and this is the next one
         pub beside_gap : child_at shown.children (get_or key (depth + len) 0) ≡ None → {r : ℕ × OpaqueNodePtr} →
@@ -193,20 +200,26 @@ module _ {A : Type 0} {bytes : A → List ℕ} {P : ℕ} {key : List ℕ} {tree 
 
 module _ {K V : Type 0} {s : Nodes K V} {bytes : K × V → List ℕ} {P : ℕ} {root : OpaqueNodePtr} {pairs : List (K × V)} {layout : Tree OpaqueNodePtr (K × V)}
     (by : IsCanonicalTree bytes P s root pairs layout) {key : List ℕ} where
-  pub on_key_start : IsOnKey bytes P key layout root 0
-  on_key_start = record { descent = start by; on_way = (key, refl) }
+  abbrev pub on_key_start : IsOnKey bytes P key layout root 0
+  on_key_start = record { descent = start by; leads = refl; on_way = (key, refl) }
 
-  -- a node on the way is placed under its name
-  pub placed_on : {name other : OpaqueNodePtr} {depth : ℕ} (o : IsOnKey bytes P key layout name depth) → other ≡ name → IsPlaced bytes P s other depth o.descent.at.node
-  placed_on {depth = depth} o is =
-      subst (λ n. IsPlaced bytes P s n depth o.descent.at.node) (sym is)
-      (record { place = o.descent.place; depth_is = o.descent.depth_is; radix = o.descent.radix; layout = (node_full by o.descent.at).0 })
+  -- a node on the way is on the key's way
+  abbrev pub at_on : {name other : OpaqueNodePtr} {depth : ℕ} (o : IsOnKey bytes P key layout name depth) → other ≡ name → IsAt bytes P key layout (path_of o.descent.at.path) other depth
+  at_on o is = record {
+    frames = o.descent.at.path;
+    place = o.descent.place;
+    node = o.descent.at.node;
+    whole = o.descent.at.whole;
+    leads = o.leads;
+    radix = o.descent.radix;
+    on_way = o.on_way;
+    named = o.descent.at.named ∙ sym is;
+    depth_is = o.descent.depth_is;
+    path_is = refl;
+  }
 
 -- ---- the whole prefix of a node, as it is read
 module _ {K V : Type 0} {s : Nodes K V} {bytes : K × V → List ℕ} {P : ℕ} {p : InnerPtr} {depth : ℕ} {tree : Tree OpaqueNodePtr (K × V)} (at : IsPlaced bytes P s (inner_name p) depth tree) where
-  pub placed_full : {name : OpaqueNodePtr} → name ≡ inner_name p → IsFullTree s name tree
-  placed_full is = subst (λ n. IsFullTree s n tree) (sym is) (at.layout, one_child tree (have_two_children bytes P at.place tree at.radix))
-
   module _ (proper : p.kind ≢ Leaf) {shown : Inner} (there : Some shown ≡ map.get s.inners p) where
     seen_at : IsShown tree p shown
     seen_at = inner_shown s p proper tree at.layout.named at.layout.holds shown there
@@ -232,26 +245,33 @@ module _ {K V : Type 0} {s : Nodes K V} {bytes : K × V → List ℕ} {P : ℕ} 
         let same_len : length (prefix_of bytes depth tree) ≡ length part = ap length whole_is ∙ sym l ∙ sym long in
         whole_front (prefix_of bytes depth tree) part same_len t (ap (λ z. is_front z part) (sym stored_is) ∙ starts_front part stored t test)
 
-    -- from the least leaf
-    module _ {q : LeafPtr} (first : HasFirstLeaf tree (leaf_name q)) {l : LeafNode K V} (read : Some l ≡ map.get s.leaves q) where
-      least_begins : IsFront (at.place ++ own.0) (bytes (pair_of l))
-      least_begins =
-          least_is s at.layout.holds first (λ x. IsFront (at.place ++ own.0) (bytes x))
-          (subst (λ t. Each (λ x. IsFront (at.place ++ own.0) (bytes x)) (pairs_of t)) (sym seen_at.is) (radix_below bytes P seen_at.children (at.place ++ own.0) own.4)) l read
+    -- from a leaf below
+    module _ (l : LeafNode K V) (below : (Q : K × V → Type 0) → Each Q (pairs_of tree) → Q (pair_of l)) where
+      leaf_begins : IsFront (at.place ++ own.0) (bytes (pair_of l))
+      leaf_begins =
+          below (λ x. IsFront (at.place ++ own.0) (bytes x))
+          (subst (λ t. Each (λ x. IsFront (at.place ++ own.0) (bytes x)) (pairs_of t)) (sym seen_at.is) (radix_below bytes P seen_at.children (at.place ++ own.0) own.4))
 
-      pub least_long : depth ≤ length (bytes (pair_of l))
-      least_long =
-          let (r, e) = least_begins in
+      pub leaf_long : depth ≤ length (bytes (pair_of l))
+      leaf_long =
+          let (r, e) = leaf_begins in
           let n = ap length e in
           let d = at.depth_is in
           omega (arith, simp length-append at n)
 
-      pub told_by_least : {part rest : List ℕ} (t : Bool) → length part ≡ shown.prefix.len → rest ≡ drop depth (bytes (pair_of l)) → t ≡ starts_with eqb rest part →
+      pub told_by_leaf : {part rest : List ℕ} (t : Bool) → length part ≡ shown.prefix.len → rest ≡ drop depth (bytes (pair_of l)) → t ≡ starts_with eqb rest part →
           IsTrue t ↔ (part ≡ prefix_of bytes depth tree)
-      told_by_least {part} {rest} t long rest_is test =
-          let (r, e) = least_begins in
+      told_by_leaf {part} {rest} t long rest_is test =
+          let (r, e) = leaf_begins in
           let is : rest ≡ own.0 ++ r =
           rest_is ∙ ap (λ m. drop m (bytes (pair_of l))) (sym at.depth_is) ∙ after_front at.place (bytes (pair_of l)) (own.0 ++ r) (e ∙ append_assoc at.place own.0 r) in
           let same_len : length part ≡ length own.0 = let k = len_is in omega arith in
           let told = whole_front part own.0 same_len t (sym (front_within part own.0 r (omega arith)) ∙ ap (is_front part) (sym is) ∙ starts_front rest part t test) in
           (λ on. sym (told.0 on) ∙ sym whole_is, λ same. told.1 (sym whole_is ∙ sym same))
+
+-- A node on the key's way, and what was read before: the nodes above, twice as many as levels at most beside those for the guide leaf.
+pub record IsReadOnKey {K V : Type 0} (bytes : K × V → List ℕ) (P : ℕ) (s : Nodes K V) (root : OpaqueNodePtr) (key : List ℕ) (tree : Tree OpaqueNodePtr (K × V)) (name : OpaqueNodePtr)
+    (depth : ℕ) (guide : Option LeafPtr) (number : ℕ) : Type 0 where
+  pub on_key : IsOnKey bytes P key tree name depth
+  pub at_least : length (nodes_on_way bytes key tree) ≤ number + left_on_way bytes key depth on_key.descent.at.node
+  pub at_most : number + 2 * levels s name ≤ 2 * levels s root + guide_cost s root guide

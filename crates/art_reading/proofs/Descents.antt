@@ -1,5 +1,5 @@
 -- ways down to a part of a tree: a node, between pairs of which something holds
-use Rattle.std.proofs.Common.{◌≡◌, ◌≢◌, ℕ, ◌+◌, ◌<◌, List, [], ◌∷◌, ◌++◌, length, refl, ap, sym, ◌∙◌, arith, subst, length-append, Some, None, inr}
+use Rattle.std.proofs.Common.{◌≡◌, ◌≢◌, ℕ, ◌+◌, ◌<◌, ◌≤◌, List, [], ◌∷◌, ◌++◌, length, refl, ap, sym, ◌∙◌, arith, subst, length-append, Some, None, inr}
 use Rattle.std.specs.List.{AllByRecursion as Each}
 use Rattle.art_inner.specs.Inner.{Inner, child_at}
 use Rattle.art_nodes.specs.Nodes.{Nodes}
@@ -10,13 +10,14 @@ use Rattle.art_model.specs.Canonical.{IsCanonicalTree}
 use Rattle.art_model.specs.Footprints.{IsIn}
 use Rattle.art_model.specs.Keys.{IsFront}
 use Rattle.art_model.specs.Layouts.{Holds}
-use Rattle.art_model.specs.Paths.{plug, pairs_before, pairs_after}
+use Rattle.art_model.specs.Paths.{Frame, IsPath, fill, plug, pairs_before, pairs_after}
 use Rattle.art_model.specs.Radix.{IsRadix, AreRadix, BytesRise, bytes_of, pairs_of, pairs_below}
 use Rattle.art_model.specs.Stores.{header_at, node_at}
-use Rattle.art_model.specs.Trees.{Tree, inner, child}
+use Rattle.art_model.specs.Trees.{Tree, inner, child, canonical_header}
 use Rattle.art_model.proofs.stores.Canonical.{tree_radix}
 use Rattle.art_model.proofs.lists.Lists.{Each-append, each_from, each_in, in_left, in_right}
 use Rattle.art_model.proofs.places.OnWay.{child_under, no_child_under}
+use Rattle.art_model.proofs.places.Paths.{path_down}
 use Rattle.art_model.proofs.lists.Pairwises.{Pairwise-before, Pairwise-right}
 use Rattle.art_model.proofs.radix.Parts.{each_below}
 use Rattle.art_model.proofs.radix.Radix.{AreRadix-left, AreRadix-right, bytes_of-join}
@@ -102,3 +103,21 @@ module _ {A : Type 0} {bytes : A → List ℕ} {P : ℕ} {Lower Upper : A → Ty
         radix = own.0;
         depth_is = length-append front (b ∷ []) ∙ ap (λ n. n + 1) front_len;
       }
+
+  -- the path of a step down is that of the tree, if the path before it is
+  pub down_leads : IsPath bytes P d.place d.at.path → {to : OpaqueNodePtr} (b : ℕ) (there : child_at shown.children b ≡ Some to)
+      (lower : (c : ℕ) → IsIn c (bytes_of at.children) → c < b → (x : A) → IsFront (front ++ c ∷ []) (bytes x) → Lower x)
+      (upper : (c : ℕ) → IsIn c (bytes_of at.children) → b < c → (x : A) → IsFront (front ++ c ∷ []) (bytes x) → Upper x) →
+      IsPath bytes P (down b there lower upper).place (down b there lower upper).at.path
+  down_leads leads {to} b there lower upper =
+      let own = shown_radix in
+      let u = child_under at.children b to own.3 (ap (λ cs. child_at cs b) (sym at.slots) ∙ there) in
+      let f : Frame OpaqueNodePtr A = record { mark = inner_name p; header = header_at p.kind shown; left = u.left; byte = b; right = u.right } in
+      let node : IsRadix bytes P d.place (fill f u.tree) = (
+        own.0,
+        subst (λ cs. header_at p.kind shown ≡ canonical_header P own.0 (length (bytes_of cs))) u.whole own.1,
+        subst (λ cs. 2 ≤ length (bytes_of cs)) u.whole own.2,
+        subst (λ cs. BytesRise (bytes_of cs)) u.whole own.3,
+        subst (AreRadix bytes P front) u.whole own.4,
+      ) in
+      (path_down bytes P d.at.path d.place f u.tree leads node).0

@@ -46,6 +46,8 @@ use Rattle.art_reading.specs.Matching.{shared_len}
 use Rattle.art_reading.specs.EndNodes.{IsAt, ComesTo, HasEndNode, IsOverwrittenWith, IsEndFor, IsKindFor, IsCompared, IsMismatch, IsStepFrom, used_in_prefix}
 use Rattle.art_reading.specs.PartEnds.{IsPlaced}
 use Rattle.art_reading.specs.PathSteps.{step_down}
+use Rattle.art_reading.specs.Readings.{left_on_way}
+use Rattle.art_reading.proofs.Left.{left_aside, left_child, left_leaf}
 use Rattle.art_reading.proofs.Partings.{parted_unrelated, unrelated_after, conflict-related, no_conflict, first_conflict, same_conflict}
 
 -- as much of the key was used as it has
@@ -67,10 +69,33 @@ module _ {A : Type 0} (bytes : A → List ℕ) (P : ℕ) (key : List ℕ) (node 
 
 module _ {K V : Type 0} {s : Nodes K V} {bytes : K × V → List ℕ} {P : ℕ} {root : OpaqueNodePtr} {pairs : List (K × V)}
     {layout : Tree OpaqueNodePtr (K × V)} (by : IsCanonicalTree bytes P s root pairs layout) where
-  pub start : (key : List ℕ) → IsAt bytes P key layout Root root 0
+  abbrev pub start : (key : List ℕ) → IsAt bytes P key layout Root root 0
   start key = record { frames = []; place = []; node = layout; whole = refl; leads = refl; radix = (tree_radix by).0; on_way = (key, refl); named = by.stands.0.named; depth_is = refl; path_is = refl }
 
   module _ {key : List ℕ} {path : TreePath} {name : OpaqueNodePtr} {depth : ℕ} (d : IsAt bytes P key layout path name depth) where
+    -- under another name for it
+    abbrev pub at_named : {other : OpaqueNodePtr} → other ≡ name → IsAt bytes P key layout path other depth
+    at_named same = record {
+      frames = d.frames;
+      place = d.place;
+      node = d.node;
+      whole = d.whole;
+      leads = d.leads;
+      radix = d.radix;
+      on_way = d.on_way;
+      named = d.named ∙ sym same;
+      depth_is = d.depth_is;
+      path_is = d.path_is;
+    }
+
+    pub step_named : {other : OpaqueNodePtr} (same : other ≡ name) (step : SearchStep) → IsStepFrom bytes P key pairs layout path other depth (at_named same) step →
+        IsStepFrom bytes P key pairs layout path name depth d step
+    step_named same (End kind used) (end, left) = (
+      subst (λ n. IsEndFor bytes P key pairs layout (record { path = path; name = n; insert_kind = kind; key_bytes_used = used })) same end,
+      left,
+    )
+    step_named same (Down node byte to below) next = next
+
     holds : Holds (node_at s) d.node
     holds = (path_holds (node_at s) d.frames d.node (subst (Holds (node_at s)) (sym d.whole) by.stands.0.holds)).1
 
@@ -160,7 +185,12 @@ module _ {K V : Type 0} {s : Nodes K V} {bytes : K × V → List ℕ} {P : ℕ} 
           subst (λ t. Each (λ other. IsFront other.0 key → length other.0 ≤ length d.place) (places bytes (length d.place) t)) (sym at_leaf)
           ((λ g. rw (place_is bytes P (leaf (leaf_name p) (pair_of shown)) d.place radix) (omega arith)), tt)
 
-      pub leaf_end : (kind : Option InsertKind) → IsKindFor key p (bytes (pair_of shown)) kind →
+      -- it is the last node on the way
+      left_leaf_is : left_on_way bytes key depth d.node ≡ 1
+      left_leaf_is = subst (λ n. left_on_way bytes key n d.node ≡ 1) d.depth_is (subst (λ t. left_on_way bytes key (length d.place) t ≡ 1) (sym at_leaf)
+          (left_leaf bytes P key d.place d.on_way (leaf_name p) (pair_of shown) (subst (IsRadix bytes P d.place) at_leaf d.radix)))
+
+      leaf_end : (kind : Option InsertKind) → IsKindFor key p (bytes (pair_of shown)) kind →
           IsEndFor bytes P key pairs layout (record { path = path; name = name; insert_kind = kind; key_bytes_used = depth })
       leaf_end None (related, unequal) = (
         own_pair ∙ first_conflict bytes key (pair_of shown) [] related unequal,
@@ -179,6 +209,9 @@ module _ {K V : Type 0} {s : Nodes K V} {bytes : K × V → List ℕ} {P : ℕ} 
       )
       leaf_end (Some (IntoExisting q)) h = absurd h
       leaf_end (Some (MismatchPrefix m q)) h = absurd h
+
+      pub leaf_step : (kind : Option InsertKind) → IsKindFor key p (bytes (pair_of shown)) kind → IsStepFrom bytes P key pairs layout path name depth d (End kind depth)
+      leaf_step kind is = (leaf_end kind is, left_leaf_is)
 
     -- ---- at an inner node
     module _ {p : InnerPtr} {shown : Inner} (at : IsShown d.node p shown) where
@@ -216,6 +249,11 @@ module _ {K V : Type 0} {s : Nodes K V} {bytes : K × V → List ℕ} {P : ℕ} 
             beside bytes P at.children front key (length d.place + (header_at p.kind shown).length_of + 1) (length d.place)
                 (λ b. deeper d.place radix.0 b (header_at p.kind shown).length_of len) radix.4 aside,
           )
+
+      -- the node is the last one on the way where that goes below no child
+      left_aside_is : AreAside front key at.children → left_on_way bytes key depth d.node ≡ 1
+      left_aside_is aside = subst (λ n. left_on_way bytes key n d.node ≡ 1) d.depth_is (subst (λ t. left_on_way bytes key (length d.place) t ≡ 1) (sym at.is)
+          (left_aside bytes P key d.place d.on_way (inner_name p) (header_at p.kind shown) at.children radix aside))
 
       -- all pairs below go on after the key
       short_conflict : IsFront key front → is_conflict bytes key pairs ≡ true
@@ -282,19 +320,24 @@ module _ {K V : Type 0} {s : Nodes K V} {bytes : K × V → List ℕ} {P : ℕ} 
 
           -- no child goes on with the key
           ends_after_prefix : None ≡ child_at shown.children (get_or key (depth + match.matched_bytes) 0) →
-              IsEndFor bytes P key pairs layout (record { path = path; name = name; insert_kind = Some (IntoExisting p); key_bytes_used = depth + match.matched_bytes })
+              IsStepFrom bytes P key pairs layout path name depth d (End (Some (IntoExisting p)) (depth + match.matched_bytes))
           ends_after_prefix none =
               let gone : child_at (slots_of at.children) (get_or key (depth + match.matched_bytes) 0) ≡ None =
               ap (λ cs. child_at cs (get_or key (depth + match.matched_bytes) 0)) (sym at.slots) ∙ sym none in
-              let others = no_child_under at.children (get_or key (length front) 0) (ap (λ n. child_at (slots_of at.children) (get_or key n 0)) (sym used) ∙ gone) in (
-                below ∙ no_conflict bytes key (pairs_below at.children) (unrelated at.children radix.4 others),
-                comes_to (depth + match.matched_bytes) (Some (IntoExisting p)) (longest_inner (aside_others front key at.children others))
-                    ((c.1, ap (λ n. depth + n) c.0, long), (header_at p.kind shown, at.children, at.is, gone)),
+              let others = no_child_under at.children (get_or key (length front) 0) (ap (λ n. child_at (slots_of at.children) (get_or key n 0)) (sym used) ∙ gone) in
+              let aside = aside_others front key at.children others in (
+                (
+                  below ∙ no_conflict bytes key (pairs_below at.children) (unrelated at.children radix.4 others),
+                  comes_to (depth + match.matched_bytes) (Some (IntoExisting p)) (longest_inner aside)
+                      ((c.1, ap (λ n. depth + n) c.0, long), (header_at p.kind shown, at.children, at.is, gone)),
+                ),
+                left_aside_is aside,
               )
 
           -- a child goes on with the key
           goes_on : {to : OpaqueNodePtr} → Some to ≡ child_at shown.children (get_or key (depth + match.matched_bytes) 0) →
-              IsAt bytes P key layout (step_down path p (get_or key (depth + match.matched_bytes) 0)) to (depth + match.matched_bytes + 1)
+              (at : IsAt bytes P key layout (step_down path p (get_or key (depth + match.matched_bytes) 0)) to (depth + match.matched_bytes + 1))
+              × (left_on_way bytes key depth d.node ≡ left_on_way bytes key (depth + match.matched_bytes + 1) at.node + 1)
           goes_on {to} there =
               let b = get_or key (depth + match.matched_bytes) 0 in
               let e : child_at (slots_of at.children) b ≡ Some to = ap (λ cs. child_at cs b) (sym at.slots) ∙ sym there in
@@ -310,18 +353,27 @@ module _ {K V : Type 0} {s : Nodes K V} {bytes : K × V → List ℕ} {P : ℕ} 
                 subst (AreRadix bytes P front) u.whole radix.4,
               ) in
               let down = path_down bytes P d.frames d.place f u.tree d.leads node in
-              record {
-                frames = f ∷ d.frames;
-                place = front ++ b ∷ [];
-                node = u.tree;
-                whole = ap (plug d.frames) (sym filled ∙ sym at.is) ∙ d.whole;
-                leads = down.0;
-                radix = down.1;
-                on_way = subst (λ n. IsFront (front ++ get_or key n 0 ∷ []) key) (sym used) next;
-                named = u.named;
-                depth_is = length-append front (b ∷ []) ∙ ap (λ n. n + 1) (sym used);
-                path_is = ap (λ z. step_down z p b) d.path_is;
-              }
+              let others = λ (c : ℕ) (o : c ≢ b). λ (e : c ≡ get_or key (length front) 0). o (e ∙ ap (λ n. get_or key n 0) (sym used)) in
+              let low = aside_others front key u.left (Each-weaker (λ c. c ≢ b) (λ c. c ≢ get_or key (length front) 0) others (bytes_of u.left) u.others_left) in
+              let high = aside_others front key u.right (Each-weaker (λ c. c ≢ b) (λ c. c ≢ get_or key (length front) 0) others (bytes_of u.right) u.others_right) in
+              let child_depth : length d.place + (header_at p.kind shown).length_of + 1 ≡ depth + match.matched_bytes + 1 =
+              let len = ap (λ h. h.length_of) radix.1 in let whole = length-append d.place radix.0 in let k = used in omega arith in (
+                record {
+                  frames = f ∷ d.frames;
+                  place = front ++ b ∷ [];
+                  node = u.tree;
+                  whole = ap (plug d.frames) (sym filled ∙ sym at.is) ∙ d.whole;
+                  leads = down.0;
+                  radix = down.1;
+                  on_way = subst (λ n. IsFront (front ++ get_or key n 0 ∷ []) key) (sym used) next;
+                  named = u.named;
+                  depth_is = length-append front (b ∷ []) ∙ ap (λ n. n + 1) (sym used);
+                  path_is = ap (λ z. step_down z p b) d.path_is;
+                },
+                ap (λ n. left_on_way bytes key n d.node) (sym d.depth_is) ∙ ap (left_on_way bytes key (length d.place)) at.is
+                    ∙ left_child bytes P key d.place d.on_way (inner_name p) (header_at p.kind shown) at.children radix u.left b u.tree u.right u.whole low high
+                    ∙ ap (λ n. left_on_way bytes key n u.tree + 1) child_depth,
+              )
 
         -- the step past the prefix
         pub prefix_step : {step : SearchStep} →
@@ -330,24 +382,31 @@ module _ {K V : Type 0} {s : Nodes K V} {bytes : K × V → List ℕ} {P : ℕ} 
             step ≡ End (Some (IntoExisting p)) (depth + match.matched_bytes)) →
             (depth + match.matched_bytes < length key → (to : OpaqueNodePtr) → child_at shown.children (get_or key (depth + match.matched_bytes) 0) ≡ Some to →
             step ≡ Down p (get_or key (depth + match.matched_bytes) 0) to (depth + match.matched_bytes + 1)) →
-            IsStepFrom bytes P key pairs layout path name depth step
+            IsStepFrom bytes P key pairs layout path name depth d step
         prefix_step {step} ends into down = by_length (leb (length key) (depth + match.matched_bytes)) refl
           where
             by_child : depth + match.matched_bytes < length key → (o : Option OpaqueNodePtr) → child_at shown.children (get_or key (depth + match.matched_bytes) 0) ≡ o →
-                IsStepFrom bytes P key pairs layout path name depth step
-            by_child long None e = subst (IsStepFrom bytes P key pairs layout path name depth) (sym (into long e)) (ends_after_prefix long (sym e))
-            by_child long (Some to) e = subst (IsStepFrom bytes P key pairs layout path name depth) (sym (down long to e)) (omega arith, goes_on long (sym e))
+                IsStepFrom bytes P key pairs layout path name depth d step
+            by_child long None e = subst (IsStepFrom bytes P key pairs layout path name depth d) (sym (into long e)) (ends_after_prefix long (sym e))
+            by_child long (Some to) e = subst (IsStepFrom bytes P key pairs layout path name depth d) (sym (down long to e)) (let (next, left) = goes_on long (sym e) in (omega arith, next, left))
 
-            by_length : (t : Bool) → leb (length key) (depth + match.matched_bytes) ≡ t → IsStepFrom bytes P key pairs layout path name depth step
+            by_length : (t : Bool) → leb (length key) (depth + match.matched_bytes) ≡ t → IsStepFrom bytes P key pairs layout path name depth d step
             by_length true e =
                 let short = leb-true (length key) (depth + match.matched_bytes) e in
-                subst (IsStepFrom bytes P key pairs layout path name depth) (sym (ends short)) (ends_with_prefix short)
+                subst (IsStepFrom bytes P key pairs layout path name depth d) (sym (ends short))
+                (ends_with_prefix short, left_aside_is (aside_end front key at.children (let k = used in omega arith)))
             by_length false e = by_child (leb-false (length key) (depth + match.matched_bytes) e) (child_at shown.children (get_or key (depth + match.matched_bytes) 0)) refl
 
       -- the prefix and the key part, or the key ends
       module _ {m : ExplicitMismatch} (c : IsMismatch bytes P key d.node depth m) where
         shared_is : m.matched_bytes ≡ shared_len radix.0 (drop depth key)
         shared_is = c.matched ∙ ap (λ l. shared_len l (drop depth key)) whole_prefix
+
+        no_longer : length key ≤ depth + m.matched_bytes → length key ≤ length front
+        no_longer short =
+            let inside = slice_get_within (prefix_of bytes depth d.node) m.matched_bytes m.prefix_byte c.byte in
+            let l = front_len in
+            omega arith
 
         ends_in_prefix : length key ≤ depth + m.matched_bytes →
             IsEndFor bytes P key pairs layout (record { path = path; name = name; insert_kind = None; key_bytes_used = depth })
@@ -389,24 +448,28 @@ module _ {K V : Type 0} {s : Nodes K V} {bytes : K × V → List ℕ} {P : ℕ} 
               (front_trans (a.front ++ a.x ∷ []) front (bytes x) (a.r, a.a_is ∙ sym (append_assoc a.front (a.x ∷ []) a.r)) f) (λ e. a.differ (sym e)))
               (pairs_below at.children) (radix_below bytes P at.children front radix.4)
 
-          parts_from_prefix : IsEndFor bytes P key pairs layout (record { path = path; name = name; insert_kind = Some (MismatchPrefix m p); key_bytes_used = depth })
-          parts_from_prefix = (
-            below ∙ no_conflict bytes key (pairs_below at.children) unrelated_below,
-            comes_to depth (Some (MismatchPrefix m p)) (longest_inner
-                (aside_off front key at.children (λ f. let t = parted_unrelated parts_at in let r = front_related front key f in absurd cc)))
-                (refl, (header_at p.kind shown, at.children, at.is, (c, long))),
-          )
+          parts_from_prefix : IsStepFrom bytes P key pairs layout path name depth d (End (Some (MismatchPrefix m p)) depth)
+          parts_from_prefix =
+              let aside = aside_off front key at.children (λ f. let t = parted_unrelated parts_at in let r = front_related front key f in absurd cc) in (
+                (
+                  below ∙ no_conflict bytes key (pairs_below at.children) unrelated_below,
+                  comes_to depth (Some (MismatchPrefix m p)) (longest_inner aside) (refl, (header_at p.kind shown, at.children, at.is, (c, long))),
+                ),
+                left_aside_is aside,
+              )
 
         -- the step in the prefix
         pub mismatch_step : {step : SearchStep} →
             (length key ≤ depth + m.matched_bytes → step ≡ End None depth) →
             (depth + m.matched_bytes < length key → step ≡ End (Some (MismatchPrefix m p)) depth) →
-            IsStepFrom bytes P key pairs layout path name depth step
+            IsStepFrom bytes P key pairs layout path name depth d step
         mismatch_step {step} ends parts = by_length (leb (length key) (depth + m.matched_bytes)) refl
           where
-            by_length : (t : Bool) → leb (length key) (depth + m.matched_bytes) ≡ t → IsStepFrom bytes P key pairs layout path name depth step
-            by_length true e = let short = leb-true (length key) (depth + m.matched_bytes) e in subst (IsStepFrom bytes P key pairs layout path name depth) (sym (ends short)) (ends_in_prefix short)
-            by_length false e = let long = leb-false (length key) (depth + m.matched_bytes) e in subst (IsStepFrom bytes P key pairs layout path name depth) (sym (parts long)) (parts_from_prefix long)
+            by_length : (t : Bool) → leb (length key) (depth + m.matched_bytes) ≡ t → IsStepFrom bytes P key pairs layout path name depth d step
+            by_length true e =
+                let short = leb-true (length key) (depth + m.matched_bytes) e in
+                subst (IsStepFrom bytes P key pairs layout path name depth d) (sym (ends short)) (ends_in_prefix short, left_aside_is (aside_end front key at.children (no_longer short)))
+            by_length false e = let long = leb-false (length key) (depth + m.matched_bytes) e in subst (IsStepFrom bytes P key pairs layout path name depth d) (sym (parts long)) (parts_from_prefix long)
 
 -- what was compared of the key at a node is no more than the key has
 module _ {K V : Type 0} {s : Nodes K V} {bytes : K × V → List ℕ} {P : ℕ} {root : OpaqueNodePtr} {key : List ℕ} {path : TreePath} {name : OpaqueNodePtr} {depth : ℕ}

@@ -1,4 +1,5 @@
 pub mod Blocks
+pub mod Counts
 pub mod Iterators
 pub mod Rests
 pub mod Outcomes
@@ -7,6 +8,7 @@ pub mod Steps
 pub mod Ends
 pub mod Along
 pub mod Descents
+pub mod Left
 pub mod Below
 pub mod Parts
 pub mod Sides
@@ -17,4 +19,9 @@ pub mod Bounds
 pub mod Parents
 pub mod Partings
 pub mod Prefixes
+pub mod Guides
 pub mod EndNodes
+pub mod Endings
+pub mod TextWays
+pub mod LongestTexts
+pub mod Levels

@@ -32,7 +32,7 @@ abbrev pub count_on_way : {N : Type 0} → List ℕ → List (List ℕ × N) →
 count_on_way key nodes = length (match_of (λ node. node.0) key nodes)
 
 -- each prefix of a child is stored whole if each of its parent is
-whole_child : {N A : Type 0} (P : ℕ) (cs : Subtrees N A) (b : ℕ) (t : Tree N A) (ds : Subtrees N A) → AreWholeStored P (join cs (child b t ds)) → IsWholeStored P t
+pub whole_child : {N A : Type 0} (P : ℕ) (cs : Subtrees N A) (b : ℕ) (t : Tree N A) (ds : Subtrees N A) → AreWholeStored P (join cs (child b t ds)) → IsWholeStored P t
 whole_child P no_child b t ds whole = whole.0
 whole_child P (child c u cs) b t ds whole = whole_child P cs b t ds whole.1
 
@@ -55,14 +55,14 @@ pub record IsOnWay {A : Type 0} (bytes : A → List ℕ) (P : ℕ) (start : Pref
 
 -- the first of some nodes counts at most once, and exactly once where its place is a front of the key
 module _ {N : Type 0} (key : List ℕ) (node : List ℕ × N) (nodes : List (List ℕ × N)) where
-  count_most : count_on_way key (node ∷ nodes) ≤ 1 + count_on_way key nodes
+  pub count_most : count_on_way key (node ∷ nodes) ≤ 1 + count_on_way key nodes
   count_most = go (is_front node.0 key)
     where
       go : (t : Bool) → length (cond t (node ∷ match_of (λ n. n.0) key nodes) (match_of (λ n. n.0) key nodes)) ≤ 1 + count_on_way key nodes
       go true = omega arith
       go false = omega arith
 
-  count_front : IsFront node.0 key → count_on_way key (node ∷ nodes) ≡ 1 + count_on_way key nodes
+  pub count_front : IsFront node.0 key → count_on_way key (node ∷ nodes) ≡ 1 + count_on_way key nodes
   count_front (r, e) = let is : is_front node.0 key ≡ true = ap (is_front node.0) e ∙ front_is node.0 r in rw is (omega arith)
 
 module _ {A : Type 0} {bytes : A → List ℕ} {P : ℕ} {start : PrefixMatchBehavior} {key : List ℕ} {tree : Tree OpaqueNodePtr A} {way : TreePath} {name : OpaqueNodePtr} {depth : ℕ}

@@ -1,7 +1,8 @@
 -- the whole prefix of a node, as it is read
-use Rattle.std.proofs.Common.{◌≡◌, ◌≢◌, ℕ, ◌+◌, ◌-◌, ◌<◌, ◌≤◌, List, [], ◌∷◌, ◌++◌, length, take, drop, slice_get, ap, sym, ◌∙◌, arith, subst, length-append, Option, Some, None, Result, Ok, Err}
+use Rattle.std.proofs.Common.{◌≡◌, ◌≢◌, ℕ, ◌+◌, ◌-◌, ◌<◌, ◌≤◌, List, ◌++◌, length, take, drop, slice_get, ap, sym, ◌∙◌, arith, subst, append_assoc, length-append, Option, Some, None, Result, Ok, Err}
 use Rattle.std.specs.Result.{IfOk, IfErr}
-use Rattle.std.proofs.lemmas.List.{nil_from_length, take_all}
+use Rattle.std.specs.List.{AllByRecursion as Each}
+use Rattle.std.proofs.lemmas.List.{nil_from_length, take_all, take_at}
 use Rattle.std.specs.FinMap as map
 use Rattle.art_inner.specs.Inner.{Inner}
 use Rattle.art_parts.specs.Headers.{Prefix, header_of as whole_header}
@@ -15,37 +16,22 @@ use Rattle.art_parts.specs.declared.leaf.LeafNode.{LeafNode}
 use Rattle.art_parts.proofs.HeaderLaws.{header_by_parts}
 use Rattle.art_model.specs.Keys.{IsFront}
 use Rattle.art_model.specs.Lookups.{HasFirstLeaf}
-use Rattle.art_model.specs.Pairs.{first_of}
 use Rattle.art_model.specs.Roots.{IsFullTree}
-use Rattle.art_model.specs.Trees.{Tree, leaf, inner, Subtrees, child, no_child}
-use Rattle.art_model.specs.Radix.{IsRadix, AreRadix, bytes_of, pairs_of, pairs_below}
-use Rattle.art_model.specs.Layouts.{Holds, IsLayout}
+use Rattle.art_model.specs.Trees.{Tree, inner}
+use Rattle.art_model.specs.Radix.{IsRadix, pairs_of}
+use Rattle.art_model.specs.Layouts.{IsLayout}
 use Rattle.art_model.specs.Stores.{node_at, header_at, pair_of}
-use Rattle.art_model.specs.Places.{least_key, least_below, prefix_of}
-use Rattle.art_model.proofs.places.Places.{least_way_below, prefix_is}
-use Rattle.art_model.proofs.radix.Rebuild.{radix_some}
+use Rattle.art_model.specs.Places.{prefix_of}
+use Rattle.art_model.proofs.lists.Lists.{after_front}
+use Rattle.art_model.proofs.places.Places.{prefix_is}
+use Rattle.art_model.proofs.radix.Rebuild.{radix_below}
 use Rattle.art_model.proofs.stores.Shown.{IsShown, no_inner_gone, inner_shown}
-use Rattle.art_model.proofs.stores.Stores.{path_holds}
 use Rattle.art_model.proofs.radix.TreeLaws.{have_two_children, one_child}
-use Rattle.art_model.proofs.stores.Views as views
 use Rattle.art_reading.specs.declared.path.ExplicitMismatch.{ExplicitMismatch}
 use Rattle.art_reading.specs.declared.path.PrefixMatch.{PrefixMatch}
 use Rattle.art_reading.specs.Matching.{shared_len}
 use Rattle.art_reading.specs.EndNodes.{IsCompared, IsLeafForPrefix}
 use Rattle.art_reading.specs.PartEnds.{IsPlaced}
-
-module _ {N A : Type 0} (bytes : A → List ℕ) (P : ℕ) (x : A) where
-  -- the least key is that of the first pair
-  mutual
-    least_is : (t : Tree N A) (place : List ℕ) → IsRadix bytes P place t → first_of (pairs_of t) ≡ Some x → least_key bytes t ≡ bytes x
-    least_is (leaf n y) place h e = let same : y ≡ x = cc in ap bytes same
-    least_is (inner n h cs) place (part, head, two, up, below) e = least_below_is cs (place ++ part) two below e
-
-    least_below_is : (cs : Subtrees N A) (front : List ℕ) → 2 ≤ length (bytes_of cs) → AreRadix bytes P front cs → first_of (pairs_below cs) ≡ Some x → least_below bytes cs ≡ bytes x
-    least_below_is no_child front two h e = absurd (omega arith)
-    least_below_is (child b t cs) front two h e =
-        let (y, ys, is) = radix_some bytes P t (front ++ b ∷ []) h.0 in
-        least_is t (front ++ b ∷ []) h.0 (ap first_of is ∙ sym (ap (λ xs. first_of (xs ++ pairs_below cs)) is) ∙ e)
 
 -- what the comparison of a prefix says, where that is the whole prefix of the node
 module _ {A : Type 0} (bytes : A → List ℕ) (P : ℕ) (key : List ℕ) (node : Tree OpaqueNodePtr A) (depth : ℕ) (leaf_ptr : Option LeafPtr) {prefix rest : List ℕ} where
@@ -109,46 +95,47 @@ module _ {K V : Type 0} {s : Nodes K V} {bytes : K × V → List ℕ} {P : ℕ} 
         let empty : length (prefix_of bytes depth node) ≡ 0 = let k = len_is in let p = ap (λ z. z.len) h in omega arith in
         (e ∙ sym empty, (drop depth key, sym (ap (λ prefix. prefix ++ drop depth key) (nil_from_length _ empty))))
 
-    -- a prefix that is read from the least leaf below
-    module _ {q : LeafPtr} (first : HasFirstLeaf node (leaf_name q)) where
-      leaf_there : (shown : LeafNode K V) × (map.get s.leaves q ≡ Some shown) × (pair_of shown ≡ first.pair)
-      leaf_there =
-          let pair = first.pair in
-          views.leaf_there s q pair (path_holds (node_at s) first.has.path (leaf (leaf_name q) pair) (subst (Holds (node_at s)) (sym first.has.whole) part.layout.holds)).1
+    -- a prefix that is read from a leaf below
+    module _ (l : LeafNode K V) (own : (Q : K × V → Type 0) → Each Q (pairs_of node) → Q (pair_of l)) where
+      begins : IsFront (part.place ++ radix.0) (bytes (pair_of l))
+      begins =
+          own (λ x. IsFront (part.place ++ radix.0) (bytes x))
+          (subst (λ t. Each (λ x. IsFront (part.place ++ radix.0) (bytes x)) (pairs_of t)) (sym at.is) (radix_below bytes P at.children (part.place ++ radix.0) radix.4))
 
-      pub no_leaf_gone : None ≡ map.get s.leaves q → ⊥
-      no_leaf_gone gone = let (l, there, same) = leaf_there in absurd cc
+      pub long_enough : depth + shown.prefix.len ≤ length (bytes (pair_of l))
+      long_enough =
+          let (r, e) = begins in
+          let k = ap length e in
+          let n = part.depth_is in
+          let m = ap (λ h. h.length_of) radix.1 in
+          let u = length-append (part.place ++ radix.0) r in
+          let v = length-append part.place radix.0 in
+          omega arith
 
-      module _ {l : LeafNode K V} (read : Some l ≡ map.get s.leaves q) where
-        least_bytes : least_below bytes at.children ≡ bytes (pair_of l)
-        least_bytes =
-            let (z, here, same) = leaf_there in
-            let is : z ≡ l = cc in
-            least_below_is bytes P first.pair at.children (part.place ++ radix.0) radix.2 radix.4
-            (ap (λ t. first_of (pairs_of t)) (sym at.is) ∙ first.pair_is) ∙ ap bytes (sym same) ∙ ap (λ y. bytes (pair_of y)) is
+      -- the whole prefix is read from the leaf
+      pub prefix_read : take shown.prefix.len (drop depth (bytes (pair_of l))) ≡ prefix_of bytes depth node
+      prefix_read =
+          let (r, e) = begins in
+          let rest : drop depth (bytes (pair_of l)) ≡ radix.0 ++ r =
+          ap (λ n. drop n (bytes (pair_of l))) (sym part.depth_is) ∙ after_front part.place (bytes (pair_of l)) (radix.0 ++ r) (e ∙ append_assoc part.place radix.0 r) in
+          ap (take shown.prefix.len) rest ∙ take_at radix.0 r shown.prefix.len (sym (ap (λ h. h.length_of) radix.1)) ∙ sym whole_prefix
 
-        pub long_enough : depth + shown.prefix.len ≤ length (bytes (pair_of l))
-        long_enough =
-            let (r, e) = least_way_below bytes P at.children (part.place ++ radix.0) radix.2 radix.4 in
-            let k = ap length (sym least_bytes ∙ e) in
-            let n = part.depth_is in
-            let m = ap (λ h. h.length_of) radix.1 in
-            let u = length-append (part.place ++ radix.0) r in
-            let v = length-append part.place radix.0 in
-            omega arith
-
-        -- the whole prefix is read from the leaf
-        pub prefix_read : take shown.prefix.len (drop depth (bytes (pair_of l))) ≡ prefix_of bytes depth node
-        prefix_read = ap (λ k. take shown.prefix.len (drop depth k)) (sym least_bytes) ∙ ap (prefix_of bytes depth) (sym at.is)
-
-        -- what the comparison with a prefix that is read from the leaf says
-        pub matches_read : {header : Prefix} {len : ℕ} {text prefix rest : List ℕ} (key : List ℕ) (r : Result PrefixMatch ExplicitMismatch) →
-            header ≡ shown.prefix → len ≡ header.len → P < len → text ≡ bytes (pair_of l) → prefix ≡ take (depth + len - depth) (drop depth text) → rest ≡ drop depth key →
-            IfOk r (λ m. m.matched_bytes ≡ length prefix) → IfOk r (λ m. IsFront prefix rest) →
-            IfErr r (λ m. m.matched_bytes ≡ shared_len prefix rest) → IfErr r (λ m. slice_get prefix m.matched_bytes ≡ Some m.prefix_byte) →
-            IfErr r (λ m. m.leaf_ptr ≡ Some q) → IsCompared bytes P key node depth r
-        matches_read {header} {len} {text} key r h le long t pr rest_is a b c d e =
-            let k = ap (λ z. z.len) h in
+      -- what the comparison with a prefix that is read from the leaf says
+      module _ {header : Prefix} {len : ℕ} {text prefix rest : List ℕ} (key : List ℕ) (header_is : header ≡ shown.prefix) (long_is : len ≡ header.len)
+          (text_is : text ≡ bytes (pair_of l)) (read : prefix ≡ take (depth + len - depth) (drop depth text)) (rest_is : rest ≡ drop depth key) where
+        whole_read : prefix ≡ prefix_of bytes depth node
+        whole_read =
+            let k = ap (λ z. z.len) header_is in
             let count : depth + len - depth ≡ shown.prefix.len = omega arith in
-            compared bytes P key node depth (Some q) r (pr ∙ ap (λ n. take n (drop depth text)) count ∙
-            ap (λ z. take shown.prefix.len (drop depth z)) t ∙ prefix_read) rest_is ((let m = len_is in omega arith), first) a b c d e
+            read ∙ ap (λ n. take n (drop depth text)) count ∙ ap (λ z. take shown.prefix.len (drop depth z)) text_is ∙ prefix_read
+
+        pub matches_read : {m : PrefixMatch} → m.matched_bytes ≡ length prefix → IsFront prefix rest → IsCompared bytes P key node depth (Ok m)
+        matches_read len front = (len ∙ ap length whole_read, subst (λ p. IsFront p (drop depth key)) whole_read (subst (IsFront prefix) rest_is front))
+
+        pub parts_read : {m : ExplicitMismatch} {q : LeafPtr} → P < len → m.matched_bytes ≡ shared_len prefix rest → slice_get prefix m.matched_bytes ≡ Some m.prefix_byte →
+            m.leaf_ptr ≡ Some q → HasFirstLeaf node (leaf_name q) → IsCompared bytes P key node depth (Err m)
+        parts_read {m} {q} more shared byte least first = record {
+          matched = shared ∙ ap (shared_len prefix) rest_is ∙ ap (λ p. shared_len p (drop depth key)) whole_read;
+          byte = subst (λ p. slice_get p m.matched_bytes ≡ Some m.prefix_byte) whole_read byte;
+          least_leaf = subst (IsLeafForPrefix P (prefix_of bytes depth node) node) (sym least) ((let k = len_is in let h = ap (λ z. z.len) header_is in omega arith), first);
+        }

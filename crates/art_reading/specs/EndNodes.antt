@@ -23,6 +23,7 @@ use Rattle.art_reading.specs.declared.path.ExplicitMismatch.{ExplicitMismatch}
 use Rattle.art_reading.specs.declared.path.PrefixMatch.{PrefixMatch}
 use Rattle.art_reading.specs.Matching.{shared_len}
 use Rattle.art_reading.specs.PathSteps.{path_of, step_down}
+use Rattle.art_reading.specs.Readings.{left_on_way}
 
 -- a key and a leaf's key part after so many bytes, each with a byte of its own
 abbrev pub PartAfter : ℕ → List ℕ → List ℕ → Type 0
@@ -129,9 +130,12 @@ module _ {A : Type 0} (bytes : A → List ℕ) (P : ℕ) where
     pub depth_is : length place ≡ depth
     pub path_is : path ≡ path_of frames
 
-  -- a step from such a node ends there, at the key's end node, or comes further down
-  abbrev pub IsStepFrom : List ℕ → List A → Tree OpaqueNodePtr A → TreePath → OpaqueNodePtr → ℕ → SearchStep → Type 0
-  IsStepFrom key pairs layout path name depth (End kind used) =
+  -- a step from such a node ends there, at the key's end node and the last one on its way, or comes to the next one on it
+  abbrev pub IsStepFrom : (key : List ℕ) → List A → (layout : Tree OpaqueNodePtr A) → (path : TreePath) →
+      (name : OpaqueNodePtr) → (depth : ℕ) → IsAt key layout path name depth → SearchStep → Type 0
+  IsStepFrom key pairs layout path name depth at (End kind used) =
       IsEndFor key pairs layout (record { path = path; name = name; insert_kind = kind; key_bytes_used = used })
-  IsStepFrom key pairs layout path name depth (Down node byte child below) =
-      (depth < below) × IsAt key layout (step_down path node byte) child below
+      × (left_on_way bytes key depth at.node ≡ 1)
+  IsStepFrom key pairs layout path name depth at (Down node byte child below) =
+      (depth < below) × (next : IsAt key layout (step_down path node byte) child below)
+      × (left_on_way bytes key depth at.node ≡ left_on_way bytes key below next.node + 1)

@@ -5,8 +5,11 @@ pub use Rattle.art_model.specs.Roots
 pub use Rattle.art_model.specs.Lookups
 pub mod Matching
 pub mod PathSteps
+pub mod Guides
 pub mod EndNodes
 pub mod Stored
+pub mod Readings
 pub mod Descents
 pub mod Iterators
 pub mod PartEnds
+pub mod TextWays

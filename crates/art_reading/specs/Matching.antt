@@ -1,5 +1,5 @@
 -- How a look-up compares the prefix of an inner node, and the key of a leaf, with its query.
-use Rattle.std.specs.Prelude.{◌≡◌, ℕ, min, ◌||◌, nat_lt, if◌then◌else◌, length, slice_get, drop, Bool, true, List, None, Result, Ok, Err, ◌+◌, ◌&&◌, is_ok, get_or, Option}
+use Rattle.std.specs.Prelude.{◌≡◌, ℕ, min, ◌||◌, nat_lt, if◌then◌else◌, length, slice_get, drop, Bool, true, List, ◌++◌, ◌≤◌, None, Result, Ok, Err, ◌+◌, ◌&&◌, is_ok, get_or, Option}
 use Rattle.art_parts.specs.Headers.{Prefix}
 use Rattle.std.specs.Option.{option_map}
 use Rattle.art_inner.specs.Inner.{Inner, child_at}
@@ -9,6 +9,12 @@ use Rattle.art_reading.specs.declared.matching.PrefixMatchBehavior.{PrefixMatchB
 use Rattle.art_reading.specs.declared.matching.PrefixMatchBehavior.TheVariants.{Pessimistic, Optimistic}
 use Rattle.art_reading.specs.declared.path.AttemptOptimisticPrefixMatch.{AttemptOptimisticPrefixMatch}
 use Rattle.art_reading.specs.declared.path.PessimisticMismatch.{PessimisticMismatch}
+
+-- The bytes and at most one more are the rest of a key.
+pub record HasRest (rest bytes : List ℕ) : Type 0 where
+  pub last : List ℕ
+  pub is : rest ≡ bytes ++ last
+  pub few : length last ≤ 1
 
 -- the length of the longest prefix that two keys have in common
 abbrev pub shared_len : List ℕ → List ℕ → ℕ

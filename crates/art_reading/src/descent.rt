@@ -1,21 +1,23 @@
 //! The ways down a tree: with a key to the leaf that may have it, with a prefix to the node below which its keys are,
 //! and to the leaf at an end. Each reads one inner node for each level.
-ghost use Rattle.std.specs.Prelude.{◌≡◌, ◌+◌, ◌<◌, ◌≤◌, ◌^◌, length, IsSome};
+ghost use Rattle.std.specs.Prelude.{◌≡◌, ◌+◌, ◌-◌, ◌<◌, ◌≤◌, ◌^◌, length, min, IsSome};
 ghost use Rattle.art_inner.specs.Views.{ref_view};
 ghost use Rattle.art_parts.specs.declared.names.OpaqueNodePtr.{OpaqueNodePtr};
 ghost use Rattle.art_model.specs.Pairs.{of_key};
 ghost use Rattle.art_model.specs.Roots.{ForTree, IsCanonicalRoot, IsFullTree};
 ghost use Rattle.art_model.specs.Trees.{Tree};
+ghost use Rattle.art_reading.specs.Readings.{CountsReadings, ReadsBelow, levels};
 ghost use Rattle.art_reading.specs.PartEnds.{EndsBelow};
 ghost use Rattle.art_reading.specs.Descents.{CountsVisitsFrom, IsEndChild, IsKeysLeaf, LeadsToEnd, WalkEnds, asked_of};
 
 use crate::matching::{Asked, PrefixMatchBehavior};
 use crate::path::{LastSteps, TreePath};
+use crate::query::KeyQuery;
 use art_nodes::node::{AsBytes, InnerPtr, InnerRef, LeafNode, LeafPtr, NodePtr, OpaqueNodePtr};
 use art_nodes::store::NodeStore;
 use std::marker::Model;
 
-/// How many nodes visiting look-ups have read.
+/// How many nodes visiting calls have read.
 #[derive(Clone, Copy, PartialEq, Eq, Debug, Default)]
 pub struct Visits {
     count: usize,
@@ -46,7 +48,23 @@ impl Visits {
         self.count
     }
 
-    // Counts the reading of a node.
+    // Counts so many more readings. The counter stops at the greatest number that it can hold.
+    #[inline(always)]
+    pub(crate) fn add(&mut self, more: Visits)
+        ensures { self.new ≡ self.old + min more (2 ^ 64 - 1 - self.old) }
+    {
+        self.count = self.count.saturating_add(more.count);
+    }
+
+    // Counts the reading of a node in the same way.
+    #[inline(always)]
+    pub(crate) fn count_one(&mut self)
+        ensures { self.new ≡ self.old + min 1 (2 ^ 64 - 1 - self.old) }
+    {
+        self.add(Visits { count: 1 });
+    }
+
+    // Counts the reading of a node, where there is room for it.
     fn add_one(&mut self)
         requires { self.old + 1 < 2 ^ 64 }
         ensures { self.new ≡ self.old + 1 }
@@ -73,24 +91,23 @@ pub struct LastLeaf<'a, K, V> {
 /// stored, with `Optimistic` only their lengths, and the whole key at the leaf. Where the leaf is there
 /// both read the same nodes; where it is not an optimistic way may read more.
 #[inline(always)]
-pub fn walk_to_key<'a, K: AsBytes + Drop, V: Drop, const PREFIX_LEN: usize>(
+pub fn walk_to_key<'a, Q: KeyQuery, K: AsBytes + Drop, V: Drop, const PREFIX_LEN: usize>(
     store: &'a NodeStore<K, V, PREFIX_LEN>,
     root: OpaqueNodePtr,
-    key_bytes: &[u8],
+    query: Q,
     asked: Asked,
     start: PrefixMatchBehavior,
     visits: &mut Visits,
 ) -> Option<LastLeaf<'a, K, V>>
     requires root { IsCanonicalRoot (of_key K.bytes) PREFIX_LEN store.now root }
-    requires room { visits.old + length key_bytes.now + 1 < 2 ^ 64 }
+    requires room { visits.old + length (Q.key query) + 1 < 2 ^ 64 }
     ensures leaf { ForTree (of_key K.bytes) PREFIX_LEN store.now root (λ pairs layout.
-        IsKeysLeaf (asked_of asked (of_key K.bytes) key_bytes.now pairs) layout result) }
-    ensures visits { CountsVisitsFrom start (of_key K.bytes) PREFIX_LEN store.now root key_bytes.now
-        visits.old visits.new (IsSome result) }
+        IsKeysLeaf (asked_of asked (of_key K.bytes) (Q.key query) pairs) layout result) }
+    ensures visits { CountsVisitsFrom start (of_key K.bytes) PREFIX_LEN store.now root
+        (Q.key query) visits.old visits.new (IsSome result) }
 {
-    let last = walk(store, root, key_bytes, start, visits)?;
-    let behavior = last.behavior;
-    if behavior.finds(asked, last.node, key_bytes, last.depth) {
+    let last = walk(store, root, query, start, visits)?;
+    if query.finds(last.behavior, asked, last.node, last.depth) {
         Some(last)
     } else {
         None
@@ -99,19 +116,19 @@ pub fn walk_to_key<'a, K: AsBytes + Drop, V: Drop, const PREFIX_LEN: usize>(
 
 // Goes down with a key to the only leaf whose key can be a prefix of it, and counts each node that it reads.
 #[inline(always)]
-fn walk<'a, K: AsBytes + Drop, V: Drop, const PREFIX_LEN: usize>(
+fn walk<'a, Q: KeyQuery, K: AsBytes + Drop, V: Drop, const PREFIX_LEN: usize>(
     store: &'a NodeStore<K, V, PREFIX_LEN>,
     root: OpaqueNodePtr,
-    key_bytes: &[u8],
+    query: Q,
     start: PrefixMatchBehavior,
     visits: &mut Visits,
 ) -> Option<LastLeaf<'a, K, V>>
     requires root { IsCanonicalRoot (of_key K.bytes) PREFIX_LEN store.now root }
-    requires room { visits.old + length key_bytes.now + 1 < 2 ^ 64 }
+    requires room { visits.old + length (Q.key query) + 1 < 2 ^ 64 }
     ensures ends { ForTree (of_key K.bytes) PREFIX_LEN store.now root (λ pairs layout.
-        WalkEnds (of_key K.bytes) PREFIX_LEN start key_bytes.now pairs layout
+        WalkEnds (of_key K.bytes) PREFIX_LEN start (Q.key query) pairs layout
         visits.old visits.new result) }
-    ensures at_most { visits.new ≤ visits.old + length key_bytes.now + 1 }
+    ensures at_most { visits.new ≤ visits.old + length (Q.key query) + 1 }
 {
     let mut steps = LastSteps::new();
     let mut name = root;
@@ -140,8 +157,8 @@ fn walk<'a, K: AsBytes + Drop, V: Drop, const PREFIX_LEN: usize>(
                 behavior,
             });
         };
-        let (place, child) = behavior.step_at(node, key_bytes, depth)?;
-        steps.step_down(inner, key_bytes[place]);
+        let (place, child) = behavior.step_at(node, query, depth)?;
+        steps.step_down(inner, query.byte_at(place));
         name = child;
         depth = place + 1;
     }
@@ -180,6 +197,23 @@ pub fn walk_to_end<K: AsBytes + Drop, V: Drop, const PREFIX_LEN: usize>(
     ensures { (layout : Tree OpaqueNodePtr (K × V)) →
         IsFullTree store.now root layout → LeadsToEnd layout end result.0 result.1 }
 {
+    walk_to_end_visiting(store, root, end, &mut Visits::new())
+}
+
+// The same, and counts each node that it reads.
+#[inline(always)]
+pub(crate) fn walk_to_end_visiting<K: AsBytes + Drop, V: Drop, const PREFIX_LEN: usize>(
+    store: &NodeStore<K, V, PREFIX_LEN>,
+    root: OpaqueNodePtr,
+    end: End,
+    visits: &mut Visits,
+) -> (TreePath, LeafPtr)
+    requires { (layout : Tree OpaqueNodePtr (K × V)) × IsFullTree store.now root layout }
+    ensures leads { (layout : Tree OpaqueNodePtr (K × V)) →
+        IsFullTree store.now root layout → LeadsToEnd layout end result.0 result.1 }
+    ensures visits { CountsReadings visits.old visits.new (λ number.
+        number ≤ levels store.now root) }
+{
     let mut steps = LastSteps::new();
     let mut name = root;
     'down: loop {
@@ -190,6 +224,7 @@ pub fn walk_to_end<K: AsBytes + Drop, V: Drop, const PREFIX_LEN: usize>(
         let Some(node) = store.inner(inner) else {
             unreachable!()
         };
+        visits.count_one();
         let (byte, child) = child_at_end(node, end);
         steps.step_down(inner, byte);
         name = child;
@@ -231,6 +266,24 @@ pub fn walk_below<K: AsBytes + Drop, V: Drop, const PREFIX_LEN: usize>(
     ensures { ForTree (of_key K.bytes) PREFIX_LEN store.now root (λ pairs layout.
         EndsBelow (of_key K.bytes) prefix.now layout result) }
 {
+    walk_below_visiting(store, root, prefix, &mut Visits::new())
+}
+
+// The same, and counts each inner node that it reads.
+#[inline(always)]
+pub(crate) fn walk_below_visiting<K: AsBytes + Drop, V: Drop, const PREFIX_LEN: usize>(
+    store: &NodeStore<K, V, PREFIX_LEN>,
+    root: OpaqueNodePtr,
+    prefix: &[u8],
+    visits: &mut Visits,
+) -> Option<LastNode>
+    requires { IsCanonicalRoot (of_key K.bytes) PREFIX_LEN store.now root }
+    ensures end { ForTree (of_key K.bytes) PREFIX_LEN store.now root (λ pairs layout.
+        EndsBelow (of_key K.bytes) prefix.now layout result) }
+    ensures visits { CountsReadings visits.old visits.new (λ number.
+        ForTree (of_key K.bytes) PREFIX_LEN store.now root (λ pairs layout.
+        ReadsBelow (of_key K.bytes) store.now root prefix.now layout result number)) }
+{
     let mut steps = LastSteps::new();
     let mut name = root;
     let mut depth = 0;
@@ -244,6 +297,7 @@ pub fn walk_below<K: AsBytes + Drop, V: Drop, const PREFIX_LEN: usize>(
         let Some(node) = store.inner(inner) else {
             unreachable!()
         };
+        visits.count_one();
         let prefix_len = node.prefix_len();
         if prefix_len >= prefix.len() - depth {
             return Some(LastNode {

@@ -1,4 +1,4 @@
-//! The way down with a key to its end node: the node with the longest place that is a prefix of it.
+//! The descent with a key to its end node: the node with the longest place that is a prefix of it.
 ghost use Rattle.std.specs.Prelude.{◌≡◌, ◌≢◌, ◌+◌, ◌-◌, ◌<◌, ◌≤◌, ◌^◌, get_or, length, Some, None, slice_get, IfOk, IfErr};
 ghost use Rattle.std.specs.FinMap as map;
 ghost use Rattle.art_parts.specs.Names.{inner_name};
@@ -11,12 +11,16 @@ ghost use Rattle.art_model.specs.Pairs.{of_key};
 ghost use Rattle.art_model.specs.Roots.{ForTree, IsCanonicalRoot};
 ghost use Rattle.art_reading.specs.Matching.{shared_len};
 ghost use Rattle.art_reading.specs.EndNodes.{IsAt, IsCompared, IsEndFor, IsKindFor, IsStepFrom};
+ghost use Rattle.art_reading.specs.Guides.{MayGuide};
+ghost use Rattle.art_reading.specs.Readings.{CountsReadings, CountsToEnd, IsPrefixCost, StepReads};
 ghost use Rattle.art_reading.specs.declared.end_node.InsertKind.TheVariants as kinds;
 ghost use Rattle.art_reading.specs.declared.end_node.SearchStep.TheVariants as steps;
 ghost use Rattle.art_reading.specs.declared.path.TreePath.{TreePath};
 
+use crate::descent::Visits;
+use crate::guide::guide_from;
 use crate::matching::shared_len;
-use crate::minmax::minimum_unchecked;
+use crate::minmax::first_below_visiting;
 use crate::path::{ExplicitMismatch, LastSteps, PrefixMatch, TreePath};
 use art_nodes::node::{
     AsBytes, InnerPtr, InnerRef, LeafNode, LeafPtr, NodePtr, OpaqueNodePtr, OptionalLeafPtr,
@@ -60,9 +64,11 @@ pub enum InsertKind {
     },
 }
 
-/// Goes down with a key to its end node in the tree of a canonical root.
+/// Descends with a key to its end node in the tree of a canonical root.
 ///
-/// Where a prefix is longer than what its node stores of it, a leaf below is read for the rest.
+/// A prefix that is longer than what its node stores of it is read from a leaf: all such prefixes from
+/// the same one, which takes one more descent. Where the key parts from such a prefix, another descent
+/// finds the least leaf below.
 #[inline(always)]
 pub fn walk_to_end_node<K: AsBytes + Drop, V: Drop, const PREFIX_LEN: usize>(
     store: &NodeStore<K, V, PREFIX_LEN>,
@@ -73,11 +79,31 @@ pub fn walk_to_end_node<K: AsBytes + Drop, V: Drop, const PREFIX_LEN: usize>(
     ensures { ForTree (of_key K.bytes) PREFIX_LEN store.now root (λ pairs layout.
         IsEndFor (of_key K.bytes) PREFIX_LEN key_bytes.now pairs layout result) }
 {
+    walk_to_end_node_visiting(store, root, key_bytes, &mut Visits::new())
+}
+
+/// Does what `walk_to_end_node` does, and counts each reading of a node: at least the nodes on the key's
+/// way, just these where each prefix is stored whole, and at most three for each level of the tree, the
+/// leaves being one. A full counter stays full.
+#[inline(always)]
+pub fn walk_to_end_node_visiting<K: AsBytes + Drop, V: Drop, const PREFIX_LEN: usize>(
+    store: &NodeStore<K, V, PREFIX_LEN>,
+    root: OpaqueNodePtr,
+    key_bytes: &[u8],
+    visits: &mut Visits,
+) -> EndNode
+    requires { IsCanonicalRoot (of_key K.bytes) PREFIX_LEN store.now root }
+    ensures end { ForTree (of_key K.bytes) PREFIX_LEN store.now root (λ pairs layout.
+        IsEndFor (of_key K.bytes) PREFIX_LEN key_bytes.now pairs layout result) }
+    ensures visits { CountsToEnd (of_key K.bytes) PREFIX_LEN store.now root key_bytes.now
+        visits.old visits.new }
+{
     let mut steps = LastSteps::new();
     let mut name = root;
     let mut depth = 0;
+    let mut guide = None;
     'down: loop {
-        match next_step(store, root, key_bytes, name, depth) {
+        match next_step(store, root, key_bytes, name, depth, &mut guide, visits) {
             SearchStep::End {
                 insert_kind,
                 key_bytes_used,
@@ -103,7 +129,7 @@ pub fn walk_to_end_node<K: AsBytes + Drop, V: Drop, const PREFIX_LEN: usize>(
     }
 }
 
-// Where a step on the way down with a key comes to.
+// Where a step of a descent with a key comes to.
 #[derive(Clone, Copy)]
 enum SearchStep {
     /// The node is the key's end node, with what is to be done there.
@@ -130,20 +156,32 @@ fn next_step<K: AsBytes + Drop, V: Drop, const PREFIX_LEN: usize>(
     key_bytes: &[u8],
     name: OpaqueNodePtr,
     depth: usize,
+    guide: &mut OptionalLeafPtr,
+    visits: &mut Visits,
 ) -> SearchStep
     requires root { IsCanonicalRoot (of_key K.bytes) PREFIX_LEN store.now root }
     requires at { (path : TreePath) × ForTree (of_key K.bytes) PREFIX_LEN store.now root
         (λ pairs layout. IsAt (of_key K.bytes) PREFIX_LEN key_bytes.now layout path name depth) }
-    ensures { (path : TreePath) → ForTree (of_key K.bytes) PREFIX_LEN store.now root
-        (λ pairs layout. IsAt (of_key K.bytes) PREFIX_LEN key_bytes.now layout path name depth →
-        IsStepFrom (of_key K.bytes) PREFIX_LEN key_bytes.now pairs layout path name depth result) }
+    requires guide { ForTree (of_key K.bytes) PREFIX_LEN store.now root (λ pairs layout.
+        MayGuide (of_key K.bytes) key_bytes.now layout guide.old) }
+    ensures guide { ForTree (of_key K.bytes) PREFIX_LEN store.now root (λ pairs layout.
+        MayGuide (of_key K.bytes) key_bytes.now layout guide.new) }
+    ensures visits { CountsReadings visits.old visits.new (λ number.
+        StepReads (of_key K.bytes) PREFIX_LEN store.now root name
+        guide.old guide.new result number) }
+    ensures step { (path : TreePath) → ForTree (of_key K.bytes) PREFIX_LEN store.now root
+        (λ pairs layout.
+        (at : IsAt (of_key K.bytes) PREFIX_LEN key_bytes.now layout path name depth) →
+        IsStepFrom (of_key K.bytes) PREFIX_LEN key_bytes.now pairs layout
+        path name depth at result) }
 {
     match name.split() {
-        NodePtr::Inner(inner) => step_at_inner(store, root, key_bytes, inner, depth),
+        NodePtr::Inner(inner) => step_at_inner(store, root, key_bytes, inner, depth, guide, visits),
         NodePtr::Leaf(leaf_node_ptr) => {
             let Some(leaf) = store.leaf(leaf_node_ptr) else {
                 unreachable!()
             };
+            visits.count_one();
             SearchStep::End {
                 insert_kind: kind_at_leaf(leaf_node_ptr, leaf, key_bytes),
                 key_bytes_used: depth,
@@ -160,22 +198,32 @@ fn step_at_inner<K: AsBytes + Drop, V: Drop, const PREFIX_LEN: usize>(
     key_bytes: &[u8],
     inner: InnerPtr,
     depth: usize,
+    guide: &mut OptionalLeafPtr,
+    visits: &mut Visits,
 ) -> SearchStep
     requires root { IsCanonicalRoot (of_key K.bytes) PREFIX_LEN store.now root }
     requires inner { inner.kind ≢ Leaf }
     requires at { (path : TreePath) × ForTree (of_key K.bytes) PREFIX_LEN store.now root
         (λ pairs layout. IsAt (of_key K.bytes) PREFIX_LEN key_bytes.now layout
         path (inner_name inner) depth) }
-    ensures { (path : TreePath) → ForTree (of_key K.bytes) PREFIX_LEN store.now root
-        (λ pairs layout. IsAt (of_key K.bytes) PREFIX_LEN key_bytes.now layout
-        path (inner_name inner) depth →
+    requires guide { ForTree (of_key K.bytes) PREFIX_LEN store.now root (λ pairs layout.
+        MayGuide (of_key K.bytes) key_bytes.now layout guide.old) }
+    ensures guide { ForTree (of_key K.bytes) PREFIX_LEN store.now root (λ pairs layout.
+        MayGuide (of_key K.bytes) key_bytes.now layout guide.new) }
+    ensures visits { CountsReadings visits.old visits.new (λ number.
+        StepReads (of_key K.bytes) PREFIX_LEN store.now root (inner_name inner)
+        guide.old guide.new result number) }
+    ensures step { (path : TreePath) → ForTree (of_key K.bytes) PREFIX_LEN store.now root
+        (λ pairs layout. (at : IsAt (of_key K.bytes) PREFIX_LEN key_bytes.now layout
+        path (inner_name inner) depth) →
         IsStepFrom (of_key K.bytes) PREFIX_LEN key_bytes.now pairs layout
-        path (inner_name inner) depth result) }
+        path (inner_name inner) depth at result) }
 {
     let Some(node) = store.inner(inner) else {
         unreachable!()
     };
-    match match_full_prefix(store, inner, node, key_bytes, depth) {
+    visits.count_one();
+    match match_full_prefix(store, root, inner, node, key_bytes, depth, guide, visits) {
         Ok(matched) => step_past_prefix(key_bytes, inner, node, depth + matched.matched_bytes),
         Err(mismatch) => end_in_prefix(key_bytes, inner, mismatch, depth),
     }
@@ -273,40 +321,104 @@ fn kind_at_leaf<K: AsBytes, V>(
     }
 }
 
-// Compares the whole prefix of an inner node, to which so many bytes of the key lead, with the rest of it.
+// Compares the whole prefix of an inner node with the key from this depth on.
 #[inline(always)]
 fn match_full_prefix<K: AsBytes + Drop, V: Drop, const PREFIX_LEN: usize>(
     store: &NodeStore<K, V, PREFIX_LEN>,
+    root: OpaqueNodePtr,
     name: InnerPtr,
     node: InnerRef<'_, PREFIX_LEN>,
     key_bytes: &[u8],
     depth: usize,
+    guide: &mut OptionalLeafPtr,
+    visits: &mut Visits,
 ) -> Result<PrefixMatch, ExplicitMismatch>
+    requires root { IsCanonicalRoot (of_key K.bytes) PREFIX_LEN store.now root }
     requires inner { name.kind ≢ Leaf }
     requires node { Some (ref_view node) ≡ map.get store.now.inners name }
-    requires at { (root : OpaqueNodePtr) × (path : TreePath) ×
-        IsCanonicalRoot (of_key K.bytes) PREFIX_LEN store.now root ×
-        ForTree (of_key K.bytes) PREFIX_LEN store.now root (λ pairs layout.
-        IsAt (of_key K.bytes) PREFIX_LEN key_bytes.now layout path (inner_name name) depth) }
-    ensures { (root : OpaqueNodePtr) → (path : TreePath) →
-        ForTree (of_key K.bytes) PREFIX_LEN store.now root (λ pairs layout.
-        (at : IsAt (of_key K.bytes) PREFIX_LEN key_bytes.now layout path (inner_name name) depth) →
+    requires at { (path : TreePath) × ForTree (of_key K.bytes) PREFIX_LEN store.now root
+        (λ pairs layout. IsAt (of_key K.bytes) PREFIX_LEN key_bytes.now layout
+        path (inner_name name) depth) }
+    requires guide { ForTree (of_key K.bytes) PREFIX_LEN store.now root (λ pairs layout.
+        MayGuide (of_key K.bytes) key_bytes.now layout guide.old) }
+    ensures guide { ForTree (of_key K.bytes) PREFIX_LEN store.now root (λ pairs layout.
+        MayGuide (of_key K.bytes) key_bytes.now layout guide.new) }
+    ensures visits { CountsReadings visits.old visits.new (λ number.
+        IsPrefixCost store.now root (inner_name name) guide.old guide.new result number
+        × ((ref_view node.entry).prefix.len ≤ PREFIX_LEN → number ≡ 0)) }
+    ensures compared { (path : TreePath) → ForTree (of_key K.bytes) PREFIX_LEN store.now root
+        (λ pairs layout. (at : IsAt (of_key K.bytes) PREFIX_LEN key_bytes.now layout
+        path (inner_name name) depth) →
         IsCompared (of_key K.bytes) PREFIX_LEN key_bytes.now at.node depth result) }
 {
     let len = node.prefix_len();
     if len == 0 {
         return Ok(PrefixMatch { matched_bytes: 0 });
     }
-    let rest_of_key = &key_bytes[depth..];
     if len <= PREFIX_LEN {
-        return match_prefix(node.read_prefix(), rest_of_key, None);
+        return match_prefix(node.read_prefix(), &key_bytes[depth..], None);
     }
-    let leaf_ptr = minimum_unchecked(store, name.to_opaque());
-    let Some(leaf) = store.leaf(leaf_ptr) else {
+    let (result, more) = match_long_prefix(store, root, name, node, key_bytes, depth, guide);
+    visits.add(more);
+    result
+}
+
+// The same of a prefix that is not stored whole, with the number of readings. It is read from the guide
+// leaf, which is found where there is none yet. This is a call, so that the loops into which
+// `match_full_prefix` is inlined stay small.
+#[inline(never)]
+fn match_long_prefix<K: AsBytes + Drop, V: Drop, const PREFIX_LEN: usize>(
+    store: &NodeStore<K, V, PREFIX_LEN>,
+    root: OpaqueNodePtr,
+    name: InnerPtr,
+    node: InnerRef<'_, PREFIX_LEN>,
+    key_bytes: &[u8],
+    depth: usize,
+    guide: &mut OptionalLeafPtr,
+) -> (Result<PrefixMatch, ExplicitMismatch>, Visits)
+    requires root { IsCanonicalRoot (of_key K.bytes) PREFIX_LEN store.now root }
+    requires inner { name.kind ≢ Leaf }
+    requires node { Some (ref_view node) ≡ map.get store.now.inners name }
+    requires long { PREFIX_LEN < (ref_view node).prefix.len }
+    requires at { (path : TreePath) × ForTree (of_key K.bytes) PREFIX_LEN store.now root
+        (λ pairs layout. IsAt (of_key K.bytes) PREFIX_LEN key_bytes.now layout
+        path (inner_name name) depth) }
+    requires guide { ForTree (of_key K.bytes) PREFIX_LEN store.now root (λ pairs layout.
+        MayGuide (of_key K.bytes) key_bytes.now layout guide.old) }
+    ensures guide { ForTree (of_key K.bytes) PREFIX_LEN store.now root (λ pairs layout.
+        MayGuide (of_key K.bytes) key_bytes.now layout guide.new) }
+    ensures visits { IsPrefixCost store.now root (inner_name name) guide.old guide.new
+        result.0 result.1 }
+    ensures compared { (path : TreePath) → ForTree (of_key K.bytes) PREFIX_LEN store.now root
+        (λ pairs layout. (at : IsAt (of_key K.bytes) PREFIX_LEN key_bytes.now layout
+        path (inner_name name) depth) →
+        IsCompared (of_key K.bytes) PREFIX_LEN key_bytes.now at.node depth result.0) }
+{
+    let len = node.prefix_len();
+    let opaque = name.to_opaque();
+    let mut visits = Visits::new();
+    let read_from = guide_from(store, root, key_bytes, opaque, depth, *guide, &mut visits);
+    *guide = Some(read_from);
+    let Some(leaf) = store.leaf(read_from) else {
         unreachable!()
     };
+    visits.count_one();
     let prefix = &leaf.key.as_bytes()[depth..depth + len];
-    match_prefix(prefix, rest_of_key, Some(leaf_ptr))
+    match match_prefix(prefix, &key_bytes[depth..], None) {
+        Ok(matched) => (Ok(matched), visits),
+        Err(mismatch) => {
+            let (least, more) = first_below_visiting(store, opaque);
+            visits.add(more);
+            let leaf_ptr = Some(least);
+            (
+                Err(ExplicitMismatch {
+                    leaf_ptr,
+                    ..mismatch
+                }),
+                visits,
+            )
+        }
+    }
 }
 
 // Compares a prefix with the rest of the key.

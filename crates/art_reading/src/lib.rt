@@ -3,9 +3,11 @@
 
 pub mod descent;
 pub mod end_node;
+mod guide;
 pub mod iterator;
 pub mod lookup;
 pub mod matching;
 pub mod minmax;
 pub mod path;
+pub mod query;
 pub mod range;

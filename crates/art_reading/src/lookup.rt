@@ -9,11 +9,15 @@ ghost use Rattle.art_model.specs.Stores.{pair_of};
 ghost use Rattle.art_reading.specs.Descents.{CountsVisits, asked_of};
 ghost use Rattle.art_reading.specs.declared.matching.PrefixMatchBehavior.TheVariants.{Pessimistic};
 
+mod texts;
+
 pub use crate::descent::Visits;
 use crate::descent::walk_to_key;
 pub use crate::matching::{Asked, PrefixMatchBehavior};
+pub use crate::query::{EndedQuery, KeyQuery};
 use art_nodes::node::{AsBytes, LeafNode, OpaqueNodePtr, OptionalLeafPtr};
 use art_nodes::store::NodeStore;
+pub use texts::{longest_text_unchecked, longest_text_visiting};
 
 /// By default a look-up has compared all bytes so far, and no node has been read.
 pub fn look_ups_start_by_default()
@@ -107,43 +111,63 @@ pub fn prefix_search_visiting<K: AsBytes + Drop, V: Drop, const PREFIX_LEN: usiz
 /// Returns the leaf of the key that is asked for, or `None` where no stored key is as asked. It goes the
 /// way of `search_unchecked`, at the same cost, and a caller need not read the leaf once more.
 #[inline(always)]
-pub fn find_unchecked<'a, K: AsBytes + Drop, V: Drop, const PREFIX_LEN: usize>(
+pub fn find_unchecked<'a, Q: KeyQuery, K: AsBytes + Drop, V: Drop, const PREFIX_LEN: usize>(
     store: &'a NodeStore<K, V, PREFIX_LEN>,
     root: OpaqueNodePtr,
-    key_bytes: &[u8],
+    query: Q,
     asked: Asked,
 ) -> Option<&'a LeafNode<K, V>>
     requires { IsCanonicalRoot (of_key K.bytes) PREFIX_LEN store.now root }
     ensures { ForTree (of_key K.bytes) PREFIX_LEN store.now root (λ pairs _.
         option_map (λ leaf. pair_of leaf.now) result ≡
-        first_of (asked_of asked (of_key K.bytes) key_bytes.now pairs)) }
+        first_of (asked_of asked (of_key K.bytes) (Q.key query) pairs)) }
 {
+    query.fits();
     let start = PrefixMatchBehavior::Pessimistic;
-    let last = walk_to_key(store, root, key_bytes, asked, start, &mut Visits::new())?;
+    let last = walk_to_key(store, root, query, asked, start, &mut Visits::new())?;
     Some(last.node)
+}
+
+/// Returns the leaf of the key that is looked for, or `None` where no stored key is equal to it: what
+/// `search_unchecked` returns of its bytes, at the same cost.
+#[inline(always)]
+pub fn search_for<Q: KeyQuery, K: AsBytes + Drop, V: Drop, const PREFIX_LEN: usize>(
+    store: &NodeStore<K, V, PREFIX_LEN>,
+    root: OpaqueNodePtr,
+    query: Q,
+) -> OptionalLeafPtr
+    requires { IsCanonicalRoot (of_key K.bytes) PREFIX_LEN store.now root }
+    ensures leaf { ForTree (of_key K.bytes) PREFIX_LEN store.now root (λ pairs layout.
+        FindsLeaf layout (with_key (of_key K.bytes) (Q.key query) pairs) result) }
+    ensures there { IfSome result (λ leaf. IsSome (map.get store.now.leaves leaf)) }
+    ensures pair { ForTree (of_key K.bytes) PREFIX_LEN store.now root (λ pairs _.
+        pair_under store.now result ≡ first_of (with_key (of_key K.bytes) (Q.key query) pairs)) }
+{
+    query.fits();
+    find_leaf(store, root, query, Asked::Same, &mut Visits::new())
 }
 
 // The leaf that is asked for, or `None` where no stored key is as asked; each reading of a node is counted.
 #[inline(always)]
-fn find_leaf<K: AsBytes + Drop, V: Drop, const PREFIX_LEN: usize>(
+fn find_leaf<Q: KeyQuery, K: AsBytes + Drop, V: Drop, const PREFIX_LEN: usize>(
     store: &NodeStore<K, V, PREFIX_LEN>,
     root: OpaqueNodePtr,
-    key_bytes: &[u8],
+    query: Q,
     asked: Asked,
     visits: &mut Visits,
 ) -> OptionalLeafPtr
     requires root { IsCanonicalRoot (of_key K.bytes) PREFIX_LEN store.now root }
-    requires room { visits.old + length key_bytes.now + 1 < 2 ^ 64 }
+    requires room { visits.old + length (Q.key query) + 1 < 2 ^ 64 }
     ensures leaf { ForTree (of_key K.bytes) PREFIX_LEN store.now root (λ pairs layout.
-        FindsLeaf layout (asked_of asked (of_key K.bytes) key_bytes.now pairs) result) }
+        FindsLeaf layout (asked_of asked (of_key K.bytes) (Q.key query) pairs) result) }
     ensures there { IfSome result (λ leaf. IsSome (map.get store.now.leaves leaf)) }
     ensures pair { ForTree (of_key K.bytes) PREFIX_LEN store.now root (λ pairs _.
         pair_under store.now result ≡
-        first_of (asked_of asked (of_key K.bytes) key_bytes.now pairs)) }
-    ensures visits { CountsVisits (of_key K.bytes) PREFIX_LEN store.now root key_bytes.now
+        first_of (asked_of asked (of_key K.bytes) (Q.key query) pairs)) }
+    ensures visits { CountsVisits (of_key K.bytes) PREFIX_LEN store.now root (Q.key query)
         visits.old visits.new (IsSome result) }
 {
     let start = PrefixMatchBehavior::Pessimistic;
-    let last = walk_to_key(store, root, key_bytes, asked, start, visits)?;
+    let last = walk_to_key(store, root, query, asked, start, visits)?;
     Some(last.name)
 }

@@ -5,6 +5,7 @@ ghost use Rattle.art_reading.specs.Matching.{shared_len};
 ghost use Rattle.art_reading.specs.declared.matching.PrefixMatchBehavior.TheVariants.{Optimistic, Pessimistic};
 
 use crate::path::{AttemptOptimisticPrefixMatch, PessimisticMismatch};
+use crate::query::KeyQuery;
 use art_nodes::node::{AsBytes, InnerNode, InnerRef, LeafNode, OpaqueNodePtr};
 use std::simd::prelude::*;
 
@@ -100,56 +101,71 @@ impl PrefixMatchBehavior {
     }
 
     // Where the key leads below an inner node: the place of its byte after the prefix, and the child
-    // under that byte. An empty prefix is not compared.
+    // under that byte.
     #[inline(always)]
-    fn step<N: InnerNode<P>, const P: usize>(
+    fn step<Q: KeyQuery, N: InnerNode<P>, const P: usize>(
         &mut self,
         node: &N,
-        key_bytes: &[u8],
+        query: Q,
         depth: usize,
     ) -> Option<(usize, OpaqueNodePtr)>
-        requires depth { depth ≤ length key_bytes.now }
+        requires depth { depth ≤ length (Q.key query) }
         requires stored { length (N.view_of node.now).prefix.stored
             ≤ (N.view_of node.now).prefix.len }
-        ensures child { result ≡ child_below self.old (N.view_of node.now) key_bytes.now depth }
+        ensures child { result ≡ child_below self.old (N.view_of node.now) (Q.key query) depth }
         ensures within { IfSome result (λ child.
-            (depth ≤ child.0) × (child.0 < length key_bytes.now)) }
+            (depth ≤ child.0) × (child.0 < length (Q.key query))) }
         ensures behavior { IsSome result → self.new ≡
-            behavior_after self.old (N.view_of node.now).prefix (drop depth key_bytes.now) }
+            behavior_after self.old (N.view_of node.now).prefix (drop depth (Q.key query)) }
     {
         let prefix_len = node.prefix_len();
-        if prefix_len >= key_bytes.len() - depth {
+        if prefix_len >= query.len() - depth {
             return None;
         }
-        if prefix_len > 0 && !self.goes_on(prefix_len, node.read_prefix(), &key_bytes[depth..]) {
+        if !self.passes(node, query.rest(depth)) {
             return None;
         }
         let place = depth + prefix_len;
-        Some((place, node.lookup_child(key_bytes[place])?))
+        let child = node.lookup_child(query.byte_at(place))?;
+        Some((place, child))
     }
 
-    // The same at a node of any kind. All that a look-up reads of a node stands behind one question
-    // for the kind.
+    // Whether the rest of the key goes on with the prefix of a node, as far as it is compared. An empty
+    // prefix is not compared.
     #[inline(always)]
-    pub(crate) fn step_at<const P: usize>(
+    fn passes<N: InnerNode<P>, const P: usize>(&mut self, node: &N, rest: &[u8]) -> bool
+        requires { length (N.view_of node.now).prefix.stored ≤ (N.view_of node.now).prefix.len }
+        ensures outcome { result ≡
+            is_ok (prefix_match self.old (N.view_of node.now).prefix rest.now) }
+        ensures behavior { IsTrue result → self.new ≡
+            behavior_after self.old (N.view_of node.now).prefix rest.now }
+    {
+        let prefix_len = node.prefix_len();
+        prefix_len == 0 || self.goes_on(prefix_len, node.read_prefix(), rest)
+    }
+
+    // The same as `step` at a node of any kind. All that a look-up reads of a node stands behind one
+    // question for the kind.
+    #[inline(always)]
+    pub(crate) fn step_at<Q: KeyQuery, const P: usize>(
         &mut self,
         node: InnerRef<'_, P>,
-        key_bytes: &[u8],
+        query: Q,
         depth: usize,
     ) -> Option<(usize, OpaqueNodePtr)>
-        requires depth { depth ≤ length key_bytes.now }
+        requires depth { depth ≤ length (Q.key query) }
         requires stored { length (ref_view node).prefix.stored ≤ (ref_view node).prefix.len }
-        ensures child { result ≡ child_below self.old (ref_view node.entry) key_bytes.now depth }
+        ensures child { result ≡ child_below self.old (ref_view node.entry) (Q.key query) depth }
         ensures within { IfSome result (λ child.
-            (depth ≤ child.0) × (child.0 < length key_bytes.now)) }
+            (depth ≤ child.0) × (child.0 < length (Q.key query))) }
         ensures behavior { IsSome result → self.new ≡
-            behavior_after self.old (ref_view node.entry).prefix (drop depth key_bytes.now) }
+            behavior_after self.old (ref_view node.entry).prefix (drop depth (Q.key query)) }
     {
         match node {
-            InnerRef::Node4(node) => self.step(node, key_bytes, depth),
-            InnerRef::Node16(node) => self.step(node, key_bytes, depth),
-            InnerRef::Node48(node) => self.step(node, key_bytes, depth),
-            InnerRef::Node256(node) => self.step(node, key_bytes, depth),
+            InnerRef::Node4(node) => self.step(node, query, depth),
+            InnerRef::Node16(node) => self.step(node, query, depth),
+            InnerRef::Node48(node) => self.step(node, query, depth),
+            InnerRef::Node256(node) => self.step(node, query, depth),
         }
     }
 
@@ -274,7 +290,7 @@ fn are_four_same(a: &[u8], b: &[u8], at: usize) -> bool
 
 // Whether both are the same.
 #[inline(always)]
-fn are_equal(a: &[u8], b: &[u8]) -> bool
+pub(crate) fn are_equal(a: &[u8], b: &[u8]) -> bool
     ensures { IsTrue result ↔ (a.now ≡ b.now) }
 {
     a.len() == b.len() && have_same_front(a, b, a.len())

@@ -1,11 +1,13 @@
 //! The first and the last leaf of a tree.
+ghost use Rattle.std.specs.Prelude.{◌≤◌};
 ghost use Rattle.art_parts.specs.Names.{leaf_name};
 ghost use Rattle.art_parts.specs.declared.names.OpaqueNodePtr.{OpaqueNodePtr};
 ghost use Rattle.art_model.specs.Lookups.{HasFirstLeaf, HasLastLeaf};
 ghost use Rattle.art_model.specs.Roots.{IsFullTree};
 ghost use Rattle.art_model.specs.Trees.{Tree};
+ghost use Rattle.art_reading.specs.Readings.{levels};
 
-use crate::descent::{End, walk_to_end};
+use crate::descent::{End, Visits, walk_to_end, walk_to_end_visiting};
 use art_nodes::node::{AsBytes, LeafPtr, NodePtr, OpaqueNodePtr};
 use art_nodes::store::NodeStore;
 
@@ -52,6 +54,22 @@ fn first_below<K: AsBytes + Drop, V: Drop, const P: usize>(
         IsFullTree store.now root layout → HasFirstLeaf layout (leaf_name result) }
 {
     walk_to_end(store, root, End::First).1
+}
+
+// The same, with the number of nodes that it reads.
+#[inline(never)]
+pub(crate) fn first_below_visiting<K: AsBytes + Drop, V: Drop, const P: usize>(
+    store: &NodeStore<K, V, P>,
+    root: OpaqueNodePtr,
+) -> (LeafPtr, Visits)
+    requires { (layout : Tree OpaqueNodePtr (K × V)) × IsFullTree store.now root layout }
+    ensures leaf { (layout : Tree OpaqueNodePtr (K × V)) →
+        IsFullTree store.now root layout → HasFirstLeaf layout (leaf_name result.0) }
+    ensures visits { result.1 ≤ levels store.now root }
+{
+    let mut visits = Visits::new();
+    let leaf = walk_to_end_visiting(store, root, End::First, &mut visits).1;
+    (leaf, visits)
 }
 
 // The same of the last leaf.

@@ -1,24 +1,29 @@
 //! Parts of a tree: the leaves whose keys begin with a prefix, and those between two bounds.
-ghost use Rattle.std.specs.Prelude.{◌≡◌, ◌≢◌, ◌↔◌, length, Some, IsSome, IfSome, IsTrue};
+ghost use Rattle.std.specs.Prelude.{◌≡◌, ◌≢◌, ◌+◌, ◌*◌, ◌≤◌, ◌↔◌, length, Some, IsSome, IfSome, IsTrue};
 ghost use Rattle.std.specs.FinMap as map;
 ghost use Rattle.std.specs.Option.{option_map};
 ghost use Rattle.std.specs.Range.Bound.{bound_map};
+ghost use Rattle.std.specs.declared.ops.Bound.TheVariants as bounds;
 ghost use Rattle.art_inner.specs.Views.{ref_view};
 ghost use Rattle.art_parts.specs.Names.{inner_name, leaf_name};
 ghost use Rattle.art_parts.specs.declared.names.NodeType.TheVariants.{Leaf};
 ghost use Rattle.art_parts.specs.declared.names.OpaqueNodePtr.{OpaqueNodePtr};
 ghost use Rattle.art_model.specs.Keys.{is_front};
+ghost use Rattle.art_model.specs.Lookups.{nodes_on_way};
 ghost use Rattle.art_model.specs.Pairs.{first_of, last_of, of_key};
 ghost use Rattle.art_model.specs.Parts.{is_between, is_from, is_up_to, leaves_where};
 ghost use Rattle.art_model.specs.Places.{prefix_of};
 ghost use Rattle.art_model.specs.Roots.{ForTree, IsCanonicalRoot};
-ghost use Rattle.art_model.specs.Trees.{Tree};
+ghost use Rattle.art_reading.specs.EndNodes.{IsAt};
+ghost use Rattle.art_reading.specs.Guides.{MayGuide};
 ghost use Rattle.art_reading.specs.Iterators.{IsIteratorOf};
-ghost use Rattle.art_reading.specs.PartEnds.{IsLeafAtCut, IsPlaced, StandsBeside, is_before_cut};
+ghost use Rattle.art_reading.specs.PartEnds.{IsLeafAtCut, StandsBeside, is_before_cut};
+ghost use Rattle.art_reading.specs.Readings.{CountsBelow, CountsReadings, CountsToBound, CountsToBounds, guide_cost, levels};
+ghost use Rattle.art_reading.specs.declared.path.TreePath.{TreePath};
 
-use crate::descent::{End, walk_below};
+use crate::descent::{End, Visits, walk_below_visiting, walk_to_end_visiting};
+use crate::guide::guide_from;
 use crate::iterator::RawIterator;
-use crate::minmax::{maximum_unchecked, minimum_unchecked};
 use art_nodes::node::{AsBytes, InnerPtr, InnerRef, NodePtr, OpaqueNodePtr, OptionalLeafPtr};
 use art_nodes::store::NodeStore;
 use std::ops::Bound;
@@ -37,17 +42,38 @@ pub fn prefix_unchecked<K: AsBytes + Drop, V: Drop, const PREFIX_LEN: usize>(
         IsIteratorOf store.now result
         (leaves_where (λ x. is_front prefix.now (K.bytes x.0)) layout)) }
 {
-    let Some(end) = walk_below(store, root, prefix) else {
+    prefix_visiting(store, root, prefix, &mut Visits::new())
+}
+
+/// Returns what `prefix_unchecked` does, and counts each reading of a node: at least the nodes whose
+/// place is a prefix of these bytes, and at most two for each level of the tree, the leaves being one.
+/// A full counter stays full.
+#[inline(always)]
+pub fn prefix_visiting<K: AsBytes + Drop, V: Drop, const PREFIX_LEN: usize>(
+    store: &NodeStore<K, V, PREFIX_LEN>,
+    root: OpaqueNodePtr,
+    prefix: &[u8],
+    visits: &mut Visits,
+) -> RawIterator
+    requires { IsCanonicalRoot (of_key K.bytes) PREFIX_LEN store.now root }
+    ensures leaves { ForTree (of_key K.bytes) PREFIX_LEN store.now root (λ pairs layout.
+        IsIteratorOf store.now result
+        (leaves_where (λ x. is_front prefix.now (K.bytes x.0)) layout)) }
+    ensures visits { CountsBelow (of_key K.bytes) PREFIX_LEN store.now root prefix.now
+        visits.old visits.new }
+{
+    let Some(end) = walk_below_visiting(store, root, prefix, visits) else {
         return RawIterator::empty();
     };
-    let first = minimum_unchecked(store, end.name);
+    let (_, first) = walk_to_end_visiting(store, end.name, End::First, visits);
     let Some(leaf) = store.leaf(first) else {
         unreachable!()
     };
+    visits.count_one();
     if !leaf.key.as_bytes().starts_with(prefix) {
         return RawIterator::empty();
     }
-    let last = maximum_unchecked(store, end.name);
+    let (_, last) = walk_to_end_visiting(store, end.name, End::Last, visits);
     RawIterator::new(store, first, last)
 }
 
@@ -68,16 +94,38 @@ pub fn range_unchecked<K: AsBytes + Drop, V: Drop, const PREFIX_LEN: usize>(
         is_between (bound_map (λ b. b.now) from.entry) (bound_map (λ b. b.now) to.entry) (K.bytes x.0))
         layout)) }
 {
-    let Some(first) = first_from_unchecked(store, root, from) else {
+    range_visiting(store, root, from, to, &mut Visits::new())
+}
+
+/// Returns what `range_unchecked` does, and counts each reading of a node: those of
+/// `first_from_visiting` and of `last_up_to_visiting`, and one more of the first leaf.
+#[inline(always)]
+pub fn range_visiting<K: AsBytes + Drop, V: Drop, const PREFIX_LEN: usize>(
+    store: &NodeStore<K, V, PREFIX_LEN>,
+    root: OpaqueNodePtr,
+    from: Bound<&[u8]>,
+    to: Bound<&[u8]>,
+    visits: &mut Visits,
+) -> RawIterator
+    requires { IsCanonicalRoot (of_key K.bytes) PREFIX_LEN store.now root }
+    ensures leaves { ForTree (of_key K.bytes) PREFIX_LEN store.now root (λ pairs layout.
+        IsIteratorOf store.now result (leaves_where (λ x.
+        is_between (bound_map (λ b. b.now) from.entry) (bound_map (λ b. b.now) to.entry) (K.bytes x.0))
+        layout)) }
+    ensures visits { CountsToBounds (of_key K.bytes) PREFIX_LEN store.now root
+        (bound_map (λ b. b.now) from.entry) visits.old visits.new }
+{
+    let Some(first) = first_from_visiting(store, root, from, visits) else {
         return RawIterator::empty();
     };
     let Some(leaf) = store.leaf(first) else {
         unreachable!()
     };
+    visits.count_one();
     if !ends_after(to, leaf.key.as_bytes()) {
         return RawIterator::empty();
     }
-    let Some(last) = last_up_to_unchecked(store, root, to) else {
+    let Some(last) = last_up_to_visiting(store, root, to, visits) else {
         unreachable!()
     };
     RawIterator::new(store, first, last)
@@ -85,9 +133,9 @@ pub fn range_unchecked<K: AsBytes + Drop, V: Drop, const PREFIX_LEN: usize>(
 
 /// Returns the first leaf whose key is after a bound, or at it where that is included.
 ///
-/// It takes no memory. It reads at most one inner node for each byte of the bound, and the ways
-/// from the last of these to its first and its last leaf; where a prefix is not stored whole, also
-/// the way to a leaf that has it.
+/// It allocates nothing. It descends by the bytes of the bound, and from where this ends to the first
+/// and the last leaf below. Prefixes that are not stored whole are all read from the same leaf, which
+/// takes one more descent. `first_from_visiting` counts what it reads.
 pub fn first_from_unchecked<K: AsBytes + Drop, V: Drop, const PREFIX_LEN: usize>(
     store: &NodeStore<K, V, PREFIX_LEN>,
     root: OpaqueNodePtr,
@@ -99,12 +147,35 @@ pub fn first_from_unchecked<K: AsBytes + Drop, V: Drop, const PREFIX_LEN: usize>
         (leaves_where (λ x. is_from (bound_map (λ b. b.now) from.entry) (K.bytes x.0)) layout)) }
     ensures there { IfSome result (λ leaf. IsSome (map.get store.now.leaves leaf)) }
 {
+    first_from_visiting(store, root, from, &mut Visits::new())
+}
+
+/// Returns what `first_from_unchecked` does, and counts each reading of a node: at least the nodes
+/// whose place is a prefix of the bound's key, and at most three for each level of the tree, the
+/// leaves being one, and two. A full counter stays full.
+#[inline(always)]
+pub fn first_from_visiting<K: AsBytes + Drop, V: Drop, const PREFIX_LEN: usize>(
+    store: &NodeStore<K, V, PREFIX_LEN>,
+    root: OpaqueNodePtr,
+    from: Bound<&[u8]>,
+    visits: &mut Visits,
+) -> OptionalLeafPtr
+    requires { IsCanonicalRoot (of_key K.bytes) PREFIX_LEN store.now root }
+    ensures leaf { ForTree (of_key K.bytes) PREFIX_LEN store.now root (λ pairs layout.
+        option_map leaf_name result ≡ first_of
+        (leaves_where (λ x. is_from (bound_map (λ b. b.now) from.entry) (K.bytes x.0)) layout)) }
+    ensures there { IfSome result (λ leaf. IsSome (map.get store.now.leaves leaf)) }
+    ensures visits { CountsToBound (of_key K.bytes) PREFIX_LEN store.now root
+        (bound_map (λ b. b.now) from.entry) visits.old visits.new }
+{
     match from {
         Bound::Included(key_bytes) => {
-            leaf_at_cut(store, root, Cut::Before, key_bytes, End::First)
+            leaf_at_cut(store, root, Cut::Before, key_bytes, End::First, visits)
         }
-        Bound::Excluded(key_bytes) => leaf_at_cut(store, root, Cut::After, key_bytes, End::First),
-        Bound::Unbounded => Some(minimum_unchecked(store, root)),
+        Bound::Excluded(key_bytes) => {
+            leaf_at_cut(store, root, Cut::After, key_bytes, End::First, visits)
+        }
+        Bound::Unbounded => Some(walk_to_end_visiting(store, root, End::First, visits).1),
     }
 }
 
@@ -121,10 +192,33 @@ pub fn last_up_to_unchecked<K: AsBytes + Drop, V: Drop, const PREFIX_LEN: usize>
         (leaves_where (λ x. is_up_to (bound_map (λ b. b.now) to.entry) (K.bytes x.0)) layout)) }
     ensures there { IfSome result (λ leaf. IsSome (map.get store.now.leaves leaf)) }
 {
+    last_up_to_visiting(store, root, to, &mut Visits::new())
+}
+
+/// Returns what `last_up_to_unchecked` does, and counts as `first_from_visiting` does.
+#[inline(always)]
+pub fn last_up_to_visiting<K: AsBytes + Drop, V: Drop, const PREFIX_LEN: usize>(
+    store: &NodeStore<K, V, PREFIX_LEN>,
+    root: OpaqueNodePtr,
+    to: Bound<&[u8]>,
+    visits: &mut Visits,
+) -> OptionalLeafPtr
+    requires { IsCanonicalRoot (of_key K.bytes) PREFIX_LEN store.now root }
+    ensures leaf { ForTree (of_key K.bytes) PREFIX_LEN store.now root (λ pairs layout.
+        option_map leaf_name result ≡ last_of
+        (leaves_where (λ x. is_up_to (bound_map (λ b. b.now) to.entry) (K.bytes x.0)) layout)) }
+    ensures there { IfSome result (λ leaf. IsSome (map.get store.now.leaves leaf)) }
+    ensures visits { CountsToBound (of_key K.bytes) PREFIX_LEN store.now root
+        (bound_map (λ b. b.now) to.entry) visits.old visits.new }
+{
     match to {
-        Bound::Included(key_bytes) => leaf_at_cut(store, root, Cut::After, key_bytes, End::Last),
-        Bound::Excluded(key_bytes) => leaf_at_cut(store, root, Cut::Before, key_bytes, End::Last),
-        Bound::Unbounded => Some(maximum_unchecked(store, root)),
+        Bound::Included(key_bytes) => {
+            leaf_at_cut(store, root, Cut::After, key_bytes, End::Last, visits)
+        }
+        Bound::Excluded(key_bytes) => {
+            leaf_at_cut(store, root, Cut::Before, key_bytes, End::Last, visits)
+        }
+        Bound::Unbounded => Some(walk_to_end_visiting(store, root, End::Last, visits).1),
     }
 }
 
@@ -161,29 +255,35 @@ impl Cut {
 }
 
 // Returns the first leaf after a cut, or the last one before it.
+#[inline(always)]
 fn leaf_at_cut<K: AsBytes + Drop, V: Drop, const PREFIX_LEN: usize>(
     store: &NodeStore<K, V, PREFIX_LEN>,
     root: OpaqueNodePtr,
     cut: Cut,
     key_bytes: &[u8],
     end: End,
+    visits: &mut Visits,
 ) -> OptionalLeafPtr
     requires { IsCanonicalRoot (of_key K.bytes) PREFIX_LEN store.now root }
-    ensures { ForTree (of_key K.bytes) PREFIX_LEN store.now root (λ pairs layout.
+    ensures leaf { ForTree (of_key K.bytes) PREFIX_LEN store.now root (λ pairs layout.
         IsLeafAtCut (of_key K.bytes) cut key_bytes.now layout end result) }
+    ensures visits { CountsToBound (of_key K.bytes) PREFIX_LEN store.now root
+        (bounds.Included key_bytes.now) visits.old visits.new }
 {
-    let name = walk_beside(store, root, key_bytes);
-    let first = minimum_unchecked(store, name);
+    let name = walk_beside(store, root, key_bytes, visits);
+    let (_, first) = walk_to_end_visiting(store, name, End::First, visits);
     let Some(leaf) = store.leaf(first) else {
         unreachable!()
     };
+    visits.count_one();
     if !cut.is_after(key_bytes, leaf.key.as_bytes()) {
         return end.of((Some(first), leaf.previous));
     }
-    let last = maximum_unchecked(store, name);
+    let (_, last) = walk_to_end_visiting(store, name, End::Last, visits);
     let Some(leaf) = store.leaf(last) else {
         unreachable!()
     };
+    visits.count_one();
     end.of((leaf.next, Some(last)))
 }
 
@@ -194,13 +294,19 @@ fn walk_beside<K: AsBytes + Drop, V: Drop, const PREFIX_LEN: usize>(
     store: &NodeStore<K, V, PREFIX_LEN>,
     root: OpaqueNodePtr,
     key_bytes: &[u8],
+    visits: &mut Visits,
 ) -> OpaqueNodePtr
     requires { IsCanonicalRoot (of_key K.bytes) PREFIX_LEN store.now root }
-    ensures { ForTree (of_key K.bytes) PREFIX_LEN store.now root (λ pairs layout.
+    ensures beside { ForTree (of_key K.bytes) PREFIX_LEN store.now root (λ pairs layout.
         StandsBeside (of_key K.bytes) key_bytes.now layout result) }
+    ensures visits { CountsReadings visits.old visits.new (λ number.
+        (number + 2 * levels store.now result ≤ 3 * (levels store.now root + 1)) ×
+        ForTree (of_key K.bytes) PREFIX_LEN store.now root (λ pairs layout.
+        length (nodes_on_way (of_key K.bytes) key_bytes.now layout) ≤ number + 1)) }
 {
     let mut name = root;
     let mut depth = 0;
+    let mut guide = None;
     'down: loop {
         let NodePtr::Inner(inner) = name.split() else {
             return name;
@@ -208,12 +314,16 @@ fn walk_beside<K: AsBytes + Drop, V: Drop, const PREFIX_LEN: usize>(
         let Some(node) = store.inner(inner) else {
             unreachable!()
         };
+        visits.count_one();
         let prefix_len = node.prefix_len();
         if prefix_len >= key_bytes.len() - depth {
             return name;
         }
         let place = depth + prefix_len;
-        if !has_prefix(store, inner, node, &key_bytes[depth..place], depth) {
+        let part = &key_bytes[depth..place];
+        if !has_prefix(
+            store, root, key_bytes, inner, node, part, depth, &mut guide, visits,
+        ) {
             return name;
         }
         let byte = key_bytes[place];
@@ -225,31 +335,47 @@ fn walk_beside<K: AsBytes + Drop, V: Drop, const PREFIX_LEN: usize>(
     }
 }
 
-// Returns whether the whole prefix of a node at a depth is this one, of the same length. Where it
-// is not stored whole it is read from the least leaf below the node.
+// Returns whether the whole prefix of a node on the key's way is this one, of the same length. A prefix
+// that is not stored whole is read from the guide leaf.
 #[inline(always)]
 fn has_prefix<K: AsBytes + Drop, V: Drop, const PREFIX_LEN: usize>(
     store: &NodeStore<K, V, PREFIX_LEN>,
+    root: OpaqueNodePtr,
+    key_bytes: &[u8],
     name: InnerPtr,
     node: InnerRef<'_, PREFIX_LEN>,
     prefix: &[u8],
     depth: usize,
+    guide: &mut OptionalLeafPtr,
+    visits: &mut Visits,
 ) -> bool
+    requires root { IsCanonicalRoot (of_key K.bytes) PREFIX_LEN store.now root }
     requires proper { name.kind ≢ Leaf }
     requires node { Some (ref_view node) ≡ map.get store.now.inners name }
     requires len { length prefix.now ≡ (ref_view node).prefix.len }
-    requires place { (tree : Tree OpaqueNodePtr (K × V)) ×
-        IsPlaced (of_key K.bytes) PREFIX_LEN store.now (inner_name name) depth tree }
-    ensures { (tree : Tree OpaqueNodePtr (K × V)) →
-        IsPlaced (of_key K.bytes) PREFIX_LEN store.now (inner_name name) depth tree →
-        IsTrue result ↔ (prefix.now ≡ prefix_of (of_key K.bytes) depth tree) }
+    requires at { ForTree (of_key K.bytes) PREFIX_LEN store.now root (λ pairs layout.
+        (path : TreePath) ×
+        IsAt (of_key K.bytes) PREFIX_LEN key_bytes.now layout path (inner_name name) depth) }
+    requires guide { ForTree (of_key K.bytes) PREFIX_LEN store.now root (λ pairs layout.
+        MayGuide (of_key K.bytes) key_bytes.now layout guide.old) }
+    ensures guide { ForTree (of_key K.bytes) PREFIX_LEN store.now root (λ pairs layout.
+        MayGuide (of_key K.bytes) key_bytes.now layout guide.new) }
+    ensures visits { CountsReadings visits.old visits.new (λ number.
+        number + guide_cost store.now root guide.old ≤ 1 + guide_cost store.now root guide.new) }
+    ensures same { ForTree (of_key K.bytes) PREFIX_LEN store.now root (λ pairs layout.
+        (path : TreePath) →
+        (at : IsAt (of_key K.bytes) PREFIX_LEN key_bytes.now layout path (inner_name name) depth) →
+        IsTrue result ↔ (prefix.now ≡ prefix_of (of_key K.bytes) depth at.node)) }
 {
     if prefix.len() <= PREFIX_LEN {
         return prefix.starts_with(node.read_prefix());
     }
-    let least = minimum_unchecked(store, name.to_opaque());
-    let Some(leaf) = store.leaf(least) else {
+    let opaque = name.to_opaque();
+    let read_from = guide_from(store, root, key_bytes, opaque, depth, *guide, visits);
+    *guide = Some(read_from);
+    let Some(leaf) = store.leaf(read_from) else {
         unreachable!()
     };
+    visits.count_one();
     leaf.key.as_bytes()[depth..].starts_with(prefix)
 }

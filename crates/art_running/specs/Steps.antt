@@ -100,12 +100,13 @@ module _ {K V : Type 0} (bytes : K → List ℕ) (P : ℕ) where
   abbrev pub IsPromised : Command K V → State K V → Type 0
   IsPromised command state = is_covered (needs bytes P command (pairs_in state.tree)) state.present.promise ≡ true
 
-  -- where there may be no memory: for the bytes of a key in conflict, for the clone of a tree, and for nodes that are not promised
+  -- where there may be no memory: for the bytes of a key in conflict, for the clone of a tree, and for nodes of an insertion that are not promised
   abbrev pub MayRefuse : Command K V → State K V → Type 0
   MayRefuse (Insert k v) old =
       (is_conflict (of_key bytes) (bytes k) (pairs_in old.tree) ≡ true) ⊎ (IsPromised (Insert k v) old → ⊥)
+  MayRefuse (InsertPrefix k v) old = IsPromised (InsertPrefix k v) old → ⊥
   MayRefuse Clone old = old.tree ≢ None
-  MayRefuse command old = IsPromised command old → ⊥
+  MayRefuse command old = ⊥
 
   -- want of memory is answered only there
   abbrev pub Refuses : State K V → Command K V → Reply K V → Type 0

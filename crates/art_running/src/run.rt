@@ -335,13 +335,11 @@ fn delete<K: AsBytes + Clone + Drop, V: Clone + Drop, const P: usize>(
         StepsAlone K.bytes P (IsPairClone K.is_clone V.is_clone)
         store.old (Some name) command result store.new root.new }
 {
-    match point.apply(store, name) {
-        Ok(done) => {
-            *root = done.new_root;
-            Reply::Deleted(Some((done.deleted_leaf.key, done.deleted_leaf.value)))
-        }
-        Err(_) => Reply::NoMemory(None),
-    }
+    let Ok(done) = point.apply(store, name) else {
+        unreachable!()
+    };
+    *root = done.new_root;
+    Reply::Deleted(Some((done.deleted_leaf.key, done.deleted_leaf.value)))
 }
 
 // Moves the tree to the other store, as clones of its pairs.

@@ -5,11 +5,11 @@ ghost use Rattle.art_model.specs.Pairs.{of_key};
 ghost use Rattle.art_model.specs.Roots.{IsCanonicalRoot};
 
 use crate::trees::Key;
-use art_node_support::nodes::count_kind;
 use art_nodes::node::{AnyInner, Header, LeafNode, NodeType, OpaqueNodePtr};
 use art_nodes::store::NodeStore;
 
-// A store with a node of a kind has room for so many of that kind before it asks for more.
+// A store with a leaf has room for so many leaves before it asks for more, and one with an inner node for so many inner
+// nodes, of whatever kind: each takes a slot among those of the smallest kind, or keeps one free there.
 const ROOM: usize = 16;
 
 /// All kinds of nodes.
@@ -57,17 +57,17 @@ pub fn place_beside<const P: usize>(
     true
 }
 
-/// Places nodes of every kind beside a tree, until there is room for no more of any. Returns whether there was memory
-/// for all of them.
+/// Places nodes of the smallest kind and leaves beside a tree, until there is room for no more node of any kind. Returns
+/// whether there was memory for all of them.
 pub fn fill<const P: usize>(store: &mut NodeStore<Key, u32, P>, root: OpaqueNodePtr) -> bool
     requires { IsCanonicalRoot (of_key (λ key. key.items)) P store.old root }
     ensures { IsCanonicalRoot (of_key (λ key. key.items)) P store.new root }
 {
+    let mut inners = 0usize;
     for kind in KINDS {
-        let missing = ROOM.saturating_sub(count_kind(store, kind));
-        if !place_beside(store, root, kind, missing) {
-            return false;
-        }
+        inners = inners.saturating_add(store.inner_count(kind));
     }
-    true
+    let leaves = store.leaf_count();
+    place_beside(store, root, NodeType::Node4, ROOM.saturating_sub(inners))
+        && place_beside(store, root, NodeType::Leaf, ROOM.saturating_sub(leaves))
 }

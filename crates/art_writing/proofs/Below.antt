@@ -1,5 +1,5 @@
 -- The leaf of a delete point below its parent, and what the writes that take it out leave.
-use Rattle.std.proofs.Common.{◌≡◌, ◌≢◌, ℕ, suc, ◌<◌, ◌≤◌, List, [], ◌∷◌, length, Bool, true, false, cond, leb, refl, ap, sym, ◌∙◌, subst, arith, Option, Some, None, IsSome, is_some, IfSome, IsSomeAnd, Ok}
+use Rattle.std.proofs.Common.{◌≡◌, ◌≢◌, ℕ, suc, ◌<◌, ◌≤◌, List, [], ◌∷◌, length, Bool, true, false, cond, leb, refl, ap, sym, ◌∙◌, subst, arith, Option, Some, None, IsSome, is_some, IfSome, IsSomeAnd}
 use Rattle.std.specs.FinMap.{get, insert, remove}
 use Rattle.std.proofs.lemmas.Bool.{leb-true, leb-false, lt-leb}
 use Rattle.art_inner.specs.InnerChanges.{without_child}
@@ -175,7 +175,7 @@ module _ {K V : Type 0} {bytes : K × V → List ℕ} {P : ℕ} {s : Nodes K V} 
 
     -- so after writes that change no leaf the parent has let it go
     pub let_go : {u : Nodes K V} {new : Option OpaqueNodePtr} → u.leaves ≡ s.leaves →
-        ((t : Nodes K V) → (done : DeleteResult K V) → IsLeafTaken u t point new done → IsTakenOut bytes P s t root point (Ok done)) → IsLetGo bytes P s u root point new
+        ((t : Nodes K V) → (done : DeleteResult K V) → IsLeafTaken u t point new done → IsTakenOut bytes P s t root point done) → IsLetGo bytes P s u root point new
     let_go leaves taken =
         let ready = subst (λ m. IsSome (get m point.leaf_node_ptr) × LinksAreThere m point.leaf_node_ptr) (sym leaves) leaf_ready in
         record { leaf = ready.0; beside = ready.1; taken = taken }

@@ -1,10 +1,9 @@
 -- What follows from a deletion's record for each clause of an applied point, and what stands at a point: the leaf and its parent.
-use Rattle.std.proofs.Common.{◌≡◌, ◌≢◌, ℕ, List, [], ◌∷◌, refl, ap, sym, ◌∙◌, subst, Bool, true, false, cond, IsTrue, IsFalse, Option, Some, None, IfSome, IsSomeAnd, Result, Ok, Err, IsOk, OnOk, OnErr, is_err, eq-eqb}
+use Rattle.std.proofs.Common.{◌≡◌, ◌≢◌, ℕ, List, [], ◌∷◌, refl, ap, sym, ◌∙◌, subst, true, Option, Some, None, IfSome, IsSomeAnd}
 use Rattle.std.specs.Option.{option_map}
 use Rattle.std.specs.FinMap.{get}
-use Rattle.art_parts.specs.Kinds.{kind_index}
 use Rattle.art_parts.specs.Names.{leaf_name}
-use Rattle.art_nodes.specs.Nodes.{Nodes, Promise, covers, no_promise, take_inner}
+use Rattle.art_nodes.specs.Nodes.{Nodes, Promise, take_inner}
 use Rattle.art_parts.specs.declared.names.NodeType.{NodeType}
 use Rattle.art_parts.specs.declared.names.InnerPtr.{InnerPtr}
 use Rattle.art_parts.specs.declared.leaf.LeafNode.{LeafNode}
@@ -15,7 +14,7 @@ use Rattle.art_model.specs.Layouts.{leaf_node, Node, Holds}
 use Rattle.art_model.specs.Keys.{are_same}
 use Rattle.art_model.specs.Pairs.{IsMap, first_of, remove_key, remove_reply, with_key, without_first}
 use Rattle.art_model.specs.Paths.{Frame, plug, HoldsPath}
-use Rattle.art_model.specs.Promises.{is_covered, promise_after}
+use Rattle.art_model.specs.Promises.{promise_after}
 use Rattle.art_model.specs.Roots.{IsCanonicalRoot, IsRootOf}
 use Rattle.art_model.specs.Stores.{node_at, pair_of}
 use Rattle.art_model.specs.Trees.{Tree, leaf}
@@ -34,7 +33,7 @@ use Rattle.art_writing.specs.Deleted.{IsDeletePointIn, IsRootAfter, LeadsTo, Par
 use Rattle.art_writing.specs.Inserted.{unlinked_leaf}
 use Rattle.art_writing.specs.TakenOut.{IsLeafTaken, IsTakenOut}
 use Rattle.art_reading.specs.PathSteps.{last_step}
-use Rattle.art_writing.proofs.Reserved.{not_refused, nothing_after}
+use Rattle.art_writing.proofs.Reserved.{nothing_after, taken_unasked}
 use Rattle.art_writing.proofs.Ways.{last_step-path_of}
 
 -- the same value is there
@@ -132,7 +131,7 @@ placed_by change = elim change as (λ _. Promise) [ shrinks kind ↦ record { le
 module _ {K V : Type 0} {bytes : K × V → List ℕ} {P : ℕ} {s t : Nodes K V} {root : OpaqueNodePtr} {point : DeletePoint} where
   -- so the point was applied
   pub taken_out : {done : DeleteResult K V} (answers : IsDeletePointIn bytes P s root point) → IsDeleted bytes P s t root point answers.2 answers.0 answers.1 done →
-      t.promise ≡ promise_after (placed_for_deletion s point.path) s.promise → IsTakenOut bytes P s t root point (Ok done)
+      t.promise ≡ promise_after (placed_for_deletion s point.path) s.promise → IsTakenOut bytes P s t root point done
   taken_out {done} (pairs, layout, x, by, leads) own promise =
       let left = canonical_root bytes P t (remove_key bytes (bytes x) pairs) done.new_root own.tree own.canonical in
       let (node, here, pair) = leaf_at by leads in
@@ -155,16 +154,11 @@ module _ {K V : Type 0} {bytes : K × V → List ℕ} {P : ℕ} {s t : Nodes K V
         apart = tree_apart bytes P s t (Some root) done.new_root pairs (remove_key bytes (bytes x) pairs) (Some layout) own.tree by own.canonical own.kept.others;
         touches = own.touches;
         promise = promise;
-        succeeds = λ covered. refl;
-        handed_back = tt;
-        leaves = tt;
-        inners = tt;
-        void = tt;
       }
 
   -- where the parent doesn't shrink nothing is placed
   pub taken_out_of : {done : DeleteResult K V} (answers : IsDeletePointIn bytes P s root point) → IsDeleted bytes P s t root point answers.2 answers.0 answers.1 done →
-      (to : ParentChange) → parent_change s point.path ≡ to → ((kind : NodeType) → to ≢ shrinks kind) → t.promise ≡ s.promise → IsTakenOut bytes P s t root point (Ok done)
+      (to : ParentChange) → parent_change s point.path ≡ to → ((kind : NodeType) → to ≢ shrinks kind) → t.promise ≡ s.promise → IsTakenOut bytes P s t root point done
   taken_out_of answers own to told stays promise = taken_out answers own (promise ∙ nothing_placed (parent_change s point.path) (λ kind e. stays kind (sym told ∙ e)))
     where
       nothing_placed : (change : ParentChange) → ((kind : NodeType) → change ≢ shrinks kind) → s.promise ≡ promise_after (placed_by change) s.promise
@@ -173,42 +167,8 @@ module _ {K V : Type 0} {bytes : K × V → List ℕ} {P : ℕ} {s t : Nodes K V
       nothing_placed is_compressed stays = sym (nothing_after s.promise)
       nothing_placed (shrinks kind) stays = absurd (stays kind refl)
 
-  -- where it shrinks the smaller node is placed, from the promise or what was reserved for it
-  pub taken_out_with : {done : DeleteResult K V} {Y E : Type 0} (answers : IsDeletePointIn bytes P s root point) → IsDeleted bytes P s t root point answers.2 answers.0 answers.1 done →
-      (r : Nodes K V) (kind : NodeType) (reserved : Result Y E) → is_err reserved ≡ false → (IsTrue (covers s.promise 0 (Some kind)) → r ≡ s) →
-      (IsFalse (covers s.promise 0 (Some kind)) → OnOk reserved (r.promise ≡ record { leaves = 0; inner = Some kind })) →
-      parent_change s point.path ≡ shrinks kind → t.promise ≡ take_inner kind r.promise → IsTakenOut bytes P s t root point (Ok done)
-  taken_out_with answers own r kind reserved ok kept granted told promise =
-      taken_out answers own (promise ∙ subst (λ change. take_inner kind r.promise ≡ promise_after (placed_by change) s.promise) (sym told) (placed (covers s.promise 0 (Some kind)) refl))
-    where
-      all_taken : take_inner kind (record { leaves = 0; inner = Some kind }) ≡ no_promise
-      all_taken = rw (eq-eqb (kind_index kind) (kind_index kind) refl) refl
-
-      placed : (t : Bool) → covers s.promise 0 (Some kind) ≡ t → take_inner kind r.promise ≡ promise_after (record { leaves = 0; inner = Some kind }) s.promise
-      placed true e = subst (λ z. take_inner kind r.promise ≡ cond z (take_inner kind s.promise) no_promise) (sym e) (ap (λ (z : Nodes K V). take_inner kind z.promise) (kept e))
-      placed false e = subst (λ z. take_inner kind r.promise ≡ cond z (take_inner kind s.promise) no_promise) (sym e) (ap (take_inner kind) (not_refused reserved ok (granted e)) ∙ all_taken)
-
--- where the smaller node can't be reserved the point is handed back
-pub shrink_refused : {K V Y E : Type 0} {bytes : K × V → List ℕ} {P : ℕ} {s r : Nodes K V} {root : OpaqueNodePtr} {point : DeletePoint} (kind : NodeType) (reserved : Result Y E) →
-    is_err reserved ≡ true → (IsTrue (covers s.promise 0 (Some kind)) → IsOk reserved) → r.leaves ≡ s.leaves → r.inners ≡ s.inners → OnErr reserved (r.promise ≡ no_promise) →
-    parent_change s point.path ≡ shrinks kind → IsTakenOut bytes P s r root point (Err (record { point = point }))
-shrink_refused kind (Ok y) failed succeeds leaves inners void told = absurd cc
-shrink_refused {s = s} kind (Err e) failed succeeds leaves inners void told = record {
-  canonical = λ pairs layout by. tt;
-  left = tt;
-  deleted = tt;
-  pair = tt;
-  sought = λ pairs layout by. tt;
-  first = λ pairs layout by. tt;
-  last = λ pairs layout by. tt;
-  root_is = tt;
-  kept = λ pairs layout by. tt;
-  apart = tt;
-  touches = tt;
-  promise = tt;
-  succeeds = λ covered. succeeds (subst (λ change. IsTrue (is_covered (placed_by change) s.promise)) told covered);
-  handed_back = refl;
-  leaves = leaves;
-  inners = inners;
-  void = void;
-}
+  -- where it shrinks the smaller node is placed, from the promise, or voids it
+  pub taken_out_with : {done : DeleteResult K V} (answers : IsDeletePointIn bytes P s root point) → IsDeleted bytes P s t root point answers.2 answers.0 answers.1 done →
+      (kind : NodeType) → parent_change s point.path ≡ shrinks kind → t.promise ≡ take_inner kind s.promise → IsTakenOut bytes P s t root point done
+  taken_out_with answers own kind told promise =
+      taken_out answers own (promise ∙ subst (λ change. take_inner kind s.promise ≡ promise_after (placed_by change) s.promise) (sym told) (taken_unasked kind s.promise))

@@ -4,6 +4,7 @@ pub mod FreedTrees
 pub mod OneTree
 pub mod LeafWrites
 pub mod KeysFound
+pub mod EndsAgree
 pub mod OneLeaf
 pub mod Deletions
 pub mod Below

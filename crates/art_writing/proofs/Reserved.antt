@@ -1,8 +1,8 @@
 -- what is reserved for a leaf and an inner node, and what is left of it
-use Rattle.std.proofs.Common.{◌≡◌, ℕ, zero, suc, ◌<◌, Bool, true, false, ◌&&◌, IsTrue, IsFalse, Option, Some, None, Result, Ok, Err, OnOk, OnErr, IsOk, is_err, is_some, refl, ap, ◌∙◌, subst, leb, arith, eq-eqb}
-use Rattle.std.proofs.lemmas.Bool.{leb-true}
+use Rattle.std.proofs.Common.{◌≡◌, ℕ, zero, suc, ◌<◌, Bool, true, false, cond, ◌&&◌, IsTrue, IsFalse, Option, Some, None, Result, Ok, Err, OnOk, OnErr, IsOk, is_err, is_some, refl, ap, ◌∙◌, subst, leb, arith, eq-eqb}
+use Rattle.std.proofs.lemmas.Bool.{le-leb, leb-true}
 use Rattle.std.proofs.lemmas.Grind.{common_steps}
-use Rattle.art_nodes.specs.Nodes.{Nodes, Promise, covers, promises, take_leaf}
+use Rattle.art_nodes.specs.Nodes.{Nodes, Promise, covers, no_promise, promises, take_inner, take_leaf}
 use Rattle.art_parts.specs.Kinds.{kind_index}
 use Rattle.art_parts.specs.declared.names.NodeType.{NodeType}
 use Rattle.art_model.specs.Promises.{inner_taken, promise_after}
@@ -18,7 +18,7 @@ module _ (promise : Promise) where
       go false u e h = absurd cc
 
   -- an inner node that is covered is promised
-  pub covered_inner : (leaves : ℕ) (kind : NodeType) → IsTrue (covers promise leaves (Some kind)) → IsTrue (promises promise.inner kind)
+  covered_inner : (leaves : ℕ) (kind : NodeType) → IsTrue (covers promise leaves (Some kind)) → IsTrue (promises promise.inner kind)
   covered_inner leaves kind h = both (leb leaves promise.leaves) (promises promise.inner kind) h
     where
       both : (t u : Bool) → IsTrue (t && u) → IsTrue u
@@ -41,6 +41,15 @@ is_none (Some x) e = absurd cc
 -- where nothing is placed the promise stays
 pub nothing_after : (promise : Promise) → promise_after (record { leaves = 0; inner = None }) promise ≡ promise
 nothing_after promise = grind (arith, common_steps)
+
+-- an inner node that is placed unasked is of the promise, or voids it
+pub taken_unasked : (kind : NodeType) (promise : Promise) → take_inner kind promise ≡ promise_after (record { leaves = 0; inner = Some kind }) promise
+taken_unasked kind promise = by_promise (leb 0 promise.leaves) (promises promise.inner kind) (le-leb 0 promise.leaves (omega arith))
+  where
+    by_promise : (t u : Bool) → t ≡ true → cond u (record promise { inner = None }) no_promise ≡ cond (t && u) (cond u (record promise { inner = None }) no_promise) no_promise
+    by_promise true true e = refl
+    by_promise true false e = refl
+    by_promise false u e = absurd cc
 
 -- what holds where a call was not refused
 pub not_refused : {X E Q : Type 0} (r : Result X E) → is_err r ≡ false → OnOk r Q → Q

@@ -210,32 +210,6 @@ same_change s t (f ∷ fs) hole other was is =
     ap length now_kids ∙ length-append (slots_of f.left) ((f.byte, other) ∷ slots_of f.right) ∙ sym (ap length kids ∙ length-append (slots_of f.left) ((f.byte, hole) ∷ slots_of f.right)) in
     change_seen t (path_of (f ∷ fs)) (last_step-path_of (f ∷ fs)) now_got refl ∙ ap (change_of f.mark.kind) count ∙ sym (change_seen s (path_of (f ∷ fs)) (last_step-path_of (f ∷ fs)) got refl)
 
--- the kind of the node that takes the parent's place is placed
-pub placed_none : {K V : Type 0} (s : Nodes K V) (path : TreePath) → last_step path ≡ None → placed_for_deletion s path ≡ record { leaves = 0; inner = None }
-placed_none s path none = let told : parent_change s path ≡ no_parent = rw (parent_change, none) refl in ap placed_by told
-
-module _ {K V : Type 0} (s : Nodes K V) (path : TreePath) {parent : InnerPtr} {byte : ℕ} {node : Inner} {kind : NodeType} (step : last_step path ≡ Some (parent, byte))
-    (got : map.get s.inners parent ≡ Some node) (kind_is : kind ≡ parent.kind) where
-  -- none where it has more children than its kind has at least
-  pub placed_spare : kind_least kind < length node.children → placed_for_deletion s path ≡ record { leaves = 0; inner = None }
-  placed_spare more = ap placed_by (change_seen s path step got kind_is ∙ change-keeps kind (length node.children) more)
-
-  -- and else the next smaller one
-  pub placed_smaller : kind ≢ Leaf → length node.children ≤ kind_least kind → placed_for_deletion s path ≡ record { leaves = 0; inner = next_smaller kind }
-  placed_smaller proper few = ap placed_by (change_seen s path step got kind_is) ∙ go kind proper few
-    where
-      go : (k : NodeType) → k ≢ Leaf → length node.children ≤ kind_least k → placed_by (change_of k (length node.children)) ≡ record { leaves = 0; inner = next_smaller k }
-      go Node4 off h = rw (le-leb (length node.children) 2 h) refl
-      go Node16 off h = rw (le-leb (length node.children) 5 h) refl
-      go Node48 off h = rw (le-leb (length node.children) 17 h) refl
-      go Node256 off h = rw (le-leb (length node.children) 49 h) refl
-      go Leaf off h = absurd (off refl)
-
--- the parent that has a child is there
-pub parent_missing : (inners : Inners) (path : TreePath) {parent : InnerPtr} {byte : ℕ} → HasChild inners (last_step path) → last_step path ≡ Some (parent, byte) → None ≡ map.get inners parent → ⊥
-parent_missing inners path {parent} {byte} has step gone =
-    subst (λ o. IsSomeAnd o (λ node. IsSome (child_at node.children byte))) (sym gone) (subst (HasChild inners) step has)
-
 -- ---- the node of a point
 
 module _ {K V : Type 0} {bytes : K × V → List ℕ} {P : ℕ} {s : Nodes K V} {root : OpaqueNodePtr} {pairs : List (K × V)} {layout : Tree OpaqueNodePtr (K × V)}
@@ -490,44 +464,6 @@ module _ {K V : Type 0} {bytes : K × V → List ℕ} {P : ℕ} {s u v : Nodes K
     kept = λ ps l b. subst (λ z. ForRoot bytes P v done.new_root (λ after new. ChangesInPlace bytes s v (Some z) new)) (sym (has_one_map bytes P s root pairs ps layout l by b).1)
         (others_kept by at (collapsed pairs layout by at) v done.new_root done.deleted_leaf told canonical kept);
   }
-
-module _ {K V : Type 0} {bytes : K × V → List ℕ} {P : ℕ} {s r v : Nodes K V} {root : OpaqueNodePtr} {point : SubtreeDeletePoint} {result : SubtreeDeleteResult} where
-  -- it is also where memory was reserved before
-  pub taken_since_reserve : SameNodes s r → IsSubtreeTaken bytes P r v root point result → IsSubtreeTaken bytes P s v root point result
-  taken_since_reserve same taken = record {
-    canonical = λ ps l b a. taken.canonical ps l (tree_stays same b) a;
-    left = taken.left;
-    removed = λ ps l b a. taken.removed ps l (tree_stays same b) a;
-    kept = λ ps l b after new is.
-        let k = taken.kept ps l (tree_stays same b) after new is in
-        record {
-          leaves = k.leaves;
-          inners = k.inners;
-          others = record {
-            beside = λ n off non. k.others.beside n off non ∙ held_same n;
-            gone = k.others.gone;
-            taken = λ n i off. sym (held_same n) ∙ k.others.taken n i off;
-          };
-        };
-  }
-    where
-      held_same : (n : OpaqueNodePtr) → content_at r n ≡ content_at s n
-      held_same n = ap₂ (λ leaves inners. content_at (record s { leaves = leaves; inners = inners }) n) same.0 same.1
-
--- the promise that is left, where what is placed was reserved before
-pub promise_left : {K V Y E : Type 0} (s r : Nodes K V) (o : Option NodeType) (placed : Promise) (reserved : Result Y E) → is_err reserved ≡ false → placed ≡ record { leaves = 0; inner = o } →
-    (IsTrue (covers s.promise 0 o) → r ≡ s) → (IsFalse (covers s.promise 0 o) → OnOk reserved (r.promise ≡ record { leaves = 0; inner = o })) →
-    promise_after placed r.promise ≡ promise_after placed s.promise
-promise_left s r o placed reserved ok is kept granted = subst (λ p. promise_after p r.promise ≡ promise_after p s.promise) (sym is) (go (covers s.promise 0 o) refl)
-  where
-    all_taken : (o : Option NodeType) → promise_after (record { leaves = 0; inner = o }) (record { leaves = 0; inner = o }) ≡ no_promise
-    all_taken None = refl
-    all_taken (Some kind) = rw (eq-eqb (kind_index kind) (kind_index kind) refl) refl
-
-    go : (t : Bool) → covers s.promise 0 o ≡ t → promise_after (record { leaves = 0; inner = o }) r.promise ≡ promise_after (record { leaves = 0; inner = o }) s.promise
-    go true e = ap (λ (z : Nodes _ _). promise_after (record { leaves = 0; inner = o }) z.promise) (kept e)
-    go false e = ap (promise_after (record { leaves = 0; inner = o })) (not_refused reserved ok (granted e)) ∙ all_taken o ∙
-        sym (subst (λ t. cond t (inner_taken o s.promise) no_promise ≡ no_promise) (sym e) refl)
 
 -- ---- how many leaves there are
 

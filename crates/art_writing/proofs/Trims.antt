@@ -27,6 +27,7 @@ use Rattle.art_reading.specs.PartEnds.{IsPlaced}
 use Rattle.art_writing.specs.Points.{AnswersTo}
 use Rattle.art_writing.proofs.Branches.{end_laid, end_hole, end_depth}
 use Rattle.art_writing.proofs.BranchReads.{end_full, inner_found, inner_named, inner_start, inner_least, prefix_inside}
+use Rattle.art_reading.proofs.Parts.{least_is, least_not_gone}
 use Rattle.art_reading.proofs.Prefixes as prefixes
 
 module _ {K V : Type 0} {bytes : K × V → List ℕ} {P : ℕ} {s : Nodes K V} {key : List ℕ} {point : InsertPoint} {pairs : List (K × V)}
@@ -71,12 +72,12 @@ module _ {K V : Type 0} {bytes : K × V → List ℕ} {P : ℕ} {s : Nodes K V} 
       first = let least : (P < length prefix) × HasFirstLeaf at.node (leaf_name q) = subst (IsLeafForPrefix P prefix at.node) some (inner_least by at kind) in least.1
 
       pub least_gone : None ≡ get s.leaves q → ⊥
-      least_gone gone = prefixes.no_leaf_gone part proper there first gone
+      least_gone gone = least_not_gone s part.layout.holds first gone
 
       module _ {l : LeafNode K V} (leaf_there : Some l ≡ get s.leaves q) {text : List ℕ} (text_is : text ≡ bytes (pair_of l)) where
         pub trim_given : (mismatch.matched_bytes + 1 ≤ old.len) × (point.key_bytes_used + old.len ≤ length text)
         trim_given =
-            let long = prefixes.long_enough part proper there first leaf_there in
+            let long = prefixes.long_enough part proper there l (λ Q all. least_is s part.layout.holds first Q all l leaf_there) in
             let k = ap (λ z. z.len) read in
             let start = inner_start by at kind in
             let t = ap length text_is in
@@ -90,4 +91,4 @@ module _ {K V : Type 0} {bytes : K × V → List ℕ} {P : ℕ} {s : Nodes K V} 
             has : take old.len (drop point.key_bytes_used text) ≡ prefix
             has = ap (λ z. take z.len (drop point.key_bytes_used text)) read ∙
                 ap (λ d. take shown.prefix.len (drop d text)) (inner_start by at kind) ∙
-                ap (λ z. take shown.prefix.len (drop (depth_of at.path) z)) text_is ∙ prefixes.prefix_read part proper there first leaf_there
+                ap (λ z. take shown.prefix.len (drop (depth_of at.path) z)) text_is ∙ prefixes.prefix_read part proper there l (λ Q all. least_is s part.layout.holds first Q all l leaf_there)

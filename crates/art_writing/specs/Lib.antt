@@ -24,6 +24,7 @@ pub mod Overwritten
 pub mod Applied
 -- deletion, the freeing of trees, and copies
 pub mod Deleted
+pub mod EndLaws
 pub mod TakenOut
 pub mod Subtrees
 pub mod Collapsed

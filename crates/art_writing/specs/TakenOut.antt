@@ -1,18 +1,17 @@
 -- What a delete point that is applied answers, in one word, and what the private functions do that take its leaf alone, or let it go before.
-use Rattle.std.specs.Prelude.{◌≡◌, ℕ, List, Option, Some, None, Result, Ok, Err, IsOk, IsSome, IsTrue, IsSomeAnd, IfOk, IfErr, IfSome, OnOk, OnErr}
+use Rattle.std.specs.Prelude.{◌≡◌, ℕ, List, Option, Some, IsSome, IsSomeAnd, IfSome}
 use Rattle.std.specs.FinMap as map
-use Rattle.art_nodes.specs.Nodes.{Nodes, no_promise}
+use Rattle.art_nodes.specs.Nodes.{Nodes}
 use Rattle.art_parts.specs.declared.names.OpaqueNodePtr.{OpaqueNodePtr}
 use Rattle.art_model.specs.Apart.{KeepsApart}
 use Rattle.art_model.specs.Canonical.{IsCanonical}
 use Rattle.art_model.specs.Kept.{ChangesInPlace}
 use Rattle.art_model.specs.Pairs.{first_of, last_of, remove_key, remove_reply, without_first, without_last}
-use Rattle.art_model.specs.Promises.{is_covered, promise_after}
+use Rattle.art_model.specs.Promises.{promise_after}
 use Rattle.art_model.specs.Roots.{ForRoot, ForTree, IsCanonicalRoot}
 use Rattle.art_model.specs.Stores.{pair_of}
 use Rattle.art_model.specs.Writes.{without_leaf}
 use Rattle.art_writing.specs.declared.delete.DeletePoint.{DeletePoint}
-use Rattle.art_writing.specs.declared.delete.DeleteRefused.{DeleteRefused}
 use Rattle.art_writing.specs.declared.delete.DeleteResult.{DeleteResult}
 use Rattle.art_writing.specs.Deleted.{IsRootAfter, TouchesFor, pair_at, parent_change, placed_for_deletion}
 use Rattle.art_writing.specs.Inserted.{unlinked_leaf}
@@ -28,38 +27,27 @@ pub record IsLeafTaken {K V : Type 0} (s t : Nodes K V) (point : DeletePoint) (r
   pub promise : t.promise ≡ s.promise
   pub root_is : done.new_root ≡ root
 
--- What was done at a point, or the point that is handed back where nothing was.
-abbrev pub done_or_refused : {K V : Type 0} → DeletePoint → Option (DeleteResult K V) → Result (DeleteResult K V) DeleteRefused
-done_or_refused point (Some done) = Ok done
-done_or_refused point None = Err (record { point = point })
-
--- A delete point is applied; or it is handed back, with the nodes as they were and nothing promised.
+-- A delete point is applied.
 pub record IsTakenOut {K V : Type 0} (bytes : K × V → List ℕ) (P : ℕ) (s t : Nodes K V) (root : OpaqueNodePtr)
-    (point : DeletePoint) (result : Result (DeleteResult K V) DeleteRefused) : Type 0 where
-  pub canonical : ForTree bytes P s root (λ pairs layout. IfOk result (λ done.
-      IsCanonical bytes P t done.new_root (remove_key bytes (bytes (pair_of done.deleted_leaf)) pairs)))
-  pub left : IfOk result (λ done. IfSome done.new_root (IsCanonicalRoot bytes P t))
-  pub deleted : IfOk result (λ done. IfSome (map.get s.leaves point.leaf_node_ptr) (λ leaf.
-      done.deleted_leaf ≡ unlinked_leaf (pair_of leaf)))
-  pub pair : IfOk result (λ done. pair_at s (Some point) ≡ Some (pair_of done.deleted_leaf))
-  pub sought : ForTree bytes P s root (λ pairs _. IfOk result (λ done. (key : List ℕ) →
-      pair_at s (Some point) ≡ remove_reply bytes key pairs → IsCanonical bytes P t done.new_root (remove_key bytes key pairs)))
-  pub first : ForTree bytes P s root (λ pairs _. IfOk result (λ done.
-      pair_at s (Some point) ≡ first_of pairs → IsCanonical bytes P t done.new_root (without_first pairs)))
-  pub last : ForTree bytes P s root (λ pairs _. IfOk result (λ done.
-      pair_at s (Some point) ≡ last_of pairs → IsCanonical bytes P t done.new_root (without_last pairs)))
-  pub root_is : IfOk result (λ done.
-      IsRootAfter (parent_change s point.path) point.path root done.new_root)
-  pub kept : ForTree bytes P s root (λ pairs old. IfOk result (λ done. ForRoot bytes P t done.new_root (λ after new.
-      ChangesInPlace bytes s t (Some old) new)))
-  pub apart : IfOk result (λ done. KeepsApart bytes P s t (Some root) done.new_root)
-  pub touches : OnOk result (TouchesFor (parent_change s point.path) s t)
-  pub promise : OnOk result (t.promise ≡ promise_after (placed_for_deletion s point.path) s.promise)
-  pub succeeds : IsTrue (is_covered (placed_for_deletion s point.path) s.promise) → IsOk result
-  pub handed_back : IfErr result (λ refused. refused.point ≡ point)
-  pub leaves : OnErr result (t.leaves ≡ s.leaves)
-  pub inners : OnErr result (t.inners ≡ s.inners)
-  pub void : OnErr result (t.promise ≡ no_promise)
+    (point : DeletePoint) (done : DeleteResult K V) : Type 0 where
+  pub canonical : ForTree bytes P s root (λ pairs layout.
+      IsCanonical bytes P t done.new_root (remove_key bytes (bytes (pair_of done.deleted_leaf)) pairs))
+  pub left : IfSome done.new_root (IsCanonicalRoot bytes P t)
+  pub deleted : IfSome (map.get s.leaves point.leaf_node_ptr) (λ leaf.
+      done.deleted_leaf ≡ unlinked_leaf (pair_of leaf))
+  pub pair : pair_at s (Some point) ≡ Some (pair_of done.deleted_leaf)
+  pub sought : ForTree bytes P s root (λ pairs _. (key : List ℕ) →
+      pair_at s (Some point) ≡ remove_reply bytes key pairs → IsCanonical bytes P t done.new_root (remove_key bytes key pairs))
+  pub first : ForTree bytes P s root (λ pairs _.
+      pair_at s (Some point) ≡ first_of pairs → IsCanonical bytes P t done.new_root (without_first pairs))
+  pub last : ForTree bytes P s root (λ pairs _.
+      pair_at s (Some point) ≡ last_of pairs → IsCanonical bytes P t done.new_root (without_last pairs))
+  pub root_is : IsRootAfter (parent_change s point.path) point.path root done.new_root
+  pub kept : ForTree bytes P s root (λ pairs old. ForRoot bytes P t done.new_root (λ after new.
+      ChangesInPlace bytes s t (Some old) new))
+  pub apart : KeepsApart bytes P s t (Some root) done.new_root
+  pub touches : TouchesFor (parent_change s point.path) s t
+  pub promise : t.promise ≡ promise_after (placed_for_deletion s point.path) s.promise
 
 -- The point's leaf is still there, and all else is done: once it is taken, and this root answered, the point is applied.
 pub record IsLetGo {K V : Type 0} (bytes : K × V → List ℕ) (P : ℕ) (s u : Nodes K V) (root : OpaqueNodePtr)
@@ -67,10 +55,4 @@ pub record IsLetGo {K V : Type 0} (bytes : K × V → List ℕ) (P : ℕ) (s u :
   pub leaf : IsSome (map.get u.leaves point.leaf_node_ptr)
   pub beside : LinksAreThere u.leaves point.leaf_node_ptr
   pub taken : (t : Nodes K V) → (done : DeleteResult K V) → IsLeafTaken u t point new_root done →
-      IsTakenOut bytes P s t root point (Ok done)
-
--- the point's parent has let the leaf go, and this root is left; or the point is handed back
-abbrev pub IsLetGoOrRefused : {K V : Type 0} → (K × V → List ℕ) → ℕ → Nodes K V → Nodes K V → OpaqueNodePtr → DeletePoint →
-    Option OpaqueNodePtr → Type 0
-IsLetGoOrRefused bytes P s u root point (Some new_root) = IsLetGo bytes P s u root point (Some new_root)
-IsLetGoOrRefused bytes P s u root point None = IsTakenOut bytes P s u root point (Err (record { point = point }))
+      IsTakenOut bytes P s t root point done

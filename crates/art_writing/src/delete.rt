@@ -9,7 +9,7 @@ ghost use Rattle.art_writing.specs.Deleted.{IsDeletePoint, IsDeletePointIn, pair
 use art_nodes::node::{AsBytes, LeafNode, LeafPtr, OpaqueNodePtr};
 use art_nodes::store::NodeStore;
 use art_reading::descent::{End, walk_to_end, walk_to_key};
-use art_reading::lookup::Visits;
+use art_reading::lookup::{KeyQuery, Visits};
 use art_reading::matching::{Asked, PrefixMatchBehavior};
 use art_reading::path::TreePath;
 
@@ -17,9 +17,7 @@ mod apply;
 mod compress;
 mod subtree;
 
-pub use subtree::{
-    SubtreeDeletePoint, SubtreeDeleteRefused, SubtreeDeleteResult, search_for_prefix_delete_point,
-};
+pub use subtree::{SubtreeDeletePoint, SubtreeDeleteResult, search_for_prefix_delete_point};
 
 /// Where a leaf goes out of a tree.
 #[derive(Clone, Copy, PartialEq, Eq, Debug)]
@@ -38,7 +36,7 @@ pub struct DeleteResult<K, V> {
     pub deleted_leaf: LeafNode<K, V>,
 }
 
-/// A deletion that was not made, for want of memory.
+/// A deletion that failed. No call returns one: a deletion takes no memory.
 #[derive(Clone, Copy, PartialEq, Eq, Debug)]
 pub struct DeleteRefused {
     pub point: DeletePoint,
@@ -95,54 +93,56 @@ pub fn search_for_delete_point_visiting<K: AsBytes + Drop, V: Drop, const PREFIX
     )
 }
 
-/// Returns what `search_for_delete_point` does.
+/// Returns the point of a key, or `None` where no stored key is equal to it.
 ///
 /// On its way it compares no prefix, and passes over them by their lengths; at the leaf it compares the
-/// whole key. So it takes fewer steps where the key is there, and may read more nodes where it isn't: at
-/// most one more than the key has bytes.
+/// whole key. So it takes fewer steps than `search_for_delete_point` where the key is there, and may read
+/// more nodes where it isn't: at most one more than the key has bytes.
 #[inline(always)]
-pub fn search_for_delete_point_by_lengths<K: AsBytes + Drop, V: Drop, const PREFIX_LEN: usize>(
-    store: &NodeStore<K, V, PREFIX_LEN>,
-    root: OpaqueNodePtr,
-    key_bytes: &[u8],
-) -> Option<DeletePoint>
+pub fn search_for_delete_point_by_lengths<
+    Q: KeyQuery,
+    K: AsBytes + Drop,
+    V: Drop,
+    const PREFIX_LEN: usize,
+>(store: &NodeStore<K, V, PREFIX_LEN>, root: OpaqueNodePtr, query: Q) -> Option<DeletePoint>
     requires { IsCanonicalRoot (of_key K.bytes) PREFIX_LEN store.now root }
     ensures point { ForTree (of_key K.bytes) PREFIX_LEN store.now root (λ pairs layout.
-        IsDeletePoint layout (remove_reply (of_key K.bytes) key_bytes.now pairs) result) }
+        IsDeletePoint layout (remove_reply (of_key K.bytes) (Q.key query) pairs) result) }
     ensures pair { ForTree (of_key K.bytes) PREFIX_LEN store.now root (λ pairs _.
-        pair_at store.now result ≡ remove_reply (of_key K.bytes) key_bytes.now pairs) }
+        pair_at store.now result ≡ remove_reply (of_key K.bytes) (Q.key query) pairs) }
     ensures absent { ForTree (of_key K.bytes) PREFIX_LEN store.now root (λ pairs _.
         IfNone result (IsCanonical (of_key K.bytes) PREFIX_LEN store.now (Some root)
-        (remove_key (of_key K.bytes) key_bytes.now pairs))) }
+        (remove_key (of_key K.bytes) (Q.key query) pairs))) }
     ensures applies { IfSome result (IsDeletePointIn (of_key K.bytes) PREFIX_LEN store.now root) }
 {
+    query.fits();
     let start = PrefixMatchBehavior::Optimistic;
-    search_from(store, root, key_bytes, start, &mut Visits::new())
+    search_from(store, root, query, start, &mut Visits::new())
 }
 
 // Returns the point of a key, by a way that begins with this behavior, and counts each node that it reads.
 #[inline(always)]
-fn search_from<K: AsBytes + Drop, V: Drop, const P: usize>(
+fn search_from<Q: KeyQuery, K: AsBytes + Drop, V: Drop, const P: usize>(
     store: &NodeStore<K, V, P>,
     root: OpaqueNodePtr,
-    key_bytes: &[u8],
+    query: Q,
     start: PrefixMatchBehavior,
     visits: &mut Visits,
 ) -> Option<DeletePoint>
     requires root { IsCanonicalRoot (of_key K.bytes) P store.now root }
-    requires room { visits.old + length key_bytes.now + 1 < 2 ^ 64 }
+    requires room { visits.old + length (Q.key query) + 1 < 2 ^ 64 }
     ensures point { ForTree (of_key K.bytes) P store.now root (λ pairs layout.
-        IsDeletePoint layout (remove_reply (of_key K.bytes) key_bytes.now pairs) result) }
+        IsDeletePoint layout (remove_reply (of_key K.bytes) (Q.key query) pairs) result) }
     ensures pair { ForTree (of_key K.bytes) P store.now root (λ pairs _.
-        pair_at store.now result ≡ remove_reply (of_key K.bytes) key_bytes.now pairs) }
+        pair_at store.now result ≡ remove_reply (of_key K.bytes) (Q.key query) pairs) }
     ensures absent { ForTree (of_key K.bytes) P store.now root (λ pairs _.
         IfNone result (IsCanonical (of_key K.bytes) P store.now (Some root)
-        (remove_key (of_key K.bytes) key_bytes.now pairs))) }
+        (remove_key (of_key K.bytes) (Q.key query) pairs))) }
     ensures applies { IfSome result (IsDeletePointIn (of_key K.bytes) P store.now root) }
-    ensures visits { CountsVisitsFrom start (of_key K.bytes) P store.now root key_bytes.now
+    ensures visits { CountsVisitsFrom start (of_key K.bytes) P store.now root (Q.key query)
         visits.old visits.new (IsSome result) }
 {
-    let last = walk_to_key(store, root, key_bytes, Asked::Same, start, visits)?;
+    let last = walk_to_key(store, root, query, Asked::Same, start, visits)?;
     Some(DeletePoint {
         path: last.path,
         leaf_node_ptr: last.name,

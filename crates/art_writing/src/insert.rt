@@ -2,13 +2,15 @@
 ghost use Rattle.std.specs.Prelude.{◌≡◌, ◌↔◌, false, IsOk, IfOk, IfErr};
 ghost use Rattle.art_model.specs.Pairs.{is_conflict, of_key};
 ghost use Rattle.art_model.specs.Roots.{ForTree, IsCanonicalRoot};
+ghost use Rattle.art_reading.specs.Readings.{CountsToEnd};
 ghost use Rattle.art_writing.specs.Inserted.{IsPointIn};
 ghost use Rattle.art_writing.specs.Overwritten.{IsPrefixPointIn, root_of};
 ghost use Rattle.art_writing.specs.Points.{AnswersTo, IsPointFor, IsRefusedFor};
 
 use art_nodes::node::{AsBytes, InnerPtr, LeafNode, LeafPtr, OpaqueNodePtr};
 use art_nodes::store::NodeStore;
-use art_reading::end_node::walk_to_end_node;
+use art_reading::descent::Visits;
+use art_reading::end_node::walk_to_end_node_visiting;
 use art_reading::path::TreePath;
 use std::alloc::{AllocError, Global};
 use std::boxed::BoxedSlice;
@@ -180,8 +182,8 @@ pub struct Refused<K, V> {
 /// Returns the point of a key in the tree of a canonical root. It is an error where an unequal stored key is related to
 /// the key: one of the two is a prefix of the other. The error has the key's bytes, or is for want of memory for them.
 ///
-/// Nothing else takes memory. Where a prefix is longer than what its node stores of it, a leaf below is read for the
-/// rest.
+/// Nothing else takes memory. A prefix that is longer than what its node stores of it is read from a leaf, each such
+/// prefix from the same one.
 #[inline(always)]
 pub fn search_for_insert_point<K: AsBytes + Drop, V: Drop, const PREFIX_LEN: usize>(
     store: &NodeStore<K, V, PREFIX_LEN>,
@@ -197,7 +199,31 @@ pub fn search_for_insert_point<K: AsBytes + Drop, V: Drop, const PREFIX_LEN: usi
     ensures applies { IfOk result (IsPointIn (of_key K.bytes) PREFIX_LEN store.now key_bytes.now) }
     ensures refused { IfErr result (λ error. IsRefusedFor key_bytes.now error) }
 {
-    match search_for_prefix_insert_point(store, root, key_bytes) {
+    search_for_insert_point_visiting(store, root, key_bytes, &mut Visits::new())
+}
+
+/// Returns what `search_for_insert_point` does, and counts each reading of a node: at least the nodes whose place is a
+/// prefix of the key, these alone where each prefix is stored whole, and at most three for each level of the tree, the
+/// leaves being one. A full counter stays full.
+#[inline(always)]
+pub fn search_for_insert_point_visiting<K: AsBytes + Drop, V: Drop, const PREFIX_LEN: usize>(
+    store: &NodeStore<K, V, PREFIX_LEN>,
+    root: OpaqueNodePtr,
+    key_bytes: &[u8],
+    visits: &mut Visits,
+) -> Result<InsertPoint, InsertSearchError>
+    requires { IsCanonicalRoot (of_key K.bytes) PREFIX_LEN store.now root }
+    ensures accepted { ForTree (of_key K.bytes) PREFIX_LEN store.now root (λ pairs layout.
+        IsOk result ↔ (is_conflict (of_key K.bytes) key_bytes.now pairs ≡ false)) }
+    ensures point { ForTree (of_key K.bytes) PREFIX_LEN store.now root (λ pairs layout.
+        IfOk result (λ point. AnswersTo (of_key K.bytes) PREFIX_LEN layout key_bytes.now point)) }
+    ensures root { IfOk result (λ point. point.root ≡ root) }
+    ensures applies { IfOk result (IsPointIn (of_key K.bytes) PREFIX_LEN store.now key_bytes.now) }
+    ensures refused { IfErr result (λ error. IsRefusedFor key_bytes.now error) }
+    ensures visits { CountsToEnd (of_key K.bytes) PREFIX_LEN store.now root key_bytes.now
+        visits.old visits.new }
+{
+    match search_for_prefix_insert_point_visiting(store, root, key_bytes, visits) {
         PrefixInsertPoint::InsertPoint(point) => Ok(point),
         PrefixInsertPoint::OverwritePoint(_) => Err(refusal(store.alloc(), key_bytes)),
     }
@@ -218,7 +244,26 @@ pub fn search_for_prefix_insert_point<K: AsBytes + Drop, V: Drop, const PREFIX_L
     ensures root { root_of result ≡ root }
     ensures applies { IsPrefixPointIn (of_key K.bytes) PREFIX_LEN store.now key_bytes.now result }
 {
-    let end = walk_to_end_node(store, root, key_bytes);
+    search_for_prefix_insert_point_visiting(store, root, key_bytes, &mut Visits::new())
+}
+
+/// Returns what `search_for_prefix_insert_point` does, and counts as `search_for_insert_point_visiting` does.
+#[inline(always)]
+pub fn search_for_prefix_insert_point_visiting<K: AsBytes + Drop, V: Drop, const PREFIX_LEN: usize>(
+    store: &NodeStore<K, V, PREFIX_LEN>,
+    root: OpaqueNodePtr,
+    key_bytes: &[u8],
+    visits: &mut Visits,
+) -> PrefixInsertPoint
+    requires { IsCanonicalRoot (of_key K.bytes) PREFIX_LEN store.now root }
+    ensures point { ForTree (of_key K.bytes) PREFIX_LEN store.now root (λ pairs layout.
+        IsPointFor (of_key K.bytes) PREFIX_LEN key_bytes.now pairs layout result) }
+    ensures root { root_of result ≡ root }
+    ensures applies { IsPrefixPointIn (of_key K.bytes) PREFIX_LEN store.now key_bytes.now result }
+    ensures visits { CountsToEnd (of_key K.bytes) PREFIX_LEN store.now root key_bytes.now
+        visits.old visits.new }
+{
+    let end = walk_to_end_node_visiting(store, root, key_bytes, visits);
     match end.insert_kind {
         Some(insert_kind) => PrefixInsertPoint::InsertPoint(InsertPoint {
             path: end.path,

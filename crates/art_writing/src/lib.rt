@@ -5,5 +5,4 @@ pub mod clone;
 pub mod deallocate;
 pub mod delete;
 pub mod insert;
-pub mod taken;
 mod writes;

@@ -4,22 +4,28 @@ use Rattle.std.specs.List.{AllByRecursion as Each, list_all, list_any}
 use Rattle.std.specs.List.Sorted.{IsPermutation}
 use Rattle.std.specs.Option.{option_map}
 use Rattle.std.specs.Char.{is_ascii_digit}
-use Rattle.std.specs.declared.vec.Vec.{Vec}
 use Rattle.std.proofs.lemmas.Bool.{and_parts, or_cases, or_left, or_right, false≢true}
 use Rattle.std.proofs.lemmas.List.Elements.{All-cons}
 use Rattle.std.proofs.lemmas.List.Sorted.{IsPermutation-refl, IsPermutation-sym, IsPermutation-cons, IsPermutation-trans, IsPermutation-middle, IsPermutation-map}
-use Rattle.art_model.specs.Keys.{IsFront, Precedes, are_related, are_same, is_before, is_front}
-use Rattle.art_model.specs.Pairs.{IsMap, add_in_order, first_of, has_key, is_conflict, match_of, of_key, put, remove_key, with_key}
+use Rattle.std.specs.Cmp.Lexicographic.{slice_cmp}
+use Rattle.std.specs.Ordering.{is_lt, nat_cmp}
+use Rattle.std.specs.declared.cmp.Ordering.TheVariants.{Less}
+use Rattle.art_model.specs.Keys.{IsFront, are_same, is_before, is_front}
+use Rattle.art_model.specs.Pairs.{add_in_order, first_of, has_key, last_of, match_of, of_key, put, remove_key, with_key, without_last}
+use Rattle.art_model.specs.Texts.{TextsRise}
 use Rattle.art_model.proofs.pairs.Puts.{has_is_stored, put-new}
 use Rattle.art_model.specs.Footprints.{IsIn}
 use Rattle.art_model.proofs.keys.KeyLaws.{fronts_are_decided}
-use Rattle.art_model.proofs.pairs.MapLaws.{matches_are_one}
-use Rattle.art_model.specs.Parts.{below}
-use Rattle.art_model.proofs.lists.Filters.{none_passes}
+use Rattle.art_model.proofs.keys.Keys.{front_same, same_equal}
+use Rattle.art_model.proofs.keys.Texts.{ended_text}
+use Rattle.art_model.proofs.pairs.TextLaws.{last_is_longest}
+use Rattle.art_operations.specs.Ended.{ended}
+use Rattle.art_operations.specs.KeyedPairs.{RiseBy, strings_in_front}
+use Rattle.art_operations.specs.MapAnswers.{value_at}
 use Rattle.text_lines.proofs.Spaces.{HasNoSpace, same_words}
 use Rattle.dial_codes.specs.declared.table.Named.{Named}
-use Rattle.dial_codes.specs.Entries.{code_of, entries_of, is_code, line_of}
-use Rattle.dial_codes.specs.Rows.{HasLine, has_related, has_related_at, rows_of}
+use Rattle.dial_codes.specs.Entries.{IsNoLonger, code_of, entries_of, is_code, line_of}
+use Rattle.dial_codes.specs.Rows.{HasLine, has_code_at, rows_of}
 
 digits_spaceless : (bs : List ℕ) → list_all is_ascii_digit bs ≡ true → HasNoSpace bs
 digits_spaceless [] h = λ k d below. absurd (omega arith)
@@ -36,145 +42,118 @@ no_entry line first rest code name is spaceless none h e =
     let both = same_words first rest code name spaceless (code_spaceless code h) (sym is ∙ e) in
     false≢true (sym none ∙ ap is_code both.0 ∙ h)
 
--- where one passes a test, one passes another that follows from it
-any_follows : {A B : Type 0} (p : A → Bool) (q : B → Bool) (f : A → B) → ((x : A) → p x ≡ true → q (f x) ≡ true) → (xs : List A) → list_any p xs ≡ true → list_any q (map f xs) ≡ true
-any_follows p q f so [] h = absurd (false≢true h)
-any_follows p q f so (x ∷ xs) h = go (or_cases (p x) (list_any p xs) h) (any_follows p q f so xs)
-  where
-    go : (p x ≡ true) ⊎ (list_any p xs ≡ true) → (list_any p xs ≡ true → list_any q (map f xs) ≡ true) → (q (f x) || list_any q (map f xs)) ≡ true
-    go (inl e) ih = or_left _ _ (so x e)
-    go (inr e) ih = or_right _ _ (ih e)
-
--- the first that passes a test passes another that follows from it
-first_follows : {A B : Type 0} (p : A → Bool) (q : B → Bool) (f : A → B) (x : A) → (p x ≡ true → q (f x) ≡ true) → (xs : List A) → first_of (filter p xs) ≡ Some x → list_any q (map f xs) ≡ true
-first_follows p q f x so [] h = absurd cc
-first_follows p q f x so (y ∷ ys) h = go (p y) refl h (first_follows p q f x so ys)
-  where
-    go : (t : Bool) → p y ≡ t → first_of (cond t (y ∷ filter p ys) (filter p ys)) ≡ Some x → (first_of (filter p ys) ≡ Some x → list_any q (map f ys) ≡ true) →
-        (q (f y) || list_any q (map f ys)) ≡ true
-    go true e h ih = let is : y ≡ x = cc in or_left _ _ (subst (λ z. q (f z) ≡ true) (sym is) (so (subst (λ z. p z ≡ true) is e)))
-    go false e h ih = or_right _ _ (ih h)
+-- strings with an end are the same where the strings are
+ended_equal : (a b : List ℕ) → ended a ≡ ended b → a ≡ b
+ended_equal a b e = sym (ended_text a 0) ∙ ap without_last e ∙ ended_text b 0
 
 both_true : (s t : Bool) → s ≡ true → t ≡ true → (s && t) ≡ true
 both_true s t h k = rw (h, k) refl
 
-no_first : {A : Type 0} (xs : List A) → first_of xs ≡ None → xs ≡ []
-no_first [] h = refl
-no_first (x ∷ xs) h = absurd cc
+-- a stored name stands in the row of its code
+pub name_is_stored : (code : List ℕ) (named : Named) (pairs : List (List ℕ × Named)) → Some named ≡ value_at ended (ended code) pairs → has_code_at named.line code (rows_of pairs) ≡ true
+name_is_stored code named [] h = absurd cc
+name_is_stored code named (x ∷ xs) h = go (are_same (ended code) (ended x.0)) refl h (name_is_stored code named xs)
+  where
+    go : (t : Bool) → are_same (ended code) (ended x.0) ≡ t →
+        Some named ≡ option_map (λ y. y.1) (first_of (cond t (x ∷ with_key (of_key ended) (ended code) xs) (with_key (of_key ended) (ended code) xs))) →
+        (Some named ≡ value_at ended (ended code) xs → has_code_at named.line code (rows_of xs) ≡ true) → ((are_same code x.0 && eqb x.1.line named.line) || has_code_at named.line code (rows_of xs)) ≡ true
+    go true e h ih =
+        let is : named ≡ x.1 = cc in
+        let same : x.0 ≡ code = ended_equal x.0 code (same_equal (ended code) (ended x.0) e) in
+        or_left _ _ (both_true _ _ (subst (λ z. are_same code z ≡ true) (sym same) (front_same code)) (eq-eqb x.1.line named.line (ap (λ z. z.line) (sym is))))
+    go false e h ih = or_right _ _ (ih h)
 
-module _ {Z : Type 0} where
-  -- the row of a pair
-  abbrev row_of : Vec ℕ Z × Named → List ℕ × List ℕ × ℕ
-  row_of x = (x.0.items, x.1.name.items, x.1.line)
+-- a value is found just where a key is stored
+value_stored : (key : List ℕ) (pairs : List (List ℕ × Named)) → is_some (value_at ended key pairs) ≡ has_key (of_key ended) key pairs
+value_stored key [] = refl
+value_stored key (x ∷ xs) = go (are_same key (ended x.0)) (value_stored key xs)
+  where
+    go : (t : Bool) → is_some (value_at ended key xs) ≡ has_key (of_key ended) key xs →
+        is_some (option_map (λ y. y.1) (first_of (cond t (x ∷ with_key (of_key ended) key xs) (with_key (of_key ended) key xs)))) ≡ (t || has_key (of_key ended) key xs)
+    go true ih = refl
+    go false ih = ih
 
-  -- the row of the pair whose code is a prefix of this one
-  pub prefix_is_related : (code : List ℕ) (pairs : List (Vec ℕ Z × Named)) (x : Vec ℕ Z × Named) → first_of (match_of (of_key (λ (v : Vec ℕ Z). v.items)) code pairs) ≡ Some x →
-      has_related_at x.1.line code (rows_of pairs) ≡ true
-  prefix_is_related code pairs x h =
-      first_follows (λ y. is_front y.0.items code) (λ row. are_related code row.0 && eqb row.2 x.1.line) row_of x
-      (λ e. both_true _ _ (or_right (is_front code x.0.items) (is_front x.0.items code) e) (eq-eqb x.1.line x.1.line refl)) pairs h
+-- no key is equal where no name is stored
+pub none_is_stored : (code : List ℕ) (pairs : List (List ℕ × Named)) → None ≡ value_at ended (ended code) pairs → has_key (of_key ended) (ended code) pairs ≡ false
+none_is_stored code pairs h = sym (value_stored (ended code) pairs) ∙ sym (ap is_some h)
 
-  -- or begins with it
-  pub longer_is_related : (code : List ℕ) (pairs : List (Vec ℕ Z × Named)) (x : Vec ℕ Z × Named) (more : List (Vec ℕ Z × Named)) →
-      below (of_key (λ (v : Vec ℕ Z). v.items)) code pairs ≡ x ∷ more → has_related_at x.1.line code (rows_of pairs) ≡ true
-  longer_is_related code pairs x more h =
-      first_follows (λ y. is_front code y.0.items) (λ row. are_related code row.0 && eqb row.2 x.1.line) row_of x
-      (λ e. both_true _ _ (or_left (is_front code x.0.items) (is_front x.0.items code) e) (eq-eqb x.1.line x.1.line refl)) pairs (ap first_of h)
+added : (new : List ℕ × Named) (pairs : List (List ℕ × Named)) → IsPermutation (new ∷ pairs) (add_in_order (of_key ended) new pairs)
+added new [] = IsPermutation-refl (new ∷ [])
+added new (x ∷ xs) = go (is_before (ended new.0) (ended x.0)) (added new xs)
+  where
+    go : (t : Bool) → IsPermutation (new ∷ xs) (add_in_order (of_key ended) new xs) → IsPermutation (new ∷ x ∷ xs) (cond t (new ∷ x ∷ xs) (x ∷ add_in_order (of_key ended) new xs))
+    go true ih = IsPermutation-refl (new ∷ x ∷ xs)
+    go false ih =
+        IsPermutation-trans _ _ _ (IsPermutation-sym _ _ (IsPermutation-middle (x ∷ []) new xs)) (IsPermutation-cons x _ _ ih)
 
-  none_among : (code : List ℕ) (pairs : List (Vec ℕ Z × Named)) → Each (λ x. is_front x.0.items code ≡ false) pairs → Each (λ x. is_front code x.0.items ≡ false) pairs →
-      has_related code (rows_of pairs) ≡ false
-  none_among code [] h k = refl
-  none_among code (x ∷ xs) h k = rw (h.0, k.0) (none_among code xs h.1 k.1)
+others_stay : (key : List ℕ) (pairs : List (List ℕ × Named)) → has_key (of_key ended) key pairs ≡ false → remove_key (of_key ended) key pairs ≡ pairs
+others_stay key [] h = refl
+others_stay key (x ∷ xs) h = go (are_same key (ended x.0)) h (others_stay key xs)
+  where
+    go : (t : Bool) → (t || has_key (of_key ended) key xs) ≡ false → (has_key (of_key ended) key xs ≡ false → remove_key (of_key ended) key xs ≡ xs) →
+        cond (not t) (x ∷ remove_key (of_key ended) key xs) (remove_key (of_key ended) key xs) ≡ x ∷ xs
+    go true e ih = absurd (false≢true (sym e))
+    go false e ih = ap (λ ys. x ∷ ys) (ih e)
 
-  -- there is no other that is related
-  pub none_is_related : (code : List ℕ) (pairs : List (Vec ℕ Z × Named)) → first_of (match_of (of_key (λ (v : Vec ℕ Z). v.items)) code pairs) ≡ None →
-      below (of_key (λ (v : Vec ℕ Z). v.items)) code pairs ≡ [] → has_related code (rows_of pairs) ≡ false
-  none_is_related code pairs h k =
-      none_among code pairs (none_passes (λ x. is_front x.0.items code) pairs (no_first _ h)) (none_passes (λ x. is_front code x.0.items) pairs k)
+none_stored : (new : List ℕ × Named) (pairs : List (List ℕ × Named)) → has_key (of_key ended) (ended new.0) pairs ≡ false →
+    first_of (with_key (of_key ended) (ended new.0) pairs) ≡ None
+none_stored new pairs h = go (first_of (with_key (of_key ended) (ended new.0) pairs)) (sym (has_is_stored (of_key ended) new pairs) ∙ h)
+  where
+    go : (o : Option (List ℕ × Named)) → is_some o ≡ false → o ≡ None
+    go None e = refl
+    go (Some x) e = absurd (false≢true (sym e))
 
-  pub equal_is_related : (code : List ℕ) (pairs : List (Vec ℕ Z × Named)) → has_key (of_key (λ (v : Vec ℕ Z). v.items)) code pairs ≡ true → has_related code (rows_of pairs) ≡ true
-  equal_is_related code pairs h =
-      any_follows (λ x. are_same code x.0.items) (λ row. are_related code row.0) row_of
-      (λ x e. or_left _ _ (and_parts (is_front code x.0.items) (is_front x.0.items code) e).0) pairs h
+-- where no key is equal a pair comes to the others
+pair_comes : (key : List ℕ) (value : Named) (pairs : List (List ℕ × Named)) → has_key (of_key ended) (ended key) pairs ≡ false →
+    IsPermutation ((key, value.name.items, value.line) ∷ rows_of pairs) (rows_of (put (of_key ended) (key, value) pairs))
+pair_comes key value pairs h =
+    IsPermutation-map (λ (x : List ℕ × Named). (x.0, x.1.name.items, x.1.line)) _ _
+    (subst (IsPermutation ((key, value) ∷ pairs)) (sym (put-new (of_key ended) (key, value) pairs (none_stored (key, value) pairs h)
+    ∙ ap (add_in_order (of_key ended) (key, value)) (others_stay (ended key) pairs h))) (added (key, value) pairs))
 
-  pub conflict_is_related : (code : List ℕ) (pairs : List (Vec ℕ Z × Named)) → is_conflict (of_key (λ (v : Vec ℕ Z). v.items)) code pairs ≡ true → has_related code (rows_of pairs) ≡ true
-  conflict_is_related code pairs h =
-      any_follows (λ x. are_related code x.0.items && not (are_same code x.0.items)) (λ row. are_related code row.0) row_of
-      (λ x e. (and_parts (are_related code x.0.items) (not (are_same code x.0.items)) e).0) pairs h
+pub line_comes : (line code name : List ℕ) (number : ℕ) (key : List ℕ) (value : Named) (pairs : List (List ℕ × Named)) → line ≡ line_of (code, name) → is_code code ≡ true →
+    key ≡ code → value.name.items ≡ name → value.line ≡ number → has_key (of_key ended) (ended code) pairs ≡ false →
+    HasLine line number (rows_of pairs) (rows_of (put (of_key ended) (key, value) pairs))
+line_comes line code name number key value pairs is h k v n none = record {
+  entry = (key, value.name.items);
+  code = ap is_code k ∙ h;
+  is = is ∙ ap₂ (λ a b. a ++ 32 ∷ b) (sym k) (sym v);
+  came = subst (λ l. IsPermutation ((key, value.name.items, l) ∷ rows_of pairs) (rows_of (put (of_key ended) (key, value) pairs))) n
+      (pair_comes key value pairs (ap (λ bs. has_key (of_key ended) (ended bs) pairs) k ∙ none));
+}
 
-  added : (new : Vec ℕ Z × Named) (pairs : List (Vec ℕ Z × Named)) → IsPermutation (new ∷ pairs) (add_in_order (of_key (λ (v : Vec ℕ Z). v.items)) new pairs)
-  added new [] = IsPermutation-refl (new ∷ [])
-  added new (x ∷ xs) = go (is_before new.0.items x.0.items) (added new xs)
-    where
-      go : (t : Bool) → IsPermutation (new ∷ xs) (add_in_order (of_key (λ (v : Vec ℕ Z). v.items)) new xs) → IsPermutation (new ∷ x ∷ xs) (cond t (new ∷ x ∷ xs) (x ∷ add_in_order (of_key (λ (v : Vec ℕ Z). v.items)) new xs))
-      go true ih = IsPermutation-refl (new ∷ x ∷ xs)
-      go false ih =
-          IsPermutation-trans _ _ _ (IsPermutation-sym _ _ (IsPermutation-middle (x ∷ []) new xs)) (IsPermutation-cons x _ _ ih)
+-- the entry of a pair
+abbrev named_entry : List ℕ × Named → List ℕ × List ℕ
+named_entry x = (x.0, x.1.name.items)
 
-  others_stay : (key : List ℕ) (pairs : List (Vec ℕ Z × Named)) → has_key (of_key (λ (v : Vec ℕ Z). v.items)) key pairs ≡ false → remove_key (of_key (λ (v : Vec ℕ Z). v.items)) key pairs ≡ pairs
-  others_stay key [] h = refl
-  others_stay key (x ∷ xs) h = go (are_same key x.0.items) h (others_stay key xs)
-    where
-      go : (t : Bool) → (t || has_key (of_key (λ (v : Vec ℕ Z). v.items)) key xs) ≡ false → (has_key (of_key (λ (v : Vec ℕ Z). v.items)) key xs ≡ false → remove_key (of_key (λ (v : Vec ℕ Z). v.items)) key xs ≡ xs) →
-          cond (not t) (x ∷ remove_key (of_key (λ (v : Vec ℕ Z). v.items)) key xs) (remove_key (of_key (λ (v : Vec ℕ Z). v.items)) key xs) ≡ x ∷ xs
-      go true e ih = absurd (false≢true (sym e))
-      go false e ih = ap (λ ys. x ∷ ys) (ih e)
+last-map : (xs : List (List ℕ × Named)) → last_of (map named_entry xs) ≡ option_map named_entry (last_of xs)
+last-map [] = refl
+last-map (x ∷ []) = refl
+last-map (x ∷ y ∷ xs) = last-map (y ∷ xs)
 
-  none_stored : (new : Vec ℕ Z × Named) (pairs : List (Vec ℕ Z × Named)) → has_key (of_key (λ (v : Vec ℕ Z). v.items)) new.0.items pairs ≡ false →
-      first_of (with_key (of_key (λ (v : Vec ℕ Z). v.items)) new.0.items pairs) ≡ None
-  none_stored new pairs h = go (first_of (with_key (of_key (λ (v : Vec ℕ Z). v.items)) new.0.items pairs)) (sym (has_is_stored (of_key (λ (v : Vec ℕ Z). v.items)) new pairs) ∙ h)
-    where
-      go : (o : Option (Vec ℕ Z × Named)) → is_some o ≡ false → o ≡ None
-      go None e = refl
-      go (Some x) e = absurd (false≢true (sym e))
+matches-map : (number : List ℕ) (pairs : List (List ℕ × Named)) → match_of code_of number (entries_of pairs) ≡ map named_entry (strings_in_front (λ t. t) number pairs)
+matches-map number [] = refl
+matches-map number (x ∷ xs) = go (is_front x.0 number) (matches-map number xs)
+  where
+    go : (t : Bool) → match_of code_of number (entries_of xs) ≡ map named_entry (strings_in_front (λ t. t) number xs) →
+        cond t (named_entry x ∷ match_of code_of number (entries_of xs)) (match_of code_of number (entries_of xs))
+        ≡ map named_entry (cond t (x ∷ strings_in_front (λ t. t) number xs) (strings_in_front (λ t. t) number xs))
+    go true ih = ap (λ es. named_entry x ∷ es) ih
+    go false ih = ih
 
-  -- where no key is equal a pair comes to the others
-  pub pair_comes : (key : Vec ℕ Z) (value : Named) (pairs : List (Vec ℕ Z × Named)) → has_key (of_key (λ (v : Vec ℕ Z). v.items)) key.items pairs ≡ false →
-      IsPermutation ((key.items, value.name.items, value.line) ∷ rows_of pairs) (rows_of (put (of_key (λ (v : Vec ℕ Z). v.items)) (key, value) pairs))
-  pair_comes key value pairs h =
-      IsPermutation-map row_of _ _
-      (subst (IsPermutation ((key, value) ∷ pairs)) (sym (put-new (of_key (λ (v : Vec ℕ Z). v.items)) (key, value) pairs (none_stored (key, value) pairs h)
-      ∙ ap (add_in_order (of_key (λ (v : Vec ℕ Z). v.items)) (key, value)) (others_stay key.items pairs h))) (added (key, value) pairs))
+-- the last match of the entries is the entry of the last match
+pub match_entry : (number : List ℕ) (pairs : List (List ℕ × Named)) →
+    last_of (match_of code_of number (entries_of pairs)) ≡ option_map (λ x. (x.0, x.1.name.items)) (last_of (strings_in_front (λ t. t) number pairs))
+match_entry number pairs = ap last_of (matches-map number pairs) ∙ last-map (strings_in_front (λ t. t) number pairs)
 
-  -- no key is equal where no row is related
-  pub unrelated_is_new : (code : List ℕ) (pairs : List (Vec ℕ Z × Named)) → has_related code (rows_of pairs) ≡ false → has_key (of_key (λ (v : Vec ℕ Z). v.items)) code pairs ≡ false
-  unrelated_is_new code pairs h = go (has_key (of_key (λ (v : Vec ℕ Z). v.items)) code pairs) refl
-    where
-      go : (t : Bool) → has_key (of_key (λ (v : Vec ℕ Z). v.items)) code pairs ≡ t → t ≡ false
-      go true e = absurd (false≢true (sym h ∙ equal_is_related code pairs e))
-      go false e = refl
+-- the entries rise as the keys do
+entries_after : (x : List ℕ × Named) (xs : List (List ℕ × Named)) → Each (λ y. slice_cmp nat_cmp x.0 y.0 ≡ Less) xs → Each (λ e. is_before x.0 (code_of e) ≡ true) (entries_of xs)
+entries_after x [] h = tt
+entries_after x (y ∷ ys) h = (ap is_lt h.0, entries_after x ys h.1)
 
-  pub line_comes : (line code name : List ℕ) (number : ℕ) (key : Vec ℕ Z) (value : Named) (pairs : List (Vec ℕ Z × Named)) → line ≡ line_of (code, name) → is_code code ≡ true →
-      key.items ≡ code → value.name.items ≡ name → value.line ≡ number → has_related code (rows_of pairs) ≡ false →
-      HasLine line number (rows_of pairs) (rows_of (put (of_key (λ (v : Vec ℕ Z). v.items)) (key, value) pairs))
-  line_comes line code name number key value pairs is h k v n none = record {
-    entry = (key.items, value.name.items);
-    code = ap is_code k ∙ h;
-    is = is ∙ ap₂ (λ a b. a ++ 32 ∷ b) (sym k) (sym v);
-    came = subst (λ l. IsPermutation ((key.items, value.name.items, l) ∷ rows_of pairs) (rows_of (put (of_key (λ (v : Vec ℕ Z). v.items)) (key, value) pairs))) n
-        (pair_comes key value pairs (ap (λ bs. has_key (of_key (λ (v : Vec ℕ Z). v.items)) bs pairs) k ∙ unrelated_is_new code pairs none));
-  }
-
-  -- the match of the entries is the entry of the match
-  pub match_entry : (number : List ℕ) (pairs : List (Vec ℕ Z × Named)) →
-      first_of (match_of code_of number (entries_of pairs)) ≡ option_map (λ x. (x.0.items, x.1.name.items)) (first_of (match_of (of_key (λ (v : Vec ℕ Z). v.items)) number pairs))
-  match_entry number [] = refl
-  match_entry number (x ∷ xs) = go (is_front x.0.items number) (match_entry number xs)
-    where
-      go : (t : Bool) → first_of (match_of code_of number (entries_of xs)) ≡ option_map (λ x. (x.0.items, x.1.name.items)) (first_of (match_of (of_key (λ (v : Vec ℕ Z). v.items)) number xs)) →
-          first_of (cond t ((x.0.items, x.1.name.items) ∷ match_of code_of number (entries_of xs)) (match_of code_of number (entries_of xs)))
-          ≡ option_map (λ x. (x.0.items, x.1.name.items)) (first_of (cond t (x ∷ match_of (of_key (λ (v : Vec ℕ Z). v.items)) number xs) (match_of (of_key (λ (v : Vec ℕ Z). v.items)) number xs)))
-      go true ih = refl
-      go false ih = ih
-
-  -- the entries of a map are apart as its keys are
-  entries_apart : (x : Vec ℕ Z × Named) (xs : List (Vec ℕ Z × Named)) → Each (λ y. Precedes x.0.items y.0.items) xs → Each (λ e. Precedes x.0.items (code_of e)) (entries_of xs)
-  entries_apart x [] h = tt
-  entries_apart x (y ∷ ys) h = (h.0, entries_apart x ys h.1)
-
-  pub entries_are_map : (pairs : List (Vec ℕ Z × Named)) → IsMap (of_key (λ (v : Vec ℕ Z). v.items)) pairs → IsMap code_of (entries_of pairs)
-  entries_are_map [] h = tt
-  entries_are_map (x ∷ xs) h = (entries_apart x xs h.0, entries_are_map xs h.1)
+pub entries_rise : (pairs : List (List ℕ × Named)) → RiseBy (slice_cmp nat_cmp) pairs → TextsRise code_of (entries_of pairs)
+entries_rise [] h = tt
+entries_rise (x ∷ xs) h = (entries_after x xs h.0, entries_rise xs h.1)
 
 -- what passes a test and stands in a list is among those that pass
 passes_in : {A : Type 0} (test : A → Bool) (x : A) (xs : List A) → IsIn x xs → test x ≡ true → IsIn x (filter test xs)
@@ -197,24 +176,39 @@ in_passes test x (y ∷ xs) h = go (test y) refl h (in_passes test x xs)
     go true b (inr r) ih = let k = ih r in (inr k.0, k.1)
     go false b r ih = let k = ih r in (inr k.0, k.1)
 
--- the first match of a map is its only one
-pub only_match : (entries : List (List ℕ × List ℕ)) (number : List ℕ) (e : List ℕ × List ℕ) → IsMap code_of entries → IsIn e entries → IsFront (code_of e) number →
-    first_of (match_of code_of number entries) ≡ Some e
-only_match entries number e sorted there front =
-    alone (match_of code_of number entries) (matches_are_one code_of number entries sorted) (passes_in (λ x. is_front (code_of x) number) e entries there ((fronts_are_decided (code_of e) number).1 front))
-  where
-    alone : (ms : List (List ℕ × List ℕ)) → length ms ≤ 1 → IsIn e ms → first_of ms ≡ Some e
-    alone [] l h = absurd h
-    alone (m ∷ []) l (inl s) = ap Some s
-    alone (m ∷ []) l (inr r) = absurd r
-    alone (m ∷ n ∷ ms) l h = absurd (omega arith)
+each_of : {A : Type 0} (Q : A → Type 0) (x : A) (xs : List A) → IsIn x xs → Each Q xs → Q x
+each_of Q x [] h all = absurd h
+each_of Q x (y ∷ ys) (inl s) all = subst Q s all.0
+each_of Q x (y ∷ ys) (inr r) all = each_of Q x ys r all.1
 
-pub first_match : (entries : List (List ℕ × List ℕ)) (number : List ℕ) (e : List ℕ × List ℕ) → first_of (match_of code_of number entries) ≡ Some e →
+-- each match is no longer than the last one
+pub no_longer : (entries : List (List ℕ × List ℕ)) (number : List ℕ) (e : List ℕ × List ℕ) → TextsRise code_of entries → IsIn e entries → IsFront (code_of e) number →
+    IsNoLonger e (last_of (match_of code_of number entries))
+no_longer entries number e rise there front = go (last_of (match_of code_of number entries)) refl
+  where
+    among : IsIn e (match_of code_of number entries)
+    among = passes_in (λ x. is_front (code_of x) number) e entries there ((fronts_are_decided (code_of e) number).1 front)
+
+    none_in : (ms : List (List ℕ × List ℕ)) → IsIn e ms → last_of ms ≡ None → ⊥
+    none_in [] h last = h
+    none_in (m ∷ []) h last = absurd cc
+    none_in (m ∷ n ∷ ms) h last = some n ms last
+      where
+        some : (n : List ℕ × List ℕ) (ms : List (List ℕ × List ℕ)) → last_of (n ∷ ms) ≡ None → ⊥
+        some n [] last = absurd cc
+        some n (o ∷ ms) last = some o ms last
+
+    go : (last : Option (List ℕ × List ℕ)) → last_of (match_of code_of number entries) ≡ last → IsNoLonger e last
+    go None h = none_in (match_of code_of number entries) among h
+    go (Some last) h = each_of (λ x. length (code_of x) ≤ length (code_of last)) e (match_of code_of number entries) among (last_is_longest code_of entries number last rise h)
+
+pub last_match : (entries : List (List ℕ × List ℕ)) (number : List ℕ) (e : List ℕ × List ℕ) → last_of (match_of code_of number entries) ≡ Some e →
     IsIn e entries × IsFront (code_of e) number
-first_match entries number e h =
+last_match entries number e h =
     let both = in_passes (λ x. is_front (code_of x) number) e entries (among (match_of code_of number entries) h) in
     (both.0, (fronts_are_decided (code_of e) number).0 both.1)
   where
-    among : (ms : List (List ℕ × List ℕ)) → first_of ms ≡ Some e → IsIn e ms
+    among : (ms : List (List ℕ × List ℕ)) → last_of ms ≡ Some e → IsIn e ms
     among [] h = absurd cc
-    among (m ∷ ms) h = inl (cc)
+    among (m ∷ []) h = inl (cc)
+    among (m ∷ n ∷ ms) h = inr (among (n ∷ ms) h)

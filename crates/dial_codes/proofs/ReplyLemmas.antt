@@ -1,11 +1,12 @@
 -- Numbers that are answered line by line.
-use Rattle.std.proofs.Common.{◌≡◌, ℕ, ◌+◌, true, false, List, [], ◌∷◌, ◌++◌, length, flat_map, Option, refl, ap, sym, ◌∙◌, subst, append-nil}
+use Rattle.std.proofs.Common.{◌≡◌, ℕ, ◌+◌, true, false, List, [], ◌∷◌, ◌++◌, length, flat_map, Option, Some, None, IfSome, refl, ap, sym, ◌∙◌, subst, append-nil}
 use Rattle.std.specs.Io.KnownBytes.{Appends, Keeps}
 use Rattle.std.proofs.lemmas.List.Concat.{flat_map-append}
 use Rattle.art_model.proofs.lists.Lists.{Each-append}
+use Rattle.text_lines.specs.Lines.{lines}
 use Rattle.text_lines.proofs.Writing.{appends_kept, appends_more, appends_none}
 use Rattle.dial_codes.specs.Entries.{is_code}
-use Rattle.dial_codes.specs.Replies.{HaveReplies, IsStoppedAt, reply_of}
+use Rattle.dial_codes.specs.Replies.{AreAnswered, HaveReplies, IsStoppedAt, reply_of}
 
 pub no_replies : (entries : List (List ℕ × List ℕ)) (old : Option (List ℕ)) → HaveReplies entries [] old old
 no_replies entries old = record { numbers_are = tt; written = appends_none old }
@@ -31,3 +32,20 @@ stopped_at entries number line seen old now e none before after n h = record {
   none = ap is_code (sym e) ∙ none;
   replies = h;
 }
+
+-- what was answered stays so where what was written stays
+pub still_answered : (entries : List (List ℕ × List ℕ)) (text : Option (List ℕ)) (refused : Option ℕ) (old now new : Option (List ℕ)) →
+    IfSome text (λ bs. AreAnswered entries (lines bs) refused old now) → Keeps now new → IfSome text (λ bs. AreAnswered entries (lines bs) refused old new)
+still_answered entries None refused old now new answered keeps = tt
+still_answered entries (Some bs) None old now new answered keeps =
+    record { numbers_are = answered.numbers_are; written = appends_kept old now new _ answered.written keeps }
+still_answered entries (Some bs) (Some number) old now new answered keeps =
+    record {
+      before = answered.before;
+      line = answered.line;
+      after = answered.after;
+      lines_are = answered.lines_are;
+      number_is = answered.number_is;
+      none = answered.none;
+      replies = record { numbers_are = answered.replies.numbers_are; written = appends_kept old now new _ answered.replies.written keeps };
+    }

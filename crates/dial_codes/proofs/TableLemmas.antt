@@ -2,19 +2,19 @@
 use Rattle.std.proofs.Common.{◌≡◌, ℕ, ◌+◌, true, ◌&&◌, eqb, eqb-true, List, [], ◌∷◌, ◌++◌, length, map, refl, ap, sym, ◌∙◌, subst, arith, ◌⊎◌, inl, inr}
 use Rattle.std.specs.List.{list_any}
 use Rattle.std.specs.List.Sorted.{IsPermutation}
-use Rattle.std.specs.declared.vec.Vec.{Vec}
 use Rattle.std.proofs.lemmas.Bool.{and_parts, false≢true, or_cases}
 use Rattle.std.proofs.lemmas.List.{length-map, map-append}
 use Rattle.std.proofs.lemmas.List.Sorted.{IsPermutation-map, IsPermutation-refl, IsPermutation-push_more}
 use Rattle.std.proofs.lemmas.List.Sorted.{list_any-IsPermutation}
-use Rattle.art_model.specs.Keys.{are_related}
+use Rattle.art_model.specs.Keys.{are_same}
+use Rattle.art_model.proofs.keys.Keys.{same_equal}
 use Rattle.art_model.proofs.lists.Lists.{Each-append}
 use Rattle.dial_codes.specs.declared.table.LineError.{LineError}
-use Rattle.dial_codes.specs.declared.table.LineError.TheVariants.{NoEntry, Related, NoMemory}
+use Rattle.dial_codes.specs.declared.table.LineError.TheVariants.{NoEntry, Repeated, NoMemory}
 use Rattle.dial_codes.specs.declared.table.Named.{Named}
 use Rattle.dial_codes.specs.Entries.{code_of, entries_of, is_code, line_of}
 use Rattle.dial_codes.specs.Rows.{HasLine, IsFaultBeside, numbered, rows_of}
-use Rattle.dial_codes.specs.Tables.{AreLinesOf, IsFaultOf, IsRefusedAt, IsRelatedAt, IsTableOf}
+use Rattle.dial_codes.specs.Tables.{AreLinesOf, IsFaultOf, IsRefusedAt, IsRepeatedAt, IsTableOf}
 
 -- The lines are those of entries, and the table has these with their numbers.
 pub record IsFilledBy (rows : List (List ℕ × List ℕ × ℕ)) (ls : List (List ℕ)) : Type 0 where
@@ -57,11 +57,11 @@ unnumbered : (n : ℕ) (entries : List (List ℕ × List ℕ)) → map (λ (row 
 unnumbered n [] = refl
 unnumbered n (e ∷ entries) = ap (λ es. e ∷ es) (unnumbered (n + 1) entries)
 
-unnumbered_rows : {Z : Type 0} (pairs : List (Vec ℕ Z × Named)) → map (λ (row : List ℕ × List ℕ × ℕ). (row.0, row.1)) (rows_of pairs) ≡ entries_of pairs
+unnumbered_rows : (pairs : List (List ℕ × Named)) → map (λ (row : List ℕ × List ℕ × ℕ). (row.0, row.1)) (rows_of pairs) ≡ entries_of pairs
 unnumbered_rows [] = refl
-unnumbered_rows (x ∷ xs) = ap (λ es. (x.0.items, x.1.name.items) ∷ es) (unnumbered_rows xs)
+unnumbered_rows (x ∷ xs) = ap (λ es. (x.0, x.1.name.items) ∷ es) (unnumbered_rows xs)
 
-pub table_is : {Z : Type 0} (pairs : List (Vec ℕ Z × Named)) (ls : List (List ℕ)) → IsFilledBy (rows_of pairs) ls → IsTableOf ls (entries_of pairs)
+pub table_is : (pairs : List (List ℕ × Named)) (ls : List (List ℕ)) → IsFilledBy (rows_of pairs) ls → IsTableOf ls (entries_of pairs)
 table_is pairs ls h = record {
   entries = h.entries;
   lines_are = h.lines_are;
@@ -71,33 +71,33 @@ table_is pairs ls h = record {
 }
 
 -- the entry whose row has this number
-related_from : (code : List ℕ) (n k : ℕ) (entries : List (List ℕ × List ℕ)) → list_any (λ row. are_related code row.0 && eqb row.2 n) (numbered k entries) ≡ true →
+same_from : (code : List ℕ) (n k : ℕ) (entries : List (List ℕ × List ℕ)) → list_any (λ row. are_same code row.0 && eqb row.2 n) (numbered k entries) ≡ true →
     (before : List (List ℕ × List ℕ)) × (earlier : List ℕ × List ℕ) × (after : List (List ℕ × List ℕ)) × (entries ≡ before ++ earlier ∷ after) × (n ≡ length before + k) ×
-    (are_related code (code_of earlier) ≡ true)
-related_from code n k [] h = absurd (false≢true h)
-related_from code n k (e ∷ entries) h = go (or_cases _ _ h) (related_from code n (k + 1) entries)
+    (code ≡ code_of earlier)
+same_from code n k [] h = absurd (false≢true h)
+same_from code n k (e ∷ entries) h = go (or_cases _ _ h) (same_from code n (k + 1) entries)
   where
-    go : ((are_related code e.0 && eqb k n) ≡ true) ⊎ (list_any (λ row. are_related code row.0 && eqb row.2 n) (numbered (k + 1) entries) ≡ true) →
-        (list_any (λ row. are_related code row.0 && eqb row.2 n) (numbered (k + 1) entries) ≡ true → (before : List (List ℕ × List ℕ)) × (earlier : List ℕ × List ℕ) ×
-        (after : List (List ℕ × List ℕ)) × (entries ≡ before ++ earlier ∷ after) × (n ≡ length before + (k + 1)) × (are_related code (code_of earlier) ≡ true)) →
+    go : ((are_same code e.0 && eqb k n) ≡ true) ⊎ (list_any (λ row. are_same code row.0 && eqb row.2 n) (numbered (k + 1) entries) ≡ true) →
+        (list_any (λ row. are_same code row.0 && eqb row.2 n) (numbered (k + 1) entries) ≡ true → (before : List (List ℕ × List ℕ)) × (earlier : List ℕ × List ℕ) ×
+        (after : List (List ℕ × List ℕ)) × (entries ≡ before ++ earlier ∷ after) × (n ≡ length before + (k + 1)) × (code ≡ code_of earlier)) →
         (before : List (List ℕ × List ℕ)) × (earlier : List ℕ × List ℕ) × (after : List (List ℕ × List ℕ)) × (e ∷ entries ≡ before ++ earlier ∷ after) × (n ≡ length before + k) ×
-        (are_related code (code_of earlier) ≡ true)
-    go (inl both) ih = let parts = and_parts (are_related code e.0) (eqb k n) both in let same = eqb-true k n parts.1 in ([], e, entries, refl, omega arith, parts.0)
+        (code ≡ code_of earlier)
+    go (inl both) ih = let parts = and_parts (are_same code e.0) (eqb k n) both in let at = eqb-true k n parts.1 in ([], e, entries, refl, omega arith, sym (same_equal code e.0 parts.0))
     go (inr more) ih =
-        let (before, earlier, after, are, is, related) = ih more in
-        (e ∷ before, earlier, after, ap (λ es. e ∷ es) are, omega arith, related)
+        let (before, earlier, after, are, is, same) = ih more in
+        (e ∷ before, earlier, after, ap (λ es. e ∷ es) are, omega arith, same)
 
-related_at : (code : List ℕ) (n : ℕ) (entries : List (List ℕ × List ℕ)) → list_any (λ row. are_related code row.0 && eqb row.2 n) (numbered 1 entries) ≡ true → IsRelatedAt code n entries
-related_at code n entries h =
-    let (before, earlier, after, are, is, related) = related_from code n 1 entries h in
-    record { before = before; earlier = earlier; after = after; entries_are = are; number_is = is; related = related }
+repeated_at : (code : List ℕ) (n : ℕ) (entries : List (List ℕ × List ℕ)) → list_any (λ row. are_same code row.0 && eqb row.2 n) (numbered 1 entries) ≡ true → IsRepeatedAt code n entries
+repeated_at code n entries h =
+    let (before, earlier, after, are, is, same) = same_from code n 1 entries h in
+    record { before = before; earlier = earlier; after = after; entries_are = are; number_is = is; same = same }
 
 -- a fault beside the rows of a table is one after the lines that it was made of
 fault_is : (line : List ℕ) (entries : List (List ℕ × List ℕ)) (rows : List (List ℕ × List ℕ × ℕ)) (fault : LineError) → IsPermutation (numbered 1 entries) rows →
     IsFaultBeside line rows fault → IsFaultOf line entries fault
 fault_is line entries rows NoEntry same h = h
-fault_is line entries rows (Related n) same (code, name, is, any) =
-    (code, name, is, related_at code n entries (list_any-IsPermutation (λ row. are_related code row.0 && eqb row.2 n) (numbered 1 entries) rows same ∙ any))
+fault_is line entries rows (Repeated n) same (code, name, is, any) =
+    (code, name, is, repeated_at code n entries (list_any-IsPermutation (λ row. are_same code row.0 && eqb row.2 n) (numbered 1 entries) rows same ∙ any))
 fault_is line entries rows NoMemory same h = tt
 
 pub refused_at : (rows : List (List ℕ × List ℕ × ℕ)) (number : ℕ) (line seen : List ℕ) (fault : LineError) → seen ≡ line → IsFaultBeside seen rows fault →

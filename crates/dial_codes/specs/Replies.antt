@@ -2,7 +2,7 @@
 use Rattle.std.specs.Prelude.{◌≡◌, ℕ, ◌+◌, true, false, List, ◌∷◌, ◌++◌, length, flat_map, codes, Option, Some, None}
 use Rattle.std.specs.List.{AllByRecursion as Each}
 use Rattle.std.specs.Io.KnownBytes.{Appends}
-use Rattle.art_model.specs.Pairs.{first_of, match_of}
+use Rattle.art_model.specs.Pairs.{last_of, match_of}
 use Rattle.dial_codes.specs.Entries.{code_of, is_code, line_of}
 
 -- the line of the entry, or none
@@ -10,9 +10,9 @@ abbrev pub reply_with : Option (List ℕ × List ℕ) → List ℕ
 reply_with None = codes "none\n"
 reply_with (Some entry) = line_of entry ++ codes "\n"
 
--- the line of the first entry whose code is a prefix of the number
+-- the line of the last entry whose code is a prefix of the number: where codes rise, the one with the longest code
 abbrev pub reply_of : List (List ℕ × List ℕ) → List ℕ → List ℕ
-reply_of entries number = reply_with (first_of (match_of code_of number entries))
+reply_of entries number = reply_with (last_of (match_of code_of number entries))
 
 -- The replies to these numbers were appended.
 pub record HaveReplies (entries : List (List ℕ × List ℕ)) (numbers : List (List ℕ)) (old new : Option (List ℕ)) : Type 0 where

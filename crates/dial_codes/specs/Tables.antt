@@ -2,10 +2,9 @@
 use Rattle.std.specs.Prelude.{◌≡◌, ◌≢◌, ℕ, ◌+◌, true, List, ◌∷◌, ◌++◌, length, map, ⊤}
 use Rattle.std.specs.List.{AllByRecursion as Each}
 use Rattle.std.specs.List.Sorted.{IsPermutation}
-use Rattle.art_model.specs.Keys.{are_related}
 use Rattle.dial_codes.specs.Entries.{code_of, is_code, line_of}
 use Rattle.dial_codes.specs.declared.table.LineError.{LineError}
-use Rattle.dial_codes.specs.declared.table.LineError.TheVariants.{NoEntry, Related, NoMemory}
+use Rattle.dial_codes.specs.declared.table.LineError.TheVariants.{NoEntry, Repeated, NoMemory}
 use Rattle.dial_codes.specs.declared.table.TableError.{TableError}
 use Rattle.dial_codes.specs.declared.table.TableError.TheVariants.{Line, Input}
 
@@ -20,19 +19,19 @@ pub record IsTableOf (ls : List (List ℕ)) (table : List (List ℕ × List ℕ)
   pub lines_are : AreLinesOf ls entries
   pub same : IsPermutation entries table
 
--- the entry of the line of this number has a code that is related to this one
-pub record IsRelatedAt (code : List ℕ) (number : ℕ) (entries : List (List ℕ × List ℕ)) : Type 0 where
+-- The entry of the line of this number has this code.
+pub record IsRepeatedAt (code : List ℕ) (number : ℕ) (entries : List (List ℕ × List ℕ)) : Type 0 where
   pub before : List (List ℕ × List ℕ)
   pub earlier : List ℕ × List ℕ
   pub after : List (List ℕ × List ℕ)
   pub entries_are : entries ≡ before ++ earlier ∷ after
   pub number_is : number ≡ length before + 1
-  pub related : are_related code (code_of earlier) ≡ true
+  pub same : code ≡ code_of earlier
 
--- why a line can't follow the lines of these entries: it is none of an entry, or its code is related to that of this line
+-- why a line can't follow the lines of these entries: it is none of an entry, or its code is that of this line
 abbrev pub IsFaultOf : List ℕ → List (List ℕ × List ℕ) → LineError → Type 0
 IsFaultOf line entries NoEntry = (code name : List ℕ) → is_code code ≡ true → line ≢ line_of (code, name)
-IsFaultOf line entries (Related earlier) = (code name : List ℕ) × (line ≡ line_of (code, name)) × IsRelatedAt code earlier entries
+IsFaultOf line entries (Repeated earlier) = (code name : List ℕ) × (line ≡ line_of (code, name)) × IsRepeatedAt code earlier entries
 IsFaultOf line entries NoMemory = ⊤
 
 -- The lines before this one are those of entries, and it has this fault beside them.

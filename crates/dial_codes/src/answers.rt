@@ -1,6 +1,6 @@
-//! Numbers are answered with the entries whose codes they begin with.
-ghost use Rattle.std.specs.Prelude.{IfOk, IfSome, OnOk, Some};
-ghost use Rattle.std.specs.Io.Buffered.{reader_remaining};
+//! Numbers are answered with the entries with the longest codes that they begin with.
+ghost use Rattle.std.specs.Prelude.{◌≡◌, [], IfOk, IfSome, OnOk, Some};
+ghost use Rattle.std.specs.Io.Buffered.{reader_remaining, writer_buffer, writer_contents};
 ghost use Rattle.std.specs.Io.KnownBytes.{Appends};
 ghost use Rattle.text_lines.specs.Lines.{lines};
 ghost use Rattle.dial_codes.specs.Entries.{entries_of};
@@ -10,10 +10,11 @@ use crate::entry::is_code;
 use crate::table::{Table, find};
 use std::alloc::Global;
 use std::io;
-use std::io::{BufReader, ErrorKind, Read, Write};
+use std::io::{BufReader, BufWriter, ErrorKind, Read, Write};
 use text_lines::lines::{next_line, write_out};
 
-/// Answers each line of the input, which is a number, with the entry whose code it begins with, or with `none`. Where
+/// Answers each line of the input, which is a number, with the entry with the longest code
+/// that it begins with, or with `none`. Where
 /// a line is no number it stops there, and returns which line that is.
 ///
 /// Replies are written out before it waits for a line. While the next line has come already they gather in the
@@ -42,7 +43,24 @@ pub fn answer_numbers<R: Read, W: Write>(
     Err(io::Error::from(ErrorKind::FileTooLarge))
 }
 
-// Writes the entry whose code the number begins with, or `none`, a line.
+/// Does what `answer_numbers` does, and flushes the output.
+pub fn serve<R: Read, W: Write + Drop>(
+    alloc: Global,
+    table: &Table,
+    input: &mut BufReader<R>,
+    output: &mut BufWriter<W>,
+) -> io::Result<Option<u64>>
+    ensures answered { IfOk result (λ refused. IfSome (reader_remaining R.remaining input.old) (λ text.
+        AreAnswered (entries_of table.now) (lines text) refused
+        (writer_contents W.contents output.old) (writer_contents W.contents output.new))) }
+    ensures flushed { OnOk result (writer_buffer output.new ≡ []) }
+{
+    let refused = answer_numbers(alloc, table, input, output)?;
+    output.flush()?;
+    Ok(refused)
+}
+
+// Writes the entry with the longest code that the number begins with, or `none`, a line.
 fn answer_number<W: Write>(table: &Table, number: &[u8], output: &mut W) -> io::Result<()>
     ensures { OnOk result (Appends (W.contents output.old) (W.contents output.new)
         (reply_of (entries_of table.now) number.now)) }

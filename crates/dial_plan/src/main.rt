@@ -1,9 +1,9 @@
-//! Finds for each number on standard input the code that it begins with, in a table that a file has.
+//! Finds for each number on standard input the longest code that it begins with, in a table that a file has.
 #![tactic(auto)]
 
-use dial_codes::answers::answer_numbers;
+use dial_codes::answers::serve;
 use dial_codes::table::{LineError, Table, TableError, read_table};
-use std::io::{BufReader, BufWriter, Write};
+use std::io::{BufReader, BufWriter};
 use std::process::ExitCode;
 use std::rt::{Env, Files};
 use std::{env, fs, io};
@@ -14,7 +14,8 @@ const USAGE: &str = "usage: dial_plan TABLE";
 // What stands in the table and in the input.
 const LINES: &str =
     "TABLE has lines of a code, a space and a name, as '44 United Kingdom'. For each number, a line of
-standard input, it prints the line whose code the number begins with, or 'none'.";
+standard input, it prints the line with the longest code that the number begins with, or
+'none'.";
 
 // The exit status where a line of the table or of the input is refused, or no table is named.
 const REFUSED: u8 = 2;
@@ -35,7 +36,7 @@ fn read_table_of(rt: &(impl Files + Eprint + AllocGlobal), path: &str) -> Result
         Err(error) => {
             let _ = eprintln!(rt; "{path}: {error}");
             Err(match error {
-                TableError::Line(_, LineError::NoEntry | LineError::Related(_)) => REFUSED,
+                TableError::Line(_, LineError::NoEntry | LineError::Repeated(_)) => REFUSED,
                 _ => FAILED,
             })
         }
@@ -56,9 +57,7 @@ fn answer(rt: &(impl Input + Print + AllocGlobal), table: &Table) -> io::Result<
     let alloc = rt.alloc();
     let mut input = BufReader::new(alloc, rt.reader())?;
     let mut output = BufWriter::new(alloc, io::writer(rt))?;
-    let refused = answer_numbers(alloc, table, &mut input, &mut output)?;
-    output.flush()?;
-    Ok(refused)
+    serve(alloc, table, &mut input, &mut output)
 }
 
 fn print_help(rt: &(impl Print)) -> Result<(), u8> {

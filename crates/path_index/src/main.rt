@@ -1,9 +1,9 @@
 //! Answers lines of standard input about the paths that a file has, a line each.
 #![tactic(auto)]
 
-use path_indexes::answers::answer_requests;
+use path_indexes::answers::serve;
 use path_indexes::index::{Index, IndexError, PathError, read_index};
-use std::io::{BufReader, BufWriter, Write};
+use std::io::{BufReader, BufWriter};
 use std::process::ExitCode;
 use std::rt::{Env, Files};
 use std::{env, fs, io};
@@ -59,9 +59,7 @@ fn answer(rt: &(impl Input + Print + AllocGlobal), index: &Index) -> io::Result<
     let alloc = rt.alloc();
     let mut input = BufReader::new(alloc, rt.reader())?;
     let mut output = BufWriter::new(alloc, io::writer(rt))?;
-    let refused = answer_requests(alloc, index, &mut input, &mut output)?;
-    output.flush()?;
-    Ok(refused)
+    serve(alloc, index, &mut input, &mut output)
 }
 
 fn print_help(rt: &(impl Print)) -> Result<(), u8> {

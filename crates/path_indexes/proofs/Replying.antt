@@ -1,13 +1,14 @@
 -- Lines that are answered one after another.
-use Rattle.std.proofs.Common.{◌≡◌, ◌≢◌, ℕ, ◌+◌, List, [], ◌∷◌, ◌++◌, length, map, flat_map, Option, refl, ap, sym, ◌∙◌, subst, append-nil}
+use Rattle.std.proofs.Common.{◌≡◌, ◌≢◌, ℕ, ◌+◌, List, [], ◌∷◌, ◌++◌, length, map, flat_map, Option, Some, None, IfSome, refl, ap, sym, ◌∙◌, subst, append-nil}
 use Rattle.std.specs.Io.KnownBytes.{Appends, Keeps}
 use Rattle.std.proofs.lemmas.List.{map-append}
 use Rattle.std.proofs.lemmas.List.Concat.{flat_map-append}
 use Rattle.art_model.proofs.lists.Lists.{Each-append}
 use Rattle.art_operations.specs.MapItems.{keys_of}
+use Rattle.text_lines.specs.Lines.{lines}
 use Rattle.text_lines.proofs.Writing.{appends_kept, appends_more, appends_none}
 use Rattle.path_indexes.specs.declared.request.Request.{Request}
-use Rattle.path_indexes.specs.Replies.{HaveReplies, IsStoppedAt, path_line, path_lines, reply_to}
+use Rattle.path_indexes.specs.Replies.{AreAnswered, HaveReplies, IsStoppedAt, path_line, path_lines, reply_to}
 use Rattle.path_indexes.specs.Requests.{IsRequest, line_of}
 
 -- the lines of the keys of pairs
@@ -43,3 +44,20 @@ stopped_at paths number line seen old now e none before after n h = record {
   none = λ request is same. none request is (e ∙ same);
   replies = h;
 }
+
+-- what was answered stays so where what was written stays
+pub still_answered : (paths : List (List ℕ)) (text : Option (List ℕ)) (refused : Option ℕ) (old now new : Option (List ℕ)) →
+    IfSome text (λ bs. AreAnswered paths (lines bs) refused old now) → Keeps now new → IfSome text (λ bs. AreAnswered paths (lines bs) refused old new)
+still_answered paths None refused old now new answered keeps = tt
+still_answered paths (Some bs) None old now new answered keeps =
+    record { requests = answered.requests; are = answered.are; lines_are = answered.lines_are; written = appends_kept old now new _ answered.written keeps }
+still_answered paths (Some bs) (Some number) old now new answered keeps =
+    record {
+      before = answered.before;
+      line = answered.line;
+      after = answered.after;
+      lines_are = answered.lines_are;
+      number_is = answered.number_is;
+      none = answered.none;
+      replies = record { requests = answered.replies.requests; are = answered.replies.are; lines_are = answered.replies.lines_are; written = appends_kept old now new _ answered.replies.written keeps };
+    }

@@ -1,6 +1,6 @@
 //! Lines that ask for something are answered, one after another.
-ghost use Rattle.std.specs.Prelude.{IfOk, IfSome, OnOk, option_copied};
-ghost use Rattle.std.specs.Io.Buffered.{reader_remaining};
+ghost use Rattle.std.specs.Prelude.{◌≡◌, [], IfOk, IfSome, OnOk, option_copied};
+ghost use Rattle.std.specs.Io.Buffered.{reader_remaining, writer_buffer, writer_contents};
 ghost use Rattle.std.specs.Io.KnownBytes.{Appends};
 ghost use Rattle.art_operations.specs.MapItems.{keys_of};
 ghost use Rattle.text_lines.specs.Lines.{lines};
@@ -13,7 +13,7 @@ use crate::request::Request;
 use art_operations::keys::Terminated;
 use std::alloc::Global;
 use std::io;
-use std::io::{BufReader, ErrorKind, Read, Write};
+use std::io::{BufReader, BufWriter, ErrorKind, Read, Write};
 use text_lines::lines::{next_line, write_out};
 
 /// Answers each line of the input with what it asks for. Where a line asks for nothing that there is it stops
@@ -43,6 +43,23 @@ pub fn answer_requests<R: Read, W: Write>(
         write_out(input, output)?;
     }
     Err(io::Error::from(ErrorKind::FileTooLarge))
+}
+
+/// Does what `answer_requests` does, and flushes the output.
+pub fn serve<R: Read, W: Write + Drop>(
+    alloc: Global,
+    index: &Index,
+    input: &mut BufReader<R>,
+    output: &mut BufWriter<W>,
+) -> io::Result<Option<u64>>
+    ensures answered { IfOk result (λ refused. IfSome (reader_remaining R.remaining input.old) (λ text.
+        AreAnswered (keys_of index.now) (lines text) refused
+        (writer_contents W.contents output.old) (writer_contents W.contents output.new))) }
+    ensures flushed { OnOk result (writer_buffer output.new ≡ []) }
+{
+    let refused = answer_requests(alloc, index, input, output)?;
+    output.flush()?;
+    Ok(refused)
 }
 
 /// Writes the reply to a request. It takes no memory.

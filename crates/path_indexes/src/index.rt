@@ -5,8 +5,8 @@ ghost use Rattle.art_operations.specs.MapItems.{keys_of};
 ghost use Rattle.text_lines.specs.Lines.{lines};
 ghost use Rattle.path_indexes.specs.Paths.{AddsPath, IsFaultOf, IsIndexOf, IsRefusedFor};
 
-use art_operations::keyed::KeyedMap;
 use art_operations::keys::{EndError, Terminated};
+use art_operations::tree_map::TreeMap;
 use std::alloc::{AllocError, Global};
 use std::io;
 use std::io::{BufRead, ErrorKind};
@@ -14,7 +14,7 @@ use text_lines::lines::next_line;
 use thiserror::Error;
 
 /// Paths in the order of their bytes.
-pub type Index = KeyedMap<Terminated, (), 16>;
+pub type Index = TreeMap<Terminated, (), 16>;
 
 /// Why a path was not added to an index.
 #[derive(Clone, Copy, PartialEq, Eq, Debug, Drop, Error)]
@@ -41,7 +41,7 @@ pub fn read_index<R: BufRead>(alloc: Global, input: &mut R) -> Result<Index, Ind
     ensures refused { IfErr result (λ error. IfSome (R.remaining input.old) (λ text.
         IsRefusedFor (lines text) error)) }
 {
-    let mut index = KeyedMap::new(alloc);
+    let mut index = TreeMap::new(alloc);
     let mut line = Vec::new(alloc);
     for number in 1..u64::MAX {
         match next_line(input, &mut line) {

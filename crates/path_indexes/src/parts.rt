@@ -34,7 +34,7 @@ pub fn part_between<'a>(index: &'a Index, from: &[u8], to: &[u8]) -> Part<'a>
 pub fn is_stored(index: &Index, path: &[u8]) -> bool
     ensures { result ≡ is_stored path.now (keys_of index.now) }
 {
-    index.get_string(path).is_some()
+    index.get_text(path).is_some()
 }
 
 /// Returns the first path.

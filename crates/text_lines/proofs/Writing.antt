@@ -7,6 +7,12 @@ pub keeps_itself : (known : Option (List ℕ)) → Keeps known known
 keeps_itself None = tt
 keeps_itself (Some xs) = refl
 
+pub keeps_both : (a b c : Option (List ℕ)) → Keeps a b → Keeps b c → Keeps a c
+keeps_both None b c h k = tt
+keeps_both (Some p) None c h k = absurd h
+keeps_both (Some p) (Some q) None h k = absurd k
+keeps_both (Some p) (Some q) (Some r) h k = k ∙ h
+
 pub appends_none : (old : Option (List ℕ)) → Appends old old []
 appends_none None = tt
 appends_none (Some xs) = sym (append-nil xs)

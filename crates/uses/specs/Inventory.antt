@@ -29,7 +29,7 @@ abbrev pub IsAddRefusal : List ℕ → ℕ → Goods → AddError → Type 0
 IsAddRefusal code count stock adds.TooMany = 2 ^ 32 ≤ quantity code stock + count
 IsAddRefusal code count stock adds.NoMemory = quantity code stock ≡ 0
 
--- there are only so many, or there was no memory
+-- there are only so many, or there was no memory, where some are left
 abbrev pub IsTakeRefusal : List ℕ → ℕ → Goods → TakeError → Type 0
 IsTakeRefusal code count stock (takes.NotEnough there) = (there ≡ quantity code stock) × (there < count)
-IsTakeRefusal code count stock takes.NoMemory = count ≤ quantity code stock
+IsTakeRefusal code count stock takes.NoMemory = count < quantity code stock

@@ -25,12 +25,8 @@ pub fn count_twice(alloc: Global) -> Option<(Option<([u8; 1], u32)>, Option<([u8
         return None;
     };
     *count += 1;
-    let Ok(first) = counts.pop_first() else {
-        return None;
-    };
-    let Ok(last) = counts.pop_last() else {
-        return None;
-    };
+    let first = counts.pop_first().unwrap();
+    let last = counts.pop_last().unwrap();
     Some((first, last))
 }
 

@@ -36,8 +36,5 @@ pub fn which_are_new(alloc: Global) -> Option<(bool, bool, Option<[u8; 1]>)>
     let Ok(again) = set.insert([2]) else {
         return None;
     };
-    let Ok(first) = set.pop_first() else {
-        return None;
-    };
-    Some((second, again, first))
+    Some((second, again, set.pop_first()))
 }

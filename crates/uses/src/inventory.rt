@@ -2,10 +2,10 @@
 ghost use Rattle.std.specs.Prelude.{◌≡◌, ◌+◌, ◌≤◌, ◌^◌, length, IfErr, IfOk, OnErr, OnOk};
 ghost use Rattle.uses.specs.Inventory.{ChangesTo, IsAddRefusal, IsTakeRefusal, quantity, total_of};
 
-use art_operations::keyed::KeyedMap;
+use art_operations::tree_map::TreeMap;
 
 /// How many there are of each good, by its code.
-pub type Stock = KeyedMap<[u8; 4], u32, 4>;
+pub type Stock = TreeMap<[u8; 4], u32, 4>;
 
 /// Why goods were not added.
 #[derive(Clone, Copy, PartialEq, Eq, Debug)]
@@ -55,9 +55,7 @@ pub fn take(stock: &mut Stock, code: [u8; 4], count: u32) -> Result<u32, TakeErr
     }
     let left = there - count;
     if left == 0 {
-        let Ok(_) = stock.remove(&code) else {
-            return Err(TakeError::NoMemory);
-        };
+        stock.remove(&code);
         return Ok(left);
     }
     let Ok(_) = stock.insert(code, left) else {

@@ -1,5 +1,5 @@
 //! Maps of keys that are never in conflict, as a user has them.
-ghost use Rattle.std.specs.Prelude.{◌≡◌, length, Some, IfOk, IfSome, OnErr, OnOk, negsuc};
+ghost use Rattle.std.specs.Prelude.{◌≡◌, length, Some, IfOk, IfSome, OnErr, OnOk};
 ghost use Rattle.std.specs.Cmp.Lexicographic.{slice_cmp};
 ghost use Rattle.std.specs.Option.{option_map};
 ghost use Rattle.std.specs.Ordering.{nat_cmp};
@@ -12,12 +12,12 @@ ghost use Rattle.art_operations.specs.KeyedPairs.{RiseBy, keys_between};
 ghost use Rattle.art_operations.specs.MapAnswers.{value_at};
 ghost use Rattle.uses.specs.Events.{event_bytes, of_user};
 
-use art_operations::keyed::KeyedMap;
-use art_operations::keys::{Escaped, Joined, Signed, Terminated, Unsigned};
+use art_operations::keys::{Escaped, Joined, Terminated, Unsigned};
+use art_operations::tree_map::TreeMap;
 use std::alloc::{AllocError, Global};
 
 /// Words with their numbers. Any word may be the beginning of another.
-pub type Words = KeyedMap<Escaped, u64, 16>;
+pub type Words = TreeMap<Escaped, u64, 16>;
 
 /// Puts a word in. The only error is want of memory.
 pub fn put_word(
@@ -44,35 +44,32 @@ pub fn words_rise(words: &Words)
 }
 
 /// Returns the number of a name, and takes no memory.
-pub fn number_of_name(names: &KeyedMap<Terminated, u64, 16>, name: &str) -> Option<u64>
+pub fn number_of_name(names: &TreeMap<Terminated, u64, 16>, name: &str) -> Option<u64>
     ensures { result ≡ value_at ended (ended name.now) names.now }
 {
-    names.get_string(name.as_bytes()).copied()
+    names.get_text(name.as_bytes()).copied()
 }
 
-/// Takes three temperatures in, and returns the lowest with its day. `None` for want of memory.
-pub fn coldest(alloc: Global) -> Option<Option<(Signed<4>, u32)>>
-    ensures { IfSome result (λ told. told ≡ Some (negsuc 11, 2)) }
+/// Inserts three days by their temperatures and returns the coldest, or `None` if an allocation fails.
+pub fn coldest(alloc: Global) -> Option<Option<(Unsigned<2>, u32)>>
+    ensures { IfSome result (λ told. told ≡ Some (272, 2)) }
 {
-    let mut days: KeyedMap<Signed<4>, u32, 4> = KeyedMap::new(alloc);
-    let Ok(_) = days.insert(Signed::from(3), 1) else {
+    let mut days: TreeMap<Unsigned<2>, u32, 4> = TreeMap::new(alloc);
+    let Ok(_) = days.insert(Unsigned::from(281), 1) else {
         return None;
     };
-    let Ok(_) = days.insert(Signed::from(-12), 2) else {
+    let Ok(_) = days.insert(Unsigned::from(272), 2) else {
         return None;
     };
-    let Ok(_) = days.insert(Signed::from(0), 3) else {
+    let Ok(_) = days.insert(Unsigned::from(290), 3) else {
         return None;
     };
-    let Ok(first) = days.pop_first() else {
-        return None;
-    };
-    Some(first)
+    Some(days.pop_first())
 }
 
 /// What users did, by the number of the user and the time. The events of one user stand together, in the
 /// order of their times.
-pub type Events = KeyedMap<Joined<Unsigned<4>, Unsigned<8>>, u32, 4>;
+pub type Events = TreeMap<Joined<Unsigned<4>, Unsigned<8>>, u32, 4>;
 
 /// Puts an event in. The only error is want of memory.
 pub fn put_event(
@@ -132,7 +129,7 @@ pub fn first_event(
 pub fn count_events(alloc: Global) -> Option<(usize, Option<(u64, u32)>)>
     ensures { IfSome result (λ told. told ≡ (2, Some (5, 101))) }
 {
-    let mut events: Events = KeyedMap::new(alloc);
+    let mut events: Events = TreeMap::new(alloc);
     let Ok(_) = put_event(&mut events, alloc, 2, 20, 100) else {
         return None;
     };

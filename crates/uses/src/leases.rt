@@ -97,8 +97,7 @@ pub fn begin<K: AsBytes + Drop, V: Drop, const P: usize>(
     })
 }
 
-/// Takes the lease out that ends first, if there is one, and returns the roots and its key. `None` too for
-/// want of memory; then the roots stand for what they stood for.
+/// Takes the lease out that ends first, if there is one, and returns the roots and its key.
 pub fn take_first<K: AsBytes + Drop, V: Drop, const P: usize>(
     store: &mut NodeStore<K, V, P>,
     roots: Roots,
@@ -111,17 +110,12 @@ pub fn take_first<K: AsBytes + Drop, V: Drop, const P: usize>(
         return None;
     };
     let point = find_minimum_to_delete(store, root);
-    match point.apply(store, root) {
-        Ok(done) => {
-            let by_end = done.new_root;
-            Some((Roots { by_end, ..roots }, done.deleted_leaf.key))
-        }
-        Err(_) => None,
-    }
+    let done = point.apply(store, root).unwrap();
+    let by_end = done.new_root;
+    Some((Roots { by_end, ..roots }, done.deleted_leaf.key))
 }
 
-/// Takes the lease of an id out of those by their ids, and returns the roots. Where there is none, or no memory, they
-/// stand for what they stood for.
+/// Takes the lease of an id out of those by their ids, if there is one, and returns the roots.
 pub fn forget<K: AsBytes + Drop, V: Drop, const P: usize>(
     store: &mut NodeStore<K, V, P>,
     roots: Roots,
@@ -136,17 +130,14 @@ pub fn forget<K: AsBytes + Drop, V: Drop, const P: usize>(
     let Some(point) = search_for_delete_point(store, root, id) else {
         return roots;
     };
-    match point.apply(store, root) {
-        Ok(done) => Roots {
-            by_id: done.new_root,
-            ..roots
-        },
-        Err(_) => roots,
+    let done = point.apply(store, root).unwrap();
+    Roots {
+        by_id: done.new_root,
+        ..roots
     }
 }
 
-/// Takes the leases out that end up to a time, eight bytes of it, and returns the roots. It goes from the first one on,
-/// and ends early for want of memory.
+/// Takes the leases out that end up to a time, eight bytes of it, from the first one on, and returns the roots.
 pub fn expire<K: AsBytes + Drop, V: Drop, const P: usize>(
     store: &mut NodeStore<K, V, P>,
     roots: Roots,

@@ -81,8 +81,8 @@ pub fn put_over<K: AsBytes + Drop, V: Drop, const P: usize>(
     }
 }
 
-/// Takes the pair of a key out, and returns it with the root that is left, if any. `None` where the key isn't
-/// stored, or for want of memory; then the root stands for what it stood for.
+/// Removes the pair of a key, and returns it with the root that is left, if any. `None` where the key isn't stored; then
+/// nothing has changed.
 pub fn take<K: AsBytes + Drop, V: Drop, const P: usize>(
     store: &mut NodeStore<K, V, P>,
     root: OpaqueNodePtr,
@@ -92,8 +92,9 @@ pub fn take<K: AsBytes + Drop, V: Drop, const P: usize>(
     ensures pairs { ForTree (of_key K.bytes) P store.old root (λ pairs _. IfSome result (λ left.
         IsCanonical (of_key K.bytes) P store.new left.0
         (remove_key (of_key K.bytes) key_bytes.now pairs))) }
-    ensures taken { ForTree (of_key K.bytes) P store.old root (λ pairs _. IfSome result (λ left.
-        remove_reply (of_key K.bytes) key_bytes.now pairs ≡ Some (left.1, left.2))) }
+    ensures taken { ForTree (of_key K.bytes) P store.old root (λ pairs _.
+        remove_reply (of_key K.bytes) key_bytes.now pairs ≡
+        option_map (λ left. (left.1, left.2)) result) }
     ensures root { IfSome result (λ left.
         IfSome left.0 (IsCanonicalRoot (of_key K.bytes) P store.new)) }
     ensures apart { IfSome result (λ left.
@@ -102,13 +103,9 @@ pub fn take<K: AsBytes + Drop, V: Drop, const P: usize>(
     ensures inners { IfNone result (store.new.inners ≡ store.old.inners) }
 {
     let point = search_for_delete_point(store, root, key_bytes)?;
-    match point.apply(store, root) {
-        Ok(done) => {
-            let leaf = done.deleted_leaf;
-            Some((done.new_root, leaf.key, leaf.value))
-        }
-        Err(_) => None,
-    }
+    let done = point.apply(store, root).unwrap();
+    let leaf = done.deleted_leaf;
+    Some((done.new_root, leaf.key, leaf.value))
 }
 
 /// Returns the value of a key, if it is stored.

@@ -34,9 +34,7 @@ pub fn build_and_empty(
     };
     let found = map.get(&[1]).copied();
     let first = first_value(&map);
-    let Ok(last) = map.pop_last() else {
-        return None;
-    };
+    let last = map.pop_last().unwrap();
     map.clear();
     Some((replaced, found, first, last))
 }

@@ -31,9 +31,7 @@ pub fn build_and_remove(alloc: Global) -> Option<(usize, Option<u32>)>
     ensures { IfSome result (λ told. told ≡ (2, Some 21)) }
 {
     let mut map = build(alloc)?;
-    let Ok(removed) = map.remove_prefix(&[1]) else {
-        return None;
-    };
+    let removed = map.remove_prefix(&[1]);
     Some((removed, first_value(map.prefix(&[]))))
 }
 

@@ -1,25 +1,32 @@
 //! Words are counted in a map, line by line, and written in the order of bytes.
 ghost use Rattle.std.specs.Prelude.{◌≡◌, ℕ, ◌++◌, ◌∷◌, [], List, IfOk, IfSome, OnOk, OnErr, flat_map};
+ghost use Rattle.std.specs.Io.Buffered.{writer_buffer, writer_contents};
 ghost use Rattle.std.specs.Io.KnownBytes.{Appends};
 ghost use Rattle.art_operations.specs.Ended.{HasNoZero};
 ghost use Rattle.word_counts.specs.Counts.{AppendsCounts, CountIsOne, HasTimes, IsCountOf, line_of};
 ghost use Rattle.word_counts.specs.Words.{is_gap, words};
 
-use art_operations::keyed::KeyedMap;
 use art_operations::keys::{EndError, Terminated};
+use art_operations::tree_map::TreeMap;
 use std::alloc::{AllocError, Global};
-use std::io::{BufRead, ErrorKind, Write};
+use std::io::{BufRead, BufWriter, ErrorKind, Write};
 use std::{io, mem};
 use text_lines::lines::next_line;
 
 /// Words with their counts. Any word may be the beginning of another.
-pub type Counts = KeyedMap<Terminated, u64, 16>;
+pub type Counts = TreeMap<Terminated, u64, 16>;
 
-/// Reads a text to its end, and writes each of its words with how often it stands there, a line each, in the order of
-/// bytes.
-pub fn report<R: BufRead, W: Write>(alloc: Global, input: &mut R, output: &mut W) -> io::Result<()>
-    ensures { OnOk result (IfSome (R.remaining input.old) (λ text.
-        AppendsCounts (words text) (W.contents output.old) (W.contents output.new))) }
+/// Reads a text to its end, writes each of its words with how often it stands there, a line each, in the
+/// order of bytes, and flushes the output.
+pub fn report<R: BufRead, W: Write + Drop>(
+    alloc: Global,
+    input: &mut R,
+    output: &mut BufWriter<W>,
+) -> io::Result<()>
+    ensures counts { OnOk result (IfSome (R.remaining input.old) (λ text.
+        AppendsCounts (words text) (writer_contents W.contents output.old)
+        (writer_contents W.contents output.new))) }
+    ensures flushed { OnOk result (writer_buffer output.new ≡ []) }
 {
     let counts = count_words(alloc, input)?;
     write_counts(output, &counts)?;
@@ -32,8 +39,9 @@ pub fn report_of(alloc: Global, text: &[u8]) -> io::Result<Vec<u8>>
         IsCountOf (words text.now) counts × (lines.items ≡ flat_map line_of counts)) }
 {
     let mut input = text;
+    let counts = count_words(alloc, &mut input)?;
     let mut output = Vec::new(alloc);
-    report(alloc, &mut input, &mut output)?;
+    write_counts(&mut output, &counts)?;
     Ok(output)
 }
 
@@ -42,7 +50,7 @@ pub fn count_words<R: BufRead>(alloc: Global, input: &mut R) -> io::Result<Count
     ensures { IfOk result (λ counts. IfSome (R.remaining input.old) (λ text.
         IsCountOf (words text) counts)) }
 {
-    let mut counts = KeyedMap::new(alloc);
+    let mut counts = TreeMap::new(alloc);
     let mut line = Vec::new(alloc);
     let mut buffer = Vec::new(alloc);
     for _number in 1..u64::MAX {

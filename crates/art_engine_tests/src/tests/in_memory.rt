@@ -4,7 +4,7 @@ ghost use Rattle.std.specs.Prelude.{◌≤◌, IfOk};
 use art_engine::engine::serve;
 use std::alloc::Global;
 use std::io;
-use std::io::{ErrorKind, Read, Write};
+use std::io::{BufReader, BufWriter, ErrorKind, Read, Write};
 
 /// The calls of a reader or of a writer: how many there were, which one fails, and how many bytes each of the others
 /// takes at most.
@@ -91,6 +91,17 @@ pub struct Outcome {
     pub writes: u64,
 }
 
+// The status of a text that is served, 1 where there is no memory for the buffers.
+fn status_of(alloc: Global, input: &mut Source<'_>, output: &mut Sink) -> u8 {
+    let Ok(mut input) = BufReader::new(alloc, input) else {
+        return 1;
+    };
+    let Ok(mut output) = BufWriter::new(alloc, output) else {
+        return 1;
+    };
+    serve(alloc, &mut input, &mut output)
+}
+
 /// Serves a text.
 pub fn served(alloc: Global, text: &[u8], reads: Calls, writes: Calls) -> Outcome {
     let mut input = Source {
@@ -101,7 +112,7 @@ pub fn served(alloc: Global, text: &[u8], reads: Calls, writes: Calls) -> Outcom
         bytes: Vec::new(alloc),
         calls: writes,
     };
-    let status = serve(alloc, &mut input, &mut output);
+    let status = status_of(alloc, &mut input, &mut output);
     Outcome {
         status,
         written: output.bytes,

@@ -5,7 +5,7 @@ use art_node_support::expected::same;
 use std::alloc::Global;
 use std::cell::Cell;
 use std::io;
-use std::io::{Read, Write};
+use std::io::{BufReader, BufWriter, Read, Write};
 use std::test::Fail;
 
 /// What comes by each read, and how many bytes of replies are to be written by then.
@@ -54,6 +54,17 @@ impl Write for Sink<'_> {
     }
 }
 
+// The status of an input that is served, 1 where there is no memory for the buffers.
+fn status_of(alloc: Global, input: &mut Source<'_>, output: Sink<'_>) -> u8 {
+    let Ok(mut input) = BufReader::new(alloc, input) else {
+        return 1;
+    };
+    let Ok(mut output) = BufWriter::new(alloc, output) else {
+        return 1;
+    };
+    serve(alloc, &mut input, &mut output)
+}
+
 /// The status, how many reads there were, whether at each the replies to all lines before had been written, and how many
 /// bytes were written at the end.
 fn served(alloc: Global) -> (u8, u64, bool, usize) {
@@ -63,7 +74,7 @@ fn served(alloc: Global) -> (u8, u64, bool, usize) {
         are_written: true,
         written: &written,
     };
-    let status = serve(alloc, &mut input, Sink(&written));
+    let status = status_of(alloc, &mut input, Sink(&written));
     (status, input.reads, input.are_written, written.get())
 }
 

@@ -1,6 +1,6 @@
 //! Drawn calls of a map of strings beside the same ones of a `BTreeMap`. Most strings begin others.
 use super::short::{COUNT, Short};
-use art_keyed::map::KeyedMap;
+use art_keyed::map::TreeMap;
 use art_keys::escaped::Escaped;
 use art_node_support::expected::as_expected;
 use art_node_support::numbers::Numbers;
@@ -8,7 +8,7 @@ use std::alloc::Global;
 use std::collections::BTreeMap;
 use std::test::Fail;
 
-type Map = KeyedMap<Escaped, u32, 2>;
+type Map = TreeMap<Escaped, u32, 2>;
 
 type Model = BTreeMap<Vec<u8>, u32>;
 
@@ -40,9 +40,8 @@ fn agree_on_insertion(
 fn removed(map: &mut Map, alloc: Global, string: Short) -> Option<Option<u32>> {
     let key = Escaped::encode(alloc, string.as_slice()).ok()?;
     match map.remove(&key) {
-        Ok(Some((_key, value))) => Some(Some(value)),
-        Ok(None) => Some(None),
-        Err(_refused) => None,
+        Some((_key, value)) => Some(Some(value)),
+        None => Some(None),
     }
 }
 
@@ -71,7 +70,7 @@ fn first_below(model: &Model, string: &[u8]) -> Option<u32> {
 // What a removal of the first string that begins with this one returns of the map.
 fn popped(map: &mut Map, alloc: Global, string: Short) -> Option<Option<(Escaped, u32)>> {
     let prefix = Escaped::encode(alloc, string.as_slice()).ok()?;
-    map.pop_first_below(&prefix).ok()
+    Some(map.pop_first_below(&prefix))
 }
 
 // The value that a removal of the string of a key returns.
@@ -173,7 +172,7 @@ fn differ_at(map: &mut Map, model: &mut Model, alloc: Global, calls: usize) -> O
 #[test]
 fn drawn_calls_return_what_those_of_a_btree_map_do(rt: HostRuntime) -> Result<(), Fail> {
     let alloc = rt.alloc();
-    let (mut map, mut model) = (KeyedMap::new(alloc), BTreeMap::new(alloc));
+    let (mut map, mut model) = (TreeMap::new(alloc), BTreeMap::new(alloc));
     let differ = differ_at(&mut map, &mut model, alloc, 4_000);
     let same = agree_on_pairs(&map, &model, alloc);
     as_expected(Some(((differ, same, map.len() == model.len()), (None, true, true))))

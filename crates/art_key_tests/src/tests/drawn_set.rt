@@ -1,6 +1,6 @@
 //! Drawn calls of a set of strings beside the same ones of a `BTreeSet`. Most strings begin others.
 use super::short::{COUNT, Short};
-use art_keyed::set::KeyedSet;
+use art_keyed::set::TreeSet;
 use art_keys::escaped::Escaped;
 use art_node_support::expected::as_expected;
 use art_node_support::numbers::Numbers;
@@ -8,7 +8,7 @@ use std::alloc::Global;
 use std::collections::BTreeSet;
 use std::test::Fail;
 
-type Set = KeyedSet<Escaped, 2>;
+type Set = TreeSet<Escaped, 2>;
 
 type Model = BTreeSet<Vec<u8>>;
 
@@ -18,7 +18,7 @@ fn changed(set: &mut Set, alloc: Global, string: Short, inserts: bool) -> Option
     if inserts {
         return set.insert(key).ok();
     }
-    set.remove(&key).ok()
+    Some(set.remove(&key))
 }
 
 // The same of the other set.
@@ -118,7 +118,7 @@ fn differ_at(set: &mut Set, model: &mut Model, alloc: Global, calls: usize) -> O
 #[test]
 fn drawn_calls_return_what_those_of_a_btree_set_do(rt: HostRuntime) -> Result<(), Fail> {
     let alloc = rt.alloc();
-    let (mut set, mut model) = (KeyedSet::new(alloc), BTreeSet::new(alloc));
+    let (mut set, mut model) = (TreeSet::new(alloc), BTreeSet::new(alloc));
     let differ = differ_at(&mut set, &mut model, alloc, 3_000);
     let same = agree_on_keys(&set, &model, alloc);
     as_expected(Some(((differ, same), (None, true))))

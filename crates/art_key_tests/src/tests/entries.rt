@@ -1,9 +1,9 @@
 //! Values that are made where their keys are new.
-use art_keyed::map::KeyedMap;
+use art_keyed::map::TreeMap;
 use art_node_support::expected::same;
 use std::test::Fail;
 
-type Map = KeyedMap<[u8; 2], u32, 8>;
+type Map = TreeMap<[u8; 2], u32, 8>;
 
 // One more than the value of a key, which is 7 where it is made, and whether it was.
 fn made(map: &mut Map, key: [u8; 2]) -> Option<(u32, bool)> {
@@ -61,7 +61,7 @@ fn entered(map: &mut Map) -> Option<([(u32, bool); 4], [u32; 2], [Option<u32>; 3
 
 #[test]
 fn values_are_made_where_keys_are_new(rt: HostRuntime) -> Result<(), Fail> {
-    let seen = entered(&mut KeyedMap::new(rt.alloc()));
+    let seen = entered(&mut TreeMap::new(rt.alloc()));
     let expected = (
         [(8, true), (9, false), (3, true), (4, false)],
         [1, 2],

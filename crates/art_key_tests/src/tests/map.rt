@@ -1,5 +1,5 @@
 //! Maps of such keys.
-use art_keyed::map::KeyedMap;
+use art_keyed::map::TreeMap;
 use art_keys::escaped::Escaped;
 use art_keys::laws::NoPrefixesBytes;
 use art_keys::signed::Signed;
@@ -16,7 +16,7 @@ fn value_of<K>(pair: Option<(&K, &u32)>) -> Option<u32> {
 }
 
 // The values of a map, in the order of its keys.
-fn values<K: NoPrefixesBytes + Drop>(map: &KeyedMap<K, u32, 8>) -> [Option<u32>; 4] {
+fn values<K: NoPrefixesBytes + Drop>(map: &TreeMap<K, u32, 8>) -> [Option<u32>; 4] {
     let mut iter = map.iter();
     [
         value_of(iter.next()),
@@ -26,9 +26,24 @@ fn values<K: NoPrefixesBytes + Drop>(map: &KeyedMap<K, u32, 8>) -> [Option<u32>;
     ]
 }
 
+// Whether a map of two keys is printed in their order.
+fn is_printed(map: &mut TreeMap<[u8; 1], u32, 8>, alloc: Global) -> Option<bool> {
+    if map.insert([3], 1).is_err() || map.insert([1], 2).is_err() {
+        return None;
+    }
+    let text = format!(in alloc; "{map:?}").ok()?;
+    Some(text.as_str() == "{[1]: 2, [3]: 1}")
+}
+
+#[test]
+fn a_map_is_printed_in_order(rt: HostRuntime) -> Result<(), Fail> {
+    let seen = is_printed(&mut TreeMap::new(rt.alloc()), rt.alloc());
+    same(seen, Some(true))
+}
+
 // Puts strings in as escaped keys, with their places as values.
 fn plant_escaped(
-    map: &mut KeyedMap<Escaped, u32, 8>,
+    map: &mut TreeMap<Escaped, u32, 8>,
     alloc: Global,
     texts: [&[u8]; 4],
 ) -> Option<()> {
@@ -43,7 +58,7 @@ fn plant_escaped(
 
 // What a map of escaped keys returns.
 fn escaped(
-    map: &mut KeyedMap<Escaped, u32, 8>,
+    map: &mut TreeMap<Escaped, u32, 8>,
     alloc: Global,
 ) -> Option<([Option<u32>; 4], Option<u32>, usize)> {
     plant_escaped(map, alloc, [b"cart", b"", b"car", b"c\0"])?;
@@ -54,7 +69,7 @@ fn escaped(
 
 #[test]
 fn strings_that_go_on_after_others_are_stored_in_order(rt: HostRuntime) -> Result<(), Fail> {
-    let seen = escaped(&mut KeyedMap::new(rt.alloc()), rt.alloc());
+    let seen = escaped(&mut TreeMap::new(rt.alloc()), rt.alloc());
     same(
         seen,
         Some(([Some(1), Some(3), Some(2), Some(0)], Some(2), 4)),
@@ -62,7 +77,7 @@ fn strings_that_go_on_after_others_are_stored_in_order(rt: HostRuntime) -> Resul
 }
 
 // Puts four numbers in, with their places as values.
-fn plant_numbers(map: &mut KeyedMap<Signed<4>, u32, 8>) -> Option<()> {
+fn plant_numbers(map: &mut TreeMap<Signed<4>, u32, 8>) -> Option<()> {
     for (i, n) in [5i32, -1, 0, i32::MIN].iter().enumerate() {
         map.insert(Signed::from(*n), i as u32).ok()?;
     }
@@ -70,24 +85,22 @@ fn plant_numbers(map: &mut KeyedMap<Signed<4>, u32, 8>) -> Option<()> {
 }
 
 // What a map of numbers returns.
-fn numbers(map: &mut KeyedMap<Signed<4>, u32, 8>) -> Option<([Option<u32>; 4], bool, usize)> {
+fn numbers(map: &mut TreeMap<Signed<4>, u32, 8>) -> Option<([Option<u32>; 4], bool, usize)> {
     plant_numbers(map)?;
     let order = values(map);
     let is_there = map.contains_key(&Signed::from(-1));
-    let Ok(Some((key, _))) = map.remove(&Signed::from(-1)) else {
-        return None;
-    };
+    let (key, _) = map.remove(&Signed::from(-1))?;
     Some((order, is_there && i32::from(key) == -1, map.len()))
 }
 
 #[test]
 fn negative_numbers_come_first(rt: HostRuntime) -> Result<(), Fail> {
-    let seen = numbers(&mut KeyedMap::new(rt.alloc()));
+    let seen = numbers(&mut TreeMap::new(rt.alloc()));
     same(seen, Some(([Some(3), Some(1), Some(2), Some(0)], true, 3)))
 }
 
 // Whether a map of numbers is made compact, what it returns then, and what a number more has.
-fn compacted(map: &mut KeyedMap<Signed<4>, u32, 8>) -> Option<(bool, [Option<u32>; 4], usize)> {
+fn compacted(map: &mut TreeMap<Signed<4>, u32, 8>) -> Option<(bool, [Option<u32>; 4], usize)> {
     plant_numbers(map)?;
     let is_compact = map.compact().is_ok();
     map.insert(Signed::from(7), 4).ok()?;
@@ -96,13 +109,13 @@ fn compacted(map: &mut KeyedMap<Signed<4>, u32, 8>) -> Option<(bool, [Option<u32
 
 #[test]
 fn numbers_stay_in_order_in_a_compact_map(rt: HostRuntime) -> Result<(), Fail> {
-    let seen = compacted(&mut KeyedMap::new(rt.alloc()));
+    let seen = compacted(&mut TreeMap::new(rt.alloc()));
     same(seen, Some((true, [Some(3), Some(1), Some(2), Some(0)], 5)))
 }
 
 // Puts a word in as a key with an end, and returns the value that it had.
 fn word(
-    map: &mut KeyedMap<Terminated, u32, 8>,
+    map: &mut TreeMap<Terminated, u32, 8>,
     alloc: Global,
     text: &[u8],
     value: u32,
@@ -117,7 +130,7 @@ fn word(
 
 // What insertions of words return, and what is left after both ends have gone.
 fn words(
-    map: &mut KeyedMap<Terminated, u32, 8>,
+    map: &mut TreeMap<Terminated, u32, 8>,
     alloc: Global,
 ) -> Option<([Option<u32>; 4], usize, [Option<u32>; 4])> {
     let answers = [
@@ -126,12 +139,8 @@ fn words(
         word(map, alloc, b"car", 3)?,
         word(map, alloc, b"ca", 4)?,
     ];
-    let Ok(Some(_)) = map.pop_first() else {
-        return None;
-    };
-    let Ok(Some(_)) = map.pop_last() else {
-        return None;
-    };
+    let _ = map.pop_first()?;
+    let _ = map.pop_last()?;
     let left = values(map);
     map.clear();
     Some((answers, map.len(), left))
@@ -139,7 +148,7 @@ fn words(
 
 #[test]
 fn a_word_may_begin_another(rt: HostRuntime) -> Result<(), Fail> {
-    let seen = words(&mut KeyedMap::new(rt.alloc()), rt.alloc());
+    let seen = words(&mut TreeMap::new(rt.alloc()), rt.alloc());
     same(
         seen,
         Some(([None, None, Some(1), None], 0, [Some(3), None, None, None])),
@@ -147,7 +156,7 @@ fn a_word_may_begin_another(rt: HostRuntime) -> Result<(), Fail> {
 }
 
 // The values of a map of arrays and of its clone.
-fn cloned(map: &mut KeyedMap<[u8; 2], u32, 8>) -> Option<([Option<u32>; 4], bool)> {
+fn cloned(map: &mut TreeMap<[u8; 2], u32, 8>) -> Option<([Option<u32>; 4], bool)> {
     if map.insert([1, 2], 7).is_err() || map.insert([1, 1], 8).is_err() {
         return None;
     }
@@ -157,12 +166,12 @@ fn cloned(map: &mut KeyedMap<[u8; 2], u32, 8>) -> Option<([Option<u32>; 4], bool
 
 #[test]
 fn a_clone_has_clones_of_the_pairs(rt: HostRuntime) -> Result<(), Fail> {
-    let seen = cloned(&mut KeyedMap::new(rt.alloc()));
+    let seen = cloned(&mut TreeMap::new(rt.alloc()));
     same(seen, Some(([Some(8), Some(7), None, None], true)))
 }
 
 // The values of a part of a map.
-fn count_part(map: &KeyedMap<Signed<4>, u32, 8>) -> (usize, usize, Option<u32>, Option<u32>) {
+fn count_part(map: &TreeMap<Signed<4>, u32, 8>) -> (usize, usize, Option<u32>, Option<u32>) {
     let number = Signed::from(-1);
     (
         map.range(Signed::from(-5)..Signed::from(5)).count(),
@@ -173,22 +182,20 @@ fn count_part(map: &KeyedMap<Signed<4>, u32, 8>) -> (usize, usize, Option<u32>, 
 }
 
 // The same of a map of four numbers.
-fn parts(
-    map: &mut KeyedMap<Signed<4>, u32, 8>,
-) -> Option<(usize, usize, Option<u32>, Option<u32>)> {
+fn parts(map: &mut TreeMap<Signed<4>, u32, 8>) -> Option<(usize, usize, Option<u32>, Option<u32>)> {
     plant_numbers(map)?;
     Some(count_part(map))
 }
 
 #[test]
 fn numbers_between_two_are_a_part(rt: HostRuntime) -> Result<(), Fail> {
-    let seen = parts(&mut KeyedMap::new(rt.alloc()));
+    let seen = parts(&mut TreeMap::new(rt.alloc()));
     same(seen, Some((2, 0, Some(2), Some(1))))
 }
 
 // What is found by bytes that are not a key yet, and how many words begin with one.
 fn look_up(
-    map: &mut KeyedMap<Terminated, u32, 8>,
+    map: &mut TreeMap<Terminated, u32, 8>,
     alloc: Global,
 ) -> Option<([Option<u32>; 5], usize)> {
     for (i, text) in [b"cart".as_slice(), b"", b"car", b"care"]
@@ -198,11 +205,11 @@ fn look_up(
         word(map, alloc, text, i as u32)?;
     }
     let found = [
-        map.get_string(b"car").copied(),
-        map.get_string(b"").copied(),
-        map.get_string(b"ca").copied(),
-        map.get_string(b"car\0").copied(),
-        map.get_string(b"cars").copied(),
+        map.get_text(b"car").copied(),
+        map.get_text(b"").copied(),
+        map.get_text(b"ca").copied(),
+        map.get_text(b"car\0").copied(),
+        map.get_text(b"cars").copied(),
     ];
     let key = Terminated::from_string("car".to_string(alloc).ok()?).ok()?;
     Some((found, map.prefix(&key).count()))
@@ -210,36 +217,29 @@ fn look_up(
 
 #[test]
 fn words_are_found_by_their_bytes(rt: HostRuntime) -> Result<(), Fail> {
-    let seen = look_up(&mut KeyedMap::new(rt.alloc()), rt.alloc());
+    let seen = look_up(&mut TreeMap::new(rt.alloc()), rt.alloc());
     same(seen, Some(([Some(2), Some(1), None, None, None], 3)))
 }
 
 // How many words that begin so a removal takes out, and another one after it.
 fn remove_twice(
-    map: &mut KeyedMap<Escaped, u32, 8>,
+    map: &mut TreeMap<Escaped, u32, 8>,
     alloc: Global,
     bytes: &[u8],
-) -> Option<[Option<usize>; 2]> {
+) -> Option<[usize; 2]> {
     let prefix = Escaped::encode(alloc, bytes).ok()?;
-    Some([
-        map.remove_prefix(&prefix).ok(),
-        map.remove_prefix(&prefix).ok(),
-    ])
+    Some([map.remove_prefix(&prefix), map.remove_prefix(&prefix)])
 }
 
 // The value of a string that is not a key yet.
-fn value_under(
-    map: &KeyedMap<Escaped, u32, 8>,
-    alloc: Global,
-    bytes: &[u8],
-) -> Option<Option<u32>> {
-    Some(map.get_bytes(alloc, bytes).ok()?.copied())
+fn value_under(map: &TreeMap<Escaped, u32, 8>, alloc: Global, bytes: &[u8]) -> Option<Option<u32>> {
+    Some(map.get_text(alloc, bytes).ok()?.copied())
 }
 
 // What a removal of the words that begin so returns, and which are left.
-type Left = ([Option<usize>; 2], [Option<Option<u32>>; 4]);
+type Left = ([usize; 2], [Option<Option<u32>>; 4]);
 
-fn remove_below(map: &mut KeyedMap<Escaped, u32, 8>, alloc: Global) -> Option<Left> {
+fn remove_below(map: &mut TreeMap<Escaped, u32, 8>, alloc: Global) -> Option<Left> {
     plant_escaped(map, alloc, [b"cart", b"cat", b"car", b"ca"])?;
     let removed = remove_twice(map, alloc, b"car")?;
     let left = [
@@ -253,14 +253,14 @@ fn remove_below(map: &mut KeyedMap<Escaped, u32, 8>, alloc: Global) -> Option<Le
 
 #[test]
 fn words_that_begin_with_a_word_go_at_once(rt: HostRuntime) -> Result<(), Fail> {
-    let seen = remove_below(&mut KeyedMap::new(rt.alloc()), rt.alloc());
+    let seen = remove_below(&mut TreeMap::new(rt.alloc()), rt.alloc());
     let left = [Some(None), Some(Some(1)), Some(None), Some(Some(3))];
-    same(seen, Some(([Some(2), Some(0)], left)))
+    same(seen, Some(([2, 0], left)))
 }
 
 // What is found of escaped strings by bytes that are not a key yet.
 fn look_up_bytes(
-    map: &mut KeyedMap<Escaped, u32, 8>,
+    map: &mut TreeMap<Escaped, u32, 8>,
     alloc: Global,
 ) -> Option<[Option<Option<u32>>; 5]> {
     plant_escaped(map, alloc, [b"cart", b"", b"car", b"c\0"])?;
@@ -275,7 +275,7 @@ fn look_up_bytes(
 
 #[test]
 fn escaped_strings_are_found_by_their_bytes(rt: HostRuntime) -> Result<(), Fail> {
-    let seen = look_up_bytes(&mut KeyedMap::new(rt.alloc()), rt.alloc());
+    let seen = look_up_bytes(&mut TreeMap::new(rt.alloc()), rt.alloc());
     let found = [
         Some(Some(2)),
         Some(Some(1)),
@@ -287,7 +287,7 @@ fn escaped_strings_are_found_by_their_bytes(rt: HostRuntime) -> Result<(), Fail>
 }
 
 // Writes values in three ways.
-fn write(map: &mut KeyedMap<[u8; 2], u32, 8>) -> Option<()> {
+fn write(map: &mut TreeMap<[u8; 2], u32, 8>) -> Option<()> {
     map.insert([1, 2], 7).ok()?;
     let value = map.get_mut(&[1, 2])?;
     *value = value.saturating_add(1);
@@ -307,7 +307,7 @@ fn write(map: &mut KeyedMap<[u8; 2], u32, 8>) -> Option<()> {
 }
 
 // What writes of values leave, and whether a map is equal to its clone.
-fn written(map: &mut KeyedMap<[u8; 2], u32, 8>) -> Option<([Option<u32>; 4], Option<u32>, bool)> {
+fn written(map: &mut TreeMap<[u8; 2], u32, 8>) -> Option<([Option<u32>; 4], Option<u32>, bool)> {
     write(map)?;
     let (values, value) = (values(map), map.get(&[1, 1]).copied());
     let copy = map.clone().ok()?;
@@ -316,6 +316,6 @@ fn written(map: &mut KeyedMap<[u8; 2], u32, 8>) -> Option<([Option<u32>; 4], Opt
 
 #[test]
 fn values_are_written_where_they_are(rt: HostRuntime) -> Result<(), Fail> {
-    let seen = written(&mut KeyedMap::new(rt.alloc()));
+    let seen = written(&mut TreeMap::new(rt.alloc()));
     same(seen, Some(([Some(4), Some(6), None, None], Some(4), true)))
 }

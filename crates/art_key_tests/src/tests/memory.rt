@@ -1,6 +1,8 @@
 //! Keys and maps of them without memory.
-use art_keyed::map::KeyedMap;
+use art_keyed::map::TreeMap;
+use art_keyed::set::TreeSet;
 use art_keys::escaped::Escaped;
+use art_keys::joined::Joined;
 use art_keys::terminated::{EndError, Terminated};
 use art_keys::unsigned::Unsigned;
 use art_node_support::expected::same;
@@ -45,7 +47,7 @@ fn without_memory_bytes_are_ended_where_there_is_room(rt: HostRuntime) -> Result
 }
 
 // Whether a first pair is refused, and comes back, while there is no memory.
-fn starve_map(alloc: Global, map: &mut KeyedMap<Unsigned<4>, u32, 8>) -> Option<(bool, usize)> {
+fn starve_map(alloc: Global, map: &mut TreeMap<Unsigned<4>, u32, 8>) -> Option<(bool, usize)> {
     let held = all_memory(alloc).ok()?;
     let is_refused = match map.insert(Unsigned::from(5), 6) {
         Err(refused) => u32::from(refused.key) == 5 && refused.value == 6,
@@ -57,19 +59,19 @@ fn starve_map(alloc: Global, map: &mut KeyedMap<Unsigned<4>, u32, 8>) -> Option<
 
 #[test]
 fn without_memory_a_pair_comes_back(rt: HostRuntime) -> Result<(), Fail> {
-    let seen = starve_map(rt.alloc(), &mut KeyedMap::new(rt.alloc()));
+    let seen = starve_map(rt.alloc(), &mut TreeMap::new(rt.alloc()));
     same(seen, Some((true, 0)))
 }
 
 // What is found of escaped strings, by bytes that are plain and by others.
-fn look_ups(map: &KeyedMap<Escaped, u32, 8>, alloc: Global) -> Option<(Option<u32>, bool)> {
-    let found = map.get_bytes(alloc, b"car").ok()?.copied();
-    Some((found, map.get_bytes(alloc, b"c\0").is_err()))
+fn look_ups(map: &TreeMap<Escaped, u32, 8>, alloc: Global) -> Option<(Option<u32>, bool)> {
+    let found = map.get_text(alloc, b"car").ok()?.copied();
+    Some((found, map.get_text(alloc, b"c\0").is_err()))
 }
 
 // The same without memory, in a map of one.
 fn starve_strings(
-    map: &mut KeyedMap<Escaped, u32, 8>,
+    map: &mut TreeMap<Escaped, u32, 8>,
     alloc: Global,
 ) -> Option<(Option<u32>, bool)> {
     map.insert(Escaped::encode(alloc, b"car").ok()?, 7).ok()?;
@@ -81,6 +83,182 @@ fn starve_strings(
 
 #[test]
 fn without_memory_plain_strings_are_found(rt: HostRuntime) -> Result<(), Fail> {
-    let found = starve_strings(&mut KeyedMap::new(rt.alloc()), rt.alloc());
+    let found = starve_strings(&mut TreeMap::new(rt.alloc()), rt.alloc());
     same(found, Some((Some(7), true)))
+}
+
+// ---- removals
+
+// 256 keys of one byte, which are under one node.
+fn fill_map(map: &mut TreeMap<[u8; 1], u32, 4>) -> bool {
+    for byte in 0..=255u8 {
+        if map.insert([byte], byte as u32).is_err() {
+            return false;
+        }
+    }
+    map.len() == 256
+}
+
+// Whether the pairs of both ends and another one are removed.
+fn are_removed(map: &mut TreeMap<[u8; 1], u32, 4>, byte: u8) -> bool {
+    let (key, last) = (byte.wrapping_add(100), 255 - byte);
+    map.pop_first() == Some(([byte], byte as u32))
+        && map.pop_last() == Some(([last], last as u32))
+        && map.remove(&[key]) == Some(([key], key as u32))
+}
+
+// Whether 192 pairs are removed so, and then the others by a closure.
+fn is_emptied(map: &mut TreeMap<[u8; 1], u32, 4>) -> bool {
+    let mut all = true;
+    for byte in 0..64u8 {
+        all = are_removed(map, byte) && all;
+    }
+    let left = map.len();
+    map.retain(|_, _| false);
+    all && left == 64 && map.is_empty()
+}
+
+// Whether a map was filled, and was emptied while every allocation fails.
+fn starve_filled(alloc: Global, map: &mut TreeMap<[u8; 1], u32, 4>) -> Option<[bool; 2]> {
+    let is_filled = fill_map(map);
+    let held = all_memory(alloc).ok()?;
+    let is_emptied = is_emptied(map);
+    drop(held);
+    Some([is_filled, is_emptied])
+}
+
+#[test]
+fn without_memory_256_pairs_are_removed(rt: HostRuntime) -> Result<(), Fail> {
+    let seen = starve_filled(rt.alloc(), &mut TreeMap::new(rt.alloc()));
+    same(seen, Some([true, true]))
+}
+
+// The same keys in a set.
+fn fill_set(set: &mut TreeSet<[u8; 1], 4>) -> bool {
+    for byte in 0..=255u8 {
+        if set.insert([byte]).is_err() {
+            return false;
+        }
+    }
+    set.len() == 256
+}
+
+// Whether the keys of both ends and two others are removed.
+fn are_keys_removed(set: &mut TreeSet<[u8; 1], 4>, byte: u8) -> bool {
+    let taken = byte.wrapping_add(140);
+    set.pop_first() == Some([byte])
+        && set.pop_last() == Some([255 - byte])
+        && set.remove(&[byte.wrapping_add(100)])
+        && set.take(&[taken]) == Some([taken])
+}
+
+// Whether half of the keys are removed so, and then the others by a closure.
+fn is_set_emptied(set: &mut TreeSet<[u8; 1], 4>) -> bool {
+    let mut all = true;
+    for byte in 0..32u8 {
+        all = are_keys_removed(set, byte) && all;
+    }
+    let left = set.len();
+    set.retain(|_| false);
+    all && left == 128 && set.is_empty()
+}
+
+// Whether a set was filled, and was emptied while every allocation fails.
+fn starve_filled_set(alloc: Global, set: &mut TreeSet<[u8; 1], 4>) -> Option<[bool; 2]> {
+    let is_filled = fill_set(set);
+    let held = all_memory(alloc).ok()?;
+    let is_emptied = is_set_emptied(set);
+    drop(held);
+    Some([is_filled, is_emptied])
+}
+
+#[test]
+fn without_memory_256_keys_are_removed(rt: HostRuntime) -> Result<(), Fail> {
+    let seen = starve_filled_set(rt.alloc(), &mut TreeSet::new(rt.alloc()));
+    same(seen, Some([true, true]))
+}
+
+type Times = TreeMap<Joined<Unsigned<1>, Unsigned<1>>, u32, 2>;
+
+// Twenty times of each of twenty users.
+fn fill_times(times: &mut Times, alloc: Global) -> Option<()> {
+    for user in 0..20u8 {
+        for time in 0..20u8 {
+            let key = Joined::join(alloc, &Unsigned::from(user), &Unsigned::from(time)).ok()?;
+            times.insert(key, time as u32).ok()?;
+        }
+    }
+    Some(())
+}
+
+// How many times of the first users are removed one by one, and of the others all at once.
+fn remove_times(times: &mut Times) -> [usize; 2] {
+    let mut removed = [0usize; 2];
+    for user in 0..10u8 {
+        let user = Unsigned::from(user);
+        for _ in 0..20 {
+            let popped = times.pop_first_with(&user).is_some() as usize;
+            removed[0] = removed[0].saturating_add(popped);
+        }
+    }
+    for user in 10..20u8 {
+        let all = times.remove_with_first(&Unsigned::from(user));
+        removed[1] = removed[1].saturating_add(all);
+    }
+    removed
+}
+
+// The same while every allocation fails, and whether none is left.
+fn starve_times(times: &mut Times, alloc: Global) -> Option<([usize; 2], bool)> {
+    fill_times(times, alloc)?;
+    let held = all_memory(alloc).ok()?;
+    let removed = remove_times(times);
+    drop(held);
+    Some((removed, times.is_empty()))
+}
+
+#[test]
+fn without_memory_pairs_with_a_first_key_are_removed(rt: HostRuntime) -> Result<(), Fail> {
+    let seen = starve_times(&mut TreeMap::new(rt.alloc()), rt.alloc());
+    same(seen, Some(([200, 200], true)))
+}
+
+type Words = TreeMap<Terminated, u32, 4>;
+
+fn word(alloc: Global, bytes: &[u8]) -> Option<Terminated> {
+    Terminated::new(bytes.to_vec(alloc).ok()?).ok()
+}
+
+// Fifty words that start with each of two letters.
+fn fill_words(words: &mut Words, alloc: Global) -> Option<()> {
+    for last in 1..=50u8 {
+        words.insert(word(alloc, &[b'a', last])?, 1).ok()?;
+        words.insert(word(alloc, &[b'b', last])?, 2).ok()?;
+    }
+    Some(())
+}
+
+// How many words are removed one by one, and then all at once.
+fn remove_words(words: &mut Words, one_by_one: &Terminated, at_once: &Terminated) -> [usize; 2] {
+    let mut removed = 0usize;
+    for _ in 0..60 {
+        removed = removed.saturating_add(words.pop_first_below(one_by_one).is_some() as usize);
+    }
+    [removed, words.remove_prefix(at_once)]
+}
+
+// The same while every allocation fails, and whether none is left.
+fn starve_words(words: &mut Words, alloc: Global) -> Option<([usize; 2], bool)> {
+    fill_words(words, alloc)?;
+    let (one_by_one, at_once) = (word(alloc, b"a")?, word(alloc, b"b")?);
+    let held = all_memory(alloc).ok()?;
+    let removed = remove_words(words, &one_by_one, &at_once);
+    drop(held);
+    Some((removed, words.is_empty()))
+}
+
+#[test]
+fn without_memory_words_with_a_prefix_are_removed(rt: HostRuntime) -> Result<(), Fail> {
+    let seen = starve_words(&mut TreeMap::new(rt.alloc()), rt.alloc());
+    same(seen, Some(([50, 50], true)))
 }

@@ -1,5 +1,5 @@
 //! Sets of such keys.
-use art_keyed::set::KeyedSet;
+use art_keyed::set::TreeSet;
 use art_keys::joined::Joined;
 use art_keys::signed::Signed;
 use art_keys::unsigned::Unsigned;
@@ -8,7 +8,7 @@ use std::alloc::Global;
 use std::test::Fail;
 
 // Which of four numbers, of which one comes twice, are new, and whether two of them are there.
-fn put_in(set: &mut KeyedSet<Signed<2>, 2>) -> Option<([bool; 4], [bool; 2])> {
+fn put_in(set: &mut TreeSet<Signed<2>, 2>) -> Option<([bool; 4], [bool; 2])> {
     let mut added = [false; 4];
     for (added, number) in added.iter_mut().zip([3i16, -1, 3, i16::MIN]) {
         *added = set.insert(Signed::from(number)).ok()?;
@@ -21,17 +21,17 @@ fn put_in(set: &mut KeyedSet<Signed<2>, 2>) -> Option<([bool; 4], [bool; 2])> {
 }
 
 // The first number and the last one, whether two are taken out, and the two ends of what is left.
-fn take_out(set: &mut KeyedSet<Signed<2>, 2>) -> Option<([i16; 4], [bool; 2], usize)> {
+fn take_out(set: &mut TreeSet<Signed<2>, 2>) -> Option<([i16; 4], [bool; 2], usize)> {
     let (first, last) = (i16::from(*set.first()?), i16::from(*set.last()?));
     let removed = [
-        set.remove(&Signed::from(-1i16)).ok()?,
-        set.remove(&Signed::from(-1i16)).ok()?,
+        set.remove(&Signed::from(-1i16)),
+        set.remove(&Signed::from(-1i16)),
     ];
     let ends = [
         first,
         last,
-        i16::from(set.pop_first().ok()??),
-        i16::from(set.pop_last().ok()??),
+        i16::from(set.pop_first()?),
+        i16::from(set.pop_last()?),
     ];
     set.clear();
     Some((ends, removed, set.len()))
@@ -39,7 +39,7 @@ fn take_out(set: &mut KeyedSet<Signed<2>, 2>) -> Option<([i16; 4], [bool; 2], us
 
 #[test]
 fn a_set_has_each_number_once(rt: HostRuntime) -> Result<(), Fail> {
-    let mut set = KeyedSet::new(rt.alloc());
+    let mut set = TreeSet::new(rt.alloc());
     let seen = (put_in(&mut set), take_out(&mut set));
     same(
         seen,
@@ -51,7 +51,7 @@ fn a_set_has_each_number_once(rt: HostRuntime) -> Result<(), Fail> {
 }
 
 // Whether a set of three numbers is made compact, and its ends and their number then.
-fn compacted(set: &mut KeyedSet<Signed<2>, 2>) -> Option<(bool, [i16; 2], usize)> {
+fn compacted(set: &mut TreeSet<Signed<2>, 2>) -> Option<(bool, [i16; 2], usize)> {
     put_in(set)?;
     let is_compact = set.compact().is_ok();
     let ends = [i16::from(*set.first()?), i16::from(*set.last()?)];
@@ -60,13 +60,13 @@ fn compacted(set: &mut KeyedSet<Signed<2>, 2>) -> Option<(bool, [i16; 2], usize)
 
 #[test]
 fn a_compact_set_has_the_same_numbers(rt: HostRuntime) -> Result<(), Fail> {
-    let seen = compacted(&mut KeyedSet::new(rt.alloc()));
+    let seen = compacted(&mut TreeSet::new(rt.alloc()));
     same(seen, Some((true, [i16::MIN, 3], 3)))
 }
 
 // How many times each of four users has.
 fn count_times(
-    times: &mut KeyedSet<Joined<Unsigned<1>, Signed<2>>, 2>,
+    times: &mut TreeSet<Joined<Unsigned<1>, Signed<2>>, 2>,
     alloc: Global,
 ) -> Option<[usize; 4]> {
     for (user, time) in [(1u8, -1i16), (3, 7), (1, 0), (3, i16::MIN), (1, i16::MAX)] {
@@ -83,23 +83,23 @@ fn count_times(
 
 #[test]
 fn keys_with_a_first_key_are_a_part(rt: HostRuntime) -> Result<(), Fail> {
-    let seen = count_times(&mut KeyedSet::new(rt.alloc()), rt.alloc());
+    let seen = count_times(&mut TreeSet::new(rt.alloc()), rt.alloc());
     same(seen, Some([0, 3, 0, 2]))
 }
 
 // Whether a number that is there is replaced, and one that is not; and how many odd ones stay, and the first.
-fn keep_odd(set: &mut KeyedSet<Signed<2>, 2>) -> Option<([bool; 2], usize, i16)> {
+fn keep_odd(set: &mut TreeSet<Signed<2>, 2>) -> Option<([bool; 2], usize, i16)> {
     let replaced = [
         set.replace(Signed::from(3i16)).ok()?.is_some(),
         set.replace(Signed::from(2i16)).ok()?.is_some(),
     ];
-    set.retain(|number| i16::from(*number) % 2 != 0).ok()?;
+    set.retain(|number| i16::from(*number) % 2 != 0);
     Some((replaced, set.len(), i16::from(*set.first()?)))
 }
 
 #[test]
 fn odd_numbers_of_a_set_stay(rt: HostRuntime) -> Result<(), Fail> {
-    let mut set = KeyedSet::new(rt.alloc());
+    let mut set = TreeSet::new(rt.alloc());
     let seen = (put_in(&mut set).is_some(), keep_odd(&mut set));
     same(seen, (true, Some(([true, false], 2, -1))))
 }

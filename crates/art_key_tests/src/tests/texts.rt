@@ -30,6 +30,23 @@ fn escaped_strings_are_shown_as_text(rt: HostRuntime) -> Result<(), Fail> {
     same(seen, [Some(true); 6])
 }
 
+// Whether the key of a text is that of its bytes.
+fn is_key_of_bytes(alloc: Global, text: &str) -> Option<bool> {
+    let of_text = Escaped::encode_str(alloc, text).ok()?;
+    Some(of_text == Escaped::encode(alloc, text.as_bytes()).ok()?)
+}
+
+#[test]
+fn texts_are_escaped_as_their_bytes(rt: HostRuntime) -> Result<(), Fail> {
+    let alloc = rt.alloc();
+    let seen = [
+        is_key_of_bytes(alloc, ""),
+        is_key_of_bytes(alloc, "caf\u{e9}"),
+        is_key_of_bytes(alloc, "\0a\u{1}"),
+    ];
+    same(seen, [Some(true); 3])
+}
+
 // How many of the short strings are shown as the text that the library makes of their bytes.
 fn count_shown(alloc: Global) -> Option<usize> {
     let mut count = 0usize;

@@ -1,5 +1,5 @@
 //! Drawn calls of a map whose keys are two numbers as one, beside the same ones of a `BTreeMap`.
-use art_keyed::map::KeyedMap;
+use art_keyed::map::TreeMap;
 use art_keys::joined::Joined;
 use art_keys::signed::Signed;
 use art_keys::unsigned::Unsigned;
@@ -11,7 +11,7 @@ use std::test::Fail;
 
 type Key = Joined<Unsigned<1>, Signed<2>>;
 
-type Visits = KeyedMap<Key, u32, 2>;
+type Visits = TreeMap<Key, u32, 2>;
 
 type Model = BTreeMap<(u8, i16), u32>;
 
@@ -60,9 +60,8 @@ fn agree_on_insertion(
 // The value that a removal from the map returns.
 fn removed(map: &mut Visits, alloc: Global, visit: Visit) -> Option<Option<u32>> {
     match map.remove(&visit.key(alloc)?) {
-        Ok(Some((_key, value))) => Some(Some(value)),
-        Ok(None) => Some(None),
-        Err(_refused) => None,
+        Some((_key, value)) => Some(Some(value)),
+        None => Some(None),
     }
 }
 
@@ -113,9 +112,8 @@ fn first_of(model: &Model, user: u8) -> Option<(i16, u32)> {
 // The time and the value that a removal of the first visit of a user returns.
 fn popped(map: &mut Visits, alloc: Global, user: u8) -> Option<Option<(i16, u32)>> {
     match map.pop_first_with(&Unsigned::from(user)) {
-        Ok(Some((key, value))) => Some(Some((key.second(alloc).ok()?.get(), value))),
-        Ok(None) => Some(None),
-        Err(_refused) => None,
+        Some((key, value)) => Some(Some((key.second(alloc).ok()?.get(), value))),
+        None => Some(None),
     }
 }
 
@@ -135,18 +133,16 @@ fn agree_on_the_first(
 }
 
 // A removal of all visits of a user from both, and whether as many go.
-fn agree_on_all_of_a_user(map: &mut Visits, model: &mut Model, user: u8) -> Option<bool> {
+fn agree_on_all_of_a_user(map: &mut Visits, model: &mut Model, user: u8) -> bool {
     let before = model.len();
     model.retain(|key, _| key.0 != user);
-    let Ok(removed) = map.remove_with_first(&Unsigned::from(user)) else {
-        return None;
-    };
-    Some(model.len().checked_add(removed) == Some(before) && map.len() == model.len())
+    let removed = map.remove_with_first(&Unsigned::from(user));
+    model.len().checked_add(removed) == Some(before) && map.len() == model.len()
 }
 
 // Both keep the visits at even times, and count one more of each.
-fn keep_even(map: &mut Visits, model: &mut Model, alloc: Global) -> Option<bool> {
-    let kept = map.retain(|key, _| match key.split(alloc) {
+fn keep_even(map: &mut Visits, model: &mut Model, alloc: Global) -> bool {
+    map.retain(|key, _| match key.split(alloc) {
         Ok((_, time)) => i16::from(time) % 2 == 0,
         Err(_) => true,
     });
@@ -155,7 +151,7 @@ fn keep_even(map: &mut Visits, model: &mut Model, alloc: Global) -> Option<bool>
     for value in model.values_mut() {
         *value = value.wrapping_add(1);
     }
-    Some(kept.is_ok() && map.len() == model.len())
+    map.len() == model.len()
 }
 
 // A visit with its value.
@@ -191,8 +187,8 @@ fn agree_on_call(
         60..=69 => agree_on_removal(map, model, alloc, visit),
         70..=79 => agree_on_the_first(map, model, alloc, visit.user),
         80..=97 => agree_on_a_user(map, model, alloc, visit),
-        98 => agree_on_all_of_a_user(map, model, visit.user),
-        _ => keep_even(map, model, alloc),
+        98 => Some(agree_on_all_of_a_user(map, model, visit.user)),
+        _ => Some(keep_even(map, model, alloc)),
     }
 }
 
@@ -215,7 +211,7 @@ fn drawn_calls_with_joined_keys_return_what_those_of_a_btree_map_do(
     rt: HostRuntime,
 ) -> Result<(), Fail> {
     let alloc = rt.alloc();
-    let (mut map, mut model) = (KeyedMap::new(alloc), BTreeMap::new(alloc));
+    let (mut map, mut model) = (TreeMap::new(alloc), BTreeMap::new(alloc));
     let differ = differ_at(&mut map, &mut model, alloc, 2_000);
     let same = agree_on_pairs(&map, &model, alloc);
     as_expected(Some(((differ, same, map.len() == model.len()), (None, true, true))))

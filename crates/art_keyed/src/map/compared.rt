@@ -6,13 +6,13 @@ ghost use Rattle.std.specs.Cmp.Lexicographic.{lists_agrees, lists_equiv, lists_p
 ghost use Rattle.std.specs.Cmp.{and_equiv, and_per, both_tied, on_equiv, on_per, on_po, on_total, then_agrees, then_po, then_total};
 ghost use Rattle.std.specs.Hash.{and-Alike, items_Alike, on_Alike};
 
-use super::KeyedMap;
+use super::TreeMap;
 use art_keys::laws::NoPrefixesBytes;
 use std::cmp::Ordering;
 use std::hash::{Hash, Hasher};
 
 impl<K: NoPrefixesBytes + PartialEq + Drop, V: PartialEq + Drop, const P: usize> PartialEq
-    for KeyedMap<K, V, P> {
+    for TreeMap<K, V, P> {
     ghost eq = { λ m n. pointwise (λ p q. K.eq p.0 q.0 && V.eq p.1 q.1) m n };
 
     ghost laws = { lists_per (and_per
@@ -23,13 +23,13 @@ impl<K: NoPrefixesBytes + PartialEq + Drop, V: PartialEq + Drop, const P: usize>
     }
 }
 
-impl<K: NoPrefixesBytes + Eq + Drop, V: Eq + Drop, const P: usize> Eq for KeyedMap<K, V, P> {
+impl<K: NoPrefixesBytes + Eq + Drop, V: Eq + Drop, const P: usize> Eq for TreeMap<K, V, P> {
     ghost laws = { lists_equiv (and_equiv
         (on_equiv (λ p. p.0) K.Eq.laws) (on_equiv (λ p. p.1) V.Eq.laws)) };
 }
 
 impl<K: NoPrefixesBytes + PartialOrd + Drop, V: PartialOrd + Drop, const P: usize> PartialOrd
-    for KeyedMap<K, V, P> {
+    for TreeMap<K, V, P> {
     ghost partial_cmp = { λ m n. slice_partial_cmp (λ p q.
         partial_ordering_then (K.partial_cmp p.0 q.0) (V.partial_cmp p.1 q.1)) m n };
 
@@ -41,7 +41,7 @@ impl<K: NoPrefixesBytes + PartialOrd + Drop, V: PartialOrd + Drop, const P: usiz
     }
 }
 
-impl<K: NoPrefixesBytes + Ord + Drop, V: Ord + Drop, const P: usize> Ord for KeyedMap<K, V, P> {
+impl<K: NoPrefixesBytes + Ord + Drop, V: Ord + Drop, const P: usize> Ord for TreeMap<K, V, P> {
     ghost cmp = { λ m n. slice_cmp (λ p q. ordering_then (K.cmp p.0 q.0) (V.cmp p.1 q.1)) m n };
 
     ghost total = { lists_total (then_total
@@ -62,7 +62,7 @@ impl<K: NoPrefixesBytes + Ord + Drop, V: Ord + Drop, const P: usize> Ord for Key
     }
 }
 
-impl<K: NoPrefixesBytes + Hash + Drop, V: Hash + Drop, const P: usize> Hash for KeyedMap<K, V, P> {
+impl<K: NoPrefixesBytes + Hash + Drop, V: Hash + Drop, const P: usize> Hash for TreeMap<K, V, P> {
     ghost hash_input = { λ m. fed.slice (λ p. K.hash_input p.0 ++ V.hash_input p.1) m };
 
     ghost respects_eq = { (items_Alike (and-Alike

@@ -8,24 +8,20 @@ ghost use Rattle.art_map.specs.MapAnswers.{value_at};
 ghost use Rattle.art_map.specs.MapCalls.{Modifies};
 ghost use Rattle.art_keyed.specs.KeyedLends.{lends_put};
 
-use super::{KeyedMap, PairRefused};
+use super::{PairRefused, TreeMap};
 use art_keys::laws::NoPrefixesBytes;
 
 /// A map with a key.
 #[derive(Drop)]
-pub struct KeyedEntryOf<'a, K, M> {
+pub struct TreeEntryOf<'a, K, M> {
     pub(crate) map: &'a mut M,
     pub(crate) key: K,
 }
 
 /// The same, of a map whose keys these are.
-pub type KeyedEntry<'a, K, V, const P: usize> = KeyedEntryOf<'a, K, KeyedMap<K, V, P>>;
+pub type TreeEntry<'a, K, V, const P: usize> = TreeEntryOf<'a, K, TreeMap<K, V, P>>;
 
-impl<'a, K: NoPrefixesBytes + Drop, V: Drop, const P: usize> KeyedEntryOf<
-    'a,
-    K,
-    KeyedMap<K, V, P>,
-> {
+impl<'a, K: NoPrefixesBytes + Drop, V: Drop, const P: usize> TreeEntryOf<'a, K, TreeMap<K, V, P>> {
     /// Returns the key.
     pub fn key(&self) -> &K
         ensures { result.now ≡ self.now.key }
@@ -50,11 +46,11 @@ impl<'a, K: NoPrefixesBytes + Drop, V: Drop, const P: usize> KeyedEntryOf<
         ensures pairs { Modifies F.FnOnce f K.bytes (K.bytes self.entry.key)
             self.entry.map.now result.map.now }
     {
-        let KeyedEntryOf { map, key } = self;
+        let TreeEntryOf { map, key } = self;
         if let Some(value) = map.get_mut(&key) {
             f(value);
         }
-        KeyedEntryOf { map, key }
+        TreeEntryOf { map, key }
     }
 
     /// Returns the value of the key, to be written. Where no equal key is stored the pair is put in
@@ -69,7 +65,7 @@ impl<'a, K: NoPrefixesBytes + Drop, V: Drop, const P: usize> KeyedEntryOf<
         ensures refused { OnErr result (has_key (of_key K.bytes)
             (K.bytes self.entry.key) self.entry.map.now ≡ false) }
     {
-        let KeyedEntryOf { map, key } = self;
+        let TreeEntryOf { map, key } = self;
         map.get_or_insert(key, value)
     }
 
@@ -91,7 +87,7 @@ impl<'a, K: NoPrefixesBytes + Drop, V: Drop, const P: usize> KeyedEntryOf<
         ensures refused { OnErr result (has_key (of_key K.bytes)
             (K.bytes self.entry.key) self.entry.map.now ≡ false) }
     {
-        let KeyedEntryOf { map, key } = self;
+        let TreeEntryOf { map, key } = self;
         map.get_or_insert_with(key, make)
     }
 

@@ -4,10 +4,10 @@ ghost use Rattle.std.specs.Iterator.{IsFinite};
 ghost use Rattle.art_map.specs.MapCalls.{PutsAll};
 ghost use Rattle.art_keyed.specs.KeyedRefusals.{PutsUntilRefused};
 
-use super::{KeyedMap, PairRefused};
+use super::{PairRefused, TreeMap};
 use art_keys::laws::NoPrefixesBytes;
 
-impl<K: NoPrefixesBytes + Drop, V: Drop, const P: usize> KeyedMap<K, V, P> {
+impl<K: NoPrefixesBytes + Drop, V: Drop, const P: usize> TreeMap<K, V, P> {
     /// Puts in the pairs that come, one after another, as `insert` does. It stops at the first one that is
     /// refused, for want of memory, which the error hands back: those before it stay in the map, and the
     /// others stay in the iterator.

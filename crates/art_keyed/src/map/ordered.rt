@@ -7,12 +7,12 @@ ghost use Rattle.art_model.specs.Pairs.{IsMap, first_of, last_of, of_key};
 ghost use Rattle.art_map.specs.MapItems.{deref_pair};
 ghost use Rattle.art_keyed.specs.KeyedPairs.{OnBound, RiseBy, keys_between};
 
-use super::KeyedMap;
+use super::TreeMap;
 use art_keys::laws::OrderedBytes;
 use art_map::map::Range;
 use std::ops::{Bound, RangeBounds};
 
-impl<K: OrderedBytes + Drop, V: Drop, const P: usize> KeyedMap<K, V, P> {
+impl<K: OrderedBytes + Drop, V: Drop, const P: usize> TreeMap<K, V, P> {
     /// Does nothing, but its contract says that the keys rise in the order of their type.
     pub fn rises(&self)
         ensures { RiseBy K.order self.now }

@@ -1,22 +1,27 @@
-//! The pairs of a map that a closure picks stay.
-ghost use Rattle.std.specs.Prelude.{OnErr, OnOk};
+//! The pairs that a closure picks are kept.
 ghost use Rattle.art_model.specs.Pairs.{of_key};
-ghost use Rattle.art_map.specs.MapRetain.{AsksPair, RetainsAll, RetainsUntil};
+ghost use Rattle.art_map.specs.MapRetain.{AsksPair, Retains, RetainsAll};
 
-use super::KeyedMap;
+use super::TreeMap;
 use art_keys::laws::NoPrefixesBytes;
-use art_map::map::MapRefused;
 
-impl<K: NoPrefixesBytes + Drop, V: Drop, const P: usize> KeyedMap<K, V, P> {
-    /// Keeps the pairs of which the closure returns true, and takes out the others. It is called once at
-    /// each pair, in the order of the keys. A removal may be refused for want of memory, as that of
-    /// `remove`: then the pair stays, and so do all after it, of which the closure was not asked.
-    pub fn retain<F: FnMut(&K, &V) -> bool>(&mut self, f: F) -> Result<(), MapRefused>
+impl<K: NoPrefixesBytes + Drop, V: Drop, const P: usize> TreeMap<K, V, P> {
+    /// Keeps the pairs for which the closure returns true, and removes the others. The closure is called once for each
+    /// pair, in the order of the keys. It never fails.
+    pub fn retain<F: FnMut(&K, &V) -> bool>(&mut self, f: F)
         requires { F.IsAlwaysCallable f }
-        ensures pairs { OnOk result (RetainsAll (AsksPair F.FnMut) f self.old self.new) }
-        ensures refused { OnErr result
-            (RetainsUntil (AsksPair F.FnMut) (of_key K.bytes) f self.old self.new) }
+        ensures pairs { RetainsAll (AsksPair F.FnMut) f self.old self.new }
     {
         self.map.retain(f)
+    }
+
+    /// Does what `retain` does, with a closure that the caller keeps. The closure is called once for each pair, and not
+    /// once more: its last state is the one that these calls lead to.
+    pub fn retain_by_ref<F: FnMut(&K, &V) -> bool>(&mut self, f: &mut F)
+        requires { F.IsAlwaysCallable f.old }
+        ensures pairs { Retains (AsksPair F.FnMut) f.old self.old self.new f.new }
+        ensures callable { F.IsAlwaysCallable f.new }
+    {
+        self.map.retain_by_ref(f)
     }
 }

@@ -4,10 +4,10 @@ ghost use Rattle.std.specs.Iterator.{IsFinite};
 ghost use Rattle.art_map.specs.SetKeys.{AddsAll};
 ghost use Rattle.art_keyed.specs.KeyedRefusals.{AddsUntilRefused};
 
-use super::{KeyRefused, KeyedSet};
+use super::{KeyRefused, TreeSet};
 use art_keys::laws::NoPrefixesBytes;
 
-impl<K: NoPrefixesBytes + Drop, const P: usize> KeyedSet<K, P> {
+impl<K: NoPrefixesBytes + Drop, const P: usize> TreeSet<K, P> {
     /// Puts in the keys that come, one after another, as `insert` does. It stops at the first one that is
     /// refused, for want of memory, which the error hands back: those before it stay in the set, and the
     /// others stay in the iterator.

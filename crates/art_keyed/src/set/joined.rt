@@ -4,12 +4,12 @@ ghost use Rattle.art_model.specs.Pairs.{IsMap};
 ghost use Rattle.art_keys.specs.Joins.{joined_bytes};
 ghost use Rattle.art_keyed.specs.KeyedPairs.{set_with_first};
 
-use super::KeyedSet;
+use super::TreeSet;
 use art_keys::joined::Joined;
 use art_keys::laws::DecodeBytes;
 use art_map::set::KeyRange;
 
-impl<A: DecodeBytes + Drop, B: DecodeBytes + Drop, const P: usize> KeyedSet<Joined<A, B>, P> {
+impl<A: DecodeBytes + Drop, B: DecodeBytes + Drop, const P: usize> TreeSet<Joined<A, B>, P> {
     /// Returns the keys that have this first key, in the order of the bytes of the second ones. It costs
     /// what `with_first` of the map does.
     pub fn with_first(&self, first: &A) -> KeyRange<'_, Joined<A, B>, P>

@@ -5,13 +5,13 @@ ghost use Rattle.std.specs.declared.ops.Bound.TheVariants.{Unbounded};
 ghost use Rattle.art_model.specs.Pairs.{IsMap, first_of, last_of};
 ghost use Rattle.art_keyed.specs.KeyedPairs.{KeysRiseBy, set_below, set_between};
 
-use super::KeyedSet;
+use super::TreeSet;
 use crate::map::bytes_of;
 use art_keys::laws::{OrderedBytes, StringBytes};
 use art_map::set::KeyRange;
 use std::ops::{Bound, RangeBounds};
 
-impl<K: OrderedBytes + Drop, const P: usize> KeyedSet<K, P> {
+impl<K: OrderedBytes + Drop, const P: usize> TreeSet<K, P> {
     /// Does nothing, but its contract says that the keys rise in the order of their type.
     pub fn rises(&self)
         ensures { KeysRiseBy K.order self.now }
@@ -59,7 +59,7 @@ impl<K: OrderedBytes + Drop, const P: usize> KeyedSet<K, P> {
     }
 }
 
-impl<K: StringBytes + Drop, const P: usize> KeyedSet<K, P> {
+impl<K: StringBytes + Drop, const P: usize> TreeSet<K, P> {
     /// Returns the keys whose strings begin with that of a key, as they rise. It costs what `prefix` of
     /// the map does.
     pub fn prefix(&self, prefix: &K) -> KeyRange<'_, K, P>

@@ -1,37 +1,32 @@
-//! All pairs below a prefix go at once.
+//! All pairs with a prefix are removed at once.
 ghost use Rattle.art_map.specs.MapChanges.{HasTakenBelow};
 ghost use Rattle.art_map.specs.MapPairs.{HoldsPairs, pairs_at};
 ghost use Rattle.art_model.specs.Pairs.{of_key};
 
-use super::MapRefused;
 use art_nodes::node::{AsBytes, OpaqueNodePtr};
 use art_nodes::store::NodeStore;
 use art_writing::delete::search_for_prefix_delete_point;
 
-/// Takes all pairs whose keys begin with a prefix out of the tree, and returns how many.
+/// Takes all pairs whose keys start with a prefix out of the tree, and returns how many.
 pub(super) fn take_all_below<K: AsBytes + Drop, V: Drop, const P: usize>(
     store: &mut NodeStore<K, V, P>,
     root: &mut Option<OpaqueNodePtr>,
     len: &mut usize,
     prefix: &[u8],
-) -> Result<usize, MapRefused>
+) -> usize
     requires { HoldsPairs (of_key K.bytes) P store.old root.old len.old
         (pairs_at store.old root.old) }
     ensures { HasTakenBelow K.bytes P (pairs_at store.old root.old) prefix.now result
         store.new root.new len.new }
 {
     let Some(name) = *root else {
-        return Ok(0);
+        return 0;
     };
     let Some(point) = search_for_prefix_delete_point(store, name, prefix) else {
-        return Ok(0);
+        return 0;
     };
-    match point.apply(store, name) {
-        Ok(done) => {
-            *root = done.new_root;
-            *len -= done.leafs_removed;
-            Ok(done.leafs_removed)
-        }
-        Err(_) => Err(MapRefused),
-    }
+    let done = point.apply(store, name);
+    *root = done.new_root;
+    *len -= done.leafs_removed;
+    done.leafs_removed
 }

@@ -1,12 +1,12 @@
-//! The pairs of a map that a closure picks stay.
-ghost use Rattle.std.specs.Prelude.{◌≡◌, OnErr, OnOk, Some};
+//! The pairs that a closure picks are kept.
+ghost use Rattle.std.specs.Prelude.{◌≡◌, Some};
 ghost use Rattle.std.specs.Range.Bound.{bound_map};
 ghost use Rattle.art_model.specs.Pairs.{IsMap, of_key};
 ghost use Rattle.art_map.specs.MapPairs.{HoldsPairs, pairs_at};
-ghost use Rattle.art_map.specs.MapRetain.{AsksPair, FindsRefused, HasTakenRefused, RetainsAll, RetainsUntil, TakesRefused, after_pair, pairs_after};
+ghost use Rattle.art_map.specs.MapRetain.{AsksPair, FindsRefused, HasTakenRefused, Retains, RetainsAll, TakesRefused, after_pair, pairs_after};
 
 use super::range::RangeOf;
-use super::{ByteMap, MapRefused, take_out};
+use super::{ByteMap, take_out};
 use art_nodes::node::{AsBytes, OpaqueNodePtr};
 use art_nodes::store::NodeStore;
 use art_reading::range::range_unchecked;
@@ -14,23 +14,27 @@ use art_writing::delete::{DeletePoint, search_for_delete_point_by_lengths};
 use std::ops::Bound;
 
 impl<K: AsBytes + Drop, V: Drop, const P: usize> ByteMap<K, V, P> {
-    /// Keeps the pairs of which the closure returns true, and takes out the others. It is called once at
-    /// each pair, in the order of the keys. A removal may be refused for want of memory, as that of
-    /// `remove`: then the pair stays, and so do all after it, of which the closure was not asked. A pair
-    /// that stays costs a step of a walk, and one that goes two descents more.
-    pub fn retain<F: FnMut(&K, &V) -> bool>(&mut self, mut f: F) -> Result<(), MapRefused>
+    /// Keeps the pairs for which the closure returns true, and removes the others. The closure is called once for each
+    /// pair, in the order of the keys.
+    ///
+    /// It never fails. A pair that stays costs a step of an iteration, one that is removed two descents more.
+    pub fn retain<F: FnMut(&K, &V) -> bool>(&mut self, mut f: F)
         requires { F.IsAlwaysCallable f }
-        ensures pairs { OnOk result (RetainsAll (AsksPair F.FnMut) f self.old self.new) }
-        ensures refused { OnErr result
-            (RetainsUntil (AsksPair F.FnMut) (of_key K.bytes) f self.old self.new) }
+        ensures pairs { RetainsAll (AsksPair F.FnMut) f self.old self.new }
+    {
+        self.retain_by_ref(&mut f);
+    }
+
+    /// Does what `retain` does, with a closure that the caller keeps. The closure is called once for each pair, and not
+    /// once more: its last state is the one that these calls lead to.
+    pub fn retain_by_ref<F: FnMut(&K, &V) -> bool>(&mut self, f: &mut F)
+        requires { F.IsAlwaysCallable f.old }
+        ensures pairs { Retains (AsksPair F.FnMut) f.old self.old self.new f.new }
+        ensures callable { F.IsAlwaysCallable f.new }
     {
         let mut last = None;
-        loop {
-            match self.take_refused(&last, &mut f) {
-                Ok(Some(pair)) => last = Some(pair),
-                Ok(None) => return Ok(()),
-                Err(refused) => return Err(refused),
-            }
+        while let Some(pair) = self.take_refused(&last, f) {
+            last = Some(pair);
         }
     }
 
@@ -39,7 +43,7 @@ impl<K: AsBytes + Drop, V: Drop, const P: usize> ByteMap<K, V, P> {
         &mut self,
         last: &Option<(K, V)>,
         f: &mut F,
-    ) -> Result<Option<(K, V)>, MapRefused>
+    ) -> Option<(K, V)>
         requires { F.IsAlwaysCallable f.old }
         ensures callable { F.IsAlwaysCallable f.new }
         ensures taken { TakesRefused (AsksPair F.FnMut) K.bytes last.now f.old self.old result
@@ -57,7 +61,7 @@ fn take_refused<K: AsBytes + Drop, V: Drop, const P: usize, F: FnMut(&K, &V) -> 
     len: &mut usize,
     last: &Option<(K, V)>,
     f: &mut F,
-) -> Result<Option<(K, V)>, MapRefused>
+) -> Option<(K, V)>
     requires callable { F.IsAlwaysCallable f.old }
     requires holds { HoldsPairs (of_key K.bytes) P store.old root.old len.old
         (pairs_at store.old root.old) }
@@ -66,12 +70,12 @@ fn take_refused<K: AsBytes + Drop, V: Drop, const P: usize, F: FnMut(&K, &V) -> 
         (pairs_at store.old root.old) result f.new store.new root.new len.new }
 {
     let Some(name) = *root else {
-        return Ok(None);
+        return None;
     };
     let Some(point) = find_refused(store, name, *len, last, f) else {
-        return Ok(None);
+        return None;
     };
-    take_out(store, root, len, name, point)
+    Some(take_out(store, root, len, name, point))
 }
 
 // The point of the first pair after another one of which the closure returns false.

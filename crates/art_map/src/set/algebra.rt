@@ -1,15 +1,16 @@
 //! What two sets have together. All walks are in the order of the keys' bytes.
-ghost use Rattle.std.specs.Prelude.{◌≡◌, length, drop};
+ghost use Rattle.std.specs.Prelude.{◌≡◌, ℕ, cond, not, ◌&&◌, ◌||◌, List, length, drop, IfSome, ⊤};
 ghost use Rattle.std.specs.Iterator.{at_most};
 ghost use Rattle.std.specs.Set.{sorted_merge};
-ghost use Rattle.art_model.specs.Pairs.{has_key};
+ghost use Rattle.art_model.specs.Pairs.{IsMap, has_key};
 ghost use Rattle.art_map.specs.MapItems.{ShowsFirst};
-ghost use Rattle.art_map.specs.SetAlgebra.{byte_order, difference, intersection, is_disjoint, is_subset, selected, symmetric_difference, union};
+ghost use Rattle.art_map.specs.SetAlgebra.{IsSum, byte_order, difference, intersection, is_disjoint, is_subset, selected, symmetric_difference, union};
 
 use super::ByteSet;
 use crate::map::{KeysOf, Leaves};
 use art_nodes::node::AsBytes;
 use art_nodes::store::NodeStore;
+use std::alloc::AllocError;
 use std::cmp::Ordering;
 use std::iter::FusedIterator;
 use std::marker::Model;
@@ -90,6 +91,26 @@ impl<K: AsBytes + Drop, const P: usize> ByteSet<K, P> {
     }
 }
 
+/// Which keys two sets have together: their union has the keys of either, their intersection those of
+/// both, their difference those of the first that the second lacks, and their symmetric difference
+/// those of just one.
+pub fn keys_of_two_sets<K: AsBytes>()
+    ensures union { (keys others : List K) (key : List ℕ) →
+        has_key K.bytes key (union K.bytes keys others) ≡
+        (has_key K.bytes key keys || has_key K.bytes key others) }
+    ensures intersection { (keys others : List K) (key : List ℕ) →
+        has_key K.bytes key (intersection K.bytes keys others) ≡
+        (has_key K.bytes key keys && has_key K.bytes key others) }
+    ensures difference { (keys others : List K) (key : List ℕ) →
+        has_key K.bytes key (difference K.bytes keys others) ≡
+        (has_key K.bytes key keys && not (has_key K.bytes key others)) }
+    ensures symmetric_difference { (keys others : List K) →
+        IsMap K.bytes keys → IsMap K.bytes others → (key : List ℕ) →
+        has_key K.bytes key (symmetric_difference K.bytes keys others) ≡
+        cond (has_key K.bytes key keys) (not (has_key K.bytes key others))
+        (has_key K.bytes key others) }
+{}
+
 /// A set in which keys are looked up.
 pub trait HasKey<K> {
     ghost use Rattle.std.specs.Prelude.{Bool};
@@ -140,6 +161,20 @@ impl<'a, K, S: Leaves<K, ()>, O: HasKey<K>> Model for SelectedOf<'a, K, S, O> {
     ghost use Rattle.art_map.specs.SetAlgebra.{selected};
 
     ghost view = { λ m. selected (O.has m.other.now) m.wanted m.keys };
+}
+
+impl<'a, K, S: Leaves<K, ()>, O: HasKey<K>> Clone for SelectedOf<'a, K, S, O> {
+    ghost is_clone = { λ iterator copy. copy ≡ iterator };
+
+    ghost is_infallible = { λ iterator. ⊤ };
+
+    fn clone(&self) -> Result<Self, AllocError> {
+        Ok(SelectedOf {
+            keys: self.keys.clone()?,
+            other: self.other,
+            wanted: self.wanted,
+        })
+    }
 }
 
 impl<'a, K, S: Leaves<K, ()>, O: HasKey<K>> Iterator for SelectedOf<'a, K, S, O> {
@@ -199,6 +234,19 @@ impl<'a, K, S: Leaves<K, ()>> Model for PeekedOf<'a, K, S> {
     ghost invariant = { λ m. IfNone m.head (m.rest ≡ []) };
 }
 
+impl<'a, K, S: Leaves<K, ()>> Clone for PeekedOf<'a, K, S> {
+    ghost is_clone = { λ keys copy. copy ≡ keys };
+
+    ghost is_infallible = { λ keys. ⊤ };
+
+    fn clone(&self) -> Result<Self, AllocError> {
+        Ok(PeekedOf {
+            head: self.head,
+            rest: self.rest.clone()?,
+        })
+    }
+}
+
 impl<'a, K, S: Leaves<K, ()>> PeekedOf<'a, K, S> {
     fn new(rest: KeysOf<'a, K, (), S>) -> Self
         ensures { result ≡ rest.entry }
@@ -206,6 +254,16 @@ impl<'a, K, S: Leaves<K, ()>> PeekedOf<'a, K, S> {
         let mut rest = rest;
         let head = rest.next();
         PeekedOf { head, rest }
+    }
+
+    // Returns how many keys are left, if that fits.
+    fn count(&self) -> Option<usize>
+        ensures { IfSome result (λ count. count ≡ length self.now) }
+    {
+        match self.head {
+            Some(_) => self.rest.len().checked_add(1),
+            None => Some(self.rest.len()),
+        }
     }
 
     fn peek(&self) -> Option<&'a K>
@@ -258,6 +316,20 @@ impl<'a, K: AsBytes, S: Leaves<K, ()>> Model for MergedOf<'a, K, S> {
     ghost view = { λ m. sorted_merge (byte_order K.bytes) m.keeps_equal m.left m.right };
 }
 
+impl<'a, K: AsBytes, S: Leaves<K, ()>> Clone for MergedOf<'a, K, S> {
+    ghost is_clone = { λ iterator copy. copy ≡ iterator };
+
+    ghost is_infallible = { λ iterator. ⊤ };
+
+    fn clone(&self) -> Result<Self, AllocError> {
+        Ok(MergedOf {
+            left: self.left.clone()?,
+            right: self.right.clone()?,
+            keeps_equal: self.keeps_equal,
+        })
+    }
+}
+
 impl<'a, K: AsBytes, S: Leaves<K, ()>> Iterator for MergedOf<'a, K, S> {
     type Item = &'a K;
 
@@ -268,9 +340,23 @@ impl<'a, K: AsBytes, S: Leaves<K, ()>> Iterator for MergedOf<'a, K, S> {
     fn next(&mut self) -> Option<&'a K> {
         next_merged(&mut self.left, &mut self.right, self.keeps_equal)
     }
+
+    fn size_hint(&self) -> (usize, Option<usize>) {
+        (0, sum(self.left.count(), self.right.count()))
+    }
 }
 
 impl<'a, K: AsBytes, S: Leaves<K, ()>> FusedIterator for MergedOf<'a, K, S> {}
+
+// Returns the sum of two numbers, where there are both and it fits.
+fn sum(a: Option<usize>, b: Option<usize>) -> Option<usize>
+    ensures { IfSome result (IsSum a b) }
+{
+    let (Some(a), Some(b)) = (a, b) else {
+        return None;
+    };
+    a.checked_add(b)
+}
 
 // The lesser one of the next keys. Where they are equal the first walk's, or the key after both.
 fn next_merged<'a, K: AsBytes, S: Leaves<K, ()>>(

@@ -1,7 +1,7 @@
 //! Drawn calls of a map beside the same ones of a `BTreeMap`. The keys have one length, so that none is
 //! a prefix of another.
 use super::calls::Removal;
-use art_operations::map::{ByteMap, MapRefused};
+use art_operations::map::ByteMap;
 use art_test_support::expected::as_expected;
 use art_test_support::numbers::Numbers;
 use std::alloc::Global;
@@ -38,20 +38,12 @@ fn pair_with(key: Key, value: Option<u32>) -> Option<(Key, u32)> {
     Some((key, value?))
 }
 
-// Whether a removal returned this pair.
-fn is_answered(answer: Result<Option<(Key, u32)>, MapRefused>, pair: Option<(Key, u32)>) -> bool {
-    match answer {
-        Ok(own) => own == pair,
-        Err(MapRefused) => false,
-    }
-}
-
 // A removal from both, and whether they return the same.
-fn agree_on_removal(map: &mut Map, model: &mut BTreeMap<Key, u32>, removal: Removal<Key>) -> bool {
+pub(super) fn agree_on_removal(map: &mut Map, model: &mut Model, removal: Removal<Key>) -> bool {
     match removal {
-        Removal::Key(key) => is_answered(map.remove(&key), pair_with(key, model.remove(&key))),
-        Removal::First => is_answered(map.pop_first(), model.pop_first()),
-        Removal::Last => is_answered(map.pop_last(), model.pop_last()),
+        Removal::Key(key) => map.remove(&key).unwrap() == pair_with(key, model.remove(&key)),
+        Removal::First => map.pop_first().unwrap() == model.pop_first(),
+        Removal::Last => map.pop_last().unwrap() == model.pop_last(),
     }
 }
 
@@ -275,9 +267,9 @@ fn fill_both(map: &mut Map, model: &mut Model, numbers: &mut Numbers) -> bool {
 
 // Whether as many pairs stay that pass a test, and they are the same ones.
 fn agree_on_retained(map: &mut Map, model: &mut Model, rest: u32) -> bool {
-    let retained = map.retain(|key, value| value.wrapping_add(key[1] as u32) % 5 != rest);
+    map.retain(|key, value| value.wrapping_add(key[1] as u32) % 5 != rest);
     model.retain(|key, value| value.wrapping_add(key[1] as u32) % 5 != rest);
-    retained.is_ok() && agree_on_pairs(map, model)
+    agree_on_pairs(map, model)
 }
 
 // Whether they are the same once each value was changed by the sum of those before it.

@@ -25,10 +25,10 @@ fn are_same<T: PartialEq + Drop>(own: Option<T>, other: Option<T>) -> bool {
 // A change of both, and whether they return the same.
 fn agree_on_change(set: &mut Set, model: &mut Model, key: Key, call: usize) -> bool {
     match call {
-        0 => set.remove(&key).ok() == Some(model.remove(&key)),
-        1 => set.take(&key).ok() == Some(model.take(&key)),
-        2 => set.pop_first().ok() == Some(model.pop_first()),
-        3 => set.pop_last().ok() == Some(model.pop_last()),
+        0 => set.remove(&key) == model.remove(&key),
+        1 => set.take(&key) == model.take(&key),
+        2 => set.pop_first() == model.pop_first(),
+        3 => set.pop_last() == model.pop_last(),
         4 => are_same(set.replace(key).ok(), model.replace(key).ok()),
         _ => are_same(set.insert(key).ok(), model.insert(key).ok()),
     }
@@ -108,7 +108,21 @@ fn agree_on_walks(set: &Set, other: &Set, model: &Model, beside: &Model) -> bool
         set.difference(other).eq(model.difference(beside)),
         of_one.eq(of_the_model),
     ];
-    agree == [true; 4]
+    agree == [true; 4] && agree_on_copies(set, other)
+}
+
+// Whether a copy of what two sets have together goes on by itself, from as many keys at most as they have.
+fn agree_on_copies(set: &Set, other: &Set) -> bool {
+    let (mut all, both) = (set.union(other), set.intersection(other));
+    let hint = all.size_hint() == (0, set.len().checked_add(other.len()));
+    all.next();
+    let Ok(rest) = all.clone() else {
+        return false;
+    };
+    let Ok(copy) = both.clone() else {
+        return false;
+    };
+    hint && rest.eq(all) && copy.eq(both)
 }
 
 // Whether two sets compare in the same way.
@@ -123,9 +137,9 @@ fn agree_on_order(set: &Set, other: &Set, model: &Model, beside: &Model) -> bool
 
 // Whether the same keys stay of both, of which one in five goes.
 fn agree_on_retained(set: &mut Set, model: &mut Model, rest: u8) -> bool {
-    let retained = set.retain(|key| key[1] % 5 != rest);
+    set.retain(|key| key[1] % 5 != rest);
     model.retain(|key| key[1] % 5 != rest);
-    retained.is_ok() && agree_on_keys(set, model)
+    agree_on_keys(set, model)
 }
 
 // The number of the first change after which they differ, if they do.

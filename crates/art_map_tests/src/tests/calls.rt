@@ -1,5 +1,5 @@
 //! Calls of a map with keys of one byte.
-use art_operations::map::{ByteMap, MapIter, MapRefused};
+use art_operations::map::{ByteMap, MapIter};
 use art_test_support::expected::as_expected;
 use std::alloc::Global;
 use std::test::Fail;
@@ -36,21 +36,18 @@ pub enum Removal<K> {
 }
 
 /// Removes a pair.
-pub fn remove(
-    map: &mut Map,
-    removal: Removal<[u8; 1]>,
-) -> Result<Option<([u8; 1], u32)>, MapRefused> {
+pub fn remove(map: &mut Map, removal: Removal<[u8; 1]>) -> Option<([u8; 1], u32)> {
     match removal {
-        Removal::Key(key) => map.remove(&key),
-        Removal::First => map.pop_first(),
-        Removal::Last => map.pop_last(),
+        Removal::Key(key) => map.remove(&key).unwrap(),
+        Removal::First => map.pop_first().unwrap(),
+        Removal::Last => map.pop_last().unwrap(),
     }
 }
 
 // Whether a map was filled, the pair that a removal returns then, and how many are left.
 fn removed(map: &mut Map, removal: Removal<[u8; 1]>) -> (bool, Option<([u8; 1], u32)>, usize) {
     let filled = fill(map);
-    let pair = remove(map, removal).ok().flatten();
+    let pair = remove(map, removal);
     (filled, pair, map.len())
 }
 
@@ -176,7 +173,7 @@ fn a_map_is_printed_in_order(rt: HostRuntime) -> Result<(), Fail> {
 // Two values of a clone, and how many pairs it has once one was taken out of it.
 fn changed(copy: &mut Map) -> ([Option<u32>; 2], usize) {
     let values = [copy.get(&[1]).copied(), copy.get(&[5]).copied()];
-    let is_removed = remove(copy, Removal::Key([1])).is_ok();
+    let is_removed = remove(copy, Removal::Key([1])).is_some();
     (values, if is_removed { copy.len() } else { 0 })
 }
 
@@ -213,9 +210,7 @@ fn a_clone_of_many_goes_its_own_way(rt: HostRuntime) -> Result<(), Fail> {
 // Takes the keys from 6 to 60 out, and says whether five are left.
 fn empty_most(map: &mut Map) -> bool {
     for byte in 6..61u8 {
-        if map.remove(&[byte]).is_err() {
-            return false;
-        }
+        drop(map.remove(&[byte]));
     }
     map.len() == 5
 }

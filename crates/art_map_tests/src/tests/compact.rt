@@ -53,7 +53,7 @@ fn changed(map: &mut Map) -> (bool, Option<([u8; 1], u32)>, [[u32; 2]; 2]) {
     fill_unsorted(map);
     let is_compact = map.compact().is_ok();
     let is_new = matches!(map.insert([5], 5), Ok(None));
-    let gone = remove(map, Removal::Key([7])).ok().flatten();
+    let gone = remove(map, Removal::Key([7]));
     let before = digits(map);
     let is_right = is_compact && is_new && map.compact().is_ok();
     (is_right, gone, [before, digits(map)])

@@ -1,6 +1,6 @@
 //! Calls without memory.
 use super::calls::{Map, Removal, fill, fill_many, remove, value_of};
-use art_operations::map::{ByteMap, MapInsertError, MapRefused};
+use art_operations::map::{ByteMap, MapInsertError};
 use art_test_support::expected::{as_expected, same};
 use art_test_support::memory::{all_memory, begin_refusals, end_refusals};
 use std::alloc::Global;
@@ -64,15 +64,12 @@ fn refused_each_first_insertion_hands_the_pair_back(rt: HostRuntime) -> Result<(
     Ok(())
 }
 
-// Whether a removal of the pair of this byte, or else its refusal, left the map as it has to be.
-fn is_right(map: &mut Map, removal: Removal<[u8; 1]>, byte: u8) -> bool {
+// Whether a removal returns the pair of this byte, which the map no longer has.
+fn is_removed(map: &mut Map, removal: Removal<[u8; 1]>, byte: u8) -> bool {
     let before = map.len();
-    match remove(map, removal) {
-        Ok(pair) => pair == Some(([byte], byte as u32))
-            && map.len().saturating_add(1) == before
-            && !map.contains_key(&[byte]),
-        Err(MapRefused) => map.len() == before && map.contains_key(&[byte]),
-    }
+    remove(map, removal) == Some(([byte], byte as u32))
+        && map.len().saturating_add(1) == before
+        && !map.contains_key(&[byte])
 }
 
 // What calls that ask for no memory return in a map of five pairs, of which the third gets its value again.
@@ -88,18 +85,18 @@ fn answers(map: &mut Map) -> ([Option<u32>; 3], bool) {
     (values, matches!(map.insert_over([3], 3), Ok(1)))
 }
 
-// The same while there is no memory, and whether removals are right then.
+// The same while every allocation fails, and whether pairs are removed then.
 fn starve(alloc: Global, map: &mut Map) -> Option<([Option<u32>; 3], [bool; 4])> {
     let held = all_memory(alloc).ok()?;
     let (values, is_over) = answers(map);
-    let are_right = [
+    let are_made = [
         is_over,
-        is_right(map, Removal::Key([3]), 3),
-        is_right(map, Removal::First, 1),
-        is_right(map, Removal::Last, 5),
+        is_removed(map, Removal::Key([3]), 3),
+        is_removed(map, Removal::First, 1),
+        is_removed(map, Removal::Last, 5),
     ];
     drop(held);
-    Some((values, are_right))
+    Some((values, are_made))
 }
 
 // Whether a map was filled, and the same of it.
@@ -108,7 +105,7 @@ fn starve_filled(alloc: Global, map: &mut Map) -> (bool, Option<([Option<u32>; 3
 }
 
 #[test]
-fn without_memory_calls_are_right_or_refused(rt: HostRuntime) -> Result<(), Fail> {
+fn without_memory_pairs_are_found_and_removed(rt: HostRuntime) -> Result<(), Fail> {
     let seen = starve_filled(rt.alloc(), &mut ByteMap::new(rt.alloc()));
     let values = [Some(3), Some(3), Some(5)];
     as_expected(Some((seen, (true, Some((values, [true; 4]))))))
@@ -194,28 +191,39 @@ fn crowd_deep(map: &mut Deep) -> bool {
     false
 }
 
-// Whether an insertion is refused while there is no memory, and then removals that ask for a smaller node, of a key and
-// of all below a prefix; and whether these leave the map as it was.
-fn starve_deep(alloc: Global, map: &mut Deep) -> Option<[bool; 4]> {
+// Whether the pair of the fifth first byte is taken out, by its key or with all below its first byte.
+fn take_fifth(map: &mut Deep, is_whole: bool) -> bool {
+    if is_whole {
+        map.remove_prefix(&[5]) == 1
+    } else {
+        matches!(map.remove(&[5, 2, 0, 0, 0]), Ok(Some((_, 7))))
+    }
+}
+
+// Whether an insertion is refused while there is no memory, and then a removal for which a smaller node is placed is
+// made.
+fn starve_deep(alloc: Global, map: &mut Deep, is_whole: bool) -> Option<[bool; 3]> {
     let held = all_memory(alloc).ok()?;
     let is_full = crowd_deep(map);
     let before = map.len();
-    let is_refused = map.remove(&[5, 2, 0, 0, 0]).is_err();
-    let is_prefix_refused = map.remove_prefix(&[5]) == Err(MapRefused);
+    let is_taken = take_fifth(map, is_whole);
     drop(held);
-    let is_kept = map.len() == before && map.get(&[5, 2, 0, 0, 0]).copied() == Some(7);
-    Some([is_full, is_refused, is_prefix_refused, is_kept])
+    let is_gone = map.len().saturating_add(1) == before && !map.contains_key(&[5, 2, 0, 0, 0]);
+    Some([is_full, is_taken, is_gone])
 }
 
 // Whether a deep map was filled, and the same of it.
-fn starve_filled_deep(alloc: Global, map: &mut Deep) -> (bool, Option<[bool; 4]>) {
-    (fill_deep(map), starve_deep(alloc, map))
+fn starve_filled_deep(alloc: Global, map: &mut Deep, is_whole: bool) -> (bool, Option<[bool; 3]>) {
+    (fill_deep(map), starve_deep(alloc, map, is_whole))
 }
 
 #[test]
-fn without_memory_a_shrinking_removal_is_refused(rt: HostRuntime) -> Result<(), Fail> {
-    let seen = starve_filled_deep(rt.alloc(), &mut ByteMap::new(rt.alloc()));
-    as_expected(Some((seen, (true, Some([true; 4])))))
+fn without_memory_a_shrinking_removal_is_made(rt: HostRuntime) -> Result<(), Fail> {
+    for is_whole in [false, true] {
+        let seen = starve_filled_deep(rt.alloc(), &mut ByteMap::new(rt.alloc()), is_whole);
+        as_expected(Some((seen, (true, Some([true; 3])))))?;
+    }
+    Ok(())
 }
 
 fn is_clone_refused(map: &Map) -> bool {

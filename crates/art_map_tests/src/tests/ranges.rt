@@ -55,6 +55,27 @@ fn seen(mut part: Range<'_, Key, u32, 1>) -> Seen
     (ends, part.count())
 }
 
+// How many pairs a part says that it has at most, before its first pair and after it.
+fn hints(mut part: Range<'_, Key, u32, 1>) -> [(usize, Option<usize>); 2] {
+    let before = part.size_hint();
+    part.next();
+    [before, part.size_hint()]
+}
+
+// Whether a map was filled, and what two of its parts say.
+fn bounded(map: &mut Map) -> (bool, [[(usize, Option<usize>); 2]; 2]) {
+    let filled = fill(map);
+    (filled, [hints(map.prefix(&[])), hints(map.prefix(&[1, 2]))])
+}
+
+#[test]
+fn a_part_has_at_most_the_pairs_that_are_left(rt: HostRuntime) -> Result<(), Fail> {
+    let whole = [(0, Some(7)), (0, Some(6))];
+    let empty = [(0, Some(7)), (0, Some(7))];
+    let seen = bounded(&mut ByteMap::new(rt.alloc()));
+    as_expected(Some((seen, (true, [whole, empty]))))
+}
+
 // Whether a map was filled, and what is below some prefixes.
 fn below(map: &mut Map) -> (bool, [Seen; 6]) {
     let filled = fill(map);
@@ -145,13 +166,13 @@ fn pairs_next_to_a_bound_are_found(rt: HostRuntime) -> Result<(), Fail> {
 
 // Whether a map was filled, how many pairs went with each of some prefixes, and the values that are left at
 // both ends.
-fn removed(map: &mut Map) -> (bool, [Option<usize>; 4], [Option<u32>; 2]) {
+fn removed(map: &mut Map) -> (bool, [usize; 4], [Option<u32>; 2]) {
     let filled = fill(map);
     let counts = [
-        map.remove_prefix(&[1, 1, 3]).ok(),
-        map.remove_prefix(&[1, 1, 3]).ok(),
-        map.remove_prefix(&[2, 5, 5, 5, 0]).ok(),
-        map.remove_prefix(&[3, 9, 0, 0]).ok(),
+        map.remove_prefix(&[1, 1, 3]),
+        map.remove_prefix(&[1, 1, 3]),
+        map.remove_prefix(&[2, 5, 5, 5, 0]),
+        map.remove_prefix(&[3, 9, 0, 0]),
     ];
     let ends = [
         value_of(map.iter().next()),
@@ -162,11 +183,7 @@ fn removed(map: &mut Map) -> (bool, [Option<usize>; 4], [Option<u32>; 2]) {
 
 #[test]
 fn pairs_below_a_prefix_go(rt: HostRuntime) -> Result<(), Fail> {
-    let expected = (
-        true,
-        [Some(2), Some(0), Some(0), Some(1)],
-        [Some(0), Some(5)],
-    );
+    let expected = (true, [2, 0, 0, 1], [Some(0), Some(5)]);
     as_expected(Some((removed(&mut ByteMap::new(rt.alloc())), expected)))
 }
 
@@ -343,7 +360,7 @@ fn agree_on_drawn(
 fn agree_on_removal_below(map: &mut Map, model: &mut BTreeMap<Key, u32>, prefix: &[u8]) -> bool {
     let before = model.len();
     model.retain(|key, _| !key.starts_with(prefix));
-    map.remove_prefix(prefix) == Ok(before.saturating_sub(model.len()))
+    map.remove_prefix(prefix) == before.saturating_sub(model.len())
 }
 
 // A change of both, and whether they return the same.
@@ -359,14 +376,14 @@ fn agree_on_change(
         return map.insert(key, value).is_ok() == model.insert(key, value).is_ok();
     }
     let taken = match numbers.below(5) {
-        0 => map.pop_first(),
-        1 => map.pop_last(),
+        0 => map.pop_first().unwrap(),
+        1 => map.pop_last().unwrap(),
         2 => map.pop_first_below(&key[..2]),
         3 => return agree_on_removal_below(map, model, &key[..3 + numbers.below(2)]),
-        _ => map.remove(&key),
+        _ => map.remove(&key).unwrap(),
     };
-    let Ok(Some(pair)) = taken else {
-        return taken.is_ok();
+    let Some(pair) = taken else {
+        return true;
     };
     let taken_key = pair.0;
     model.remove(&taken_key).is_some()

@@ -7,9 +7,9 @@ ghost use Rattle.art_parts.specs.Kinds.{kind_capacity};
 ghost use Rattle.art_inner.specs.InnerChanges.{with_child, without_child};
 ghost use Rattle.art_inner.specs.Inner.{HasPlace, remove_child};
 ghost use Rattle.art_inner.specs.Views.{ref_view};
-ghost use Rattle.art_nodes.specs.Replacing.{IsMadeOf};
+ghost use Rattle.art_nodes.specs.Replacing.{IsMadeOf, IsOneFewer, IsOneMore};
 
-use super::{InnerSlabs, NodeStore};
+use super::{InnerSlabs, NodeStore, is_promised};
 use crate::node::{AsBytes, Header, InnerNode, InnerPtr, InnerRef, NodeType, OpaqueNodePtr};
 use art_inner::resized::{Grows, Shrinks};
 use slab::Slab;
@@ -31,6 +31,7 @@ impl<const P: usize> InnerSlabs<P> {
             map.insert (map.remove (inners_of self.old) name) result (with_child byte child node)) }
         ensures kind { result.kind ≡ larger_kind name.kind }
         ensures fresh { map.get (inners_of self.old) result ≡ None }
+        ensures rooms { HasInnerRoom self.new None }
     {
         match name.kind {
             NodeType::Node4 => grow(&mut self.node4, &mut self.node16, name.slot, byte, child),
@@ -45,11 +46,13 @@ impl<const P: usize> InnerSlabs<P> {
         requires kind { name.kind ≢ Node4 }
         requires fit { IsSomeAnd (map.get (inners_of self.old) name) (λ node.
             length (without_child byte node).children ≤ kind_capacity (smaller_kind name.kind)) }
-        requires room { HasInnerRoom self.old (Some (smaller_kind name.kind)) }
+        requires room { HasInnerRoom self.old None }
         ensures nodes { IsSomeAnd (map.get (inners_of self.old) name) (λ node. inners_of self.new ≡
             map.insert (map.remove (inners_of self.old) name) result (without_child byte node)) }
         ensures kind { result.kind ≡ smaller_kind name.kind }
         ensures fresh { map.get (inners_of self.old) result ≡ None }
+        ensures rooms { (kind : Option NodeType) →
+            HasInnerRoom self.old kind → HasInnerRoom self.new kind }
     {
         match name.kind {
             NodeType::Node16 => shrink(&mut self.node16, &mut self.node4, name.slot, byte),
@@ -93,6 +96,8 @@ fn grow<N: Grows<P>, const P: usize>(
     ensures put { IsSomeAnd (slab.get from.old slot) (λ node. IsMadeOf N.Larger.view_of
         to.old to.new result.slot (with_child byte child (N.view_of node))) }
     ensures kind { result.kind ≡ N.Larger.TYPE }
+    ensures fewer { IsOneFewer from.old from.new }
+    ensures more { IsOneMore to.old to.new }
 {
     let mut node = from.remove(slot).grown();
     node.write_child(byte, child);
@@ -118,6 +123,8 @@ fn shrink<N: Shrinks<P>, const P: usize>(
     ensures put { IsSomeAnd (slab.get from.old slot) (λ node. IsMadeOf N.Smaller.view_of
         to.old to.new result.slot (without_child byte (N.view_of node))) }
     ensures kind { result.kind ≡ N.Smaller.TYPE }
+    ensures fewer { IsOneFewer from.old from.new }
+    ensures more { IsOneMore to.old to.new }
 {
     let mut node = from.remove(slot);
     node.remove_child(byte);
@@ -132,7 +139,7 @@ fn shrink<N: Shrinks<P>, const P: usize>(
 fn drop_from<T: Drop>(slab: &mut Slab<T>, slot: usize)
     requires { ContainsKey slab.old slot }
     ensures updates { Updates slab.old slab.new slot None }
-    ensures room { HasRoomFor slab.new 1 }
+    ensures fewer { IsOneFewer slab.old slab.new }
 {
     slab.remove(slot);
 }
@@ -141,16 +148,16 @@ impl<K: AsBytes + Drop, V: Drop, const P: usize> NodeStore<K, V, P> {
     ghost use Rattle.std.specs.FinMap as map;
     ghost use Rattle.art_inner.specs.Inner.{childless};
     ghost use Rattle.art_parts.specs.Kinds.{smaller_kind};
-    ghost use Rattle.art_nodes.specs.Nodes.{promises, take_inner};
+    ghost use Rattle.art_nodes.specs.Nodes.{take_inner};
     ghost use Rattle.art_parts.specs.declared.names.NodeType.TheVariants.{Node4};
 
-    /// Takes an inner node out, and places one of the next smaller kind without the child under a
-    /// byte, as promised.
+    /// Replaces an inner node by one of the next smaller kind, without the child under a byte. It never fails: the store
+    /// keeps a slot for it, as it does for each larger node. A promise of another kind is void afterwards, as after a
+    /// placement.
     pub fn put_smaller(&mut self, inner: InnerPtr, byte: u8) -> InnerPtr
         requires kind { inner.kind ≢ Node4 }
         requires fit { IsSomeAnd (map.get self.old.inners inner) (λ node.
             length (without_child byte node).children ≤ kind_capacity (smaller_kind inner.kind)) }
-        requires promised { IsTrue (promises self.old.promise.inner (smaller_kind inner.kind)) }
         ensures inners { IfSome (map.get self.old.inners inner) (λ node. self.new.inners ≡
             map.insert (map.remove self.old.inners inner) result (without_child byte node)) }
         ensures kind { result.kind ≡ smaller_kind inner.kind }
@@ -158,8 +165,12 @@ impl<K: AsBytes + Drop, V: Drop, const P: usize> NodeStore<K, V, P> {
         ensures leaves { self.new.leaves ≡ self.old.leaves }
         ensures promise { self.new.promise ≡ take_inner (smaller_kind inner.kind) self.old.promise }
     {
+        let smaller = self.inners.put_smaller(inner, byte);
+        if !is_promised(self.promised_inner, smaller.kind) {
+            self.promised_leaves = 0;
+        }
         self.promised_inner = None;
-        self.inners.put_smaller(inner, byte)
+        smaller
     }
 
     /// Takes an inner node of two children out, and returns its header, and the child that is not

@@ -1,5 +1,5 @@
 //! The leaves move to slots in the order of their links.
-ghost use Rattle.std.specs.Prelude.{◌≡◌, ℕ, ◌≤◌, List, [], length, Some, None, OnOk, OnErr};
+ghost use Rattle.std.specs.Prelude.{◌≡◌, ℕ, ◌≤◌, List, [], length, Option, Some, None, OnOk, OnErr};
 ghost use Rattle.std.specs.Option.{option_map};
 ghost use Rattle.slab.specs.Slab as slab;
 ghost use Rattle.slab.specs.Slab.{HasRoomFor, slab_len};
@@ -49,13 +49,16 @@ impl<K: AsBytes + Drop, V: Drop, const P: usize> NodeStore<K, V, P> {
 
 impl<const P: usize> InnerSlabs<P> {
     ghost use Rattle.std.specs.FinMap as map;
-    ghost use Rattle.art_nodes.specs.StoreView.{inners_of};
+    ghost use Rattle.art_nodes.specs.StoreView.{HasInnerRoom, inners_of};
     ghost use Rattle.art_parts.specs.declared.names.InnerPtr.{InnerPtr};
+    ghost use Rattle.art_parts.specs.declared.names.NodeType.{NodeType};
 
     // Gives the leaves among the children of all nodes the names that a table has for them.
     fn rename_leaves(&mut self, table: &[usize])
-        ensures { (name : InnerPtr) → map.get (inners_of self.new) name ≡
+        ensures nodes { (name : InnerPtr) → map.get (inners_of self.new) name ≡
             option_map (inner_renamed (new_name table.now)) (map.get (inners_of self.old) name) }
+        ensures rooms { (kind : Option NodeType) →
+            HasInnerRoom self.old kind → HasInnerRoom self.new kind }
     {
         rename_children(&mut self.node4, table);
         rename_children(&mut self.node16, table);
@@ -110,9 +113,11 @@ fn rename_beside<K, V>(leaf: &mut LeafNode<K, V>, table: &[usize])
 
 // Gives the leaves among the children of the nodes of a kind the names that a table has for them.
 fn rename_children<N: InnerNode<P>, const P: usize>(nodes: &mut Slab<N>, table: &[usize])
-    ensures { (slot : ℕ) → option_map N.view_of (slab.get nodes.new slot) ≡
+    ensures renamed { (slot : ℕ) → option_map N.view_of (slab.get nodes.new slot) ≡
         option_map (λ node. inner_renamed (new_name table.now) (N.view_of node))
         (slab.get nodes.old slot) }
+    ensures len { slab_len nodes.new ≡ slab_len nodes.old }
+    ensures capacity { nodes.new.capacity ≡ nodes.old.capacity }
 {
     for slot in 0..nodes.capacity() {
         if let Some(node) = nodes.get_mut(slot) {

@@ -12,9 +12,13 @@ use art_operations::lookup::{
     PrefixMatchBehavior, Visits, prefix_search_visiting, search_visiting,
 };
 use art_operations::path::{AttemptOptimisticPrefixMatch, PessimisticMismatch};
+use art_operations::range::{
+    first_from_visiting, last_up_to_visiting, prefix_visiting, range_visiting,
+};
 use art_test_support::expected::same;
 use art_test_support::trees::{Key, keys_of_zeros, planted_all, planted_keys, value_of};
 use std::alloc::Global;
+use std::ops::Bound;
 use std::test::Fail;
 use uses::{get, longest_match};
 
@@ -382,4 +386,76 @@ fn compares_a_leaf_from_the_depth_on_or_whole(rt: HostRuntime) -> Result<(), Fai
         [true, false, true, false, false],
     );
     same((equal_to_leaf(), front_is_leaf()), wanted)
+}
+
+// Three keys, whose tree has prefixes of five bytes at two levels.
+static TWO_LEVELS: [&[u8]; 3] = [
+    &[1, 1, 1, 1, 1, 5],
+    &[1, 1, 1, 1, 1, 6, 2, 2, 2, 2, 2, 7],
+    &[1, 1, 1, 1, 1, 6, 2, 2, 2, 2, 2, 8],
+];
+
+// What the searches for the leaf at a bound find, and how many readings they count: from the third key on, and before the
+// second one.
+fn readings_to_bounds<const P: usize>(
+    store: &NodeStore<Key, u32, P>,
+    root: OpaqueNodePtr,
+) -> [(Option<u32>, usize); 2]
+    requires { IsCanonicalRoot (of_key (λ key. key.items)) P store.now root }
+{
+    let (mut of_first, mut of_last) = (Visits::new(), Visits::new());
+    let from = Bound::Included(TWO_LEVELS[2]);
+    let first = first_from_visiting(store, root, from, &mut of_first);
+    let to = Bound::Excluded(TWO_LEVELS[1]);
+    let last = last_up_to_visiting(store, root, to, &mut of_last);
+    [
+        (
+            first.and_then(|leaf| value_of(store, leaf)),
+            of_first.count(),
+        ),
+        (last.and_then(|leaf| value_of(store, leaf)), of_last.count()),
+    ]
+}
+
+// How many readings are counted of the searches for all keys from the first one on, and for those with a prefix.
+fn readings_of_parts<const P: usize>(
+    store: &NodeStore<Key, u32, P>,
+    root: OpaqueNodePtr,
+) -> [usize; 2]
+    requires { IsCanonicalRoot (of_key (λ key. key.items)) P store.now root }
+{
+    let (mut of_range, mut of_prefix) = (Visits::new(), Visits::new());
+    let from = Bound::Included(TWO_LEVELS[0]);
+    let _ = range_visiting(store, root, from, Bound::Unbounded, &mut of_range);
+    let _ = prefix_visiting(store, root, &[1, 1, 1], &mut of_prefix);
+    [of_range.count(), of_prefix.count()]
+}
+
+type Ranged = ([(Option<u32>, usize); 2], [usize; 2]);
+
+// The same in the tree of the three keys.
+fn readings_of_ranges<const P: usize>(store: &mut NodeStore<Key, u32, P>) -> Option<Ranged> {
+    let root = planted_all(store, &TWO_LEVELS).ok()??;
+    Some((
+        readings_to_bounds(store, root),
+        readings_of_parts(store, root),
+    ))
+}
+
+fn readings_of_ranges_with<const P: usize>(alloc: Global) -> Option<Ranged>
+    requires { P < 256 }
+{
+    readings_of_ranges::<P>(&mut NodeStore::new(alloc))
+}
+
+// The descent to the guide leaf and each reading of it are counted.
+#[test]
+fn counts_readings_of_ranges(rt: HostRuntime) -> Result<(), Fail> {
+    let seen = [
+        readings_of_ranges_with::<4>(rt.alloc()),
+        readings_of_ranges_with::<16>(rt.alloc()),
+    ];
+    let long = ([(Some(2), 7), (Some(0), 7)], [7, 5]);
+    let whole = ([(Some(2), 3), (Some(0), 3)], [5, 5]);
+    same(seen, [Some(long), Some(whole)])
 }

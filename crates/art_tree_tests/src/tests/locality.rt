@@ -334,15 +334,6 @@ fn a_root_grows_and_shrinks_through_every_kind(rt: HostRuntime) -> Result<(), Fa
     same(done, Some((256, 256, None, (0, 0))))
 }
 
-/// What came of a deletion.
-#[derive(Clone, Copy, PartialEq, Eq, Debug)]
-enum Deletion {
-    Made,
-    /// It was refused, and nothing was touched.
-    Refused,
-    Other,
-}
-
 /// How many keys there are below one node, and below another, and how many in a chain, of which each but one has a
 /// Node4 above it alone.
 #[derive(Clone, Copy)]
@@ -388,33 +379,23 @@ fn keys_of_groups(alloc: Global, groups: Groups) -> Result<Vec<Key>, AllocError>
 /// The deletion of [0, 2], where it is made.
 static THIRD: [Row<'static>; 1] = [(Asked::Delete(&[0, 2]), Told::Deleted(Some((&[0, 2], 2))))];
 
-/// The same where it is refused.
-static NO_THIRD: [Row<'static>; 1] = [(Asked::Delete(&[0, 2]), Told::NoMemory(None))];
-
-// What came of the deletion, by the reply to it and what it touched.
-fn deletion_told(replies: &[Reply<Key, u32>], touched: Touched) -> Deletion {
-    let is_touched = touched != (0, 0, 0);
-    if is_touched && first_wrong(replies, &THIRD).is_none() {
-        return Deletion::Made;
-    }
-    if !is_touched && first_wrong(replies, &NO_THIRD).is_none() {
-        return Deletion::Refused;
-    }
-    Deletion::Other
+// Whether the deletion was made, by the reply to it and what it touched.
+fn is_made(replies: &[Reply<Key, u32>], touched: Touched) -> bool {
+    touched != (0, 0, 0) && first_wrong(replies, &THIRD).is_none()
 }
 
-// Runs the deletion without memory, where the store had these nodes. Returns what came of it.
+// Runs the deletion without memory, where the store had these nodes. Returns whether it was made.
 fn delete_by<const P: usize>(
     store: &mut NodeStore<Key, u32, P>,
     second: &mut NodeStore<Key, u32, P>,
     root: OpaqueNodePtr,
     before: &[Seen],
-) -> Option<Deletion>
+) -> Option<bool>
     requires { HasTree P store.old (Some root) }
 {
     let asked = commands(store.alloc(), &THIRD).ok()?;
     match run_without_memory(store, second, Some(root), asked) {
-        Ok(done) => Some(deletion_told(&done.replies, count_touched(store, before))),
+        Ok(done) => Some(is_made(&done.replies, count_touched(store, before))),
         Err(_) => None,
     }
 }
@@ -424,7 +405,7 @@ fn deletion_in<const P: usize>(
     store: &mut NodeStore<Key, u32, P>,
     second: &mut NodeStore<Key, u32, P>,
     keys: Vec<Key>,
-) -> Option<Deletion> {
+) -> Option<bool> {
     let root = planted_keys(store, keys)?;
     match nodes_seen(store) {
         Ok(before) => delete_by(store, second, root, &before),
@@ -433,70 +414,37 @@ fn deletion_in<const P: usize>(
 }
 
 // The same in stores of its own.
-fn deletion_from(alloc: Global, groups: Groups) -> Option<Deletion> {
+fn deletion_from(alloc: Global, groups: Groups) -> Option<bool> {
     let keys = keys_of_groups(alloc, groups).ok()?;
     deletion_in::<4>(&mut NodeStore::new(alloc), &mut NodeStore::new(alloc), keys)
 }
 
-/// How many deletions of each of two kinds came out in which way.
-#[derive(Clone, Copy)]
-struct Deletions {
-    made_from_four: usize,
-    made_from_five: usize,
-    refused_from_five: usize,
-}
-
-impl Deletions {
-    // Counts what came of one deletion of each kind.
-    fn count(&mut self, from_four: Deletion, from_five: Deletion) {
-        if from_four == Deletion::Made {
-            self.made_from_four = self.made_from_four.saturating_add(1);
-        }
-        match from_five {
-            Deletion::Made => self.made_from_five = self.made_from_five.saturating_add(1),
-            Deletion::Refused => self.refused_from_five = self.refused_from_five.saturating_add(1),
-            Deletion::Other => {}
-        }
-    }
-}
-
-// Deletes the third key below a parent of four, which keeps its kind, and of five, which needs a smaller node, beside so
-// many others.
-fn delete_beside(counts: &mut Deletions, alloc: Global, others: u8, chained: usize) -> Option<()> {
+// Deletes the third key below a parent of four, which keeps its kind, and of five, which gives way to a smaller node, beside
+// so many others. Returns how many of both are made.
+fn delete_beside(alloc: Global, others: u8, chained: usize) -> Option<usize> {
     let five = Groups {
         count: 5,
         others,
         chained,
     };
     let from_four = deletion_from(alloc, Groups { count: 4, ..five })?;
-    counts.count(from_four, deletion_from(alloc, five)?);
-    Some(())
+    let from_five = deletion_from(alloc, five)?;
+    Some(usize::from(from_four).saturating_add(usize::from(from_five)))
 }
 
-// What came of these deletions, beside none to fifteen others each time, with no chain and with one of sixteen keys.
-fn count_deletions(alloc: Global) -> Option<Deletions> {
-    let mut counts = Deletions {
-        made_from_four: 0,
-        made_from_five: 0,
-        refused_from_five: 0,
-    };
+// How many of these deletions are made, beside none to fifteen others each time, with no chain and with one of sixteen
+// keys.
+fn count_deletions(alloc: Global) -> Option<usize> {
+    let mut made = 0usize;
     for chained in [0, 16] {
         for others in 0..16 {
-            delete_beside(&mut counts, alloc, others, chained)?;
+            made = made.saturating_add(delete_beside(alloc, others, chained)?);
         }
     }
-    Some(counts)
-}
-
-// How many deletions from four were made, how many from five were made or refused, and whether any was refused.
-fn deletions_told(alloc: Global) -> Option<(usize, usize, bool)> {
-    let counts = count_deletions(alloc)?;
-    let refused = counts.refused_from_five;
-    let from_five = counts.made_from_five.saturating_add(refused);
-    Some((counts.made_from_four, from_five, refused > 0))
+    Some(made)
 }
 
 #[test]
-fn without_memory_a_deletion_is_made_or_refused_whole(rt: HostRuntime) -> Result<(), Fail> {
-    same(deletions_told(rt.alloc()), Some((32, 32, true)))
+fn without_memory_a_deletion_is_made(rt: HostRuntime) -> Result<(), Fail> {
+    same(count_deletions(rt.alloc()), Some(64))
 }

@@ -1,12 +1,12 @@
 //! Delete points, applied.
-ghost use Rattle.std.specs.Prelude.{◌≡◌, ℕ, List, nat_lt, length, Some, IsOk, IsSome, IsTrue, IfOk, IfErr, IfSome, OnOk, OnErr};
+ghost use Rattle.std.specs.Prelude.{◌≡◌, ℕ, List, nat_lt, length, Some, IsOk, IsSome, IfOk, IfErr, IfSome, OnOk, OnErr};
 ghost use Rattle.std.specs.FinMap as map;
 ghost use Rattle.art_nodes.specs.Nodes.{no_promise};
 ghost use Rattle.art_model.specs.Apart.{KeepsApart};
 ghost use Rattle.art_model.specs.Canonical.{IsCanonical};
 ghost use Rattle.art_model.specs.Kept.{ChangesInPlace};
 ghost use Rattle.art_model.specs.Pairs.{first_of, last_of, of_key, remove_key, remove_reply, without_first, without_last};
-ghost use Rattle.art_model.specs.Promises.{is_covered, promise_after};
+ghost use Rattle.art_model.specs.Promises.{promise_after};
 ghost use Rattle.art_model.specs.Roots.{ForRoot, ForTree, IsCanonicalRoot};
 ghost use Rattle.art_model.specs.Stores.{pair_of};
 ghost use Rattle.art_writing.specs.Inserted.{unlinked_leaf};
@@ -14,7 +14,7 @@ ghost use Rattle.art_writing.specs.Deleted.{IsDeletePointIn, IsRootAfter, Touche
 ghost use Rattle.art_reading.specs.PathSteps.{last_step};
 ghost use Rattle.art_inner.specs.Views.{ref_kind, ref_view};
 ghost use Rattle.art_parts.specs.Kinds.{kind_least, next_smaller};
-ghost use Rattle.art_writing.specs.TakenOut.{IsLeafTaken, IsLetGoOrRefused, IsTakenOut, done_or_refused};
+ghost use Rattle.art_writing.specs.TakenOut.{IsLeafTaken, IsLetGo, IsTakenOut};
 ghost use Rattle.art_writing.specs.ParentWrites.{LinksAreThere};
 
 use super::{DeletePoint, DeleteRefused, DeleteResult};
@@ -24,11 +24,11 @@ use art_nodes::store::NodeStore;
 use art_reading::path::{last_step, up};
 
 impl DeletePoint {
-    /// Takes the leaf of the point out of the tree, and returns it, with the root that is left, if any.
+    /// Removes the leaf of the point from the tree. Returns it, and the root of the rest, if there is any.
     ///
-    /// Memory is taken only where the leaf's parent shrinks, from 5, 17 or 49 children, and before the
-    /// first change. It is a constant number of writes. A refusal hands the point back, and the nodes are
-    /// as they were.
+    /// It never fails and takes no memory: a parent of 5, 17 or 49 children is replaced by a smaller node, for which
+    /// the store keeps a slot. It is a constant number of writes.
+    #[inline(always)]
     pub fn apply<K: AsBytes + Drop, V: Drop, const PREFIX_LEN: usize>(
         self,
         store: &mut NodeStore<K, V, PREFIX_LEN>,
@@ -72,34 +72,29 @@ impl DeletePoint {
         ensures promise { OnOk result (store.new.promise ≡
             promise_after (placed_for_deletion store.old self.path) store.old.promise) }
 
-        ensures succeeds { IsTrue (is_covered
-            (placed_for_deletion store.old self.path) store.old.promise) → IsOk result }
+        ensures succeeds { IsOk result }
         ensures handed_back { IfErr result (λ refused. refused.point ≡ self) }
         ensures leaves { OnErr result (store.new.leaves ≡ store.old.leaves) }
         ensures inners { OnErr result (store.new.inners ≡ store.old.inners) }
         ensures void { OnErr result (store.new.promise ≡ no_promise) }
     {
-        match self.take_out(store, root) {
-            Some(done) => Ok(done),
-            None => Err(DeleteRefused { point: self }),
-        }
+        Ok(self.take_out(store, root))
     }
 
-    /// The same, and what is ensured of it in one word; `None` where it is refused.
+    // The same, and what is ensured of it in one word.
     #[inline(always)]
-    pub(crate) fn take_out<K: AsBytes + Drop, V: Drop, const P: usize>(
+    pub(super) fn take_out<K: AsBytes + Drop, V: Drop, const P: usize>(
         self,
         store: &mut NodeStore<K, V, P>,
         root: OpaqueNodePtr,
-    ) -> Option<DeleteResult<K, V>>
+    ) -> DeleteResult<K, V>
         requires { IsDeletePointIn (of_key K.bytes) P store.old root self }
-        ensures { IsTakenOut (of_key K.bytes) P store.old store.new root self
-            (done_or_refused self result) }
+        ensures { IsTakenOut (of_key K.bytes) P store.old store.new root self result }
     {
         let new_root = match last_step(self.path) {
             None => None,
             Some((parent, byte)) => {
-                let name = self.take_from_parent(store, root, parent, byte)?;
+                let name = self.take_from_parent(store, root, parent, byte);
                 // Made anew of its parts: what stands between these in memory is not carried on.
                 Some(OpaqueNodePtr {
                     kind: name.kind,
@@ -107,7 +102,7 @@ impl DeletePoint {
                 })
             }
         };
-        Some(self.take_leaf(store, new_root))
+        self.take_leaf(store, new_root)
     }
 
     // The parent lets the leaf go: it keeps its kind, shrinks or goes too. Returns the root that is left.
@@ -118,10 +113,10 @@ impl DeletePoint {
         root: OpaqueNodePtr,
         parent: InnerPtr,
         byte: u8,
-    ) -> Option<OpaqueNodePtr>
+    ) -> OpaqueNodePtr
         requires parent { last_step self.path ≡ Some (parent, byte) }
         requires answers { IsDeletePointIn (of_key K.bytes) P store.old root self }
-        ensures { IsLetGoOrRefused (of_key K.bytes) P store.old store.new root self result }
+        ensures { IsLetGo (of_key K.bytes) P store.old store.new root self (Some result) }
     {
         let Some(node) = store.inner(parent) else {
             unreachable!()
@@ -129,15 +124,15 @@ impl DeletePoint {
         let kind = node.node_type();
         if has_spare_child(node) {
             store.remove_child(parent, byte);
-            return Some(root);
+            return root;
         }
         match kind.smaller() {
             Some(smaller) => self.shrink_parent(store, root, parent, byte, smaller),
-            None => Some(self.compress_parent(store, root, parent, byte)),
+            None => self.compress_parent(store, root, parent, byte),
         }
     }
 
-    // A node of the next smaller kind, without the leaf, comes in the parent's place, or is refused.
+    // A node of the next smaller kind, without the leaf, comes in the parent's place.
     #[inline(always)]
     fn shrink_parent<K: AsBytes + Drop, V: Drop, const P: usize>(
         self,
@@ -146,18 +141,15 @@ impl DeletePoint {
         parent: InnerPtr,
         byte: u8,
         smaller: NodeType,
-    ) -> Option<OpaqueNodePtr>
+    ) -> OpaqueNodePtr
         requires parent { last_step self.path ≡ Some (parent, byte) }
         requires smaller { next_smaller parent.kind ≡ Some smaller }
         requires shrinks { parent_change store.old self.path ≡ shrinks smaller }
         requires answers { IsDeletePointIn (of_key K.bytes) P store.old root self }
-        ensures { IsLetGoOrRefused (of_key K.bytes) P store.old store.new root self result }
+        ensures { IsLetGo (of_key K.bytes) P store.old store.new root self (Some result) }
     {
-        if store.reserve(0, Some(smaller)).is_err() {
-            return None;
-        }
         let node = store.put_smaller(parent, byte);
-        Some(replace_at(store, up(self.path), root, node.to_opaque()))
+        replace_at(store, up(self.path), root, node.to_opaque())
     }
 
     // Takes the leaf alone out, when its parent has let it go.

@@ -1,8 +1,18 @@
 use Rattle.std.proofs.Common.{sym, ◌∙◌}
 use Rattle.uses.proofs.take.Goals as goal
 
-pub returns-in-Ok-clause-taken : goal.returns-in-Ok-clause-taken
-returns-in-Ok-clause-taken g c pairs layout by = sym (c.in_ok-point.ensures.pair pairs layout by) ∙ c.in-Ok.ensures.pair
+pub returns-clause-taken : goal.returns-clause-taken
+returns-clause-taken g c pairs layout by = sym (c.in_ok-point.ensures.pair pairs layout by) ∙ (rw c.unwrap-done.ensures at c.apply.ensures.pair)
 
-pub returns-in-Ok-clause-pairs : goal.returns-in-Ok-clause-pairs
-returns-in-Ok-clause-pairs g c pairs layout by = c.in-Ok.ensures.sought pairs layout by c.args.key_bytes.now (c.in_ok-point.ensures.pair pairs layout by)
+pub returns-clause-pairs : goal.returns-clause-pairs
+returns-clause-pairs g c pairs layout by =
+    (rw c.unwrap-done.ensures at c.apply.ensures.sought pairs layout by) c.args.key_bytes.now (c.in_ok-point.ensures.pair pairs layout by)
+
+pub returns-clause-root : goal.returns-clause-root
+returns-clause-root g c = rw c.unwrap-done.ensures at c.apply.ensures.left
+
+pub returns-clause-apart : goal.returns-clause-apart
+returns-clause-apart g c = rw c.unwrap-done.ensures at c.apply.ensures.apart
+
+pub returns-in_err-point-clause-taken : goal.returns-in_err-point-clause-taken
+returns-in_err-point-clause-taken g c pairs layout by = rw c.from_residual.ensures (sym (c.in_err-point.ensures.pair pairs layout by))

@@ -52,6 +52,6 @@ returns g c =
     point_some has.layout c.in-Some-search_for_delete_point_by_lengths.point (remove_reply B c.as_bytes-key_bytes.result.now pairs)
     (c.in-Some-search_for_delete_point_by_lengths.ensures.point pairs has.layout has.by) in
     let (told, left) = point_is_first B c.args.prefix.now pairs (deref_pair c.pair_at.result) c.as_bytes-key_bytes.result.now has.by.is_map first c.as_bytes-key_bytes.ensures x e in
-    let Taken = HasTaken g.K.AsBytes.bytes g.row.P pairs in
-    subst (λ reply. Taken reply (without_below B c.args.prefix.now 1 pairs) c.take_out.result c.take_out.new.store c.take_out.new.root c.take_out.new.len) told
-    (subst (λ rest. Taken (Some x) rest c.take_out.result c.take_out.new.store c.take_out.new.root c.take_out.new.len) left (c.take_out.ensures pairs has.layout has.by x leads))
+    let Taken = HasTaken g.K.AsBytes.bytes g.row.P in
+    subst (λ reply. Taken reply (without_below B c.args.prefix.now 1 pairs) (Some c.take_out.result) c.take_out.new.store c.take_out.new.root c.take_out.new.len) told
+    (subst (λ rest. Taken (Some x) rest (Some c.take_out.result) c.take_out.new.store c.take_out.new.root c.take_out.new.len) left (c.take_out.ensures pairs has.layout has.by x leads))

@@ -45,5 +45,5 @@ down-preserved g c = record {
   on_way = λ pairs layout by.
       let d = c.down.invariant.on_way pairs layout by in
       let at = shown_here by d c.in-Some.node c.in-Some.ensures.kind c.in-Some.ensures.view in
-      rw c.step_down.ensures (steps by d at c.add_one.ensures c.in_ok-place.ensures.child (c.in_ok-place.ensures.behavior refl));
+      rw (c.step_down.ensures, c.byte_at.ensures) (steps by d at c.add_one.ensures c.in_ok-place.ensures.child (c.in_ok-place.ensures.behavior refl));
 }

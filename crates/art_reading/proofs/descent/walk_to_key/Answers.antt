@@ -6,7 +6,7 @@ use Rattle.art_reading.proofs.descent.walk_to_key.Goals as goal
 
 pub returns-in_err-last-clause-leaf : goal.returns-in_err-last-clause-leaf
 returns-in_err-last-clause-leaf g c pairs layout by =
-    rw c.from_residual.ensures (none_asked c.args.asked (of_key g.K.AsBytes.bytes) c.args.key_bytes.now pairs (c.in_err-last.ensures.ends pairs layout by).0)
+    rw c.from_residual.ensures (none_asked c.args.asked (of_key g.K.AsBytes.bytes) (g.Q.KeyQuery.key c.args.query) pairs (c.in_err-last.ensures.ends pairs layout by).0)
 
 pub returns-in_err-last-clause-visits : goal.returns-in_err-last-clause-visits
 returns-in_err-last-clause-visits g c = rw c.from_residual.ensures (counts None c.in_err-last.ensures.ends (λ pairs layout by none. absurd (false≢true none)) (omega arith))

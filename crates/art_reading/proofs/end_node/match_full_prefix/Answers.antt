@@ -1,54 +1,41 @@
-use Rattle.std.proofs.Common.{rules, ◌+◌, ◌≤◌, length, ap, refl, arith}
+use Rattle.std.proofs.Common.{arith, refl, rules}
 use Rattle.std.proofs.lemmas.List.{take_rest}
-use Rattle.art_reading.proofs.Prefixes.{is_full, no_leaf_gone, long_enough, matches_empty, matches_stored, matches_read}
-use Rattle.art_reading.proofs.EndNodes.{key_reaches, part_at, part_there}
+use Rattle.art_reading.proofs.EndNodes.{inside, part_there}
+use Rattle.art_reading.proofs.Levels.{costs_none}
+use Rattle.art_reading.proofs.Prefixes.{matches_empty, matches_stored}
 use Rattle.art_reading.proofs.end_node.match_full_prefix.Goals as goal
 
-pub returns-then-len-eq0 : goal.returns-then-len-eq0
-returns-then-len-eq0 g c root path pairs layout by at =
+pub returns-then-len-eq0-clause-compared : goal.returns-then-len-eq0-clause-compared
+returns-then-len-eq0-clause-compared g c path pairs layout by at =
     matches_empty (part_there by at refl) c.requires.inner c.requires.node c.args.key_bytes.now refl c.prefix_len-len.ensures c.if-len-eq0.true refl
 
-pub slice_bounds-rest_of_key-count : goal.slice_bounds-rest_of_key-count
-slice_bounds-rest_of_key-count g c = key_reaches c.requires.at
+pub slice_bounds-match_prefix-count : goal.slice_bounds-match_prefix-count
+slice_bounds-match_prefix-count g c = let (pairs, layout, by) = c.requires.root in inside by (c.requires.at.1 pairs layout by)
 
-pub slice_bounds-rest_of_key-start : goal.slice_bounds-rest_of_key-start
-slice_bounds-rest_of_key-start g c = key_reaches c.requires.at
+pub slice_bounds-match_prefix-start : goal.slice_bounds-match_prefix-start
+slice_bounds-match_prefix-start g c = let (pairs, layout, by) = c.requires.root in inside by (c.requires.at.1 pairs layout by)
 
-pub returns-then-len : goal.returns-then-len
-returns-then-len g c root path pairs layout by at =
+pub returns-then-len-clause-compared : goal.returns-then-len-clause-compared
+returns-then-len-clause-compared g c path pairs layout by at =
     matches_stored (part_there by at refl) c.requires.inner c.requires.node c.args.key_bytes.now c.match_prefix.result refl
     c.prefix_len-len.ensures c.if-len.true c.read_prefix.ensures.stored (take_rest c.args.key_bytes.now c.args.depth)
     c.match_prefix.ensures.len c.match_prefix.ensures.front c.match_prefix.ensures.shared c.match_prefix.ensures.byte c.match_prefix.ensures.leaf
 
-pub minimum_unchecked-leaf_ptr-requires : goal.minimum_unchecked-leaf_ptr-requires
-minimum_unchecked-leaf_ptr-requires g c =
-    let (node, part) = part_at c.requires.at in
-    (search rules, (node, is_full part c.requires.inner c.to_opaque.ensures))
+pub match_long_prefix-result-requires : goal.match_long_prefix-result-requires
+match_long_prefix-result-requires g c = search rules
 
-pub unreachable-requires : goal.unreachable-requires
-unreachable-requires g c =
-    let (node, part) = part_at c.requires.at in
-    no_leaf_gone part c.requires.inner c.requires.node (c.minimum_unchecked-leaf_ptr.ensures node (is_full part c.requires.inner c.to_opaque.ensures)) c.in_default.ensures
+pub returns-clause-compared : goal.returns-clause-compared
+returns-clause-compared g c = c.match_long_prefix-result.ensures.compared
 
-pub overflow_add-prefix : goal.overflow_add-prefix
-overflow_add-prefix g c =
-    let (node, part) = part_at c.requires.at in
-    let long = long_enough part c.requires.inner c.requires.node (c.minimum_unchecked-leaf_ptr.ensures node (is_full part c.requires.inner c.to_opaque.ensures)) c.in-Some.ensures in
-    let t = ap length c.as_bytes.ensures in
-    omega (arith, c.prefix_len-len.ensures, c.as_bytes.type_inv)
+-- ---- the counter
+pub returns-then-len-eq0-clause-visits : goal.returns-then-len-eq0-clause-visits
+returns-then-len-eq0-clause-visits g c = record { number = 0; counted = omega arith; is_number = (omega arith, λ few. refl) }
 
-pub slice_bounds-prefix-end : goal.slice_bounds-prefix-end
-slice_bounds-prefix-end g c =
-    let (node, part) = part_at c.requires.at in
-    let long = long_enough part c.requires.inner c.requires.node (c.minimum_unchecked-leaf_ptr.ensures node (is_full part c.requires.inner c.to_opaque.ensures)) c.in-Some.ensures in
-    let t = ap length c.as_bytes.ensures in
-    let fits : c.args.depth + c.prefix_len-len.result ≤ length c.as_bytes.result.now = omega (arith, c.prefix_len-len.ensures) in
-    fits
+pub returns-then-len-clause-visits : goal.returns-then-len-clause-visits
+returns-then-len-clause-visits g c = record { number = 0; counted = omega arith; is_number = (costs_none c.args.store.now c.args.root _ _ c.match_prefix.result, λ few. refl) }
 
-pub returns : goal.returns
-returns g c root path pairs layout by at =
-    let part = part_there by at refl in
-    matches_read part c.requires.inner c.requires.node (c.minimum_unchecked-leaf_ptr.ensures at.node
-    (is_full part c.requires.inner c.to_opaque.ensures)) c.in-Some.ensures c.args.key_bytes.now c.match_prefix-2.result
-    refl c.prefix_len-len.ensures c.if-len.false c.as_bytes.ensures refl (take_rest c.args.key_bytes.now c.args.depth)
-    c.match_prefix-2.ensures.len c.match_prefix-2.ensures.front c.match_prefix-2.ensures.shared c.match_prefix-2.ensures.byte c.match_prefix-2.ensures.leaf
+pub returns-clause-visits : goal.returns-clause-visits
+returns-clause-visits g c =
+    let long = c.if-len.false in
+    let len = c.prefix_len-len.ensures in
+    record { number = c.match_long_prefix-result.result.1; counted = c.add.ensures; is_number = (c.match_long_prefix-result.ensures.visits, λ few. omega arith) }

@@ -1,7 +1,5 @@
-use Rattle.std.proofs.Common.{rules, subst, sym}
-use Rattle.art_model.specs.Pairs.{of_key}
-use Rattle.art_reading.specs.EndNodes.{IsAt, IsStepFrom}
-use Rattle.art_reading.proofs.EndNodes.{leaf_there, leaf_end}
+use Rattle.std.proofs.Common.{arith, refl, rules, sym}
+use Rattle.art_reading.proofs.EndNodes.{at_named, leaf_there, leaf_step, step_named}
 use Rattle.art_reading.proofs.end_node.next_step.Goals as goal
 
 pub unreachable-requires : goal.unreachable-requires
@@ -9,25 +7,23 @@ unreachable-requires g c =
     let (pairs, layout, by) = c.requires.root in
     leaf_there by (c.requires.at.1 pairs layout by) c.in-Leaf.ensures.name c.in_default.ensures
 
-pub returns-in-Some : goal.returns-in-Some
-returns-in-Some g c path pairs layout by d =
-    leaf_end by d c.in-Leaf.ensures.name c.in-Some.ensures c.kind_at_leaf.result c.kind_at_leaf.ensures
+pub returns-in-Some-clause-step : goal.returns-in-Some-clause-step
+returns-in-Some-clause-step g c path pairs layout by d =
+    leaf_step by d c.in-Leaf.ensures.name c.in-Some.ensures c.kind_at_leaf.result c.kind_at_leaf.ensures
 
 pub step_at_inner-requires : goal.step_at_inner-requires
 step_at_inner-requires g c =
-    let (path, at) = c.requires.at in (
-      search rules,
-      (
-        c.requires.root,
-        (
-          c.in-Inner.ensures.proper,
-          (path, λ pairs layout by. subst (λ n. IsAt (of_key g.K.AsBytes.bytes) g.row.PREFIX_LEN c.args.key_bytes.now layout path n c.args.depth) (sym c.in-Inner.ensures.name) (at pairs layout by)),
-        ),
-      ),
-    )
+    let (path, at) = c.requires.at in
+    (search rules, (c.requires.root, (c.in-Inner.ensures.proper, ((path, λ pairs layout by. at_named by (at pairs layout by) c.in-Inner.ensures.name), c.requires.guide))))
 
-pub returns-in-Inner : goal.returns-in-Inner
-returns-in-Inner g c path pairs layout by d =
-    let at = subst (λ n. IsAt (of_key g.K.AsBytes.bytes) g.row.PREFIX_LEN c.args.key_bytes.now layout path n c.args.depth) (sym c.in-Inner.ensures.name) d in
-    subst (λ n. IsStepFrom (of_key g.K.AsBytes.bytes) g.row.PREFIX_LEN c.args.key_bytes.now pairs layout path n c.args.depth c.step_at_inner.result) c.in-Inner.ensures.name
-    (c.step_at_inner.ensures path pairs layout by at)
+pub returns-in-Inner-clause-step : goal.returns-in-Inner-clause-step
+returns-in-Inner-clause-step g c path pairs layout by d =
+    step_named by d c.in-Inner.ensures.name c.step_at_inner.result (c.step_at_inner.ensures.step path pairs layout by (at_named by d c.in-Inner.ensures.name))
+
+pub returns-in-Inner-clause-visits : goal.returns-in-Inner-clause-visits
+returns-in-Inner-clause-visits g c =
+    rw (sym c.in-Inner.ensures.name) c.step_at_inner.ensures.visits
+
+pub returns-in-Some-clause-visits : goal.returns-in-Some-clause-visits
+returns-in-Some-clause-visits g c =
+    record { number = 1; counted = c.count_one.ensures; is_number = record { at_least = omega arith; at_most = omega arith; if_whole = λ pairs layout by whole. refl } }

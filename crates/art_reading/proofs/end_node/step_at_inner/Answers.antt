@@ -1,5 +1,7 @@
-use Rattle.std.proofs.Common.{refl, arith}
+use Rattle.std.proofs.Common.{◌+◌, ap, refl, arith}
 use Rattle.art_reading.proofs.EndNodes.{prefix_fits, mismatch_fits, inner_there, shown_there, prefix_step, mismatch_step}
+use Rattle.art_reading.proofs.Counts.{count_both}
+use Rattle.art_reading.proofs.Levels.{end_costs, lower, past_costs, stored_at}
 use Rattle.art_reading.proofs.end_node.step_at_inner.Goals as goal
 
 pub unreachable-requires : goal.unreachable-requires
@@ -8,17 +10,49 @@ unreachable-requires g c =
     inner_there by (c.requires.at.1 pairs layout by) c.requires.inner refl c.in_default.ensures.view
 
 pub overflow_add-depth : goal.overflow_add-depth
-overflow_add-depth g c = let inside = prefix_fits c.requires.root c.requires.at.1 (c.in-Ok.ensures c.args.root c.requires.at.0) in omega arith
+overflow_add-depth g c = let inside = prefix_fits c.requires.root c.requires.at.1 (c.in-Ok.ensures.compared c.requires.at.0) in omega arith
 
-pub returns-in-Ok : goal.returns-in-Ok
-returns-in-Ok g c path pairs layout by d =
-    prefix_step by d (shown_there by d c.requires.inner refl c.in-Some.ensures.view) (c.in-Ok.ensures c.args.root path pairs layout by d)
+pub returns-in-Ok-clause-step : goal.returns-in-Ok-clause-step
+returns-in-Ok-clause-step g c path pairs layout by d =
+    prefix_step by d (shown_there by d c.requires.inner refl c.in-Some.ensures.view) (c.in-Ok.ensures.compared path pairs layout by d)
     c.step_past_prefix.ensures.ends c.step_past_prefix.ensures.into c.step_past_prefix.ensures.down
 
 pub end_in_prefix-requires : goal.end_in_prefix-requires
-end_in_prefix-requires g c = let inside = mismatch_fits c.requires.root c.requires.at.1 (c.in-Err.ensures c.args.root c.requires.at.0) in omega arith
+end_in_prefix-requires g c = let inside = mismatch_fits c.requires.root c.requires.at.1 (c.in-Err.ensures.compared c.requires.at.0) in omega arith
 
-pub returns-in-Err : goal.returns-in-Err
-returns-in-Err g c path pairs layout by d =
-    mismatch_step by d (shown_there by d c.requires.inner refl c.in-Some.ensures.view) (c.in-Err.ensures c.args.root path pairs layout by d)
+pub returns-in-Err-clause-step : goal.returns-in-Err-clause-step
+returns-in-Err-clause-step g c path pairs layout by d =
+    mismatch_step by d (shown_there by d c.requires.inner refl c.in-Some.ensures.view) (c.in-Err.ensures.compared path pairs layout by d)
     c.end_in_prefix.ensures.ends c.end_in_prefix.ensures.parts
+
+pub returns-in-Ok-clause-visits : goal.returns-in-Ok-clause-visits
+returns-in-Ok-clause-visits g c =
+    let (pairs, layout, by) = c.requires.root in
+    let d = c.requires.at.1 pairs layout by in
+    let match = c.in-Ok.ensures.visits in
+    let few = match.is_number.0 in
+    record {
+      number = 1 + match.number;
+      counted = count_both _ _ _ c.count_one.ensures match.counted;
+      is_number = record {
+        at_least = omega arith;
+        at_most = past_costs c.args.store.now c.args.root _ _ _ (1 + match.number) c.args.key_bytes.now _ _
+            (λ to there. lower by d.frames d.node d.whole d.named _ d.radix _ _ (shown_there by d c.requires.inner refl c.in-Some.ensures.view) _ to there)
+            (omega arith) c.step_past_prefix.ensures.ends c.step_past_prefix.ensures.into c.step_past_prefix.ensures.down;
+        if_whole = λ pairs layout by whole. ap (λ n. 1 + n) (match.is_number.1 (stored_at by (c.requires.at.1 pairs layout by) c.requires.inner c.in-Some.ensures.view whole));
+      };
+    }
+
+pub returns-in-Err-clause-visits : goal.returns-in-Err-clause-visits
+returns-in-Err-clause-visits g c =
+    let match = c.in-Err.ensures.visits in
+    let few = match.is_number.0 in
+    record {
+      number = 1 + match.number;
+      counted = count_both _ _ _ c.count_one.ensures match.counted;
+      is_number = record {
+        at_least = omega arith;
+        at_most = end_costs c.args.store.now c.args.root _ _ _ (1 + match.number) c.args.key_bytes.now _ c.end_in_prefix.ensures.ends c.end_in_prefix.ensures.parts (omega arith) (omega arith);
+        if_whole = λ pairs layout by whole. ap (λ n. 1 + n) (match.is_number.1 (stored_at by (c.requires.at.1 pairs layout by) c.requires.inner c.in-Some.ensures.view whole));
+      };
+    }

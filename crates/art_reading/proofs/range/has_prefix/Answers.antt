@@ -1,37 +1,62 @@
-use Rattle.std.proofs.Common.{rules, ◌-◌, length, take, drop, ap, ◌∙◌, arith}
+use Rattle.std.proofs.Common.{rules, ◌+◌, ◌-◌, length, take, drop, ap, refl, sym, subst, ◌∙◌, arith}
 use Rattle.std.proofs.lemmas.List.{take_rest}
-use Rattle.art_reading.proofs.Beside.{least_long, placed_full, told_by_least, told_by_stored}
-use Rattle.art_reading.proofs.Parts.{least_not_gone}
+use Rattle.art_model.specs.Pairs.{of_key}
+use Rattle.art_reading.specs.EndNodes.{IsAt}
+use Rattle.art_reading.proofs.Beside.{leaf_long, told_by_leaf, told_by_stored}
+use Rattle.art_reading.proofs.Counts.{count_both}
+use Rattle.art_reading.proofs.EndNodes.{part_there}
+use Rattle.art_reading.proofs.Guides.{guide_is, guide_not_gone}
 use Rattle.art_reading.proofs.range.has_prefix.Goals as goal
 
-pub returns-then-prefix : goal.returns-then-prefix
-returns-then-prefix g c tree at = told_by_stored at c.requires.proper c.requires.node _ c.requires.len c.if-prefix.true c.read_prefix.ensures.stored c.starts_with.ensures.value
+pub returns-then-prefix-clause-same : goal.returns-then-prefix-clause-same
+returns-then-prefix-clause-same g c pairs layout by path at =
+    told_by_stored (part_there by at refl) c.requires.proper c.requires.node _ c.requires.len c.if-prefix.true c.read_prefix.ensures.stored c.starts_with.ensures.value
 
-pub minimum_unchecked-least-requires : goal.minimum_unchecked-least-requires
-minimum_unchecked-least-requires g c =
-    let (tree, at) = c.requires.place in
-    (search rules, (tree, placed_full at c.to_opaque.ensures))
+pub guide_from-read_from-requires : goal.guide_from-read_from-requires
+guide_from-read_from-requires g c = (
+  search rules,
+  (
+    c.requires.root,
+    (
+      λ pairs layout by.
+          let (path, at) = c.requires.at pairs layout by in
+          (path, subst (λ n. IsAt (of_key g.K.AsBytes.bytes) g.row.PREFIX_LEN c.args.key_bytes.now layout path n c.args.depth) (sym c.to_opaque-opaque.ensures) at),
+      c.requires.guide,
+    ),
+  ),
+)
 
 pub unreachable-requires : goal.unreachable-requires
 unreachable-requires g c =
-    let (tree, at) = c.requires.place in
-    least_not_gone c.args.store.now at.layout.holds (c.minimum_unchecked-least.ensures tree (placed_full at c.to_opaque.ensures)) c.in_default.ensures
+    let (pairs, layout, by) = c.requires.root in
+    guide_not_gone by (c.guide_from-read_from.ensures.guide pairs layout by) c.in_default.ensures
 
 pub slice_bounds-starts_with-count : goal.slice_bounds-starts_with-count
 slice_bounds-starts_with-count g c =
-    let (tree, at) = c.requires.place in
-    let long = least_long at c.requires.proper c.requires.node (c.minimum_unchecked-least.ensures tree (placed_full at c.to_opaque.ensures)) c.in-Some.ensures in
+    let (pairs, layout, by) = c.requires.root in
+    let (path, at) = c.requires.at pairs layout by in
+    let long = leaf_long (part_there by at refl) c.requires.proper c.requires.node c.in-Some.leaf.now (guide_is by (c.guide_from-read_from.ensures.guide pairs layout by) at c.in-Some.ensures) in
     let same = ap length c.as_bytes.ensures in
     omega arith
 
 pub slice_bounds-starts_with-start : goal.slice_bounds-starts_with-start
 slice_bounds-starts_with-start g c =
-    let (tree, at) = c.requires.place in
-    let long = least_long at c.requires.proper c.requires.node (c.minimum_unchecked-least.ensures tree (placed_full at c.to_opaque.ensures)) c.in-Some.ensures in
+    let (pairs, layout, by) = c.requires.root in
+    let (path, at) = c.requires.at pairs layout by in
+    let long = leaf_long (part_there by at refl) c.requires.proper c.requires.node c.in-Some.leaf.now (guide_is by (c.guide_from-read_from.ensures.guide pairs layout by) at c.in-Some.ensures) in
     let same = ap length c.as_bytes.ensures in
     omega arith
 
-pub returns : goal.returns
-returns g c tree at =
-    told_by_least at c.requires.proper c.requires.node (c.minimum_unchecked-least.ensures tree (placed_full at c.to_opaque.ensures)) c.in-Some.ensures
+pub returns-clause-same : goal.returns-clause-same
+returns-clause-same g c pairs layout by path at =
+    told_by_leaf (part_there by at refl) c.requires.proper c.requires.node c.in-Some.leaf.now (guide_is by (c.guide_from-read_from.ensures.guide pairs layout by) at c.in-Some.ensures)
     {part = c.args.prefix.now} {rest = take (length c.as_bytes.result.now - c.args.depth) (drop c.args.depth c.as_bytes.result.now)} _ c.requires.len (take_rest c.as_bytes.result.now c.args.depth ∙ ap (drop c.args.depth) c.as_bytes.ensures) c.starts_with-2.ensures.value
+
+pub returns-then-prefix-clause-visits : goal.returns-then-prefix-clause-visits
+returns-then-prefix-clause-visits g c = record { number = 0; counted = omega arith; is_number = omega arith }
+
+pub returns-clause-visits : goal.returns-clause-visits
+returns-clause-visits g c =
+    let found = c.guide_from-read_from.ensures.visits in
+    let known = found.is_number in
+    record { number = found.number + 1; counted = count_both _ _ _ found.counted c.count_one.ensures; is_number = omega arith }

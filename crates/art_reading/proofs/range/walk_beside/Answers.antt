@@ -1,16 +1,25 @@
 use Rattle.std.proofs.Common.{rules, ◌≡◌, ℕ, ◌+◌, ◌-◌, length, take, drop, length-take, length-drop, arith, refl, sym, ◌∙◌}
 use Rattle.std.proofs.lemmas.Bool.{false≢true}
 use Rattle.art_model.proofs.stores.Shown.{inner_met, leaf_named, shown_met}
-use Rattle.art_reading.proofs.Beside.{beside_end, beside_gap, beside_leaf, beside_off, goes_same, has_child, on_key_start, onto_child, placed_on, same_goes}
-use Rattle.art_reading.proofs.Descents.{stands_there}
+use Rattle.art_model.specs.Keys.{IsFront}
+use Rattle.art_reading.specs.PathSteps.{path_of}
+use Rattle.art_reading.proofs.Beside.{at_on, beside_end, beside_gap, beside_leaf, beside_off, goes_same, has_child, on_key_start, onto_child, same_goes}
+use Rattle.art_reading.proofs.Counts.{count_both}
+use Rattle.art_reading.proofs.Descents.{front, stands_there}
+use Rattle.art_reading.proofs.Left.{end_left, gap_left, leaf_left, off_left}
+use Rattle.art_reading.proofs.Levels.{guide_most, lower}
 use Rattle.art_reading.proofs.range.walk_beside.Goals as goal
 
 pub down-init : goal.down-init
-down-init g c = record { within = omega arith; on_key = λ pairs layout by. on_key_start by }
+down-init g c = record {
+  within = omega arith;
+  readings = record { number = 0; counted = omega arith; is_number = λ pairs layout by. record { on_key = on_key_start by; at_least = omega arith; at_most = omega arith } };
+  guide = λ pairs layout by. tt;
+}
 
-pub returns-in_default : goal.returns-in_default
-returns-in_default g c pairs layout by =
-    let o = c.down.invariant.on_key pairs layout by in
+pub returns-in_default-clause-beside : goal.returns-in_default-clause-beside
+returns-in_default-clause-beside g c pairs layout by =
+    let o = (c.down.invariant.readings.is_number pairs layout by).on_key in
     let there = stands_there by o.descent.at in
     let (x, is) = leaf_named c.args.store.now c.in_default.field-0 o.descent.at.node (there.named ∙ sym c.in_default.ensures.name) there.holds in
     beside_leaf o _ x is
@@ -18,18 +27,16 @@ returns-in_default g c pairs layout by =
 pub unreachable-requires : goal.unreachable-requires
 unreachable-requires g c =
     let (pairs, layout, by) = c.requires in
-    inner_met (stands_there by (c.down.invariant.on_key pairs layout by).descent.at) c.in-Inner.ensures.proper c.in-Inner.ensures.name c.in_default-inner.ensures.view
+    inner_met (stands_there by (c.down.invariant.readings.is_number pairs layout by).on_key.descent.at) c.in-Inner.ensures.proper c.in-Inner.ensures.name c.in_default-inner.ensures.view
 
-pub returns-then-prefix_len-key_bytes : goal.returns-then-prefix_len-key_bytes
-returns-then-prefix_len-key_bytes g c pairs layout by =
-    let o = c.down.invariant.on_key pairs layout by in
+pub returns-then-prefix_len-key_bytes-clause-beside : goal.returns-then-prefix_len-key_bytes-clause-beside
+returns-then-prefix_len-key_bytes-clause-beside g c pairs layout by =
+    let o = (c.down.invariant.readings.is_number pairs layout by).on_key in
     let at = shown_met (stands_there by o.descent.at) c.in-Inner.ensures.proper c.in-Inner.ensures.name c.in-Some.ensures.view in
     beside_end o at c.prefix_len-prefix_len.ensures (omega arith)
 
 pub has_prefix-requires : goal.has_prefix-requires
 has_prefix-requires g c =
-    let (pairs, layout, by) = c.requires in
-    let o = c.down.invariant.on_key pairs layout by in
     let long : length (take (c.down.depth + c.prefix_len-prefix_len.result - c.down.depth) (drop c.down.depth c.args.key_bytes.now)) ≡ c.prefix_len-prefix_len.result =
     omega (arith, length-take {A = ℕ}, length-drop {A = ℕ}) in (
       search rules,
@@ -41,45 +48,176 @@ has_prefix-requires g c =
             search rules,
             (
               search rules,
-              (c.in-Inner.ensures.proper, (c.in-Some.ensures.view, (long ∙ c.prefix_len-prefix_len.ensures, (o.descent.at.node, placed_on by o c.in-Inner.ensures.name)))),
+              (
+                c.requires,
+                (
+                  c.in-Inner.ensures.proper,
+                  (
+                    c.in-Some.ensures.view,
+                    (
+                      long ∙ c.prefix_len-prefix_len.ensures,
+                      (
+                        λ pairs layout by.
+                            let o = (c.down.invariant.readings.is_number pairs layout by).on_key in
+                            (path_of o.descent.at.path, at_on by o c.in-Inner.ensures.name),
+                        c.down.invariant.guide,
+                      ),
+                    ),
+                  ),
+                ),
+              ),
             ),
           ),
         ),
       ),
     )
 
-pub returns-then-not-has_prefix : goal.returns-then-not-has_prefix
-returns-then-not-has_prefix g c pairs layout by =
-    let o = c.down.invariant.on_key pairs layout by in
+pub returns-then-not-has_prefix-clause-beside : goal.returns-then-not-has_prefix-clause-beside
+returns-then-not-has_prefix-clause-beside g c pairs layout by =
+    let o = (c.down.invariant.readings.is_number pairs layout by).on_key in
     let at = shown_met (stands_there by o.descent.at) c.in-Inner.ensures.proper c.in-Inner.ensures.name c.in-Some.ensures.view in
     beside_off o at c.prefix_len-prefix_len.ensures (λ goes.
-    let same = (c.has_prefix.ensures o.descent.at.node (placed_on by o c.in-Inner.ensures.name)).1
+    let same = (c.has_prefix.ensures.same pairs layout by (path_of o.descent.at.path) (at_on by o c.in-Inner.ensures.name)).1
     (goes_same o at c.prefix_len-prefix_len.ensures (c.down.depth + c.prefix_len-prefix_len.result - c.down.depth) (omega arith) refl goes) in
     absurd (false≢true (sym c.if-not-has_prefix.true ∙ same)))
 
 pub beside-requires : goal.beside-requires
 beside-requires g c =
     let (pairs, layout, by) = c.requires in
-    let o = c.down.invariant.on_key pairs layout by in
+    let o = (c.down.invariant.readings.is_number pairs layout by).on_key in
     let at = shown_met (stands_there by o.descent.at) c.in-Inner.ensures.proper c.in-Inner.ensures.name c.in-Some.ensures.view in
     let gap = sym c.lookup_child.ensures ∙ c.in_default-lookup_child.is in
     (search rules, (search rules, (search rules, (search rules, (has_child o at c.prefix_len-prefix_len.ensures, gap)))))
 
-pub returns-in_default-lookup_child : goal.returns-in_default-lookup_child
-returns-in_default-lookup_child g c pairs layout by =
-    let o = c.down.invariant.on_key pairs layout by in
+pub returns-in_default-lookup_child-clause-beside : goal.returns-in_default-lookup_child-clause-beside
+returns-in_default-lookup_child-clause-beside g c pairs layout by =
+    let o = (c.down.invariant.readings.is_number pairs layout by).on_key in
     let at = shown_met (stands_there by o.descent.at) c.in-Inner.ensures.proper c.in-Inner.ensures.name c.in-Some.ensures.view in
     let goes = same_goes o at c.prefix_len-prefix_len.ensures (c.down.depth + c.prefix_len-prefix_len.result - c.down.depth) refl
-    ((c.has_prefix.ensures o.descent.at.node (placed_on by o c.in-Inner.ensures.name)).0 c.if-not-has_prefix.false) in
+    ((c.has_prefix.ensures.same pairs layout by (path_of o.descent.at.path) (at_on by o c.in-Inner.ensures.name)).0 c.if-not-has_prefix.false) in
     beside_gap o at c.prefix_len-prefix_len.ensures (omega arith) goes (sym c.lookup_child.ensures ∙ c.in_default-lookup_child.is) c.beside.ensures.beside
 
 pub down-preserved : goal.down-preserved
-down-preserved g c = record {
-  within = omega arith;
-  on_key = λ pairs layout by.
-      let o = c.down.invariant.on_key pairs layout by in
-      let at = shown_met (stands_there by o.descent.at) c.in-Inner.ensures.proper c.in-Inner.ensures.name c.in-Some.ensures.view in
-      let goes = same_goes o at c.prefix_len-prefix_len.ensures (c.down.depth + c.prefix_len-prefix_len.result - c.down.depth) refl
-      ((c.has_prefix.ensures o.descent.at.node (placed_on by o c.in-Inner.ensures.name)).0 c.if-not-has_prefix.false) in
-      onto_child o at c.prefix_len-prefix_len.ensures (omega arith) goes (sym c.lookup_child.ensures ∙ c.in-Some-lookup_child.is);
-}
+down-preserved g c =
+    let before = c.down.invariant.readings in
+    let prefix = c.has_prefix.ensures.visits in
+    let cost = prefix.is_number in
+    record {
+      within = omega arith;
+      guide = c.has_prefix.ensures.guide;
+      readings = record {
+        number = before.number + 1 + prefix.number;
+        counted = count_both _ _ _ (count_both _ _ _ before.counted c.count_one.ensures) prefix.counted;
+        is_number = λ pairs layout by.
+            let read = before.is_number pairs layout by in
+            let o = read.on_key in
+            let d = o.descent in
+            let at = shown_met (stands_there by d.at) c.in-Inner.ensures.proper c.in-Inner.ensures.name c.in-Some.ensures.view in
+            let goes = same_goes o at c.prefix_len-prefix_len.ensures (c.down.depth + c.prefix_len-prefix_len.result - c.down.depth) refl
+            ((c.has_prefix.ensures.same pairs layout by (path_of d.at.path) (at_on by o c.in-Inner.ensures.name)).0 c.if-not-has_prefix.false) in
+            let there = sym c.lookup_child.ensures ∙ c.in-Some-lookup_child.is in
+            let (next, one) = onto_child o at c.prefix_len-prefix_len.ensures (omega arith) goes there in
+            let less = lower by d.at.path d.at.node d.at.whole d.at.named d.place d.radix _ _ at _ _ there in
+            let seen = read.at_least in
+            let few = read.at_most in
+            record { on_key = next; at_least = omega arith; at_most = omega arith };
+      };
+    }
+
+-- ---- the counter
+pub returns-in_default-clause-visits : goal.returns-in_default-clause-visits
+returns-in_default-clause-visits g c =
+    let before = c.down.invariant.readings in
+    let most = guide_most c.args.store.now c.args.root c.down.guide in
+    let (pairs, layout, by) = c.requires in
+    let few = (before.is_number pairs layout by).at_most in
+    record {
+      number = before.number;
+      counted = before.counted;
+      is_number = (
+        omega arith,
+        λ pairs layout by.
+            let read = before.is_number pairs layout by in
+            let d = read.on_key.descent in
+            let there = stands_there by d.at in
+            let (x, is) = leaf_named c.args.store.now c.in_default.field-0 d.at.node (there.named ∙ sym c.in_default.ensures.name) there.holds in
+            let last = leaf_left d c.args.key_bytes.now _ x is in
+            let seen = read.at_least in
+            omega arith,
+      );
+    }
+
+pub returns-then-prefix_len-key_bytes-clause-visits : goal.returns-then-prefix_len-key_bytes-clause-visits
+returns-then-prefix_len-key_bytes-clause-visits g c =
+    let before = c.down.invariant.readings in
+    let most = guide_most c.args.store.now c.args.root c.down.guide in
+    let (pairs, layout, by) = c.requires in
+    let few = (before.is_number pairs layout by).at_most in
+    record {
+      number = before.number + 1;
+      counted = count_both _ _ _ before.counted c.count_one.ensures;
+      is_number = (
+        omega arith,
+        λ pairs layout by.
+            let read = before.is_number pairs layout by in
+            let d = read.on_key.descent in
+            let at = shown_met (stands_there by d.at) c.in-Inner.ensures.proper c.in-Inner.ensures.name c.in-Some.ensures.view in
+            let len = c.prefix_len-prefix_len.ensures in
+            let last = end_left d c.args.key_bytes.now at (omega arith) in
+            let seen = read.at_least in
+            omega arith,
+      );
+    }
+
+pub returns-then-not-has_prefix-clause-visits : goal.returns-then-not-has_prefix-clause-visits
+returns-then-not-has_prefix-clause-visits g c =
+    let before = c.down.invariant.readings in
+    let prefix = c.has_prefix.ensures.visits in
+    let cost = prefix.is_number in
+    let most = guide_most c.args.store.now c.args.root c.has_prefix.new.guide in
+    let (pairs, layout, by) = c.requires in
+    let few = (before.is_number pairs layout by).at_most in
+    record {
+      number = before.number + 1 + prefix.number;
+      counted = count_both _ _ _ (count_both _ _ _ before.counted c.count_one.ensures) prefix.counted;
+      is_number = (
+        omega arith,
+        λ pairs layout by.
+            let read = before.is_number pairs layout by in
+            let o = read.on_key in
+            let at = shown_met (stands_there by o.descent.at) c.in-Inner.ensures.proper c.in-Inner.ensures.name c.in-Some.ensures.view in
+            let off : IsFront (front o.descent at) c.args.key_bytes.now → ⊥ = λ goes.
+            let same = (c.has_prefix.ensures.same pairs layout by (path_of o.descent.at.path) (at_on by o c.in-Inner.ensures.name)).1
+            (goes_same o at c.prefix_len-prefix_len.ensures (c.down.depth + c.prefix_len-prefix_len.result - c.down.depth) (omega arith) refl goes) in
+            absurd (false≢true (sym c.if-not-has_prefix.true ∙ same)) in
+            let last = off_left o.descent c.args.key_bytes.now at off in
+            let seen = read.at_least in
+            omega arith,
+      );
+    }
+
+pub returns-in_default-lookup_child-clause-visits : goal.returns-in_default-lookup_child-clause-visits
+returns-in_default-lookup_child-clause-visits g c =
+    let before = c.down.invariant.readings in
+    let prefix = c.has_prefix.ensures.visits in
+    let cost = prefix.is_number in
+    let most = guide_most c.args.store.now c.args.root c.has_prefix.new.guide in
+    let (pairs, layout, by) = c.requires in
+    let first = before.is_number pairs layout by in
+    let few = first.at_most in
+    let d = first.on_key.descent in
+    let shown = shown_met (stands_there by d.at) c.in-Inner.ensures.proper c.in-Inner.ensures.name c.in-Some.ensures.view in
+    let less = lower by d.at.path d.at.node d.at.whole d.at.named d.place d.radix _ _ shown _ _ c.beside.ensures.beside.there in
+    record {
+      number = before.number + 1 + prefix.number;
+      counted = count_both _ _ _ (count_both _ _ _ before.counted c.count_one.ensures) prefix.counted;
+      is_number = (
+        omega arith,
+        λ pairs layout by.
+            let read = before.is_number pairs layout by in
+            let at = shown_met (stands_there by read.on_key.descent.at) c.in-Inner.ensures.proper c.in-Inner.ensures.name c.in-Some.ensures.view in
+            let last = gap_left read.on_key.descent c.args.key_bytes.now at (rw c.prefix_len-prefix_len.ensures at (sym c.lookup_child.ensures ∙ c.in_default-lookup_child.is)) in
+            let seen = read.at_least in
+            omega arith,
+      );
+    }

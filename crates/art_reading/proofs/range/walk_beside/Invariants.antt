@@ -1,14 +1,18 @@
 use Rattle.std.proofs.Common.{◌-◌, ◌≤◌, length}
 use Rattle.art_model.specs.Pairs.{of_key}
 use Rattle.art_model.specs.Roots.{ForTree}
-use Rattle.art_reading.proofs.Beside.{IsOnKey}
+use Rattle.art_reading.specs.Guides.{MayGuide}
+use Rattle.art_reading.specs.Readings.{CountsReadings}
+use Rattle.art_reading.proofs.Beside.{IsReadOnKey}
 use Rattle.art_reading.proofs.range.walk_beside.Given as goal
 
 abbrev pub invariant-down : goal.invariant-down
 invariant-down g l = record {
   within : l.depth ≤ length l.key_bytes;
-  on_key : ForTree (of_key g.K.AsBytes.bytes) g.row.PREFIX_LEN l.store l.fn.root
-      (λ pairs layout. IsOnKey (of_key g.K.AsBytes.bytes) g.row.PREFIX_LEN l.key_bytes layout l.name l.depth);
+  readings : CountsReadings l.fn.visits l.visits (λ number. ForTree (of_key g.K.AsBytes.bytes) g.row.PREFIX_LEN l.store l.fn.root
+      (λ pairs layout. IsReadOnKey (of_key g.K.AsBytes.bytes) g.row.PREFIX_LEN l.store l.fn.root l.key_bytes layout l.name l.depth l.guide number));
+  guide : ForTree (of_key g.K.AsBytes.bytes) g.row.PREFIX_LEN l.store l.fn.root
+      (λ pairs layout. MayGuide (of_key g.K.AsBytes.bytes) l.key_bytes layout l.guide);
 }
 
 abbrev pub decreases-down : goal.decreases-down

@@ -6,12 +6,12 @@ use Rattle.art_model.specs.Pairs.{of_key, remove_key}
 use Rattle.art_model.specs.Radix.{pairs_of}
 use Rattle.art_running.specs.declared.run.Reply.TheVariants.{Deleted}
 use Rattle.art_running.proofs.Moves.{StepFrom, from_root}
-use Rattle.art_running.proofs.Stepped.{deleted_step, kept_step}
+use Rattle.art_running.proofs.Stepped.{deleted_step}
 use Rattle.art_writing.proofs.KeysFound.{deleted_pair}
 use Rattle.art_running.proofs.run.delete.Goals as goal
 
-pub returns-in-Ok : goal.returns-in-Ok
-returns-in-Ok g c command deletion side second =
+pub returns : goal.returns
+returns g c command deletion side second =
     let bytes = g.K.AsBytes.bytes in
     from_root bytes g.row.P side second (λ layout by.
     let (x, leads, takes) = deletion (pairs_of layout) layout by in
@@ -26,13 +26,5 @@ returns-in-Ok g c command deletion side second =
       promise = c.in-Ok.ensures.promise;
     })))
 
-pub returns-in-Err : goal.returns-in-Err
-returns-in-Err g c command deletion side second =
-    let bytes = g.K.AsBytes.bytes in
-    rw c.requires.root (from_root bytes g.row.P side second (λ layout by.
-    let (x, leads, takes) = deletion (pairs_of layout) layout by in
-    kept_step bytes g.row.P by second leads takes (record {
-      same = (c.in-Err.ensures.leaves, c.in-Err.ensures.inners);
-      void = c.in-Err.ensures.void;
-      uncovered = λ covered. absurd (false≢true (c.in-Err.ensures.succeeds covered));
-    })))
+pub unreachable-requires : goal.unreachable-requires
+unreachable-requires g c = false≢true c.in_default.ensures.succeeds

@@ -7,7 +7,7 @@ ghost use Rattle.art_operations.specs.Deleted.{IsDeletePointIn};
 use art_nodes::node::{AsBytes, OpaqueNodePtr};
 use art_nodes::store::NodeStore;
 use art_operations::delete::{DeletePoint, search_for_delete_point};
-use art_test_support::nodes::{Seen, count_touched, nodes_seen};
+use art_test_support::nodes::{count_touched, nodes_seen};
 use art_test_support::points::{Gone, gone_pair};
 use art_test_support::trees::{Key, planted_all};
 
@@ -84,19 +84,4 @@ pub fn gone_with(value: u32) -> Gone {
         previous: None,
         next: None,
     }
-}
-
-/// Deletes a key from a tree in a store with these nodes: what that touches, where the deletion is refused. The point
-/// has to come back.
-pub fn refused_deletion<const P: usize>(
-    store: &mut NodeStore<Key, u32, P>,
-    root: OpaqueNodePtr,
-    before: &[Seen],
-    key_bytes: &[u8],
-) -> Option<(bool, (usize, usize, usize))>
-    requires { IsCanonicalRoot (of_key (λ key. key.items)) P store.old root }
-{
-    let point = point_of(store, root, key_bytes)?;
-    let refused = point.apply(store, root).err()?;
-    Some((refused.point == point, count_touched(store, before)))
 }

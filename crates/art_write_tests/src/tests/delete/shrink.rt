@@ -2,14 +2,14 @@
 ghost use Rattle.art_model.specs.Pairs.{of_key};
 ghost use Rattle.art_model.specs.Roots.{IsCanonicalRoot};
 
-use super::points::{delete, deletion_from, gone_with, refused_deletion, take_out};
+use super::points::{delete, deletion_from, gone_with, take_out};
 use art_nodes::node::{NodeType, OpaqueNodePtr};
 use art_nodes::store::NodeStore;
-use art_test_support::cases::{assert_where_refused, planted_bytes};
-use art_test_support::crowds::{fill, place_beside};
+use art_test_support::cases::planted_bytes;
+use art_test_support::crowds::place_beside;
 use art_test_support::expected::{as_expected, same};
 use art_test_support::memory::all_memory;
-use art_test_support::nodes::{Seen, nodes_seen};
+use art_test_support::nodes::{Seen, count_touched, nodes_seen};
 use art_test_support::points::Gone;
 use art_test_support::trees::{Key, planted_all, promise};
 use std::alloc::Global;
@@ -164,39 +164,40 @@ fn without_memory_a_promised_shrink_is_made(rt: HostRuntime) -> Result<(), Fail>
 // More nodes of one kind than a store has room for before it is asked for.
 const MORE_THAN_FIT: usize = 100_000;
 
-// What a refused deletion touches of these nodes, beside leaves and nodes of the smaller kind that take all that there is
-// room for. The point has to come back.
-fn refused_in_crowd<const P: usize>(
+// What the deletion of [2] frees and changes of these nodes, beside leaves and nodes of the smaller kind that take all
+// that there is room for.
+fn touched_in_full<const P: usize>(
     store: &mut NodeStore<Key, u32, P>,
     root: OpaqueNodePtr,
     before: &[Seen],
     kind: NodeType,
-) -> Option<(bool, (usize, usize))>
+) -> Option<(usize, usize)>
     requires { IsCanonicalRoot (of_key (λ key. key.items)) P store.old root }
 {
     let held = all_memory(store.alloc()).ok()?;
     place_beside(store, root, NodeType::Leaf, MORE_THAN_FIT);
     place_beside(store, root, kind, MORE_THAN_FIT);
-    let refused = refused_deletion(store, root, before, &[2]);
+    let left = delete(store, root, &[2]);
     drop(held);
-    let (is_back, (_, freed, changed)) = refused?;
-    Some((is_back, (freed, changed)))
+    left?;
+    let (_, freed, changed) = count_touched(store, before);
+    Some((freed, changed))
 }
 
 // The same in the tree of so many keys of one byte.
-fn refused_of_many<const P: usize>(
+fn touched_of_many<const P: usize>(
     store: &mut NodeStore<Key, u32, P>,
     count: u16,
     kind: NodeType,
-) -> Option<(bool, (usize, usize))> {
+) -> Option<(usize, usize)> {
     let root = planted_bytes(store, count)?;
     let before = nodes_seen(store).ok()?;
-    refused_in_crowd(store, root, &before, kind)
+    touched_in_full(store, root, &before, kind)
 }
 
 // The same in a store of its own.
-fn refused_with(alloc: Global, count: u16, kind: NodeType) -> Option<(bool, (usize, usize))> {
-    refused_of_many::<4>(&mut NodeStore::new(alloc), count, kind)
+fn touched_with(alloc: Global, count: u16, kind: NodeType) -> Option<(usize, usize)> {
+    touched_of_many::<4>(&mut NodeStore::new(alloc), count, kind)
 }
 
 // The numbers of children from which a node comes to be of a smaller kind, with that kind.
@@ -207,64 +208,27 @@ static SHRINKING: [(u16, NodeType); 3] = [
 ];
 
 #[test]
-fn without_memory_a_shrink_leaves_the_tree(rt: HostRuntime) -> Result<(), Fail> {
+fn without_memory_a_shrink_is_made(rt: HostRuntime) -> Result<(), Fail> {
     for (count, kind) in &SHRINKING {
-        let touched = refused_with(rt.alloc(), *count, *kind);
-        same((*kind, touched), (*kind, Some((true, (0, 0)))))?;
+        let touched = touched_with(rt.alloc(), *count, *kind);
+        same((*kind, touched), (*kind, Some((2, 2))))?;
     }
     Ok(())
 }
 
-// Places so many leaves beside a tree, or else fills its store. Returns whether there was memory.
-fn crowd<const P: usize>(
+// What is left of the tree of all keys of one byte once they are taken out while all memory is held.
+fn taken_out_without_memory<const P: usize>(
     store: &mut NodeStore<Key, u32, P>,
-    root: OpaqueNodePtr,
-    others: Option<usize>,
-) -> bool
-    requires { IsCanonicalRoot (of_key (λ key. key.items)) P store.old root }
-    ensures { IsCanonicalRoot (of_key (λ key. key.items)) P store.new root }
-{
-    let Some(others) = others else {
-        return fill(store, root);
-    };
-    place_beside(store, root, NodeType::Leaf, others)
+) -> Option<(Option<OpaqueNodePtr>, Option<usize>)> {
+    let root = planted_bytes(store, 256)?;
+    let held = all_memory(store.alloc()).ok()?;
+    let left = take_all_out(store, root);
+    drop(held);
+    left
 }
 
-// What the deletion of [2] from the tree of so many keys of one byte touches where it is refused, beside so many leaves,
-// or else in a full store. The point has to come back.
-fn touched_in_crowd<const P: usize>(
-    store: &mut NodeStore<Key, u32, P>,
-    count: u16,
-    others: Option<usize>,
-) -> Option<(bool, (usize, usize, usize))> {
-    let root = planted_bytes(store, count)?;
-    if !crowd(store, root, others) {
-        return None;
-    }
-    let before = nodes_seen(store).ok()?;
-    refused_deletion(store, root, &before, &[2])
-}
-
-// The same in a store of its own.
-fn touched_beside(
-    alloc: Global,
-    count: u16,
-    others: Option<usize>,
-) -> Option<(bool, (usize, usize, usize))> {
-    touched_in_crowd::<4>(&mut NodeStore::new(alloc), count, others)
-}
-
-// What a refusal is to leave: the point comes back, and nothing is touched.
-const LEFT: (bool, (usize, usize, usize)) = (true, (0, 0, 0));
-
-// Says the same with ample memory and with requests for memory refused.
 #[test]
-fn refused_shrinks_leave_the_tree(rt: HostRuntime) -> Result<(), Fail> {
-    for others in 0..12usize {
-        assert_where_refused(&rt, touched_beside(rt.alloc(), 5, Some(others)), LEFT)?;
-    }
-    for (count, _) in &SHRINKING {
-        assert_where_refused(&rt, touched_beside(rt.alloc(), *count, None), LEFT)?;
-    }
-    Ok(())
+fn without_memory_a_node_shrinks_all_the_way(rt: HostRuntime) -> Result<(), Fail> {
+    let left = taken_out_without_memory::<4>(&mut NodeStore::new(rt.alloc()));
+    same(left, Some((None, None)))
 }

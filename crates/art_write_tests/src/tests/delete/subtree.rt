@@ -26,7 +26,7 @@ struct Removal {
     touched: Touched,
 }
 
-// Takes all keys out that begin with a prefix. `None` where there is none, or where that is refused.
+// Removes all keys that start with a prefix. `None` where there is none.
 fn remove_below<const P: usize>(
     store: &mut NodeStore<Key, u32, P>,
     root: OpaqueNodePtr,
@@ -36,7 +36,7 @@ fn remove_below<const P: usize>(
     requires { IsCanonicalRoot (of_key (λ key. key.items)) P store.old root }
 {
     let point = search_for_prefix_delete_point(store, root, prefix)?;
-    let done = point.apply(store, root).ok()?;
+    let done = point.apply(store, root);
     Some(Removal {
         new_root: done.new_root,
         removed: done.leafs_removed,
@@ -284,52 +284,40 @@ fn shrinks_a_parent_of_each_kind(rt: HostRuntime) -> Result<(), Fail> {
 // More nodes of one kind than a store has room for before it is asked for.
 const MORE_THAN_FIT: usize = 100_000;
 
-// What a refused removal touches of these nodes. The point has to come back.
-fn refused_removal<const P: usize>(
-    store: &mut NodeStore<Key, u32, P>,
-    root: OpaqueNodePtr,
-    before: &[Seen],
-) -> Option<(bool, Touched)>
-    requires { IsCanonicalRoot (of_key (λ key. key.items)) P store.old root }
-{
-    let point = search_for_prefix_delete_point(store, root, &[255])?;
-    let refused = point.apply(store, root).err()?;
-    Some((refused.point == point, count_touched(store, before)))
-}
-
-// The same beside nodes of the smaller kind that take all that there is room for.
-fn refused_in_crowd<const P: usize>(
+// What the removal of the keys that begin with 255 frees and changes of these nodes, beside nodes of the smaller kind that
+// take all that there is room for.
+fn touched_in_full<const P: usize>(
     store: &mut NodeStore<Key, u32, P>,
     root: OpaqueNodePtr,
     before: &[Seen],
     kind: NodeType,
-) -> Option<(bool, (usize, usize))>
+) -> Option<(usize, usize)>
     requires { IsCanonicalRoot (of_key (λ key. key.items)) P store.old root }
 {
     let held = all_memory(store.alloc()).ok()?;
     place_beside(store, root, kind, MORE_THAN_FIT);
-    let refused = refused_removal(store, root, before);
+    let done = remove_below(store, root, before, &[255]);
     drop(held);
-    let (is_back, (_, freed, changed)) = refused?;
-    Some((is_back, (freed, changed)))
+    let (_, freed, changed) = done?.touched;
+    Some((freed, changed))
 }
 
 // The same in the tree of so many keys of one byte and two that begin with 255.
-fn refused_of_many<const P: usize>(
+fn touched_of_many<const P: usize>(
     store: &mut NodeStore<Key, u32, P>,
     count: u16,
     kind: NodeType,
-) -> Option<(bool, (usize, usize))> {
+) -> Option<(usize, usize)> {
     let root = planted_with_two(store, count)?;
     let before = nodes_seen(store).ok()?;
-    refused_in_crowd(store, root, &before, kind)
+    touched_in_full(store, root, &before, kind)
 }
 
 #[test]
-fn without_memory_a_shrink_leaves_all_keys(rt: HostRuntime) -> Result<(), Fail> {
-    for (count, kind, _) in &SHRINKING {
-        let touched = refused_of_many::<4>(&mut NodeStore::new(rt.alloc()), *count, *kind);
-        same((*kind, touched), (*kind, Some((true, (0, 0)))))?;
+fn without_memory_a_shrink_is_made(rt: HostRuntime) -> Result<(), Fail> {
+    for (count, kind, (_, freed, changed)) in &SHRINKING {
+        let touched = touched_of_many::<4>(&mut NodeStore::new(rt.alloc()), *count, *kind);
+        same((*kind, touched), (*kind, Some((*freed, *changed))))?;
     }
     Ok(())
 }

@@ -5,7 +5,11 @@ ghost use Rattle.art_model.specs.Roots.{IsCanonicalRoot};
 
 use art_nodes::node::{InnerPtr, LeafPtr, OpaqueNodePtr, OptionalLeafPtr};
 use art_nodes::store::NodeStore;
-use art_operations::insert::{InsertKind, InsertPoint, InsertSearchError, search_for_insert_point};
+use art_operations::insert::{
+    InsertKind, InsertPoint, InsertSearchError, search_for_insert_point,
+    search_for_insert_point_visiting,
+};
+use art_operations::lookup::Visits;
 use art_operations::path::{ExplicitMismatch, TreePath};
 use art_test_support::cases::{FOUR, names_of_four};
 use art_test_support::expected::{as_expected, same};
@@ -286,4 +290,50 @@ fn told_without_memory<const P: usize>(store: &mut NodeStore<Key, u32, P>) -> Op
 fn without_memory_only_a_refusal_fails(rt: HostRuntime) -> Result<(), Fail> {
     let told = told_without_memory::<2>(&mut NodeStore::new(rt.alloc()));
     same(told, Some([true; 3]))
+}
+
+// Three keys, whose tree has prefixes of five bytes at two levels.
+static TWO_LEVELS: [&[u8]; 3] = [
+    &[1, 1, 1, 1, 1, 5],
+    &[1, 1, 1, 1, 1, 6, 2, 2, 2, 2, 2, 7],
+    &[1, 1, 1, 1, 1, 6, 2, 2, 2, 2, 2, 8],
+];
+
+// How many readings the search for the point of a key counts.
+fn readings<const P: usize>(
+    store: &NodeStore<Key, u32, P>,
+    root: OpaqueNodePtr,
+    key_bytes: &[u8],
+) -> usize
+    requires { IsCanonicalRoot (of_key (λ key. key.items)) P store.now root }
+{
+    let mut visits = Visits::new();
+    let _ = search_for_insert_point_visiting(store, root, key_bytes, &mut visits);
+    visits.count()
+}
+
+// The same of a stored key, of one that parts from the root's prefix, and of one that parts from a leaf's key.
+fn readings_in<const P: usize>(store: &mut NodeStore<Key, u32, P>) -> Option<[usize; 3]> {
+    let root = planted_all(store, &TWO_LEVELS).ok()??;
+    Some([
+        readings(store, root, TWO_LEVELS[2]),
+        readings(store, root, &[1, 1, 1, 9]),
+        readings(store, root, &[1, 1, 1, 1, 1, 5, 9]),
+    ])
+}
+
+fn readings_with<const P: usize>(alloc: Global) -> Option<[usize; 3]>
+    requires { P < 256 }
+{
+    readings_in::<P>(&mut NodeStore::new(alloc))
+}
+
+// The descent to the guide leaf and each reading of it are counted.
+#[test]
+fn counts_what_it_reads(rt: HostRuntime) -> Result<(), Fail> {
+    let seen = [
+        readings_with::<4>(rt.alloc()),
+        readings_with::<16>(rt.alloc()),
+    ];
+    same(seen, [Some([7, 5, 4]), Some([3, 1, 2])])
 }

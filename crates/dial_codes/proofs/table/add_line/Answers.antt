@@ -1,20 +1,14 @@
-use Rattle.std.proofs.Common.{refl, ap, sym, ◌∙◌}
-use Rattle.std.proofs.lemmas.Bool.{false≢true}
-use Rattle.art_model.specs.Pairs.{is_conflict, of_key}
-use Rattle.dial_codes.proofs.EntryLemmas.{conflict_is_related, entries_are_map, line_comes}
+use Rattle.std.proofs.Common.{refl, sym}
+use Rattle.dial_codes.proofs.EntryLemmas.{line_comes, name_is_stored, none_is_stored}
 use Rattle.dial_codes.proofs.table.add_line.Goals as goal
+
+pub returns-in-Some-get_text-clause-fault : goal.returns-in-Some-get_text-clause-fault
+returns-in-Some-get_text-clause-fault c =
+    (c.in-Some.code.now, c.in-Some.name.now, c.in-Some.ensures.entry, name_is_stored c.in-Some.code.now c.in-Some-get_text.named.now c.args.table.now c.in-Some-get_text.ensures)
 
 pub returns-in-Ok-insert-clause-added : goal.returns-in-Ok-insert-clause-added
 returns-in-Ok-insert-clause-added c =
+    let made = rw c.in-Ok-Some.field-0-is at c.in-Ok-Some.ensures.key in
     rw c.in-Ok-insert.ensures.pairs
-    (line_comes c.args.line.now c.in-Some.code.now c.in-Some.name.now c.args.number c.in-Ok.key (record { name = c.in-Ok-from_slice.name; line = c.args.number }) c.args.table.now
-    c.in-Some.ensures.entry c.in-Some.ensures.code c.in-Ok.ensures.items c.in-Ok-from_slice.ensures.items refl c.in_default-find_related.ensures.none)
-
-pub returns-in-Ok-insert-clause-apart : goal.returns-in-Ok-insert-clause-apart
-returns-in-Ok-insert-clause-apart c = entries_are_map _ c.in-Ok-insert.ensures.sorted
-
-pub unreachable-requires : goal.unreachable-requires
-unreachable-requires c =
-    let refused = rw c.in-Err-Conflict.field-0-is at c.in-Err-Conflict.ensures.refused in
-    false≢true (sym c.in_default-find_related.ensures.none ∙ conflict_is_related c.in-Some.code.now c.args.table.now
-    (ap (λ b. is_conflict (of_key (λ v. v.items)) b c.args.table.now) (sym c.in-Ok.ensures.items) ∙ refused.3))
+    (line_comes c.args.line.now c.in-Some.code.now c.in-Some.name.now c.args.number c.in-Ok-Some.key (record { name = c.in-Ok.name; line = c.args.number }) c.args.table.now
+    c.in-Some.ensures.entry c.in-Some.ensures.code made c.in-Ok.ensures.items refl (none_is_stored c.in-Some.code.now c.args.table.now c.in_default-get_text.ensures))

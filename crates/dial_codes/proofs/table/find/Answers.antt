@@ -1,31 +1,25 @@
-use Rattle.std.proofs.Common.{Some, ap, ap₂, sym, ◌∙◌}
+use Rattle.std.proofs.Common.{Some, ap, ap₂, subst, sym, ◌∙◌}
 use Rattle.std.specs.Option.{option_map}
-use Rattle.dial_codes.specs.Entries.{entries_of}
-use Rattle.dial_codes.proofs.EntryLemmas.{entries_are_map, first_match, match_entry, only_match}
+use Rattle.dial_codes.specs.Entries.{IsNoLonger, entries_of}
+use Rattle.dial_codes.proofs.EntryLemmas.{entries_rise, last_match, match_entry, no_longer}
 use Rattle.dial_codes.proofs.table.find.Goals as goal
 
-pub returns-in-Some-clause-first : goal.returns-in-Some-clause-first
-returns-in-Some-clause-first c =
-    ap₂ (λ a b. Some (a, b)) c.as_slice.ensures.value c.as_slice-in-Some.ensures.value ∙ ap (option_map (λ x. (x.0.items, x.1.name.items))) c.in-Some.ensures.pair
+pub returns-in-Some-clause-last : goal.returns-in-Some-clause-last
+returns-in-Some-clause-last c =
+    ap₂ (λ a b. Some (a, b)) c.as_bytes_without_end.ensures.text c.as_slice.ensures.value ∙ ap (option_map (λ x. (x.0, x.1.name.items))) c.in-Some.ensures
     ∙ sym (match_entry c.args.number.now c.args.table.now)
 
 pub returns-in-Some-clause-found : goal.returns-in-Some-clause-found
-returns-in-Some-clause-found c =
-    first_match (entries_of c.args.table.now) c.args.number.now _
-    (match_entry c.args.number.now c.args.table.now ∙ ap (option_map (λ x. (x.0.items, x.1.name.items))) (sym c.in-Some.ensures.pair)
-    ∙ sym (ap₂ (λ a b. Some (a, b)) c.as_slice.ensures.value c.as_slice-in-Some.ensures.value))
+returns-in-Some-clause-found c = last_match (entries_of c.args.table.now) c.args.number.now _ (sym (returns-in-Some-clause-last c))
 
-pub returns-in-Some-clause-only : goal.returns-in-Some-clause-only
-returns-in-Some-clause-only c entry there front =
-    ap₂ (λ a b. Some (a, b)) c.as_slice.ensures.value c.as_slice-in-Some.ensures.value ∙ ap (option_map (λ x. (x.0.items, x.1.name.items))) c.in-Some.ensures.pair
-    ∙ sym (match_entry c.args.number.now c.args.table.now)
-    ∙ only_match (entries_of c.args.table.now) c.args.number.now entry (entries_are_map c.args.table.now c.in-Some.ensures.sorted) there front
+pub returns-in-Some-clause-longest : goal.returns-in-Some-clause-longest
+returns-in-Some-clause-longest c entry there front =
+    subst (IsNoLonger entry) (sym (returns-in-Some-clause-last c)) (no_longer (entries_of c.args.table.now) c.args.number.now entry (entries_rise c.args.table.now c.rises.ensures) there front)
 
-pub returns-in-None-clause-first : goal.returns-in-None-clause-first
-returns-in-None-clause-first c =
-    ap (option_map (λ x. (x.0.items, x.1.name.items))) c.in-None.ensures.pair ∙ sym (match_entry c.args.number.now c.args.table.now)
+pub returns-in-None-clause-last : goal.returns-in-None-clause-last
+returns-in-None-clause-last c =
+    ap (option_map (λ x. (x.0, x.1.name.items))) c.in-None.ensures ∙ sym (match_entry c.args.number.now c.args.table.now)
 
-pub returns-in-None-clause-only : goal.returns-in-None-clause-only
-returns-in-None-clause-only c entry there front =
-    ap (option_map (λ x. (x.0.items, x.1.name.items))) c.in-None.ensures.pair ∙ sym (match_entry c.args.number.now c.args.table.now)
-    ∙ only_match (entries_of c.args.table.now) c.args.number.now entry (entries_are_map c.args.table.now c.in-None.ensures.sorted) there front
+pub returns-in-None-clause-longest : goal.returns-in-None-clause-longest
+returns-in-None-clause-longest c entry there front =
+    subst (IsNoLonger entry) (sym (returns-in-None-clause-last c)) (no_longer (entries_of c.args.table.now) c.args.number.now entry (entries_rise c.args.table.now c.rises.ensures) there front)

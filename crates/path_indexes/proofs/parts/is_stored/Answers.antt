@@ -7,4 +7,4 @@ is_some-copied None = refl
 is_some-copied (Some x) = refl
 
 pub returns : goal.returns
-returns c = c.is_some.ensures ∙ is_some-copied c.get_string.result ∙ ap is_some c.get_string.ensures ∙ found_is_stored c.args.path.now c.args.index.now
+returns c = c.is_some.ensures ∙ is_some-copied c.get_text.result ∙ ap is_some c.get_text.ensures ∙ found_is_stored c.args.path.now c.args.index.now

@@ -1,10 +1,8 @@
-use Rattle.std.proofs.Common.{length}
+use Rattle.std.proofs.Common.{◌≡◌, take}
+use Rattle.std.specs.Bool.{OnFalse, OnTrue}
 use Rattle.art_keys.specs.Escapes.{IsPlain}
 use Rattle.art_keys.proofs.escaped.Escaped.is_plain.Given as goal
 
--- the whole is plain just where the rest is
-abbrev pub invariant-loop-rest : goal.invariant-loop-rest
-invariant-loop-rest l = (IsPlain l.rest → IsPlain l.text) × (IsPlain l.text → IsPlain l.rest)
-
-abbrev pub decreases-loop-rest : goal.decreases-loop-rest
-decreases-loop-rest l = length l.rest
+-- so far each byte is plain, or one is not
+abbrev pub invariant-loop-byte : goal.invariant-loop-byte
+invariant-loop-byte l = OnTrue l.is_plain (IsPlain (take l.byte-index l.text)) × OnFalse l.is_plain (¬ IsPlain (take l.byte-index l.text))

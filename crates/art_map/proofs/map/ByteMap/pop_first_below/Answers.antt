@@ -11,6 +11,6 @@ invariant_of-self g c =
 pub returns : goal.returns
 returns g c =
     let B = of_key g.K.AsBytes.bytes in
-    let told =
-    tells_taken g.K.AsBytes.bytes g.row.P _ _ _ _ (λ pairs. first_of (below B c.args.prefix.now pairs)) (without_below B c.args.prefix.now 1) c.self.view_is c.take_below.result c.take_below.ensures in
-    record { pairs = told.pairs; removed = told.removed; kept = told.kept; refused = told.refused }
+    let (left, removed) =
+    tells_taken g.K.AsBytes.bytes g.row.P _ _ _ _ (λ pairs. first_of (below B c.args.prefix.now pairs)) (without_below B c.args.prefix.now 1) c.take_below.result c.take_below.ensures c.self.view_is in
+    record { pairs = left; removed = removed }

@@ -7,6 +7,6 @@ invariant_of-self g c =
 
 pub returns : goal.returns
 returns g c =
-    let told =
-    tells_below g.K.AsBytes.bytes g.row.P _ c.take_all_below.new.store c.take_all_below.new.root c.take_all_below.new.len c.args.prefix.now c.self.view_is c.take_all_below.result c.take_all_below.ensures in
-    record { pairs = told.pairs; removed = told.removed; kept = told.kept; refused = told.refused }
+    let (left, removed) =
+    tells_below g.K.AsBytes.bytes g.row.P _ c.take_all_below.new.store c.take_all_below.new.root c.take_all_below.new.len c.args.prefix.now c.take_all_below.result c.take_all_below.ensures c.self.view_is in
+    record { pairs = left; removed = removed }

@@ -1,11 +1,9 @@
 use Rattle.std.proofs.Common.{rules, ap, sym, ◌∙◌, subst, length}
-use Rattle.std.proofs.lemmas.Bool.{false≢true}
 use Rattle.art_model.specs.Pairs.{of_key}
 use Rattle.art_model.specs.Parts.{below, not_below}
 use Rattle.art_map.specs.MapPairs.{HoldsPairs}
 use Rattle.art_map.proofs.PartsOut.{none_begins, none_held, others_hold, removed_few, removed_is}
 use Rattle.art_map.proofs.Puts.{at_some, canonical_root, stays}
-use Rattle.art_map.proofs.Shrinking.{below_shrinks}
 use Rattle.art_map.proofs.map.remove.take_all_below.Goals as goal
 
 pub returns-in_default : goal.returns-in_default
@@ -27,22 +25,13 @@ returns-in_default-search_for_prefix_delete_point g c =
 pub overflow_sub-len : goal.overflow_sub-len
 overflow_sub-len g c =
     let has = at_some c.in-Some.is c.requires in
-    removed_few (of_key g.K.AsBytes.bytes) g.row.P has c.args.prefix.now (c.in-Some-search_for_prefix_delete_point.ensures.point _ has.layout has.by) (c.in-Ok.ensures.removed _ has.layout has.by)
+    removed_few (of_key g.K.AsBytes.bytes) g.row.P has c.args.prefix.now (c.in-Some-search_for_prefix_delete_point.ensures.point _ has.layout has.by) (c.apply-done.ensures.removed _ has.layout has.by)
 
-pub returns-in-Ok : goal.returns-in-Ok
-returns-in-Ok g c =
+pub returns : goal.returns
+returns g c =
     let B = of_key g.K.AsBytes.bytes in
     let has = at_some c.in-Some.is c.requires in
     let at = c.in-Some-search_for_prefix_delete_point.ensures.point _ has.layout has.by in (
-      others_hold B g.row.P has c.args.prefix.now at (c.in-Ok.ensures.removed _ has.layout has.by) (c.in-Ok.ensures.canonical _ has.layout has.by) (c.in-Ok.ensures.kept _ has.layout has.by),
-      removed_is B g.row.P has c.args.prefix.now at (c.in-Ok.ensures.removed _ has.layout has.by),
-    )
-
-pub returns-in-Err : goal.returns-in-Err
-returns-in-Err g c =
-    let B = of_key g.K.AsBytes.bytes in
-    let has = at_some c.in-Some.is c.requires in (
-      stays B g.row.P c.args.store.now c.apply.new.store c.in-Err.ensures.leaves c.in-Err.ensures.inners c.requires,
-      below_shrinks g.K.AsBytes.bytes g.row.P has.by c.args.prefix.now (c.in-Some-search_for_prefix_delete_point.ensures.point _ has.layout has.by)
-          (λ covered. absurd (false≢true (c.in-Err.ensures.succeeds covered))),
+      others_hold B g.row.P has c.args.prefix.now at (c.apply-done.ensures.removed _ has.layout has.by) (c.apply-done.ensures.canonical _ has.layout has.by) (c.apply-done.ensures.kept _ has.layout has.by),
+      removed_is B g.row.P has c.args.prefix.now at (c.apply-done.ensures.removed _ has.layout has.by),
     )

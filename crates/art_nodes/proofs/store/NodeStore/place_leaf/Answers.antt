@@ -9,7 +9,7 @@ pub returns-clause-placed : goal.returns-clause-placed
 returns-clause-placed g c =
     let same : c.if-self-gt0.self-inside.leaves.slots ≡ c.self.inside.leaves.slots = elim c.if-self-gt0.branch [
       | then-self-gt0 w ↦ ap (λ s. s.leaves.slots) w.self-inside-is
-      | else-self-gt0+in_default w ↦ ap (λ s. s.leaves.slots) w.self-inside-is ∙ ap (λ t. t.slots) w.make_room.ensures.rest_kept
+      | else-self-gt0+in_default w ↦ ap (λ s. s.leaves.slots) w.self-inside-is ∙ w.make_room.ensures.wider.slots
     ] in
     leaves_placed c.if-self-gt0.self-inside.leaves c.insert_reserved-slot.new.self c.insert_reserved-slot.result c.args.leaf c.insert_reserved-slot.ensures.updates
     ∙ ap (λ m. insert m (record { slot = c.insert_reserved-slot.result }) c.args.leaf) (ap leaves_of same ∙ ap (λ nodes. nodes.leaves) c.self.view_is)

@@ -5,7 +5,7 @@ use Rattle.art_writing.specs.TakenOut.{IsLetGo}
 use Rattle.art_writing.proofs.Deletions.{taken_out_of}
 use Rattle.art_writing.proofs.Removals.{is_alone, alone_ready, alone_deleted}
 use Rattle.art_writing.proofs.delete.DeletePoint.take_out.Goals as goal
-use Rattle.art_writing.proofs.delete.DeletePoint.take_out.Goals.{Joined-last_step, in-None, in-Some+in_ok-name-in-Some}
+use Rattle.art_writing.proofs.delete.DeletePoint.take_out.Goals.{Joined-last_step, in-None, in-Some}
 use Rattle.art_writing.proofs.delete.DeletePoint.take_out.Given.{Over}
 
 -- the leaf has no parent, or that has let it go
@@ -26,9 +26,9 @@ let_go g c =
             beside = ready.1;
             taken = λ t done leaf. taken_out_of c.requires (alone_deleted alone leaf told) no_parent told (λ kind e. absurd cc) leaf.promise;
           }))
-      | in-Some+in_ok-name-in-Some w ↦
+      | in-Some w ↦
           subst (λ u. IsLetGo bytes g.row.P s u c.args.root c.args.self c.match-last_step.new_root) (sym w.store-is)
-          (subst (IsLetGo bytes g.row.P s w.take_from_parent.new.store c.args.root c.args.self) (sym w.new_root-is) w.in_ok-name-in-Some.ensures)
+          (subst (IsLetGo bytes g.row.P s w.take_from_parent-name.new.store c.args.root c.args.self) (sym w.new_root-is) w.take_from_parent-name.ensures)
     ]
 
 pub take_leaf-requires : goal.take_leaf-requires

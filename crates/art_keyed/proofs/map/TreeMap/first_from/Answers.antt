@@ -1,0 +1,13 @@
+use Rattle.std.proofs.Common.{ap, refl, ◌∙◌}
+use Rattle.std.specs.Range.Bound.{bound_map}
+use Rattle.std.specs.declared.ops.Bound.TheVariants.{Unbounded}
+use Rattle.art_model.specs.Pairs.{first_of}
+use Rattle.art_keyed.specs.KeyedPairs.{keys_between}
+use Rattle.art_keyed.proofs.Between.{between_keys}
+use Rattle.art_keyed.proofs.map.TreeMap.first_from.Goals as goal
+
+pub returns : goal.returns
+returns g c =
+    c.first_from.ensures.pair
+    ∙ ap first_of (between_keys _ g.K.AsBytes.bytes g.met.K.OrderedBytes.keeps_order c.args.from Unbounded _ Unbounded c.bytes_of.ensures.bytes refl c.bytes_of.ensures.key tt c.self.inside.map c.self.invariant)
+    ∙ ap (λ pairs. first_of (keys_between g.K.OrderedBytes.order (bound_map (λ b. b.now) c.args.from) Unbounded pairs)) c.self.view_is

@@ -1,0 +1,18 @@
+use Rattle.std.proofs.Common.{rules, ℕ, List, ap, refl, ◌∙◌}
+use Rattle.art_keys.specs.Ended.{HasNoZero, ended}
+use Rattle.art_model.specs.Pairs.{last_of}
+use Rattle.art_keyed.specs.KeyedPairs.{strings_in_front}
+use Rattle.art_keyed.proofs.Fronts.{are_ended, fronts_are}
+use Rattle.art_keyed.proofs.map.strings.TreeMap+Terminated+V+P.longest_match.Goals as goal
+
+pub longest_text-requires : goal.longest_text-requires
+longest_text-requires g c = (
+  search rules,
+  are_ended HasNoZero ended (λ (t : List ℕ). t) (λ t. t) (λ t of_text. (refl, of_text)) (λ a b. refl) c.self.inside.map c.self.invariant,
+)
+
+pub returns : goal.returns
+returns g c =
+    c.longest_text.ensures.pair
+    ∙ ap last_of (fronts_are HasNoZero ended (λ (t : List ℕ). t) (λ t. t) (λ t of_text. (refl, of_text)) (λ a b. refl) c.self.inside.map c.self.invariant c.args.text.now c.args.text.now refl)
+    ∙ ap (λ pairs. last_of (strings_in_front (λ t. t) c.args.text.now pairs)) c.self.view_is

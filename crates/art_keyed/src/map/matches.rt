@@ -1,0 +1,123 @@
+//! The strings of a map that are prefixes of another one, the longest first.
+ghost use Rattle.std.specs.Prelude.{◌≡◌, ◌+◌, ◌-◌, ◌<◌, ◌≤◌, List, length, take, IfSome, None, Some};
+ghost use Rattle.std.specs.Iterator.{UpTo, at_most};
+ghost use Rattle.std.specs.Iterator.SizeHint.{IsWithinCount};
+ghost use Rattle.std.specs.Option.{option_map};
+ghost use Rattle.art_map.specs.MapItems.{TakesFirst};
+ghost use Rattle.art_keyed.specs.Matches.{matches_left, matches_of};
+
+use super::TreeMap;
+use art_keys::laws::StringBytes;
+use art_keys::terminated::Terminated;
+use art_nodes::node::AsBytes;
+use std::marker::Model;
+
+/// A map whose longest matches are found.
+pub trait Nested<K: AsBytes, V> {
+    ghost pairs: { Self → List (K × V) };
+
+    /// Returns the pair with the longest string of those that are left, or `None`, and leaves the shorter ones.
+    fn next_match<'q>(&self, left: &mut Option<&'q [u8]>) -> Option<(&K, &V)>
+        ensures { TakesFirst
+            (matches_left K.bytes (option_map (λ b. b.now) left.old) (pairs self.now)) result
+            (matches_left K.bytes (option_map (λ b. b.now) left.new) (pairs self.now)) };
+}
+
+impl<K: StringBytes + Drop, V: Drop, const P: usize> Nested<K, V> for TreeMap<K, V, P> {
+    ghost pairs = { λ pairs. pairs };
+
+    fn next_match<'q>(&self, left: &mut Option<&'q [u8]>) -> Option<(&K, &V)> {
+        let query = (*left)?;
+        let pair = self.as_byte_map().longest_text(query, 0)?;
+        *left = shorter(query, pair.0.as_bytes());
+        Some(pair)
+    }
+}
+
+// The bytes whose prefixes are those of the query that are shorter than the text of a key: none where that is empty.
+fn shorter<'q>(query: &'q [u8], key: &[u8]) -> Option<&'q [u8]>
+    requires { length key.now ≤ length query.now + 1 }
+    ensures empty { length key.now ≤ 1 → option_map (λ b. b.now) result ≡ None }
+    ensures cut { 1 < length key.now →
+        option_map (λ b. b.now) result ≡ Some (take (length key.now - 2) query.now) }
+{
+    if key.len() <= 1 {
+        return None;
+    }
+    Some(&query[..key.len() - 2])
+}
+
+/// The pairs of a map whose strings are prefixes of another one, the longest first, seen as the list of those that
+/// have not come yet. Each step costs what `longest_match` does.
+#[derive(Drop)]
+pub struct MatchesOf<'a, 'q, K: AsBytes, V, M: Nested<K, V>> {
+    map: &'a M,
+    left: Option<&'q [u8]>,
+    // None: it names the lifetime of what is lent.
+    nothing: Option<(&'a K, &'a V)>,
+}
+
+/// The same, over a map of keys.
+pub type Matches<'a, 'q, K, V, const P: usize> = MatchesOf<'a, 'q, K, V, TreeMap<K, V, P>>;
+
+impl<'a, 'q, K: AsBytes, V, M: Nested<K, V>> Model for MatchesOf<'a, 'q, K, V, M> {
+    ghost use Rattle.std.specs.Prelude.{List};
+    ghost use Rattle.std.specs.Coded.{coded×, coded_list};
+    ghost use Rattle.std.specs.Option.{option_map};
+    ghost use Rattle.art_keyed.specs.Matches.{matches_left};
+
+    ghost Value = { List (K × V) };
+
+    ghost coded = { coded_list (coded× K.code V.code) };
+
+    ghost view = { λ m.
+        matches_left K.bytes (option_map (λ b. b.now) m.left) (M.pairs m.map.now) };
+}
+
+impl<'a, 'q, K: AsBytes, V, M: Nested<K, V>> Iterator for MatchesOf<'a, 'q, K, V, M> {
+    type Item = (&'a K, &'a V);
+
+    ghost next_gives = { TakesFirst };
+
+    ghost remaining = { λ s. at_most (length s) };
+
+    fn next(&mut self) -> Option<(&'a K, &'a V)> {
+        self.map.next_match(&mut self.left)
+    }
+
+    fn size_hint(&self) -> (usize, Option<usize>)
+        ensures lower { IsWithinCount result.0 (at_most (length self.now)) }
+        ensures upper { IfSome result.1 (UpTo (at_most (length self.now))) }
+    {
+        (0, None)
+    }
+}
+
+impl<K: StringBytes + Drop, V: Drop, const P: usize> TreeMap<K, V, P> {
+    /// Returns the pairs whose strings are prefixes of that of a key, or the same, the longest first. It takes no
+    /// memory.
+    pub fn matches_key<'a, 'q>(&'a self, query: &'q K) -> Matches<'a, 'q, K, V, P>
+        ensures { result ≡ matches_of K.text (K.text query.now) self.now }
+    {
+        self.as_byte_map();
+        MatchesOf {
+            map: self,
+            left: Some(query.beginning()),
+            nothing: None,
+        }
+    }
+}
+
+impl<V: Drop, const P: usize> TreeMap<Terminated, V, P> {
+    /// Returns the pairs whose strings are prefixes of a text, or the same, the longest first. It takes no memory.
+    pub fn matches<'a, 'q>(&'a self, text: &'q [u8]) -> Matches<'a, 'q, Terminated, V, P>
+        ensures { result ≡ matches_of (λ text. text) text.now self.now }
+    {
+        self.as_byte_map();
+        MatchesOf {
+            map: self,
+            left: Some(text),
+            nothing: None,
+        }
+    }
+}

@@ -1,0 +1,33 @@
+//! Sets of strings, by texts of which no key is made.
+ghost use Rattle.std.specs.Prelude.{◌≡◌, option_copied};
+ghost use Rattle.art_model.specs.Pairs.{has_key, last_of, match_of, remove_key};
+ghost use Rattle.art_keys.specs.Ended.{ended};
+
+use super::TreeSet;
+use art_keys::terminated::Terminated;
+use art_reading::lookup::EndedQuery;
+
+impl<const P: usize> TreeSet<Terminated, P> {
+    /// Returns whether a text's key is stored. It costs what `contains` does.
+    pub fn contains_text(&self, text: &[u8]) -> bool
+        ensures { result ≡ has_key ended (ended text.now) self.now }
+    {
+        self.set.contains_by(EndedQuery { text, end: 0 })
+    }
+
+    /// Removes a text's key, and returns whether it was stored. It costs what `remove` does.
+    pub fn remove_text(&mut self, text: &[u8]) -> bool
+        ensures keys { self.new ≡ remove_key ended (ended text.now) self.old }
+        ensures removed { result ≡ has_key ended (ended text.now) self.old }
+    {
+        self.set.remove_by(EndedQuery { text, end: 0 })
+    }
+
+    /// Returns the longest string that is a prefix of a text, or the same, or `None`. It costs what `longest_match` of
+    /// the map does.
+    pub fn longest_match(&self, text: &[u8]) -> Option<&Terminated>
+        ensures { option_copied result ≡ last_of (match_of (λ string. string) text.now self.now) }
+    {
+        self.set.longest_text(text, 0)
+    }
+}

@@ -1,0 +1,12 @@
+use Rattle.std.proofs.Common.{refl}
+use Rattle.art_model.specs.Pairs.{last_of, without_last}
+use Rattle.art_map.proofs.Results.{taken_holds, tells_taken}
+use Rattle.art_map.proofs.map.ByteMap.pop_last.Goals as goal
+
+pub invariant_of-self : goal.invariant_of-self
+invariant_of-self g c = taken_holds g.K.AsBytes.bytes g.row.P _ _ _ _ last_of without_last c.take_last.result c.take_last.ensures
+
+pub returns : goal.returns
+returns g c =
+    let (left, removed) = tells_taken g.K.AsBytes.bytes g.row.P _ _ _ _ last_of without_last c.take_last.result c.take_last.ensures c.self.view_is in
+    record { succeeds = refl; pairs = left; removed = removed }

@@ -1,0 +1,57 @@
+//! Calls of a map by a key that is not made, as by a text and the byte that ends it.
+ghost use Rattle.std.specs.Prelude.{◌≡◌, option_copied};
+ghost use Rattle.std.specs.Borrow.{sem};
+ghost use Rattle.std.specs.Option.{option_copied_mut, option_map};
+ghost use Rattle.art_model.specs.Pairs.{IsMap, first_of, has_key, of_key, remove_key, remove_reply, with_key};
+ghost use Rattle.art_map.specs.MapAnswers.{value_at};
+ghost use Rattle.art_map.specs.MapItems.{deref_pair};
+ghost use Rattle.art_map.specs.MapLends.{lends_value};
+
+use super::{ByteMap, take_key};
+use art_nodes::node::AsBytes;
+use art_reading::lookup::{Asked, KeyQuery, find_unchecked, search_for};
+
+impl<K: AsBytes + Drop, V: Drop, const P: usize> ByteMap<K, V, P> {
+    /// Returns the value of the key that is looked for, or `None`. It costs what `get` does.
+    pub fn get_by<Q: KeyQuery>(&self, query: Q) -> Option<&V>
+        ensures value { option_copied result ≡ value_at K.bytes (Q.key query) self.now }
+        ensures sorted { IsMap (of_key K.bytes) self.now }
+    {
+        let leaf = find_unchecked(&self.store, self.root?, query, Asked::Same)?;
+        Some(&leaf.value)
+    }
+
+    /// Returns the pair of the key that is looked for, or `None`. It costs what `get` does.
+    pub fn get_key_value_by<Q: KeyQuery>(&self, query: Q) -> Option<(&K, &V)>
+        ensures { option_map deref_pair result ≡
+            first_of (with_key (of_key K.bytes) (Q.key query) self.now) }
+    {
+        let leaf = find_unchecked(&self.store, self.root?, query, Asked::Same)?;
+        Some((&leaf.key, &leaf.value))
+    }
+
+    /// Returns the value of the key that is looked for, to be written, or `None`. It costs what `get` does.
+    pub fn get_mut_by<Q: KeyQuery>(&mut self, query: Q) -> Option<&mut V>
+        ensures* writes_back { sem 𝓛
+            (lends_value K.row V.row P.row K.AsBytes self.entry (Q.key query) result) }
+        ensures value { option_copied_mut result ≡ value_at K.bytes (Q.key query) self.old }
+    {
+        let leaf = search_for(&self.store, self.root?, query)?;
+        self.store.value_mut(leaf)
+    }
+
+    /// Returns whether the key that is looked for is stored. It costs what `get` does.
+    pub fn contains_key_by<Q: KeyQuery>(&self, query: Q) -> bool
+        ensures { result ≡ has_key (of_key K.bytes) (Q.key query) self.now }
+    {
+        self.get_by(query).is_some()
+    }
+
+    /// Removes the pair of the key that is looked for, and returns it. It costs what `remove` does.
+    pub fn remove_by<Q: KeyQuery>(&mut self, query: Q) -> Option<(K, V)>
+        ensures pairs { self.new ≡ remove_key (of_key K.bytes) (Q.key query) self.old }
+        ensures removed { result ≡ remove_reply (of_key K.bytes) (Q.key query) self.old }
+    {
+        take_key(&mut self.store, &mut self.root, &mut self.len, query)
+    }
+}

@@ -1,0 +1,27 @@
+//! Longest matches among keys each of which is a text and the byte that ends it.
+ghost use Rattle.std.specs.Prelude.{◌≡◌};
+ghost use Rattle.std.specs.Option.{option_map};
+ghost use Rattle.art_model.specs.Pairs.{IsMap, last_of, of_key};
+ghost use Rattle.art_model.specs.Texts.{AreEnded, texts_in_front};
+ghost use Rattle.art_map.specs.MapItems.{deref_pair};
+
+use super::{ByteMap, pair_at};
+use art_nodes::node::AsBytes;
+use art_reading::lookup::longest_text_unchecked;
+
+impl<K: AsBytes + Drop, V: Drop, const P: usize> ByteMap<K, V, P> {
+    /// Returns the pair with the longest text that is a prefix of the query, or `None`. Each key has to be a text
+    /// and then `end`, which is less than each byte of a text; a text may be a prefix of another.
+    ///
+    /// It descends along the query. Where the text that it finds is not a prefix of the query, it descends
+    /// once more, along the bytes that both share. It takes no memory.
+    pub fn longest_text(&self, query: &[u8], end: u8) -> Option<(&K, &V)>
+        requires { AreEnded (of_key K.bytes) end self.now }
+        ensures pair { option_map deref_pair result ≡
+            last_of (texts_in_front (of_key K.bytes) query.now self.now) }
+        ensures sorted { IsMap (of_key K.bytes) self.now }
+    {
+        let leaf = longest_text_unchecked(&self.store, self.root?, query, end)?;
+        Some(pair_at(&self.store, leaf))
+    }
+}

@@ -1,0 +1,213 @@
+//! Removals while all memory is held: maps and sets are emptied, though nodes are replaced by smaller ones.
+use super::beside_btree::{
+    Key, Map as DrawnMap, Model, agree_on_pairs, agree_on_removal, drawn_key,
+};
+use super::calls::{Map, Removal};
+use art_operations::map::ByteMap;
+use art_operations::set::ByteSet;
+use art_test_support::expected::{as_expected, same};
+use art_test_support::memory::all_memory;
+use art_test_support::numbers::Numbers;
+use std::alloc::Global;
+use std::collections::BTreeMap;
+use std::test::Fail;
+
+// How all pairs are removed.
+#[derive(Clone, Copy, PartialEq, Debug)]
+enum Way {
+    ByKey,
+    FromTheFront,
+    FromTheBack,
+    FirstWithAPrefix,
+    AtOnce,
+    ByAClosure,
+}
+
+static WAYS: [Way; 6] = [
+    Way::ByKey,
+    Way::FromTheFront,
+    Way::FromTheBack,
+    Way::FirstWithAPrefix,
+    Way::AtOnce,
+    Way::ByAClosure,
+];
+
+// ---- the 256 keys of one byte, which are under one node
+
+fn fill_all(map: &mut Map) -> bool {
+    for byte in 0..=255u8 {
+        if map.insert([byte], byte as u32).is_err() {
+            return false;
+        }
+    }
+    map.len() == 256
+}
+
+// Removes one pair, or all of them. Returns how many there were.
+fn remove_some(map: &mut Map, way: Way, byte: u8) -> usize {
+    match way {
+        Way::ByKey => map.remove(&[byte]).unwrap().is_some() as usize,
+        Way::FromTheFront => map.pop_first().unwrap().is_some() as usize,
+        Way::FromTheBack => map.pop_last().unwrap().is_some() as usize,
+        Way::FirstWithAPrefix => map.pop_first_below(&[byte]).is_some() as usize,
+        Way::AtOnce => map.remove_prefix(&[]),
+        Way::ByAClosure => {
+            let before = map.len();
+            map.retain(|_, _| false);
+            before.saturating_sub(map.len())
+        }
+    }
+}
+
+// Removes so often as there are bytes. Returns how many pairs there were.
+fn remove_all(map: &mut Map, way: Way) -> usize {
+    let mut removed = 0usize;
+    for byte in 0..=255u8 {
+        removed = removed.saturating_add(remove_some(map, way, byte));
+    }
+    removed
+}
+
+// The same while every allocation fails, with how many pairs are left.
+fn starve(alloc: Global, map: &mut Map, way: Way) -> Option<(usize, usize)> {
+    let held = all_memory(alloc).ok()?;
+    let removed = remove_all(map, way);
+    drop(held);
+    Some((removed, map.len()))
+}
+
+// Whether a map was filled, and the same of it.
+fn starve_filled(alloc: Global, map: &mut Map, way: Way) -> (bool, Option<(usize, usize)>) {
+    (fill_all(map), starve(alloc, map, way))
+}
+
+#[test]
+fn without_memory_256_pairs_are_removed(rt: HostRuntime) -> Result<(), Fail> {
+    for way in &WAYS {
+        let seen = starve_filled(rt.alloc(), &mut ByteMap::new(rt.alloc()), *way);
+        same((*way, seen), (*way, (true, Some((256, 0)))))?;
+    }
+    Ok(())
+}
+
+// ---- a set of these keys
+
+type Set = ByteSet<[u8; 1], 4>;
+
+fn fill_set(set: &mut Set) -> bool {
+    for byte in 0..=255u8 {
+        if set.insert([byte]).is_err() {
+            return false;
+        }
+    }
+    set.len() == 256
+}
+
+// Whether both ends and two other keys are removed, each in its own way.
+fn are_removed(set: &mut Set, byte: u8) -> bool {
+    let taken = byte.wrapping_add(140);
+    set.pop_first() == Some([byte])
+        && set.pop_last() == Some([255 - byte])
+        && set.remove(&[byte.wrapping_add(100)])
+        && set.take(&[taken]) == Some([taken])
+}
+
+// Whether half of the keys are removed so, and then the others by a closure.
+fn is_emptied(set: &mut Set) -> bool {
+    let mut all = true;
+    for byte in 0..32u8 {
+        all = are_removed(set, byte) && all;
+    }
+    let left = set.len();
+    set.retain(|_| false);
+    all && left == 128 && set.is_empty()
+}
+
+// The same while every allocation fails.
+fn is_emptied_without_memory(alloc: Global, set: &mut Set) -> Option<bool> {
+    let held = all_memory(alloc).ok()?;
+    let is_emptied = is_emptied(set);
+    drop(held);
+    Some(is_emptied)
+}
+
+// Whether a set was filled, and the same of it.
+fn starve_filled_set(alloc: Global, set: &mut Set) -> (bool, Option<bool>) {
+    (fill_set(set), is_emptied_without_memory(alloc, set))
+}
+
+#[test]
+fn without_memory_256_keys_are_removed(rt: HostRuntime) -> Result<(), Fail> {
+    let seen = starve_filled_set(rt.alloc(), &mut ByteSet::new(rt.alloc()));
+    as_expected(Some((seen, (true, Some(true)))))
+}
+
+// ---- drawn maps
+
+// Puts drawn pairs into both. Returns how many there are then.
+fn fill_drawn(map: &mut DrawnMap, model: &mut Model, numbers: &mut Numbers) -> Option<usize> {
+    for _ in 0..400 {
+        let (key, value) = (drawn_key(numbers), numbers.value());
+        map.insert(key, value).ok()?;
+        model.insert(key, value).ok()?;
+    }
+    Some(map.len())
+}
+
+// A drawn removal.
+fn drawn_removal(numbers: &mut Numbers) -> Removal<Key> {
+    match numbers.below(8) {
+        0 => Removal::First,
+        1 => Removal::Last,
+        _ => Removal::Key(drawn_key(numbers)),
+    }
+}
+
+// Whether so many drawn removals return the same of both, and the same pairs are left.
+fn agree_on_removals(
+    map: &mut DrawnMap,
+    model: &mut Model,
+    numbers: &mut Numbers,
+    count: usize,
+) -> bool {
+    let mut agree = true;
+    for _ in 0..count {
+        agree = agree_on_removal(map, model, drawn_removal(numbers)) && agree;
+    }
+    agree && agree_on_pairs(map, model)
+}
+
+// The same while every allocation fails, and whether nothing is left.
+fn starve_drawn(
+    alloc: Global,
+    map: &mut DrawnMap,
+    model: &mut Model,
+    numbers: &mut Numbers,
+) -> Option<(bool, bool)> {
+    let held = all_memory(alloc).ok()?;
+    let agree = agree_on_removals(map, model, numbers, 8_000);
+    drop(held);
+    Some((agree, map.is_empty()))
+}
+
+// Whether both were filled, and the same of them.
+fn starve_filled_drawn(
+    alloc: Global,
+    map: &mut DrawnMap,
+    model: &mut Model,
+    seed: u64,
+) -> Option<(bool, (bool, bool))> {
+    let mut numbers = Numbers::new(seed);
+    let is_filled = fill_drawn(map, model, &mut numbers)? > 200;
+    Some((is_filled, starve_drawn(alloc, map, model, &mut numbers)?))
+}
+
+#[test]
+fn without_memory_drawn_maps_are_emptied(rt: HostRuntime) -> Result<(), Fail> {
+    for seed in 1..=8u64 {
+        let (mut map, mut model) = (ByteMap::new(rt.alloc()), BTreeMap::new(rt.alloc()));
+        let seen = starve_filled_drawn(rt.alloc(), &mut map, &mut model, seed);
+        as_expected(Some((seen, Some((true, (true, true))))))?;
+    }
+    Ok(())
+}

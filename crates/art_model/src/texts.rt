@@ -1,0 +1,11 @@
+//! Texts that may be prefixes of one another: which of those that are prefixes of a query is the longest.
+
+ghost use Rattle.std.specs.Prelude.{ℕ, List};
+ghost use Rattle.art_model.specs.Texts.{LastHasAll, LastIsLongest};
+
+/// In a sorted list of texts the last one that is a prefix of a query is the longest such text, and each
+/// other one is a prefix of it.
+pub fn the_last_match_is_the_longest<A>()
+    ensures longest { (text : A → List ℕ) → LastIsLongest text }
+    ensures has_all { (text : A → List ℕ) → LastHasAll text }
+{}

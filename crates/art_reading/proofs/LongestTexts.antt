@@ -1,0 +1,186 @@
+-- The last of the texts that are prefixes of a query.
+use Rattle.std.proofs.Common.{◌≡◌, ◌≢◌, ℕ, ◌<◌, ◌≤◌, List, [], ◌∷◌, ◌++◌, length, take, filter, refl, ap, ap₂, sym, ◌∙◌, subst, arith, append-nil, append_assoc, length-append, Option, Some, None, Bool, true, false, IfSome, IsSome}
+use Rattle.std.specs.List.{AllByRecursion as Each}
+use Rattle.std.specs.FinMap as map
+use Rattle.std.specs.Option.{option_map}
+use Rattle.std.proofs.lemmas.Bool.{true≢false}
+use Rattle.std.proofs.lemmas.List.{take_at}
+use Rattle.std.proofs.lemmas.List.Elements.{filter-append}
+use Rattle.art_nodes.specs.Nodes.{Nodes}
+use Rattle.art_parts.specs.Names.{leaf_name}
+use Rattle.art_parts.specs.declared.leaf.LeafNode.{LeafNode}
+use Rattle.art_parts.specs.declared.names.LeafPtr.{LeafPtr}
+use Rattle.art_parts.specs.declared.names.OpaqueNodePtr.{OpaqueNodePtr}
+use Rattle.art_model.specs.Canonical.{IsCanonicalTree}
+use Rattle.art_model.specs.Keys.{IsFront, Precedes, common_front, is_front}
+use Rattle.art_model.specs.Layouts.{Holds}
+use Rattle.art_model.specs.Lookups.{HasLeaf, pair_under}
+use Rattle.art_model.specs.Pairs.{IsMap, last_of, without_last}
+use Rattle.art_model.specs.Paths.{pairs_before, pairs_after}
+use Rattle.art_model.specs.Radix.{pairs_of}
+use Rattle.art_model.specs.Stores.{node_at, pair_of}
+use Rattle.art_model.specs.Trees.{Tree, leaf}
+use Rattle.art_model.proofs.keys.Fronts.{shared_whole}
+use Rattle.art_model.proofs.keys.KeyLaws.{common_front_is_longest}
+use Rattle.art_model.proofs.keys.Keys.{front_from, front_is, parts_left, precedes_byte}
+use Rattle.art_model.proofs.lists.Filters.{Each-both}
+use Rattle.art_model.proofs.lists.Lists.{Each-left, Each-right, Each-weaker, common_front_left, common_front_right, filter_none, front_trans}
+use Rattle.art_model.proofs.lists.Pairwises.{Pairwise-after}
+use Rattle.art_model.proofs.places.Paths.{pairs_of-plug}
+use Rattle.art_model.proofs.stores.Canonical.{tree_radix}
+use Rattle.art_model.proofs.stores.Stores.{path_holds}
+use Rattle.art_model.proofs.stores.Views as views
+use Rattle.art_model.specs.Texts.{AreEnded, IsEndedBy, texts_in_front, text_of}
+use Rattle.art_model.specs.Lookups.{FindsLast}
+use Rattle.art_reading.specs.TextWays.{EndsWalk, IsCovering}
+use Rattle.art_model.proofs.keys.Texts.{ended_text, front_short, fronts_first, not_front, true_front}
+
+-- two tests that agree
+same_front : (a b c : List ℕ) → (IsFront a b → IsFront a c) → (IsFront a c → IsFront a b) → is_front a b ≡ is_front a c
+same_front a b c to from = go (is_front a b) refl
+  where
+    go : (t : Bool) → is_front a b ≡ t → t ≡ is_front a c
+    go true e = sym (true_front a c (to (front_from a b e)))
+    go false e = sym (not_front a c (λ f. true≢false (sym (true_front a b (from f)) ∙ e)))
+
+filter_same : {A : Type 0} (test other : A → Bool) (xs : List A) → Each (λ x. test x ≡ other x) xs → filter test xs ≡ filter other xs
+filter_same test other [] h = refl
+filter_same test other (x ∷ xs) h = rw (h.0, filter_same test other xs h.1) refl
+
+last_snoc : {A : Type 0} (xs : List A) (x : A) → last_of (xs ++ x ∷ []) ≡ Some x
+last_snoc [] x = refl
+last_snoc (y ∷ []) x = refl
+last_snoc (y ∷ z ∷ xs) x = last_snoc (z ∷ xs) x
+
+pub shared_short : (a b : List ℕ) → length (common_front a b) ≤ length b
+shared_short a b = front_short (common_front a b) b (common_front_right a b)
+
+pub shared_within : (a b : List ℕ) → length (common_front a b) ≤ length a
+shared_within a b = front_short (common_front a b) a (common_front_left a b)
+
+module _ {K V : Type 0} {s : Nodes K V} {bytes : K × V → List ℕ} {P : ℕ} {root : OpaqueNodePtr} {pairs : List (K × V)} {layout : Tree OpaqueNodePtr (K × V)}
+    (by : IsCanonicalTree bytes P s root pairs layout) where
+  module _ {n : OpaqueNodePtr} {x : K × V} (has : HasLeaf layout n x) where
+    -- the pairs around that of a leaf
+    around : pairs ≡ (pairs_before has.path ++ x ∷ []) ++ pairs_after has.path
+    around = sym (tree_radix by).1 ∙ ap pairs_of (sym has.whole) ∙ pairs_of-plug has.path (leaf n x)
+
+    at_leaf : (Q : K × V → Type 0) → Each Q pairs → Q x
+    at_leaf Q all = (Each-right Q (pairs_before has.path) (x ∷ []) (Each-left Q (pairs_before has.path ++ x ∷ []) (pairs_after has.path) (subst (Each Q) around all))).0
+
+  module _ (end : ℕ) (ended : AreEnded bytes end pairs) (query : List ℕ) where
+    -- no text is a front of the query
+    pub none_found : EndsWalk bytes query pairs layout None → texts_in_front bytes query pairs ≡ []
+    none_found off = filter_none (λ x. is_front (text_of bytes x) query) pairs (Each-weaker (λ x. IsFront (text_of bytes x) query → ⊥) (λ x. is_front (text_of bytes x) query ≡ false) (λ x o. not_front (text_of bytes x) query o) pairs off)
+
+    -- the text of the leaf is one, and goes on with each other
+    pub last_found : {name : LeafPtr} (c : IsCovering bytes query pairs layout name) → IsFront (text_of bytes c.pair) query → FindsLast layout (texts_in_front bytes query pairs) (Some name)
+    last_found {name} c on = (c.pair, last, c.has)
+      where
+        test : K × V → Bool
+        test = λ x. is_front (text_of bytes x) query
+
+        e : IsEndedBy end (bytes c.pair)
+        e = at_leaf c.has (λ x. IsEndedBy end (bytes x)) ended
+
+        own : text_of bytes c.pair ≡ e.text
+        own = ap without_last e.is ∙ ended_text e.text end
+
+        after : Each (λ y. is_front (text_of bytes y) query ≡ false) (pairs_after c.has.path)
+        after =
+            let split = around c.has in
+            let rise = Pairwise-after (λ x y. Precedes (bytes x) (bytes y)) (pairs_before c.has.path) (pairs_after c.has.path) c.pair
+            (subst (IsMap bytes) (split ∙ append_assoc (pairs_before c.has.path) (c.pair ∷ []) (pairs_after c.has.path)) by.is_map) in
+            let marks = Each-right (λ x. IsEndedBy end (bytes x)) (pairs_before c.has.path ++ c.pair ∷ []) (pairs_after c.has.path) (subst (AreEnded bytes end) split ended) in
+            let covers = Each-right (λ x. IsFront (text_of bytes x) query → IsFront (text_of bytes x) (text_of bytes c.pair)) (pairs_before c.has.path ++ c.pair ∷ []) (pairs_after c.has.path)
+            (subst (Each (λ x. IsFront (text_of bytes x) query → IsFront (text_of bytes x) (text_of bytes c.pair))) split c.covers) in
+            Each-both (λ y. Precedes (bytes c.pair) (bytes y)) (λ y. IsFront (text_of bytes y) query → ⊥) (λ y. is_front (text_of bytes y) query ≡ false) (λ y p o. not_front (text_of bytes y) query o) (pairs_after c.has.path) rise
+            (Each-both (λ y. Precedes (bytes c.pair) (bytes y)) (λ y. IsEndedBy end (bytes y) × (IsFront (text_of bytes y) query → IsFront (text_of bytes y) (text_of bytes c.pair))) (λ y. IsFront (text_of bytes y) query → ⊥)
+            (λ y p (i, cover) f. fronts_first end (bytes c.pair) (bytes y) e.text i.text e.is i.is e.above
+            (subst (λ z. IsFront z e.text) (ap without_last i.is ∙ ended_text i.text end) (subst (λ z. IsFront (text_of bytes y) z) own (cover f))) p) (pairs_after c.has.path) rise
+            (Each-both (λ x. IsEndedBy end (bytes x)) (λ x. IsFront (text_of bytes x) query → IsFront (text_of bytes x) (text_of bytes c.pair)) (λ y. IsEndedBy end (bytes y) × (IsFront (text_of bytes y) query → IsFront (text_of bytes y) (text_of bytes c.pair)))
+            (λ y i cover. (i, cover)) (pairs_after c.has.path) marks covers))
+
+        here : filter test (c.pair ∷ []) ≡ c.pair ∷ []
+        here = rw (ap (is_front (text_of bytes c.pair)) on.1 ∙ front_is (text_of bytes c.pair) on.0) refl
+
+        last : last_of (texts_in_front bytes query pairs) ≡ Some c.pair
+        last =
+            ap (λ xs. last_of (filter test xs)) (around c.has)
+            ∙ ap last_of (filter-append test (pairs_before c.has.path ++ c.pair ∷ []) (pairs_after c.has.path))
+            ∙ ap₂ (λ xs ys. last_of (xs ++ ys)) (filter-append test (pairs_before c.has.path) (c.pair ∷ [])) (filter_none test (pairs_after c.has.path) after)
+            ∙ ap (λ xs. last_of ((filter test (pairs_before c.has.path) ++ xs) ++ [])) here
+            ∙ ap last_of (append-nil (filter test (pairs_before c.has.path) ++ c.pair ∷ []))
+            ∙ last_snoc (filter test (pairs_before c.has.path)) c.pair
+
+    -- the leaf's text parts from the query: what they share serves as well
+    module _ {name : LeafPtr} (c : IsCovering bytes query pairs layout name) where
+      pub shared_is : take (length (common_front (text_of bytes c.pair) query)) query ≡ common_front (text_of bytes c.pair) query
+      shared_is =
+          let (r, e) = common_front_right (text_of bytes c.pair) query in
+          ap (take (length (common_front (text_of bytes c.pair) query))) e ∙ take_at (common_front (text_of bytes c.pair) query) r (length (common_front (text_of bytes c.pair) query)) refl
+
+      same_fronts : texts_in_front bytes query pairs ≡ texts_in_front bytes (common_front (text_of bytes c.pair) query) pairs
+      same_fronts =
+          filter_same (λ x. is_front (text_of bytes x) query) (λ x. is_front (text_of bytes x) (common_front (text_of bytes c.pair) query)) pairs
+          (Each-weaker (λ x. IsFront (text_of bytes x) query → IsFront (text_of bytes x) (text_of bytes c.pair))
+          (λ x. is_front (text_of bytes x) query ≡ is_front (text_of bytes x) (common_front (text_of bytes c.pair) query))
+          (λ x cover. same_front (text_of bytes x) query (common_front (text_of bytes c.pair) query)
+          (λ f. (common_front_is_longest (text_of bytes c.pair) query).2 (text_of bytes x) (cover f) f)
+          (λ f. front_trans (text_of bytes x) (common_front (text_of bytes c.pair) query) query f (common_front_right (text_of bytes c.pair) query))) pairs c.covers)
+
+      -- it begins the leaf's key
+      begins : IsFront (common_front (text_of bytes c.pair) query) (bytes c.pair)
+      begins =
+          let e = at_leaf c.has (λ x. IsEndedBy end (bytes x)) ended in
+          let text : text_of bytes c.pair ≡ e.text = ap without_last e.is ∙ ended_text e.text end in
+          front_trans (common_front (text_of bytes c.pair) query) (text_of bytes c.pair) (bytes c.pair) (common_front_left (text_of bytes c.pair) query)
+          (end ∷ [], e.is ∙ ap (λ z. z ++ end ∷ []) (sym text))
+
+  -- the node under the name of a leaf has its pair
+  pub own_pair : {name : LeafPtr} {x : K × V} → HasLeaf layout (leaf_name name) x → {node : LeafNode K V} → Some node ≡ map.get s.leaves name → pair_of node ≡ x
+  own_pair {name} {x} has {node} read =
+      let (other, there, same) = views.leaf_there s name x (path_holds (node_at s) has.path (leaf (leaf_name name) x) (subst (Holds (node_at s)) (sym has.whole) by.stands.0.holds)).1 in
+      let is : node ≡ other = cc in
+      ap pair_of is ∙ same
+
+  -- what is found has the pair
+  module _ (found : List (K × V)) where
+    shown : {name : LeafPtr} {x : K × V} → HasLeaf layout (leaf_name name) x → option_map pair_of (map.get s.leaves name) ≡ Some x
+    shown {name} {x} has =
+        let (node, there, same) = views.leaf_there s name x (path_holds (node_at s) has.path (leaf (leaf_name name) x) (subst (Holds (node_at s)) (sym has.whole) by.stands.0.holds)).1 in
+        ap (option_map pair_of) there ∙ ap Some same
+
+    pub last_pair : (result : Option LeafPtr) → FindsLast layout found result → pair_under s result ≡ last_of found
+    last_pair None none = ap last_of (sym none)
+    last_pair (Some name) (x, last, has) = shown has ∙ sym last
+
+    pub last_there : (result : Option LeafPtr) → FindsLast layout found result → IfSome result (λ leaf. IsSome (map.get s.leaves leaf))
+    last_there None none = tt
+    last_there (Some name) (x, last, has) = some (map.get s.leaves name) (shown has)
+      where
+        some : (o : Option _) → option_map pair_of o ≡ Some x → IsSome o
+        some None e = absurd cc
+        some (Some node) e = refl
+
+  module _ (end : ℕ) (ended : AreEnded bytes end pairs) (query : List ℕ) where
+    pub found_none : (result : Option LeafPtr) → result ≡ None → EndsWalk bytes query pairs layout None → FindsLast layout (texts_in_front bytes query pairs) result
+    found_none result is off = subst (FindsLast layout (texts_in_front bytes query pairs)) (sym is) (none_found end ended query off)
+
+    -- all of the text is shared
+    pub found_whole : {name : LeafPtr} (c : IsCovering bytes query pairs layout name) → length (common_front (text_of bytes c.pair) query) ≡ length (text_of bytes c.pair) →
+        FindsLast layout (texts_in_front bytes query pairs) (Some name)
+    found_whole c all = last_found end ended query c (shared_whole (text_of bytes c.pair) query (omega arith))
+
+    -- the second way, along what is shared
+    pub found_again : {name : LeafPtr} (c : IsCovering bytes query pairs layout name) (n : ℕ) → n ≡ length (common_front (text_of bytes c.pair) query) →
+        (result : Option LeafPtr) → EndsWalk bytes (take n query) pairs layout result → FindsLast layout (texts_in_front bytes query pairs) result
+    found_again c n count result ends =
+        let cut : take n query ≡ common_front (text_of bytes c.pair) query = ap (λ m. take m query) count ∙ shared_is end ended query c in
+        subst (λ xs. FindsLast layout xs result) (sym (same_fronts end ended query c)) (go result (subst (λ q. EndsWalk bytes q pairs layout result) cut ends))
+      where
+        go : (result : Option LeafPtr) → EndsWalk bytes (common_front (text_of bytes c.pair) query) pairs layout result → FindsLast layout (texts_in_front bytes (common_front (text_of bytes c.pair) query) pairs) result
+        go None off = none_found end ended (common_front (text_of bytes c.pair) query) off
+        go (Some other) d =
+            last_found end ended (common_front (text_of bytes c.pair) query) d
+            (at_leaf c.has (λ x. IsFront (common_front (text_of bytes c.pair) query) (bytes x) → IsFront (text_of bytes d.pair) (common_front (text_of bytes c.pair) query)) d.along (begins end ended query c))

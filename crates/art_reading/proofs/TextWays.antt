@@ -1,0 +1,406 @@
+-- The way down along a query, with the longest text so far.
+use Rattle.std.proofs.Common.{◌≡◌, ◌≢◌, ℕ, ◌+◌, ◌<◌, ◌≤◌, ◌⊎◌, List, [], ◌∷◌, ◌++◌, length, length-append, append_assoc, get_or, refl, ap, sym, ◌∙◌, subst, arith, append-nil, Option, Some, None, inl, inr}
+use Rattle.std.specs.Bool.{⊤}
+use Rattle.std.specs.List.{AllByRecursion as Each}
+use Rattle.std.proofs.Common.{eqb}
+use Rattle.std.proofs.lemmas.Bool.{cases_order}
+use Rattle.art_inner.specs.Inner.{Inner, child_at}
+use Rattle.art_nodes.specs.Nodes.{Nodes}
+use Rattle.art_parts.specs.Names.{inner_name, leaf_name}
+use Rattle.art_parts.specs.declared.names.InnerPtr.{InnerPtr}
+use Rattle.art_parts.specs.declared.names.LeafPtr.{LeafPtr}
+use Rattle.art_parts.specs.declared.names.NodeType.TheVariants.{Leaf}
+use Rattle.art_parts.specs.declared.names.OpaqueNodePtr.{OpaqueNodePtr}
+use Rattle.art_model.specs.Canonical.{IsCanonicalTree}
+use Rattle.art_model.specs.Footprints.{IsIn}
+use Rattle.art_model.specs.Keys.{IsFront}
+use Rattle.art_model.specs.Layouts.{Holds, name_of}
+use Rattle.art_model.specs.Lookups.{HasLeaf}
+use Rattle.art_model.specs.Pairs.{without_last}
+use Rattle.art_model.specs.Places.{prefix_of}
+use Rattle.art_model.specs.Paths.{plug, pairs_before, pairs_after}
+use Rattle.art_model.specs.Radix.{IsRadix, AreRadix, bytes_of, pairs_of, pairs_below}
+use Rattle.art_model.specs.Stores.{header_at, node_at}
+use Rattle.art_model.specs.Trees.{Tree, leaf, inner, Subtrees, child, no_child, NodeHeader}
+use Rattle.art_model.proofs.lists.Filters.{Each-both}
+use Rattle.art_model.proofs.lists.Lists.{Each-append, Each-left, Each-right, Each-weaker, front_cut, front_trans}
+use Rattle.art_model.proofs.places.OnWay.{byte_after, child_under, front_byte}
+use Rattle.art_model.proofs.places.Places.{prefix_is}
+use Rattle.art_model.proofs.places.Paths.{pairs_of-plug}
+use Rattle.art_model.proofs.radix.Radix.{AreRadix-right}
+use Rattle.art_model.proofs.radix.Rebuild.{radix_some, radix_way}
+use Rattle.art_model.proofs.stores.Canonical.{tree_radix}
+use Rattle.art_model.proofs.stores.Shown.{IsShown, IsThere, leaf_named}
+use Rattle.art_model.proofs.stores.Views.{inner_name_is}
+use Rattle.art_reading.specs.PartEnds.{StandsBetween}
+use Rattle.art_reading.proofs.Descents.{IsDescent, start, stands_there, shown_radix, front, front_len, child_there, each_under, down}
+use Rattle.art_model.specs.Texts.{AreEnded, IsEndedBy, text_of}
+use Rattle.art_reading.specs.TextWays.{EndsWalk, IsCovering, IsLeafOr}
+use Rattle.art_model.proofs.keys.Texts.{ended_text, front_in_text, front_of_fronts, front_short, goes_within, mark_ends}
+
+-- a text was found that goes on with this one
+abbrev pub Covered : Option (List ℕ) → List ℕ → Type 0
+Covered None t = ⊥
+Covered (Some f) t = IsFront t f
+
+-- the text that was found is a front of the query
+abbrev pub IsOnTrack : Option (List ℕ) → List ℕ → Type 0
+IsOnTrack None query = ⊤
+IsOnTrack (Some f) query = IsFront f query
+
+module _ {A : Type 0} (bytes : A → List ℕ) (end : ℕ) (query : List ℕ) where
+  -- if the text of the pair is a front of the query, one was found that goes on with it
+  abbrev pub IsCovered : Option (List ℕ) → A → Type 0
+  IsCovered found x = (t : List ℕ) → bytes x ≡ t ++ end ∷ [] → IsFront t query → Covered found t
+
+  -- if the query begins the key of the pair, what was found is a front of the query
+  abbrev pub IsAlong : Option (List ℕ) → A → Type 0
+  IsAlong found x = IsFront query (bytes x) → IsOnTrack found query
+
+  -- A pair beside the way.
+  pub record IsAside (found : Option (List ℕ)) (x : A) : Type 0 where
+    pub covered : IsCovered found x
+    pub off : IsFront query (bytes x) → ⊥
+
+  module _ (tree : Tree OpaqueNodePtr A) (place : List ℕ) where
+    -- The leaf of the text that was found, which leads to the place.
+    pub record IsBest (best : LeafPtr) (f : List ℕ) : Type 0 where
+      pub x : A
+      pub has : HasLeaf tree (leaf_name best) x
+      pub ended : bytes x ≡ f ++ end ∷ []
+      pub above : Each (λ byte. end < byte) f
+      pub leads : IsFront f place
+      pub short : length f ≤ length query
+
+    abbrev pub IsFound : Option LeafPtr → Option (List ℕ) → Type 0
+    IsFound None None = ⊤
+    IsFound None (Some f) = ⊥
+    IsFound (Some best) None = ⊥
+    IsFound (Some best) (Some f) = IsBest best f
+
+module _ {A : Type 0} (bytes : A → List ℕ) (end : ℕ) (query : List ℕ) (tree : Tree OpaqueNodePtr A) where
+  -- what leads to a place leads on
+  pub leads_on : (place further : List ℕ) → IsFront place further → (best : Option LeafPtr) (found : Option (List ℕ)) → IsFound bytes end query tree place best found → IsFound bytes end query tree further best found
+  leads_on place further on None None is = tt
+  leads_on place further on None (Some f) is = is
+  leads_on place further on (Some best) None is = is
+  leads_on place further on (Some best) (Some f) is = record {
+    x = is.x;
+    has = is.has;
+    ended = is.ended;
+    above = is.above;
+    leads = front_trans f place further is.leads on;
+    short = is.short;
+  }
+
+  -- a key that begins with the place, and with the query
+  pub along_place : (place : List ℕ) (best : Option LeafPtr) (found : Option (List ℕ)) → IsFound bytes end query tree place best found → (x : A) → IsFront place (bytes x) → IsAlong bytes end query found x
+  along_place place None None is x at begins = tt
+  along_place place None (Some f) is x at begins = absurd is
+  along_place place (Some best) None is x at begins = absurd is
+  along_place place (Some best) (Some f) is x at begins = front_of_fronts f query (bytes x) (front_trans f place (bytes x) is.leads at) begins is.short
+
+  -- the way ends, and all pairs are covered
+  pub finish : (place : List ℕ) (best : Option LeafPtr) (found : Option (List ℕ)) → IsFound bytes end query tree place best found → (xs : List A) → AreEnded bytes end xs →
+      Each (IsCovered bytes end query found) xs → Each (IsAlong bytes end query found) xs → EndsWalk bytes query xs tree best
+  finish place None None is xs ended covered along =
+      Each-both (λ x. IsEndedBy end (bytes x)) (IsCovered bytes end query None) (λ x. IsFront (text_of bytes x) query → ⊥)
+      (λ x e c f. c e.text e.is (subst (λ z. IsFront z query) (ap without_last e.is ∙ ended_text e.text end) f)) xs ended covered
+  finish place None (Some f) is xs ended covered along = absurd is
+  finish place (Some best) None is xs ended covered along = absurd is
+  finish place (Some best) (Some f) is xs ended covered along =
+      let own : text_of bytes is.x ≡ f = ap without_last is.ended ∙ ended_text f end in
+      record {
+        pair = is.x;
+        has = is.has;
+        covers = Each-both (λ x. IsEndedBy end (bytes x)) (IsCovered bytes end query (Some f)) (λ x. IsFront (text_of bytes x) query → IsFront (text_of bytes x) (text_of bytes is.x))
+            (λ x e c g.
+            let text : text_of bytes x ≡ e.text = ap without_last e.is ∙ ended_text e.text end in
+            subst (λ z. IsFront (text_of bytes x) z) (sym own) (subst (λ z. IsFront z f) (sym text) (c e.text e.is (subst (λ z. IsFront z query) text g)))) xs ended covered;
+        along = Each-weaker (IsAlong bytes end query (Some f)) (λ x. IsFront query (bytes x) → IsFront (text_of bytes is.x) query) (λ x a b. subst (λ z. IsFront z query) (sym own) (a b)) xs along;
+        short = subst (λ z. length z ≤ length query) (sym own) is.short;
+      }
+
+-- The way down to a node, between pairs beside it, with the longest text so far.
+pub record IsNestedWay {A : Type 0} (bytes : A → List ℕ) (P end : ℕ) (query : List ℕ) (tree : Tree OpaqueNodePtr A) (name : OpaqueNodePtr) (depth : ℕ) (best : Option LeafPtr) : Type 0 where
+  pub found : Option (List ℕ)
+  pub descent : IsDescent bytes P (IsAside bytes end query found) (IsAside bytes end query found) tree name depth
+  pub is_found : IsFound bytes end query tree descent.place best found
+
+-- What was found at a node with this whole front, and children under these bytes.
+pub record IsBetter {A : Type 0} (bytes : A → List ℕ) (end : ℕ) (query : List ℕ) (tree : Tree OpaqueNodePtr A) (w cs : List ℕ) (before : Option (List ℕ)) (after : Option LeafPtr) : Type 0 where
+  pub found : Option (List ℕ)
+  pub is_found : IsFound bytes end query tree w after found
+  pub outer : (t : List ℕ) → Covered before t → Covered found t
+  pub here : (c : ℕ) → IsIn c cs → c ≡ end → Covered found w
+
+each_top : {A : Type 0} (xs : List A) → Each (λ x. ⊤) xs
+each_top [] = tt
+each_top (x ∷ xs) = (tt, each_top xs)
+
+module _ {A : Type 0} (bytes : A → List ℕ) (P : ℕ) (w : List ℕ) (end : ℕ) where
+  -- what goes on after a text and its mark is a leaf
+  no_inner : (n : OpaqueNodePtr) (h : NodeHeader) (cs : Subtrees OpaqueNodePtr A) → IsRadix bytes P (w ++ end ∷ []) (inner n h cs) → AreEnded bytes end (pairs_below cs) → ⊥
+  no_inner n h no_child radix ended = let two = radix.2 in omega arith
+  no_inner n h (child b t cs) radix ended =
+      let place = ((w ++ end ∷ []) ++ radix.0) ++ b ∷ [] in
+      let (y, ys, is) = radix_some bytes P t (((w ++ end ∷ []) ++ radix.0) ++ b ∷ []) radix.4.0 in
+      let leads = (subst (Each (λ x. IsFront (((w ++ end ∷ []) ++ radix.0) ++ b ∷ []) (bytes x))) is (radix_way bytes P t (((w ++ end ∷ []) ++ radix.0) ++ b ∷ []) radix.4.0)).0 in
+      let e = (subst (AreEnded bytes end) is (Each-left (λ x. IsEndedBy end (bytes x)) (pairs_of t) (pairs_below cs) ended)).0 in
+      let (r, f) = front_cut (w ++ end ∷ []) radix.0 (bytes y) (front_cut ((w ++ end ∷ []) ++ radix.0) (b ∷ []) (bytes y) leads) in
+      let same = ap length (mark_ends w r e.text end e.above (sym e.is ∙ f)) in
+      let long = ap length (sym e.is ∙ leads.1) in
+      omega (arith, simp length-append at long)
+
+-- the leaf of a child that stands under the mark
+pub record IsMarked {A : Type 0} (bytes : A → List ℕ) (end : ℕ) (tree : Tree OpaqueNodePtr A) (w : List ℕ) (best : LeafPtr) : Type 0 where
+  pub x : A
+  pub has : HasLeaf tree (leaf_name best) x
+  pub ended : bytes x ≡ w ++ end ∷ []
+  pub above : Each (λ byte. end < byte) w
+
+module _ {K V : Type 0} {s : Nodes K V} {bytes : K × V → List ℕ} {P : ℕ} {root : OpaqueNodePtr} {pairs : List (K × V)} {layout : Tree OpaqueNodePtr (K × V)}
+    (by : IsCanonicalTree bytes P s root pairs layout) (end : ℕ) (query : List ℕ) where
+  pub way_begins : IsNestedWay bytes P end query layout root 0 None
+  way_begins = record { found = None; descent = start by; is_found = tt }
+
+  -- the pairs are those of the tree
+  pub ended_all : AreEnded bytes end pairs → AreEnded bytes end (pairs_of layout)
+  ended_all = subst (AreEnded bytes end) (sym (tree_radix by).1)
+
+  pub over_pairs : (result : Option LeafPtr) → EndsWalk bytes query (pairs_of layout) layout result → EndsWalk bytes query pairs layout result
+  over_pairs result = subst (λ xs. EndsWalk bytes query xs layout result) (tree_radix by).1
+
+  module _ (ended : AreEnded bytes end (pairs_of layout)) where
+    -- a part of the tree
+    ended_at : {Lower Upper : K × V → Type 0} {name : OpaqueNodePtr} (at : StandsBetween Lower Upper layout name) → AreEnded bytes end (pairs_of at.node)
+    ended_at at =
+        let Q : K × V → Type 0 = λ x. IsEndedBy end (bytes x) in
+        let split = subst (AreEnded bytes end) (ap pairs_of (sym at.whole) ∙ pairs_of-plug at.path at.node) ended in
+        Each-right (λ x. IsEndedBy end (bytes x)) (pairs_before at.path) (pairs_of at.node)
+        (Each-left (λ x. IsEndedBy end (bytes x)) (pairs_before at.path ++ pairs_of at.node) (pairs_after at.path) split)
+
+    -- a child after a text and its mark is a leaf
+    module _ (w : List ℕ) {to : OpaqueNodePtr} (at : StandsBetween (λ x. ⊤) (λ x. ⊤) layout to) (radix : IsRadix bytes P (w ++ end ∷ []) at.node) where
+      marked : {p : LeafPtr} → leaf_name p ≡ to → IsMarked bytes end layout w p
+      marked {p} named =
+          let there = stands_there by at in
+          let (x, is) = leaf_named s p at.node (there.named ∙ sym named) there.holds in
+          let leads = subst (IsRadix bytes P (w ++ end ∷ [])) is radix in
+          let e = (subst (λ t. AreEnded bytes end (pairs_of t)) is (ended_at at)).0 in
+          let same = mark_ends w leads.0 e.text end e.above (sym e.is ∙ leads.1) in
+          record {
+            x = x;
+            has = record { path = at.path; whole = ap (plug at.path) (sym is) ∙ at.whole };
+            ended = e.is ∙ ap (λ z. z ++ end ∷ []) same;
+            above = subst (Each (λ byte. end < byte)) same e.above;
+          }
+
+      not_inner : (to.kind ≢ Leaf) → ⊥
+      not_inner proper = go at.node (stands_there by at).named (stands_there by at).holds radix (ended_at at)
+        where
+          go : (t : Tree OpaqueNodePtr (K × V)) → name_of t ≡ to → Holds (node_at s) t → IsRadix bytes P (w ++ end ∷ []) t → AreEnded bytes end (pairs_of t) → ⊥
+          go (leaf n x) named held r e = inner_name_is s (record { kind = to.kind; slot = to.slot }) x proper (ap (node_at s) (sym named) ∙ held)
+          go (inner n h cs) named held r e = no_inner bytes P w end n h cs r e
+
+    module _ {name : OpaqueNodePtr} {depth : ℕ} {best : Option LeafPtr} (way : IsNestedWay bytes P end query layout name depth best) where
+      -- ---- at a leaf
+      module _ (n : LeafPtr) (x : K × V) (is : way.descent.at.node ≡ leaf (leaf_name n) x) where
+        leads_leaf : IsFront way.descent.place (bytes x)
+        leads_leaf = subst (IsRadix bytes P way.descent.place) is way.descent.radix
+
+        all : (Q : K × V → Type 0) → ((y : K × V) → IsAside bytes end query way.found y → Q y) → Q x → Each Q (pairs_of layout)
+        all Q aside own =
+            let at = way.descent.at in
+            subst (Each Q) (sym (ap pairs_of (sym at.whole) ∙ pairs_of-plug at.path at.node))
+            (Each-append Q (pairs_before at.path ++ pairs_of at.node) (pairs_after at.path)
+            (Each-append Q (pairs_before at.path) (pairs_of at.node) (Each-weaker (IsAside bytes end query way.found) Q aside (pairs_before at.path) at.before)
+            (subst (λ t. Each Q (pairs_of t)) (sym is) (own, tt)))
+            (Each-weaker (IsAside bytes end query way.found) Q aside (pairs_after at.path) at.after))
+
+        -- whose text is no front of the query
+        pub other_leaf : (IsFront (text_of bytes x) query → ⊥) → EndsWalk bytes query (pairs_of layout) layout best
+        other_leaf off =
+            finish bytes end query layout way.descent.place best way.found way.is_found (pairs_of layout) ended
+            (all (IsCovered bytes end query way.found) (λ y a. a.covered) (λ t e f. absurd (off (subst (λ z. IsFront z query) (sym (ap without_last e ∙ ended_text t end)) f))))
+            (all (IsAlong bytes end query way.found) (λ y a b. absurd (a.off b)) (along_place bytes end query layout way.descent.place best way.found way.is_found x leads_leaf))
+
+        -- whose text is a front of the query
+        pub own_leaf : IsFront (text_of bytes x) query → EndsWalk bytes query (pairs_of layout) layout (Some n)
+        own_leaf on =
+            let has : HasLeaf layout (leaf_name n) x = record { path = way.descent.at.path; whole = ap (plug way.descent.at.path) (sym is) ∙ way.descent.at.whole } in
+            let e = (subst (λ t. AreEnded bytes end (pairs_of t)) is (ended_at way.descent.at)).0 in
+            let text : text_of bytes x ≡ e.text = ap without_last e.is ∙ ended_text e.text end in
+            let in_text = longer best way.found way.is_found e.text (subst (IsFront way.descent.place) e.is leads_leaf) in
+            let covered : Each (λ y. (t : List ℕ) → bytes y ≡ t ++ end ∷ [] → IsFront t query → IsFront t e.text) (pairs_of layout) =
+            all (λ y. (t : List ℕ) → bytes y ≡ t ++ end ∷ [] → IsFront t query → IsFront t e.text) (λ y a t i f. in_text t (a.covered t i f))
+            (λ t i f. ([], (sym text ∙ ap without_last i ∙ ended_text t end) ∙ sym (append-nil t))) in
+            record {
+              pair = x;
+              has = has;
+              covers = Each-both (λ y. IsEndedBy end (bytes y)) (λ y. (t : List ℕ) → bytes y ≡ t ++ end ∷ [] → IsFront t query → IsFront t e.text) (λ y. IsFront (text_of bytes y) query → IsFront (text_of bytes y) (text_of bytes x))
+                  (λ y i c g.
+                  let own : text_of bytes y ≡ i.text = ap without_last i.is ∙ ended_text i.text end in
+                  subst (λ z. IsFront (text_of bytes y) z) (sym text) (subst (λ z. IsFront z e.text) (sym own) (c i.text i.is (subst (λ z. IsFront z query) own g)))) (pairs_of layout) ended covered;
+              along = all (λ y. IsFront query (bytes y) → IsFront (text_of bytes x) query) (λ y a b. on) (λ b. on);
+              short = front_short (text_of bytes x) query on;
+            }
+          where
+            longer : (best : Option LeafPtr) (found : Option (List ℕ)) → IsFound bytes end query layout way.descent.place best found → (text : List ℕ) → IsFront way.descent.place (text ++ end ∷ []) →
+                (t : List ℕ) → Covered found t → IsFront t text
+            longer b None i text at t c = absurd c
+            longer None (Some f) i text at t c = absurd i
+            longer (Some b) (Some f) i text at t c = front_trans t f text c (front_in_text f text end i.above (front_trans f way.descent.place (text ++ end ∷ []) i.leads at))
+
+      -- ---- at an inner node
+      module _ {p : InnerPtr} {shown : Inner} (at : IsShown way.descent.at.node p shown) where
+        -- the place and the whole prefix, read off the node
+        abbrev pub whole : List ℕ
+        whole = way.descent.place ++ prefix_of bytes depth way.descent.at.node
+
+        front_whole : {Lower Upper : K × V → Type 0} (d : IsDescent bytes P Lower Upper layout name depth) (there : IsShown d.at.node p shown) → front d there ≡ d.place ++ prefix_of bytes depth d.at.node
+        front_whole d there =
+            ap (λ z. d.place ++ z) (sym (ap (prefix_of bytes depth) there.is
+            ∙ subst (λ n. prefix_of bytes n (inner (inner_name p) (header_at p.kind shown) there.children) ≡ (shown_radix d there).0) d.depth_is
+            (prefix_is bytes P (inner_name p) (header_at p.kind shown) there.children d.place (shown_radix d there))))
+
+        pub whole_len : length whole ≡ depth + shown.prefix.len
+        whole_len = ap length (sym (front_whole way.descent at)) ∙ front_len way.descent at
+
+        place_whole : IsFront way.descent.place whole
+        place_whole = (prefix_of bytes depth way.descent.at.node, refl)
+
+        -- the child under a byte
+        child_of : (b : ℕ) {to : OpaqueNodePtr} → child_at shown.children b ≡ Some to →
+            (at : StandsBetween (λ x. ⊤) (λ x. ⊤) layout to) × IsRadix bytes P (whole ++ b ∷ []) at.node
+        child_of b {to} there =
+            let d = way.descent in
+            let u = child_under at.children b to (shown_radix way.descent at).3 (ap (λ cs. child_at cs b) (sym at.slots) ∙ there) in
+            let below = subst (AreRadix bytes P (front way.descent at)) u.whole (shown_radix way.descent at).4 in
+            let own = (AreRadix-right bytes P (front way.descent at) u.left (child b u.tree u.right) below).0 in (
+              record {
+                path = record { mark = inner_name p; header = header_at p.kind shown; left = u.left; byte = b; right = u.right } ∷ way.descent.at.path;
+                node = u.tree;
+                whole = ap (λ cs. plug way.descent.at.path (inner (inner_name p) (header_at p.kind shown) cs)) (sym u.whole) ∙ ap (plug way.descent.at.path) (sym at.is) ∙ way.descent.at.whole;
+                named = u.named;
+                before = each_top _;
+                after = each_top _;
+              },
+              subst (λ z. IsRadix bytes P (z ++ b ∷ []) u.tree) (front_whole way.descent at) own,
+            )
+
+        -- what is under the mark is found
+        pub better : length whole ≤ length query → (to : Option OpaqueNodePtr) → child_at shown.children end ≡ to → {after : Option LeafPtr} → IsLeafOr to best after →
+            IsBetter bytes end query layout whole (bytes_of at.children) way.found after
+        better short None none is = record {
+          found = way.found;
+          is_found = subst (λ b. IsFound bytes end query layout whole b way.found) (sym is) (leads_on bytes end query layout way.descent.place whole place_whole best way.found way.is_found);
+          outer = λ t c. c;
+          here = λ c i e. absurd (child_there way.descent at c i (ap (child_at shown.children) e ∙ none));
+        }
+        better short (Some to) there (inl (q, named, is)) =
+            let m = marked whole (child_of end there).0 (child_of end there).1 named in
+            record {
+              found = Some whole;
+              is_found = subst (λ b. IsFound bytes end query layout whole b (Some whole)) (sym is)
+                  (record { x = m.x; has = m.has; ended = m.ended; above = m.above; leads = ([], sym (append-nil whole)); short = short });
+              outer = covered_on best way.found way.is_found;
+              here = λ c i e. ([], sym (append-nil whole));
+            }
+          where
+            covered_on : (best : Option LeafPtr) (found : Option (List ℕ)) → IsFound bytes end query layout way.descent.place best found → (t : List ℕ) → Covered found t → Covered (Some whole) t
+            covered_on b None i t c = absurd c
+            covered_on None (Some f) i t c = absurd i
+            covered_on (Some b) (Some f) i t c = front_trans t f whole c (front_trans f way.descent.place whole i.leads place_whole)
+        better short (Some to) there (inr (proper, is)) = absurd (not_inner whole (child_of end there).0 (child_of end there).1 proper)
+
+        -- the way ends here: what was found, and that no text of a pair below goes on with the query
+        module _ (after : Option LeafPtr) (found : Option (List ℕ)) (is_found : IsFound bytes end query layout whole after found) (outer : (t : List ℕ) → Covered way.found t → Covered found t) where
+          pub ends : ((c : ℕ) → IsIn c (bytes_of at.children) → (x : K × V) → IsFront (whole ++ c ∷ []) (bytes x) → IsCovered bytes end query found x) → EndsWalk bytes query (pairs_of layout) layout after
+          ends covered =
+              finish bytes end query layout whole after found is_found (pairs_of layout) ended
+              (every (IsCovered bytes end query found) (λ x a t e f. outer t (a.covered t e f)) covered)
+              (every (IsAlong bytes end query found) (λ x a begins. absurd (a.off begins))
+              (λ c i x leads. along_place bytes end query layout whole after found is_found x (front_cut whole (c ∷ []) (bytes x) leads)))
+            where
+              every : (Q : K × V → Type 0) → ((x : K × V) → IsAside bytes end query way.found x → Q x) →
+                  ((c : ℕ) → IsIn c (bytes_of at.children) → (x : K × V) → IsFront (whole ++ c ∷ []) (bytes x) → Q x) → Each Q (pairs_of layout)
+              every Q aside below =
+                  let here = way.descent.at in
+                  subst (Each Q) (sym (ap pairs_of (sym here.whole) ∙ pairs_of-plug here.path here.node))
+                  (Each-append Q (pairs_before here.path ++ pairs_of here.node) (pairs_after here.path)
+                  (Each-append Q (pairs_before here.path) (pairs_of here.node) (Each-weaker (IsAside bytes end query way.found) Q aside (pairs_before here.path) here.before)
+                  (each_under way.descent at Q (λ c i x leads. below c i x (subst (λ z. IsFront (z ++ c ∷ []) (bytes x)) (front_whole way.descent at) leads))))
+                  (Each-weaker (IsAside bytes end query way.found) Q aside (pairs_after here.path) here.after))
+
+        -- the query ends before the prefix does
+        pub ends_short : length query < length whole → EndsWalk bytes query (pairs_of layout) layout best
+        ends_short less =
+            ends best way.found (leads_on bytes end query layout way.descent.place whole place_whole best way.found way.is_found) (λ t c. c)
+            (λ c i x leads t e f. absurd (go t f (goes_within whole c leads.0 t end (sym e ∙ leads.1))))
+          where
+            go : (t : List ℕ) → IsFront t query → {c : ℕ} → ((t ≡ whole) × (c ≡ end)) ⊎ IsFront (whole ++ c ∷ []) t → ⊥
+            go t f (inl (same, mark)) = let l = ap length same in let k = front_short t query f in omega arith
+            go t f {c} (inr g) = let l = front_short whole t (front_cut whole (c ∷ []) t g) in let k = front_short t query f in omega arith
+
+        module _ {after : Option LeafPtr} (b : IsBetter bytes end query layout whole (bytes_of at.children) way.found after) where
+          -- below a byte that is not the query's next one
+          covered_off : (c : ℕ) → IsIn c (bytes_of at.children) → (IsFront (whole ++ c ∷ []) query → ⊥) → (x : K × V) → IsFront (whole ++ c ∷ []) (bytes x) → IsCovered bytes end query b.found x
+          covered_off c i off x leads t e f = go (goes_within whole c leads.0 t end (sym e ∙ leads.1))
+            where
+              go : ((t ≡ whole) × (c ≡ end)) ⊎ IsFront (whole ++ c ∷ []) t → Covered b.found t
+              go (inl (same, mark)) = subst (Covered b.found) (sym same) (b.here c i mark)
+              go (inr g) = absurd (off (front_trans (whole ++ c ∷ []) t query g f))
+
+          -- no text goes on with the query
+          pub ends_here : ((c : ℕ) → IsIn c (bytes_of at.children) → IsFront (whole ++ c ∷ []) query → ⊥) → EndsWalk bytes query (pairs_of layout) layout after
+          ends_here off = ends after b.found b.is_found b.outer (λ c i x leads. covered_off c i (off c i) x leads)
+
+          -- the query ends with the prefix
+          pub ends_with : length query ≡ length whole → EndsWalk bytes query (pairs_of layout) layout after
+          ends_with same = ends_here (λ c i f. let l = front_short (whole ++ c ∷ []) query f in let k = length-append whole (c ∷ []) in absurd (omega arith))
+
+          module _ (long : length whole < length query) where
+            next_byte : (c : ℕ) → IsFront (whole ++ c ∷ []) query → c ≡ get_or query (length whole) 0
+            next_byte c f = sym (byte_after whole query c f)
+
+            -- there is no child for the query's next byte
+            pub ends_gap : child_at shown.children (get_or query (length whole) 0) ≡ None → EndsWalk bytes query (pairs_of layout) layout after
+            ends_gap none = ends_here (λ c i f. child_there way.descent at c i (ap (child_at shown.children) (next_byte c f) ∙ none))
+
+            -- the way goes on below that child
+            pub goes_on : {to : OpaqueNodePtr} → child_at shown.children (get_or query (length whole) 0) ≡ Some to → IsNestedWay bytes P end query layout to (depth + shown.prefix.len + 1) after
+            goes_on {to} there =
+                let now = down turned at (get_or query (length whole) 0) there
+                (λ c i less x leads. aside c i (λ e. absurd (omega arith)) x (subst (λ z. IsFront (z ++ c ∷ []) (bytes x)) (front_whole turned at) leads))
+                (λ c i more x leads. aside c i (λ e. absurd (omega arith)) x (subst (λ z. IsFront (z ++ c ∷ []) (bytes x)) (front_whole turned at) leads)) in
+                record {
+                  found = b.found;
+                  descent = now;
+                  is_found = leads_on bytes end query layout whole (front turned at ++ get_or query (length whole) 0 ∷ []) (subst (λ z. IsFront whole (z ++ get_or query (length whole) 0 ∷ [])) (sym (front_whole turned at)) (get_or query (length whole) 0 ∷ [], refl))
+                      after b.found b.is_found;
+                }
+              where
+                turned : IsDescent bytes P (IsAside bytes end query b.found) (IsAside bytes end query b.found) layout name depth
+                turned = record {
+                  at = record {
+                    path = way.descent.at.path;
+                    node = way.descent.at.node;
+                    whole = way.descent.at.whole;
+                    named = way.descent.at.named;
+                    before = Each-weaker (IsAside bytes end query way.found) (IsAside bytes end query b.found) turn (pairs_before way.descent.at.path) way.descent.at.before;
+                    after = Each-weaker (IsAside bytes end query way.found) (IsAside bytes end query b.found) turn (pairs_after way.descent.at.path) way.descent.at.after;
+                  };
+                  place = way.descent.place;
+                  radix = way.descent.radix;
+                  depth_is = way.descent.depth_is;
+                }
+                  where
+                    turn : (x : K × V) → IsAside bytes end query way.found x → IsAside bytes end query b.found x
+                    turn x a = record { covered = λ t e f. b.outer t (a.covered t e f); off = a.off }
+
+                aside : (c : ℕ) → IsIn c (bytes_of at.children) → (c ≡ get_or query (length whole) 0 → ⊥) → (x : K × V) → IsFront (whole ++ c ∷ []) (bytes x) → IsAside bytes end query b.found x
+                aside c i other x leads = record {
+                  covered = covered_off c i (λ f. other (next_byte c f)) x leads;
+                  off = λ begins. other (next_byte c (front_of_fronts (whole ++ c ∷ []) query (bytes x) leads begins (let k = length-append whole (c ∷ []) in omega arith)));
+                }

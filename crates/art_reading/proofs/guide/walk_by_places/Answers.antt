@@ -1,0 +1,56 @@
+use Rattle.std.proofs.Common.{arith, sym, ◌∙◌}
+use Rattle.art_model.proofs.stores.Shown.{inner_met, leaf_named, shown_met}
+use Rattle.art_reading.proofs.EndNodes.{inside}
+use Rattle.art_reading.proofs.Guides.{by_places, by_there, gap_ends, goes_below, leaf_ends, short_ends}
+use Rattle.art_reading.proofs.Levels.{lower, under_root}
+use Rattle.art_reading.proofs.guide.walk_by_places.Goals as goal
+
+pub down-init : goal.down-init
+down-init g c = record {
+  few =
+      let (pairs, layout, by) = c.requires.root in
+      let (path, d) = c.requires.at pairs layout by in
+      let l = under_root by d.frames d.node d.whole d.named in
+      omega arith;
+  within = let (pairs, layout, by) = c.requires.root in inside by (c.requires.at pairs layout by).1;
+  way = λ pairs layout by. by_places (c.requires.at pairs layout by).1;
+}
+
+pub returns-in_default-clause-all : goal.returns-in_default-clause-all
+returns-in_default-clause-all g c pairs layout by =
+    let way = c.down.invariant.way pairs layout by in
+    let there = by_there by way in
+    let (x, is) = leaf_named c.args.store.now c.in_default.field-0 way.node (there.named ∙ sym c.in_default.ensures.name) there.holds in
+    leaf_ends way _ x is
+
+pub unreachable-requires : goal.unreachable-requires
+unreachable-requires g c =
+    let (pairs, layout, by) = c.requires.root in
+    inner_met (by_there by (c.down.invariant.way pairs layout by)) c.in-Inner.ensures.proper c.in-Inner.ensures.name c.in_default-inner.ensures.view
+
+pub returns-then-prefix_len-key_bytes-clause-all : goal.returns-then-prefix_len-key_bytes-clause-all
+returns-then-prefix_len-key_bytes-clause-all g c pairs layout by =
+    let way = c.down.invariant.way pairs layout by in
+    let at = shown_met (by_there by way) c.in-Inner.ensures.proper c.in-Inner.ensures.name c.in-Some.ensures.view in
+    short_ends way at c.prefix_len-prefix_len.ensures (omega arith)
+
+pub returns-in_default-lookup_child-clause-all : goal.returns-in_default-lookup_child-clause-all
+returns-in_default-lookup_child-clause-all g c pairs layout by =
+    let way = c.down.invariant.way pairs layout by in
+    let at = shown_met (by_there by way) c.in-Inner.ensures.proper c.in-Inner.ensures.name c.in-Some.ensures.view in
+    gap_ends way at c.prefix_len-prefix_len.ensures (sym c.lookup_child.ensures ∙ c.in_default-lookup_child.is)
+
+pub down-preserved : goal.down-preserved
+down-preserved g c = record {
+  few =
+      let (pairs, layout, by) = c.requires.root in
+      let way = c.down.invariant.way pairs layout by in
+      let at = shown_met (by_there by way) c.in-Inner.ensures.proper c.in-Inner.ensures.name c.in-Some.ensures.view in
+      let less = lower by way.path way.node way.whole way.named _ way.radix _ _ at _ _ (sym c.lookup_child.ensures ∙ c.in-Some-lookup_child.is) in
+      omega arith;
+  within = omega arith;
+  way = λ pairs layout by.
+      let way = c.down.invariant.way pairs layout by in
+      let at = shown_met (by_there by way) c.in-Inner.ensures.proper c.in-Inner.ensures.name c.in-Some.ensures.view in
+      goes_below way at c.prefix_len-prefix_len.ensures (sym c.lookup_child.ensures ∙ c.in-Some-lookup_child.is);
+}

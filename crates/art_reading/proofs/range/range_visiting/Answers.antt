@@ -1,0 +1,70 @@
+use Rattle.std.proofs.Common.{arith, ◌+◌, rules, ap, sym, ◌∙◌}
+use Rattle.std.specs.Range.Bound.{bound_map}
+use Rattle.art_model.specs.Parts.{is_between, is_up_to, leaves_where}
+use Rattle.art_reading.proofs.Bounds.{first_past, last_not_gone, none_after, span_walk}
+use Rattle.art_reading.proofs.Counts.{count_both}
+use Rattle.art_reading.proofs.range.range_visiting.Goals as goal
+
+pub returns-in_default-clause-leaves : goal.returns-in_default-clause-leaves
+returns-in_default-clause-leaves g c pairs layout by =
+    rw c.empty.ensures (none_after by (bound_map (λ b. b.now) c.args.from) (bound_map (λ b. b.now) c.args.to) (c.in_default.ensures.leaf pairs layout by))
+
+pub returns-then-not-ends_after-clause-leaves : goal.returns-then-not-ends_after-clause-leaves
+returns-then-not-ends_after-clause-leaves g c pairs layout by =
+    rw c.empty-then-not-ends_after.ensures
+    (first_past by (bound_map (λ b. b.now) c.args.from) (bound_map (λ b. b.now) c.args.to) (c.in-Some.ensures.leaf pairs layout by) c.in-Some-leaf.ensures
+    (ap (is_up_to (bound_map (λ b. b.now) c.args.to)) (sym c.as_bytes.ensures) ∙ sym c.ends_after.ensures ∙ c.if-not-ends_after.true))
+
+pub unreachable-requires-in_default-last_up_to_visiting : goal.unreachable-requires-in_default-last_up_to_visiting
+unreachable-requires-in_default-last_up_to_visiting g c =
+    let (pairs, layout, by) = c.requires in
+    last_not_gone by (bound_map (λ b. b.now) c.args.from) (bound_map (λ b. b.now) c.args.to) (c.in-Some.ensures.leaf pairs layout by) c.in-Some-leaf.ensures
+    (ap (is_up_to (bound_map (λ b. b.now) c.args.to)) (sym c.as_bytes.ensures) ∙ sym c.ends_after.ensures ∙ c.if-not-ends_after.false) (c.in_default-last_up_to_visiting.ensures.leaf pairs layout by)
+
+pub new-requires : goal.new-requires
+new-requires g c =
+    let (pairs, layout, by) = c.requires in (
+      search rules,
+      (
+        leaves_where (λ x. is_between (bound_map (λ b. b.now) c.args.from) (bound_map (λ b. b.now) c.args.to) (g.K.AsBytes.bytes x.0)) layout,
+        span_walk by (bound_map (λ b. b.now) c.args.from) (bound_map (λ b. b.now) c.args.to) (c.in-Some.ensures.leaf pairs layout by) c.in-Some-leaf.ensures
+            (ap (is_up_to (bound_map (λ b. b.now) c.args.to)) (sym c.as_bytes.ensures) ∙ sym c.ends_after.ensures ∙ c.if-not-ends_after.false) (c.in-Some-last_up_to_visiting.ensures.leaf pairs layout by),
+      ),
+    )
+
+pub returns-clause-leaves : goal.returns-clause-leaves
+returns-clause-leaves g c pairs layout by =
+    rw c.new.ensures (span_walk by (bound_map (λ b. b.now) c.args.from) (bound_map (λ b. b.now) c.args.to) (c.in-Some.ensures.leaf pairs layout by) c.in-Some-leaf.ensures
+    (ap (is_up_to (bound_map (λ b. b.now) c.args.to)) (sym c.as_bytes.ensures) ∙ sym c.ends_after.ensures ∙ c.if-not-ends_after.false) (c.in-Some-last_up_to_visiting.ensures.leaf pairs layout by))
+
+-- ---- the counter
+pub returns-in_default-clause-visits : goal.returns-in_default-clause-visits
+returns-in_default-clause-visits g c =
+    let first = c.in_default.ensures.visits in
+    record {
+      number = first.number;
+      counted = first.counted;
+      is_number = λ pairs layout by. let (seen, few) = first.is_number pairs layout by in (omega arith, omega arith);
+    }
+
+pub returns-then-not-ends_after-clause-visits : goal.returns-then-not-ends_after-clause-visits
+returns-then-not-ends_after-clause-visits g c =
+    let first = c.in-Some.ensures.visits in
+    record {
+      number = first.number + 1;
+      counted = count_both _ _ _ first.counted c.count_one.ensures;
+      is_number = λ pairs layout by. let (seen, few) = first.is_number pairs layout by in (omega arith, omega arith);
+    }
+
+pub returns-clause-visits : goal.returns-clause-visits
+returns-clause-visits g c =
+    let first = c.in-Some.ensures.visits in
+    let last = c.in-Some-last_up_to_visiting.ensures.visits in
+    record {
+      number = first.number + 1 + last.number;
+      counted = count_both _ _ _ (count_both _ _ _ first.counted c.count_one.ensures) last.counted;
+      is_number = λ pairs layout by.
+          let (seen, few) = first.is_number pairs layout by in
+          let (all, more) = last.is_number pairs layout by in
+          (omega arith, omega arith);
+    }

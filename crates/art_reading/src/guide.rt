@@ -1,0 +1,115 @@
+//! The guide leaf of a search, from which it reads each prefix that is not stored whole.
+ghost use Rattle.std.specs.Prelude.{◌+◌, ◌≤◌};
+ghost use Rattle.art_parts.specs.declared.names.OpaqueNodePtr.{OpaqueNodePtr};
+ghost use Rattle.art_model.specs.Pairs.{of_key};
+ghost use Rattle.art_model.specs.Roots.{ForTree, IsCanonicalRoot};
+ghost use Rattle.art_reading.specs.EndNodes.{IsAt};
+ghost use Rattle.art_reading.specs.Guides.{AllGuide, IsGuide, MayGuide};
+ghost use Rattle.art_reading.specs.Readings.{CountsReadings, guide_cost, levels};
+ghost use Rattle.art_reading.specs.declared.path.TreePath.{TreePath};
+
+use crate::descent::Visits;
+use crate::minmax::first_below_visiting;
+use art_nodes::node::{AsBytes, LeafPtr, NodePtr, OpaqueNodePtr, OptionalLeafPtr};
+use art_nodes::store::NodeStore;
+
+/// Returns a leaf whose key starts with the place of each node on the key's way: the known one, or
+/// where there is none yet, one below this node, which is on that way.
+///
+/// A descent finds it, which compares no prefix. The leaf serves for the whole way, so that a search
+/// descends so once.
+#[inline(always)]
+pub(crate) fn guide_from<K: AsBytes + Drop, V: Drop, const PREFIX_LEN: usize>(
+    store: &NodeStore<K, V, PREFIX_LEN>,
+    root: OpaqueNodePtr,
+    key_bytes: &[u8],
+    name: OpaqueNodePtr,
+    depth: usize,
+    known: OptionalLeafPtr,
+    visits: &mut Visits,
+) -> LeafPtr
+    requires root { IsCanonicalRoot (of_key K.bytes) PREFIX_LEN store.now root }
+    requires at { ForTree (of_key K.bytes) PREFIX_LEN store.now root (λ pairs layout.
+        (path : TreePath) × IsAt (of_key K.bytes) PREFIX_LEN key_bytes.now layout path name depth) }
+    requires known { ForTree (of_key K.bytes) PREFIX_LEN store.now root (λ pairs layout.
+        MayGuide (of_key K.bytes) key_bytes.now layout known) }
+    ensures guide { ForTree (of_key K.bytes) PREFIX_LEN store.now root (λ pairs layout.
+        IsGuide (of_key K.bytes) key_bytes.now layout result) }
+    ensures visits { CountsReadings visits.old visits.new (λ number.
+        number + guide_cost store.now root known ≤ levels store.now root + 1) }
+{
+    match known {
+        Some(leaf) => leaf,
+        None => {
+            let (leaf, more) = find_guide(store, root, key_bytes, name, depth);
+            visits.add(more);
+            leaf
+        }
+    }
+}
+
+// Such a leaf, below a node on the key's way, and how many nodes were read. This is a call, so that the
+// loops into which `guide_from` is inlined stay small.
+#[inline(never)]
+fn find_guide<K: AsBytes + Drop, V: Drop, const PREFIX_LEN: usize>(
+    store: &NodeStore<K, V, PREFIX_LEN>,
+    root: OpaqueNodePtr,
+    key_bytes: &[u8],
+    name: OpaqueNodePtr,
+    depth: usize,
+) -> (LeafPtr, Visits)
+    requires root { IsCanonicalRoot (of_key K.bytes) PREFIX_LEN store.now root }
+    requires at { ForTree (of_key K.bytes) PREFIX_LEN store.now root (λ pairs layout.
+        (path : TreePath) × IsAt (of_key K.bytes) PREFIX_LEN key_bytes.now layout path name depth) }
+    ensures guide { ForTree (of_key K.bytes) PREFIX_LEN store.now root (λ pairs layout.
+        IsGuide (of_key K.bytes) key_bytes.now layout result.0) }
+    ensures visits { result.1 ≤ levels store.now root + 1 }
+{
+    let mut visits = Visits::new();
+    let last = walk_by_places(store, root, key_bytes, name, depth, &mut visits);
+    let (leaf, more) = first_below_visiting(store, last);
+    visits.add(more);
+    (leaf, visits)
+}
+
+// Descends from a node on the key's way by the key's bytes, whatever the bytes of the prefixes are, to
+// a node below which no further node is on the way.
+#[inline(always)]
+fn walk_by_places<K: AsBytes + Drop, V: Drop, const PREFIX_LEN: usize>(
+    store: &NodeStore<K, V, PREFIX_LEN>,
+    root: OpaqueNodePtr,
+    key_bytes: &[u8],
+    start: OpaqueNodePtr,
+    start_depth: usize,
+    visits: &mut Visits,
+) -> OpaqueNodePtr
+    requires root { IsCanonicalRoot (of_key K.bytes) PREFIX_LEN store.now root }
+    requires at { ForTree (of_key K.bytes) PREFIX_LEN store.now root (λ pairs layout.
+        (path : TreePath) ×
+        IsAt (of_key K.bytes) PREFIX_LEN key_bytes.now layout path start start_depth) }
+    ensures visits { visits.new + levels store.now result ≤ visits.old + levels store.now root + 1 }
+    ensures all { ForTree (of_key K.bytes) PREFIX_LEN store.now root (λ pairs layout.
+        AllGuide (of_key K.bytes) key_bytes.now layout result) }
+{
+    let mut name = start;
+    let mut depth = start_depth;
+    'down: loop {
+        let NodePtr::Inner(inner) = name.split() else {
+            return name;
+        };
+        let Some(node) = store.inner(inner) else {
+            unreachable!()
+        };
+        visits.count_one();
+        let prefix_len = node.prefix_len();
+        if prefix_len >= key_bytes.len() - depth {
+            return name;
+        }
+        let place = depth + prefix_len;
+        let Some(child) = node.lookup_child(key_bytes[place]) else {
+            return name;
+        };
+        name = child;
+        depth = place + 1;
+    }
+}

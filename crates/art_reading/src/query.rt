@@ -1,0 +1,184 @@
+//! Keys that are looked for: one slice of bytes, or a text and the byte that ends it.
+ghost use Rattle.std.specs.Prelude.{◌≡◌, ◌+◌, ◌<◌, ◌≤◌, ◌^◌, ◌↔◌, [], ◌∷◌, ◌++◌, min, length, drop, get_or, IsTrue};
+ghost use Rattle.art_model.specs.Keys.{IsFront};
+ghost use Rattle.art_reading.specs.Descents.{IsAskedFor};
+ghost use Rattle.art_reading.specs.Matching.{HasRest};
+ghost use Rattle.art_reading.specs.declared.matching.PrefixMatchBehavior.TheVariants.{Optimistic, Pessimistic};
+
+use crate::matching::{Asked, PrefixMatchBehavior, are_equal, begins_with};
+use art_nodes::node::{AsBytes, LeafNode};
+
+/// The bytes of a key that is looked for.
+pub trait KeyQuery: Copy {
+    ghost use Rattle.std.specs.Prelude.{List, ℕ};
+
+    /// The bytes.
+    ghost key: { Self → List ℕ };
+
+    /// Does nothing, but its contract says that the bytes can be counted.
+    fn fits(&self)
+        ensures { length (key self.now) + 1 < 2 ^ 64 };
+
+    /// Returns the number of bytes.
+    fn len(&self) -> usize
+        ensures { result ≡ length (key self.now) };
+
+    /// Returns the byte at a place.
+    fn byte_at(&self, place: usize) -> u8
+        requires { place < length (key self.now) }
+        ensures { result ≡ get_or (key self.now) place 0 };
+
+    /// Returns the bytes from a place on, of which the last one may be left out.
+    fn rest(&self, place: usize) -> &[u8]
+        requires { place < length (key self.now) }
+        ensures { HasRest (drop place (key self.now)) result.now };
+
+    /// Returns whether a leaf's key is asked for, as far as it is left to compare from a depth on.
+    fn finds<K: AsBytes, V>(
+        &self,
+        behavior: PrefixMatchBehavior,
+        asked: Asked,
+        leaf: &LeafNode<K, V>,
+        depth: usize,
+    ) -> bool
+        ensures { IsTrue result ↔
+            IsAskedFor asked behavior depth (K.bytes leaf.now.key) (key self.now) };
+}
+
+impl KeyQuery for &[u8] {
+    ghost key = { λ bytes. bytes.now };
+
+    fn fits(&self) {}
+
+    #[inline(always)]
+    fn len(&self) -> usize {
+        (*self).len()
+    }
+
+    #[inline(always)]
+    fn byte_at(&self, place: usize) -> u8 {
+        (*self)[place]
+    }
+
+    #[inline(always)]
+    fn rest(&self, place: usize) -> &[u8] {
+        &(*self)[place..]
+    }
+
+    #[inline(always)]
+    fn finds<K: AsBytes, V>(
+        &self,
+        behavior: PrefixMatchBehavior,
+        asked: Asked,
+        leaf: &LeafNode<K, V>,
+        depth: usize,
+    ) -> bool {
+        behavior.finds(asked, leaf, *self, depth)
+    }
+}
+
+/// The key of a text: its bytes, and then the byte that ends each text. No such key is made.
+#[derive(Clone, Copy)]
+pub struct EndedQuery<'q> {
+    pub text: &'q [u8],
+    pub end: u8,
+}
+
+impl KeyQuery for EndedQuery<'_> {
+    ghost key = { λ query. query.text.now ++ query.end ∷ [] };
+
+    fn fits(&self) {
+        self.text.len();
+    }
+
+    #[inline(always)]
+    fn len(&self) -> usize {
+        self.text.len() + 1
+    }
+
+    #[inline(always)]
+    fn byte_at(&self, place: usize) -> u8 {
+        byte_at(self.text, self.end, place)
+    }
+
+    #[inline(always)]
+    fn rest(&self, place: usize) -> &[u8] {
+        &self.text[place..]
+    }
+
+    #[inline(always)]
+    fn finds<K: AsBytes, V>(
+        &self,
+        behavior: PrefixMatchBehavior,
+        asked: Asked,
+        leaf: &LeafNode<K, V>,
+        depth: usize,
+    ) -> bool {
+        let key = leaf.key.as_bytes();
+        finds_ended(self.text, self.end, behavior, asked, key, depth)
+    }
+}
+
+// The byte of a text at a place, or its end.
+#[inline(always)]
+fn byte_at(text: &[u8], end: u8, place: usize) -> u8
+    requires { place ≤ length text.now }
+    ensures { result ≡ get_or (text.now ++ end ∷ []) place 0 }
+{
+    if place < text.len() { text[place] } else { end }
+}
+
+// Whether the key of a leaf is that of a text, or a prefix of it, as far as it is left to compare.
+#[inline(always)]
+fn finds_ended(
+    text: &[u8],
+    end: u8,
+    behavior: PrefixMatchBehavior,
+    asked: Asked,
+    key: &[u8],
+    depth: usize,
+) -> bool
+    ensures { IsTrue result ↔
+        IsAskedFor asked behavior depth key.now (text.now ++ end ∷ []) }
+{
+    let from = first_compared(behavior, key.len(), depth);
+    if from > text.len() {
+        return key.len() == text.len() + 1;
+    }
+    match asked {
+        Asked::Same => is_ended(&key[from..], &text[from..], end),
+        Asked::Front => is_front_of_ended(&key[from..], &text[from..], end),
+    }
+}
+
+// Where the comparison with a key of this length begins, if the text is not shorter.
+#[inline(always)]
+fn first_compared(behavior: PrefixMatchBehavior, len: usize, depth: usize) -> usize
+    ensures compared { behavior ≡ Pessimistic → result ≡ min depth len }
+    ensures passed_over { behavior ≡ Optimistic → result ≡ 0 }
+    ensures within { result ≤ len }
+{
+    match behavior {
+        PrefixMatchBehavior::Pessimistic => depth.min(len),
+        PrefixMatchBehavior::Optimistic => 0,
+    }
+}
+
+// Whether the bytes are a text and its end.
+#[inline(always)]
+fn is_ended(bytes: &[u8], text: &[u8], end: u8) -> bool
+    ensures { IsTrue result ↔ (bytes.now ≡ text.now ++ end ∷ []) }
+{
+    match bytes.split_last() {
+        Some((last, front)) => *last == end && are_equal(front, text),
+        None => false,
+    }
+}
+
+// Whether the bytes are a prefix of a text and its end, or the whole.
+#[inline(always)]
+fn is_front_of_ended(bytes: &[u8], text: &[u8], end: u8) -> bool
+    ensures { IsTrue result ↔ IsFront bytes.now (text.now ++ end ∷ []) }
+{
+    begins_with(text, bytes) || is_ended(bytes, text, end)
+}

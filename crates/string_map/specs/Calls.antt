@@ -1,0 +1,47 @@
+-- What a call of a map returns, and what it writes.
+use Rattle.std.specs.Prelude.{◌≡◌, ◌≢◌, ◌<◌, ◌≤◌, ℕ, List, MatchOption, Option, Some, None}
+use Rattle.std.specs.Option.{option_map}
+use Rattle.art_keys.specs.Escapes.{escape}
+use Rattle.art_map.specs.MapAnswers.{value_at}
+
+-- the codes
+abbrev pub done : ℕ
+done = 0
+
+abbrev pub absent : ℕ
+absent = 1
+
+abbrev pub no_memory : ℕ
+no_memory = 2
+
+abbrev pub too_long : ℕ
+too_long = 3
+
+abbrev pub full : ℕ
+full = 4
+
+abbrev pub freed : ℕ
+freed = 5
+
+-- the code of a call that can fail only on a map that was freed
+abbrev pub code_of : Option (List (List ℕ × ℕ)) → ℕ
+code_of None = freed
+code_of (Some pairs) = done
+
+-- the value of a key
+abbrev pub value_of : List ℕ → List (List ℕ × ℕ) → Option ℕ
+value_of key pairs = value_at escape (escape key) pairs
+
+-- the code reports whether there is something, which then is written
+abbrev pub Tells : {A : Type 0} → Option A → ℕ → A → Type 0
+Tells wanted code written = MatchOption wanted (code ≡ absent) (λ it. (code ≡ done) × (written ≡ it))
+
+-- A call looks something up among the pairs of a map. It fails if the map was freed, or if an allocation fails.
+pub record Answers {A : Type 0} (map : Option (List (List ℕ × ℕ))) (wanted : List (List ℕ × ℕ) → Option A) (code : ℕ) (before after : A) : Type 0 where
+  pub tells : MatchOption map (code ≡ freed) (λ pairs. code ≢ no_memory → Tells (wanted pairs) code after)
+  pub stays : code ≢ done → after ≡ before
+
+-- A call changes the pairs of a map. If it fails they stay.
+pub record Changes (before : Option (List (List ℕ × ℕ))) (change : List (List ℕ × ℕ) → List (List ℕ × ℕ)) (code : ℕ) (after : Option (List (List ℕ × ℕ))) : Type 0 where
+  pub changed : code < no_memory → after ≡ option_map change before
+  pub kept : no_memory ≤ code → after ≡ before

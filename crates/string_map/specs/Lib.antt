@@ -1,0 +1,4 @@
+pub mod Calls
+pub mod Given
+pub mod PrefixEnds
+pub mod Shown

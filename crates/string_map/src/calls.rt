@@ -1,0 +1,224 @@
+//! Calls for one key, and for the whole map. On a map that was freed each returns `FREED` and does nothing.
+ghost use Rattle.std.specs.Prelude.{◌≡◌, ◌≢◌, ◌<◌, ◌≤◌, [], length, Some, None};
+ghost use Rattle.std.specs.Option.{option_map};
+ghost use Rattle.art_keyed.specs.KeyedPairs.{strings_below, strings_in_front};
+ghost use Rattle.art_keys.specs.Escapes.{escape};
+ghost use Rattle.art_model.specs.Pairs.{first_of, last_of, of_key, put, remove_key};
+ghost use Rattle.string_map.specs.Calls.{Answers, Changes, Tells, code_of, done, no_memory, value_of};
+ghost use Rattle.art_map.specs.MapItems.{deref_pair};
+ghost use Rattle.string_map.specs.Shown.{Shows, ShowsPair, pair_of};
+
+use super::StringMap;
+use super::codes::{ABSENT, DONE, FREED, NO_MEMORY, TOO_LONG};
+use super::pairs::Pair;
+use art_keyed::map::TreeMap;
+use art_keys::escaped::Escaped;
+use std::alloc::Global;
+
+/// Returns an empty map. It takes no memory.
+pub fn new(alloc: Global) -> StringMap
+    ensures { result ≡ Some [] }
+{
+    StringMap {
+        pairs: Some(TreeMap::new(alloc)),
+        alloc,
+    }
+}
+
+/// Frees a map. Returns `DONE`, or `FREED` if that was done before.
+pub fn free(map: &mut StringMap) -> u32
+    ensures { (map.new ≡ None) × (result ≡ code_of map.old) }
+{
+    match map.pairs.take() {
+        Some(_) => DONE,
+        None => FREED,
+    }
+}
+
+/// Writes the number of pairs.
+pub fn len(map: &StringMap, len: &mut usize) -> u32
+    ensures { Answers map.now (λ pairs. Some (length pairs)) result len.old len.new ×
+        (result ≢ no_memory) }
+{
+    let Some(pairs) = &map.pairs else {
+        return FREED;
+    };
+    *len = pairs.len();
+    DONE
+}
+
+/// Removes all pairs. It takes no memory.
+pub fn clear(map: &mut StringMap) -> u32
+    ensures { (map.new ≡ option_map (λ _. []) map.old) × (result ≡ code_of map.old) }
+{
+    let Some(pairs) = &mut map.pairs else {
+        return FREED;
+    };
+    pairs.clear();
+    DONE
+}
+
+/// Moves the pairs into the order of their keys in memory, so that an iteration reads memory from front to back.
+pub fn compact(map: &mut StringMap) -> u32
+    ensures { (map.new ≡ map.old) × (result ≢ no_memory → result ≡ code_of map.old) }
+{
+    let Some(pairs) = &mut map.pairs else {
+        return FREED;
+    };
+    match pairs.compact() {
+        Ok(()) => DONE,
+        Err(_) => NO_MEMORY,
+    }
+}
+
+/// Looks up a key, and writes its value.
+pub fn get(map: &StringMap, key: &[u8], value: &mut u64) -> u32
+    ensures { Answers map.now (value_of key.now) result value.old value.new }
+{
+    let Some(pairs) = &map.pairs else {
+        return FREED;
+    };
+    match pairs.get_text(map.alloc, key) {
+        Ok(Some(found)) => {
+            *value = *found;
+            DONE
+        }
+        Ok(None) => ABSENT,
+        Err(_) => NO_MEMORY,
+    }
+}
+
+/// Inserts a pair, and writes the value that it replaced.
+pub fn insert(map: &mut StringMap, key: &[u8], value: u64, replaced: &mut u64) -> u32
+    ensures { Answers map.old (value_of key.now) result replaced.old replaced.new ×
+        Changes map.old (put (of_key escape) (key.now, value)) result map.new }
+{
+    let Some(pairs) = &mut map.pairs else {
+        return FREED;
+    };
+    let Ok(key) = Escaped::encode(map.alloc, key) else {
+        return NO_MEMORY;
+    };
+    insert_key(pairs, key, value, replaced)
+}
+
+// Inserts a pair, and writes the value that it replaced.
+fn insert_key(
+    pairs: &mut TreeMap<Escaped, u64, 16>,
+    key: Escaped,
+    value: u64,
+    replaced: &mut u64,
+) -> u32
+    ensures tells { result ≢ no_memory → Tells (value_of key pairs.old) result replaced.new }
+    ensures stays { result ≢ done → replaced.new ≡ replaced.old }
+    ensures changed { result < no_memory → pairs.new ≡ put (of_key escape) (key, value) pairs.old }
+    ensures kept { no_memory ≤ result → pairs.new ≡ pairs.old }
+{
+    match pairs.insert(key, value) {
+        Ok(Some((_, old))) => {
+            *replaced = old;
+            DONE
+        }
+        Ok(None) => ABSENT,
+        Err(_) => NO_MEMORY,
+    }
+}
+
+/// Removes the pair of a key, and writes its value.
+pub fn remove(map: &mut StringMap, key: &[u8], value: &mut u64) -> u32
+    ensures { Answers map.old (value_of key.now) result value.old value.new ×
+        Changes map.old (remove_key (of_key escape) (escape key.now)) result map.new }
+{
+    let Some(pairs) = &mut map.pairs else {
+        return FREED;
+    };
+    match pairs.remove_text(map.alloc, key) {
+        Ok(Some((_, old))) => {
+            *value = old;
+            DONE
+        }
+        Ok(None) => ABSENT,
+        Err(_) => NO_MEMORY,
+    }
+}
+
+/// Writes how many keys start with a prefix.
+pub fn count_prefix(map: &StringMap, prefix: &[u8], count: &mut usize) -> u32
+    ensures { Answers map.now (λ pairs. Some (length (strings_below (λ text. text) prefix.now pairs)))
+        result count.old count.new }
+{
+    let Some(pairs) = &map.pairs else {
+        return FREED;
+    };
+    let Ok(prefix) = Escaped::encode(map.alloc, prefix) else {
+        return NO_MEMORY;
+    };
+    *count = count_below(pairs, &prefix);
+    DONE
+}
+
+// Returns how many keys start with a text.
+fn count_below(pairs: &TreeMap<Escaped, u64, 16>, text: &Escaped) -> usize
+    ensures { result ≡ length (strings_below (λ text. text) text.now pairs.now) }
+{
+    pairs.prefix(text).count()
+}
+
+/// Looks up the longest key that is a prefix of the query. Writes its length, and its value.
+pub fn longest_match(map: &StringMap, query: &[u8], pair: &mut Pair) -> u32
+    ensures { Answers map.now
+        (λ pairs. option_map pair_of (last_of (strings_in_front (λ text. text) query.now pairs)))
+        result pair.old pair.new }
+{
+    let Some(pairs) = &map.pairs else {
+        return FREED;
+    };
+    match pairs.longest_match(map.alloc, query) {
+        Ok(Some((key, value))) => {
+            *pair = Pair {
+                value: *value,
+                key_len: key.text_len(),
+            };
+            DONE
+        }
+        Ok(None) => ABSENT,
+        Err(_) => NO_MEMORY,
+    }
+}
+
+/// Writes the first pair, and its key to the front of a buffer.
+pub fn first(map: &StringMap, buffer: &mut [u8], pair: &mut Pair) -> u32
+    ensures { ShowsPair map.now first_of result buffer.new pair.old pair.new }
+{
+    let Some(pairs) = &map.pairs else {
+        return FREED;
+    };
+    show(pairs.first_key_value(), buffer, pair)
+}
+
+/// Writes the last pair, and its key to the front of a buffer.
+pub fn last(map: &StringMap, buffer: &mut [u8], pair: &mut Pair) -> u32
+    ensures { ShowsPair map.now last_of result buffer.new pair.old pair.new }
+{
+    let Some(pairs) = &map.pairs else {
+        return FREED;
+    };
+    show(pairs.last_key_value(), buffer, pair)
+}
+
+// Writes a pair, if there is one, and its key to the front of a buffer.
+fn show(found: Option<(&Escaped, &u64)>, buffer: &mut [u8], pair: &mut Pair) -> u32
+    ensures { Shows (option_map deref_pair found.entry) result buffer.new pair.old pair.new }
+{
+    let Some((key, value)) = found else {
+        return ABSENT;
+    };
+    *pair = Pair {
+        value: *value,
+        key_len: key.text_len(),
+    };
+    match key.write_at(0, buffer) {
+        Some(_) => DONE,
+        None => TOO_LONG,
+    }
+}

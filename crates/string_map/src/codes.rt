@@ -1,0 +1,21 @@
+//! What a call reports.
+
+/// The call did what was asked. Where it looks something up, that was found and is written.
+pub const DONE: u32 = 0;
+/// What was looked up is not stored. An insertion has inserted a new pair.
+pub const ABSENT: u32 = 1;
+/// An allocation failed, and the map is unchanged.
+pub const NO_MEMORY: u32 = 2;
+/// A key is longer than the space for it. Its length is written.
+pub const TOO_LONG: u32 = 3;
+/// The space for pairs is full. More pairs may be left.
+pub const FULL: u32 = 4;
+/// The map has been freed.
+pub const FREED: u32 = 5;
+
+/// A range without this bound.
+pub const UNBOUNDED: u32 = 0;
+/// A range whose bound is one of its keys, if that is stored.
+pub const INCLUDED: u32 = 1;
+/// A range whose bound is none of its keys.
+pub const EXCLUDED: u32 = 2;

@@ -1,0 +1,254 @@
+// What tools/fuzz runs: the bytes of an input are calls of the map, each of which is compared with the same on a sorted array.
+// An allocation fails where the input says so. At the end all pairs are compared, forward and backward.
+#include "vokujin.h"
+
+#include <stdio.h>
+#include <stdlib.h>
+#include <string.h>
+
+#define MOST_PAIRS 512
+#define MOST_BYTES 40
+#define CHECK(it) ((it) ? (void)0 : (printf("fuzz.c:%d: %s\n", __LINE__, #it), abort()))
+
+typedef struct {
+    uint8_t bytes[MOST_BYTES];
+    size_t len;
+} text;
+
+typedef struct {
+    text key;
+    uint64_t value;
+} entry;
+
+static entry model[MOST_PAIRS];
+static size_t count;
+static vokujin_map map;
+
+// The input that is left.
+static const uint8_t *input;
+static size_t left;
+
+static uint8_t next_byte(void) {
+    if (left == 0) return 0;
+    left--;
+    return *input++;
+}
+
+// The library's allocations: the one that fails is counted from the last call on, 0 for none.
+static size_t fails_at;
+
+static int fails(void) {
+    return fails_at != 0 && --fails_at == 0;
+}
+
+void *fuzz_malloc(size_t size) {
+    return fails() ? NULL : malloc(size);
+}
+
+void *fuzz_realloc(void *block, size_t size) {
+    return fails() ? NULL : realloc(block, size);
+}
+
+static text next_text(void) {
+    text it = {.len = next_byte()};
+    // Some texts begin as a stored key does.
+    if (it.len & 0x80 && count > 0) {
+        entry *stored = &model[next_byte() % count];
+        size_t shared = it.len & 0x3f;
+        it = stored->key;
+        if (shared < it.len) it.len = shared;
+        if (it.len < MOST_BYTES && next_byte() & 1) it.bytes[it.len++] = next_byte();
+        return it;
+    }
+    it.len = (it.len & 0x3f) % (MOST_BYTES + 1);
+    for (size_t at = 0; at < it.len; at++) it.bytes[at] = next_byte();
+    return it;
+}
+
+static int compare(const text *a, const text *b) {
+    size_t least = a->len < b->len ? a->len : b->len;
+    int order = memcmp(a->bytes, b->bytes, least);
+    return order ? order : (a->len > b->len) - (a->len < b->len);
+}
+
+static int starts_with(const text *whole, const text *start) {
+    return whole->len >= start->len && !memcmp(whole->bytes, start->bytes, start->len);
+}
+
+// The place of a key in the array, or where it belongs.
+static size_t place_of(const text *key) {
+    size_t at = 0;
+    while (at < count && compare(&model[at].key, key) < 0) at++;
+    return at;
+}
+
+static int is_at(size_t at, const text *key) {
+    return at < count && compare(&model[at].key, key) == 0;
+}
+
+static void insert(void) {
+    text key = next_text();
+    uint64_t value = next_byte(), replaced = 7777;
+    size_t at = place_of(&key);
+    int stored = is_at(at, &key);
+    if (!stored && count == MOST_PAIRS) return;
+    uint32_t code = vokujin_insert(&map, key.bytes, key.len, value, &replaced);
+    if (code == VOKUJIN_NO_MEMORY) return;
+    CHECK(code == (stored ? VOKUJIN_DONE : VOKUJIN_ABSENT));
+    CHECK(replaced == (stored ? model[at].value : 7777));
+    if (!stored) {
+        memmove(&model[at + 1], &model[at], (count - at) * sizeof *model);
+        model[at].key = key;
+        count++;
+    }
+    model[at].value = value;
+}
+
+static void remove_key(void) {
+    text key = next_text();
+    uint64_t value = 7777;
+    size_t at = place_of(&key);
+    int stored = is_at(at, &key);
+    uint32_t code = vokujin_remove(&map, key.bytes, key.len, &value);
+    if (code == VOKUJIN_NO_MEMORY) return;
+    CHECK(code == (stored ? VOKUJIN_DONE : VOKUJIN_ABSENT));
+    CHECK(value == (stored ? model[at].value : 7777));
+    if (stored) memmove(&model[at], &model[at + 1], (--count - at) * sizeof *model);
+}
+
+static void get(void) {
+    text key = next_text();
+    uint64_t value = 7777;
+    size_t at = place_of(&key);
+    int stored = is_at(at, &key);
+    uint32_t code = vokujin_get(&map, key.bytes, key.len, &value);
+    if (code == VOKUJIN_NO_MEMORY) return;
+    CHECK(code == (stored ? VOKUJIN_DONE : VOKUJIN_ABSENT));
+    CHECK(value == (stored ? model[at].value : 7777));
+}
+
+static void longest_match(void) {
+    text query = next_text();
+    vokujin_pair pair = {7777, 7777};
+    entry *longest = NULL;
+    for (size_t at = 0; at < count; at++)
+        if (starts_with(&query, &model[at].key)) longest = &model[at];
+    uint32_t code = vokujin_longest_match(&map, query.bytes, query.len, &pair);
+    if (code == VOKUJIN_NO_MEMORY) return;
+    CHECK(code == (longest ? VOKUJIN_DONE : VOKUJIN_ABSENT));
+    CHECK(pair.key_len == (longest ? longest->key.len : 7777) && pair.value == (longest ? longest->value : 7777));
+}
+
+static void count_prefix(void) {
+    text prefix = next_text(), end = prefix;
+    size_t seen = 7777, expected = 0, in_range = 0;
+    end.len = vokujin_prefix_end(end.bytes, end.len);
+    for (size_t at = 0; at < count; at++) {
+        expected += starts_with(&model[at].key, &prefix);
+        in_range += compare(&model[at].key, &prefix) >= 0 && (end.len == 0 || compare(&model[at].key, &end) < 0);
+    }
+    CHECK(expected == in_range);
+    if (vokujin_count_prefix(&map, prefix.bytes, prefix.len, &seen) != VOKUJIN_NO_MEMORY) CHECK(seen == expected);
+}
+
+static void at_end(int is_last) {
+    uint8_t buffer[MOST_BYTES];
+    vokujin_pair pair = {7777, 7777};
+    size_t space = next_byte() % (MOST_BYTES + 1);
+    uint32_t code = is_last ? vokujin_last(&map, buffer, space, &pair) : vokujin_first(&map, buffer, space, &pair);
+    if (count == 0) {
+        CHECK(code == VOKUJIN_ABSENT && pair.value == 7777);
+        return;
+    }
+    entry *it = &model[is_last ? count - 1 : 0];
+    CHECK(pair.key_len == it->key.len && pair.value == it->value);
+    CHECK(code == (it->key.len > space ? VOKUJIN_TOO_LONG : VOKUJIN_DONE));
+    if (code == VOKUJIN_DONE) CHECK(!memcmp(buffer, it->key.bytes, it->key.len));
+}
+
+static int is_inside(const text *key, const text *from, uint32_t from_kind, const text *to, uint32_t to_kind) {
+    int low = compare(key, from), high = compare(key, to);
+    return (from_kind == VOKUJIN_UNBOUNDED || low > 0 || (low == 0 && from_kind == VOKUJIN_INCLUDED)) &&
+           (to_kind == VOKUJIN_UNBOUNDED || high < 0 || (high == 0 && to_kind == VOKUJIN_INCLUDED));
+}
+
+// One call for many pairs, with so much space.
+static void give(text from, uint32_t from_kind, text to, uint32_t to_kind, bool is_backward, size_t space, size_t most) {
+    static uint8_t buffer[MOST_PAIRS * MOST_BYTES];
+    static vokujin_pair pairs[MOST_PAIRS + 1];
+    vokujin_given given = {7777, 7777};
+    uint32_t code = vokujin_next_pairs(&map, from.bytes, from.len, from_kind, to.bytes, to.len, to_kind, is_backward, buffer, space, pairs, most, &given);
+    if (code == VOKUJIN_NO_MEMORY) return;
+    size_t written = 0, used = 0;
+    for (size_t at = 0; at < count; at++) {
+        entry *it = &model[is_backward ? count - 1 - at : at];
+        if (!is_inside(&it->key, &from, from_kind, &to, to_kind)) continue;
+        if (written == given.count) {
+            CHECK(code != VOKUJIN_DONE);
+            if (code == VOKUJIN_TOO_LONG) CHECK(given.key_len == it->key.len && used + it->key.len > space);
+            break;
+        }
+        CHECK(pairs[written].key_len == it->key.len && pairs[written].value == it->value);
+        CHECK(!memcmp(buffer + used, it->key.bytes, it->key.len));
+        used += it->key.len;
+        written++;
+    }
+    CHECK(written == given.count && written <= most && used <= space);
+    if (code == VOKUJIN_FULL) CHECK(written == most);
+    CHECK(code == VOKUJIN_DONE || code == VOKUJIN_FULL || code == VOKUJIN_TOO_LONG);
+}
+
+static void next_pairs(void) {
+    uint8_t kinds = next_byte();
+    text from = next_text(), to = next_text();
+    give(from, kinds % 3, to, kinds / 3 % 3, kinds & 0x80, next_byte() * 2, next_byte() % 16);
+}
+
+static void whole(void) {
+    text none = {.len = 0};
+    size_t len = 7777;
+    fails_at = 0;
+    CHECK(vokujin_len(&map, &len) == VOKUJIN_DONE && len == count);
+    for (int is_backward = 0; is_backward < 2; is_backward++)
+        give(none, VOKUJIN_UNBOUNDED, none, VOKUJIN_UNBOUNDED, is_backward, MOST_PAIRS * MOST_BYTES, MOST_PAIRS + 1);
+}
+
+static void one_call(void) {
+    uint8_t kind = next_byte();
+    fails_at = kind & 0x80 ? next_byte() % 4 + 1 : 0;
+    switch (kind & 0x7f) {
+    case 0 ... 55: insert(); break;
+    case 56 ... 75: remove_key(); break;
+    case 76 ... 85: get(); break;
+    case 86 ... 95: longest_match(); break;
+    case 96 ... 105: next_pairs(); break;
+    case 106 ... 112: count_prefix(); break;
+    case 113 ... 115: at_end(0); break;
+    case 116 ... 118: at_end(1); break;
+    case 119 ... 121: CHECK(vokujin_compact(&map) != VOKUJIN_FREED); break;
+    case 122: {
+        vokujin_map moved = map;
+        memset(&map, 0xff, sizeof map);
+        map = moved;
+        break;
+    }
+    case 123: CHECK(vokujin_clear(&map) == VOKUJIN_DONE); count = 0; break;
+    case 124:
+        CHECK(vokujin_free(&map) == VOKUJIN_DONE && vokujin_free(&map) == VOKUJIN_FREED && vokujin_clear(&map) == VOKUJIN_FREED);
+        vokujin_new(&map);
+        count = 0;
+        break;
+    default: whole();
+    }
+}
+
+int LLVMFuzzerTestOneInput(const uint8_t *data, size_t size) {
+    input = data;
+    left = size;
+    count = 0;
+    vokujin_new(&map);
+    while (left > 0) one_call();
+    whole();
+    CHECK(vokujin_free(&map) == VOKUJIN_DONE);
+    return 0;
+}
