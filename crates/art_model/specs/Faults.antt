@@ -55,7 +55,7 @@ module _ {K V : Type 0} (bytes : K × V → List ℕ) (P : ℕ) (s : Nodes K V) 
       (links : Links OpaqueNodePtr) × (links_at s leaf ≡ Some links) ×
       (((order ≡ Less) × (links.previous ≡ Some sibling)) ⊎ ((order ≡ Greater) × (links.next ≡ Some sibling)))
 
-  -- two different ways end at the name
+  -- two different paths end at the name
   abbrev pub IsLoop : OpaqueNodePtr → List ℕ → List ℕ → Type 0
   IsLoop name first later =
       (one : Reaches first name) × (other : Reaches later name) × (way_of one.steps ≢ way_of other.steps)

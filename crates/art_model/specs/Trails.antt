@@ -10,7 +10,7 @@ abbrev pub end_of : OpaqueNodePtr → List (ℕ × OpaqueNodePtr) → OpaqueNode
 end_of name [] = name
 end_of name (step ∷ steps) = end_of step.1 steps
 
--- the way of a trail is the bytes of its steps
+-- the path of a trail: the bytes of its steps
 abbrev pub way_of : List (ℕ × OpaqueNodePtr) → List ℕ
 way_of [] = []
 way_of (step ∷ steps) = step.0 ∷ way_of steps

@@ -181,7 +181,7 @@ module _ {K V : Type 0} {bytes : K × V → List ℕ} {P : ℕ} {s : Nodes K V} 
             entered_inserted by into e (full_added (entry_laid by e) into_full)
             (root_is ∙ ap (λ path. root_with path point.root (inner_name k)) e.path_is ∙ root_with-path_of e.frames point.root (inner_name k)) is (full_touched into)
 
-  -- ---- room for one child more
+  -- ---- room for one more child
 
   -- a node that isn't full has it
   pub has_room : is_full s p ≡ false → (q : Inners) → q ≡ s.inners → IsSomeAnd (map.get q p) (λ node. HasPlace (kind_capacity p.kind) node.children b)

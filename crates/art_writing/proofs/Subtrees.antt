@@ -371,7 +371,7 @@ module _ {K V : Type 0} {bytes : K × V → List ℕ} {P : ℕ} {s : Nodes K V} 
         name_first : first_of (leaf_names own_node) ≡ Some (leaf_name n)
         name_first = ap (λ z. first_of (leaf_names z)) first.whole ∙ first.name_is
 
-        -- the one leaf stands in its place
+        -- the one leaf is in its place
         pub collapsed_below : IsCollapsed bytes P s t root at.path at.node (record { root = new; leaf = n; count = others + 1 })
         collapsed_below =
             let follows = next_is by at last next beside in

@@ -25,7 +25,7 @@ module _ {A : Type 0} where
       down (ChildOfRoot parent b) = refl
       down (Normal parent b grandparent c) = refl
 
-  -- the root, where another node stands at the end of the path
+  -- the root, where another node is at the end of the path
   pub root_with-path_of : (fs : List (Frame OpaqueNodePtr A)) (root node : OpaqueNodePtr) → root_with (path_of fs) root node ≡ paths.root_with fs root node
   root_with-path_of [] root node = refl
   root_with-path_of (f ∷ fs) root node = down (path_of fs)

@@ -108,7 +108,7 @@ fn clone_tree<K: AsBytes + Clone + Drop, V: Clone + Drop, const P: usize>(
     }
 }
 
-// Clones the tree of an inner node. The copies above the current node stand in a list; where a clone fails each of them
+// Clones the tree of an inner node. The copies above the current node are in a list; where a clone fails each of them
 // is freed with its subtree.
 fn clone_inner<K: AsBytes + Clone + Drop, V: Clone + Drop, const P: usize>(
     store: &NodeStore<K, V, P>,

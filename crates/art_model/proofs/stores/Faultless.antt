@@ -104,7 +104,7 @@ module _ {A : Type 0} where
   one_byte (child d t ds) b c k apart (inr u) (inr v) = one_byte ds b c k (Pairwise-right ◌≢◌ (names_of t) (names_below ds) apart) u v
 
   module _ (at : OpaqueNodePtr → Option (Node OpaqueNodePtr A)) (bytes : A → List ℕ) (P : ℕ) where
-    -- The first step of a trail from an inner node goes to one of its children, which has a tree.
+    -- The first step of a trail from an inner node leads to one of its children, which has a tree.
     record IsFirst (cs : Subtrees OpaqueNodePtr A) (front : List ℕ) (step : ℕ × OpaqueNodePtr) : Type 0 where
       tree : Tree OpaqueNodePtr A
       left : Subtrees OpaqueNodePtr A
