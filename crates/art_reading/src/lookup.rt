@@ -26,10 +26,10 @@ pub fn look_ups_start_by_default()
     ensures visits { (visits : Visits) → ⟦<Visits as Default>⟧.is_default visits → visits ≡ 0 }
 {}
 
-/// Returns the leaf of a key, or `None` where no stored key is equal to it.
+/// Returns the leaf of a key, or `None` if no stored key is equal to it.
+///
 /// It is a single descent: it reads at most one more node than the key has bytes. If the bytes of a prefix are not all
 /// stored it skips the others, and compares the whole key at the leaf.
-/// are not all stored it passes over the others, and compares the whole key at the leaf.
 #[inline(always)]
 pub fn search_unchecked<K: AsBytes + Drop, V: Drop, const PREFIX_LEN: usize>(
     store: &NodeStore<K, V, PREFIX_LEN>,
