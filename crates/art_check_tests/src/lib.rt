@@ -1,4 +1,4 @@
-//! Tests of folds of trees and of the check of trees, by public calls. There is nothing here but tests.
+//! Tests of folds of trees and of the check of trees, by public calls. There are only tests here.
 #![tactic(auto)]
 
 #[cfg(test)]

@@ -1,4 +1,4 @@
-//! What tests share that nodes and stores alone are needed for.
+//! What tests share that need only nodes and stores.
 #![tactic(auto)]
 
 pub mod expected;

@@ -31,7 +31,7 @@ impl Seen {
         self.name
     }
 
-    /// Its key, where it is a leaf.
+    /// Its key, if it is a leaf.
     pub fn key(&self) -> Option<&[u8]> {
         match &self.node {
             Node::Leaf(key, ..) => Some(key.as_slice()),
@@ -88,7 +88,7 @@ fn node_under<const P: usize>(
     }
 }
 
-/// How many names came into use, went out of it, and have another node. It takes no memory.
+/// Returns how many names came into use, went out of it, and have another node. It allocates nothing.
 pub fn count_touched<const P: usize>(
     store: &NodeStore<Key, u32, P>,
     before: &[Seen],
@@ -111,7 +111,7 @@ pub fn count_touched<const P: usize>(
     )
 }
 
-/// How many nodes of a kind a store has.
+/// Returns how many nodes of a kind a store has.
 pub fn count_kind<const P: usize>(store: &NodeStore<Key, u32, P>, kind: NodeType) -> usize {
     let mut count = 0usize;
     for slot in 0..=LAST_SLOT {
@@ -122,7 +122,7 @@ pub fn count_kind<const P: usize>(store: &NodeStore<Key, u32, P>, kind: NodeType
     count
 }
 
-/// How many leaves and how many inner nodes a store has.
+/// Returns how many leaves and how many inner nodes a store has.
 pub fn count_nodes<const P: usize>(store: &NodeStore<Key, u32, P>) -> (usize, usize) {
     shapes::count_nodes(store, LAST_SLOT)
 }
@@ -135,7 +135,7 @@ fn is_used<const P: usize>(store: &NodeStore<Key, u32, P>, name: OpaqueNodePtr) 
     }
 }
 
-/// Whether a name has the node that it had.
+/// Returns whether a name has the node that it had.
 pub fn is_still<const P: usize>(store: &NodeStore<Key, u32, P>, seen: &Seen) -> bool {
     match (seen.name.split(), &seen.node) {
         (NodePtr::Leaf(name), Node::Leaf(key, value, previous, next)) => {

@@ -1,4 +1,4 @@
-//! Numbers that tests draw what they do from.
+//! Numbers from which tests draw what they do.
 ghost use Rattle.std.specs.Prelude.{◌<◌, IfSome};
 
 /// Numbers without an evident order. The same seed gives the same numbers.
@@ -8,12 +8,12 @@ pub struct Numbers {
 }
 
 impl Numbers {
-    /// The numbers of a seed.
+    /// Returns the numbers of a seed.
     pub fn new(seed: u64) -> Self {
         Numbers { state: seed }
     }
 
-    /// A number below this one.
+    /// Returns a number below this one.
     pub fn below(&mut self, end: usize) -> usize
         requires { 0 < end }
         ensures { result < end }
@@ -30,17 +30,17 @@ impl Numbers {
         self.below(2) == 0
     }
 
-    /// A byte.
+    /// Returns a byte.
     pub fn byte(&mut self) -> u8 {
         self.below(256) as u8
     }
 
-    /// A value, below a million.
+    /// Returns a value, below a million.
     pub fn value(&mut self) -> u32 {
         self.below(1_000_000) as u32
     }
 
-    /// A place in a list of so many, if it has any.
+    /// Returns a place in a list of so many, if it has any.
     pub fn place_in(&mut self, count: usize) -> Option<usize>
         ensures { IfSome result (λ at. at < count) }
     {

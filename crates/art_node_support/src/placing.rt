@@ -23,17 +23,17 @@ pub enum Plain<'a> {
     Inner {
         kind: NodeType,
         prefix_len: usize,
-        /// The prefix, or as much of it as is stored.
+        /// The prefix, or its stored part.
         prefix: &'a [u8],
         children: &'a [(u8, usize)],
     },
-    /// A name of no leaf: the leaf is freed once all nodes are there.
+    /// A name of no leaf: the leaf is freed once all nodes are placed.
     Gone,
     /// No node, but a name: this kind, and the slot of a node before it in the list.
     Renamed(NodeType, usize),
 }
 
-/// A leaf without links.
+/// Returns a leaf without links.
 pub fn lone_leaf(key: &[u8], value: u32) -> Plain<'_> {
     Plain::Leaf {
         key,
@@ -43,7 +43,7 @@ pub fn lone_leaf(key: &[u8], value: u32) -> Plain<'_> {
     }
 }
 
-/// An inner node without a prefix.
+/// Returns an inner node without a prefix.
 pub fn plain_node(kind: NodeType, children: &[(u8, usize)]) -> Plain<'_> {
     Plain::Inner {
         kind,
@@ -53,7 +53,7 @@ pub fn plain_node(kind: NodeType, children: &[(u8, usize)]) -> Plain<'_> {
     }
 }
 
-/// Whether a child can be put under a byte of a node.
+/// Returns whether a child can be put under a byte of a node.
 pub fn has_place<K: AsBytes + Drop, V: Drop, const P: usize>(
     store: &NodeStore<K, V, P>,
     name: InnerPtr,
@@ -186,7 +186,7 @@ fn join<const P: usize>(
     Some(())
 }
 
-/// Frees a leaf that is to be gone.
+/// Frees a leaf that is to be removed.
 fn free_gone<const P: usize>(
     store: &mut NodeStore<Key, u32, P>,
     name: OpaqueNodePtr,
@@ -199,7 +199,7 @@ fn free_gone<const P: usize>(
     }
 }
 
-/// The name of the leaf at a place of the list.
+/// Returns the name of the leaf at a place of the list.
 pub fn leaf_at(names: &[OpaqueNodePtr], at: Option<usize>) -> Option<LeafPtr> {
     names.get(at?)?.as_leaf()
 }

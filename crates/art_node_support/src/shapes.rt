@@ -1,8 +1,8 @@
-//! What is seen of the shapes of trees.
+//! The shapes of trees, as tests see them.
 use art_nodes::node::{AsBytes, InnerPtr, LeafPtr, NodeType, OpaqueNodePtr};
 use art_nodes::store::NodeStore;
 
-/// How many leaves and inner nodes a store has in slots up to this one.
+/// Returns how many leaves and inner nodes a store has in slots up to this one.
 pub fn count_nodes<K: AsBytes + Drop, V: Drop, const P: usize>(
     store: &NodeStore<K, V, P>,
     last_slot: usize,
@@ -40,7 +40,7 @@ fn below_zero<K: AsBytes + Drop, const P: usize>(
     node.lookup_child(0)
 }
 
-/// The leaf below eleven such nodes, one below the other, where there are so many.
+/// Returns the leaf below eleven such nodes, one below the other, if there are so many.
 pub fn end_of_chain<K: AsBytes + Drop, const P: usize>(
     store: &NodeStore<K, u32, P>,
     root: OpaqueNodePtr,

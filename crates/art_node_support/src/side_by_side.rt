@@ -1,4 +1,4 @@
-//! Two trees that are to be the same, walked side by side.
+//! Two trees that should be the same, traversed together.
 
 use crate::shapes::count_nodes;
 use art_nodes::node::{AsBytes, InnerPtr, InnerRef, LeafPtr, NodePtr, NodeType, OpaqueNodePtr};
@@ -11,7 +11,7 @@ const MOST_NODES: usize = 700;
 // What is met in two trees of one form.
 #[derive(Drop)]
 struct Walk {
-    // Names at one place of both trees that are still to be looked at. The next ones stand last.
+    // Names at one place of both trees that are still to be looked at. The next ones are last.
     open: Vec<(OpaqueNodePtr, OpaqueNodePtr)>,
     // The leaves of either tree, in order.
     leaves: Vec<LeafPtr>,
@@ -47,7 +47,8 @@ impl Walk {
         Ok(Some(self.greatest_kind))
     }
 
-    // Whether the leaves that were met hold these pairs, and the first store has no other node than those that were met.
+    // Whether the leaves that were met hold these pairs, and the first store has no other node than those that were
+    // met.
     fn has_pairs<K: AsBytes + PartialEq + Drop, const P: usize>(
         &self,
         store: &NodeStore<K, u32, P>,
@@ -59,7 +60,7 @@ impl Walk {
             && count_nodes(store, MOST_NODES) == (pairs.len(), self.inner)
     }
 
-    // Looks at all nodes under the names that are open. Returns whether they are the same.
+    // Looks at all nodes under the pending names. Returns whether they are the same.
     fn go<K: AsBytes + Drop, const P: usize>(
         &mut self,
         store: &NodeStore<K, u32, P>,
@@ -161,8 +162,8 @@ fn are_leaves<K: AsBytes + PartialEq + Drop, const P: usize>(
     true
 }
 
-/// The greatest kind of node of two trees that are the same but for the names of their nodes, whose leaves hold these
-/// pairs in order, where the first store has no other node. None where any of that is not so.
+/// Returns the greatest kind of node of two trees that are the same but for the names of their nodes, whose leaves hold
+/// these pairs in order, where the first store has no other node. None where any of that is not so.
 pub fn kind_if_same<K: AsBytes + PartialEq + Drop, const P: usize>(
     (store, root): (&NodeStore<K, u32, P>, Option<OpaqueNodePtr>),
     (other, other_root): (&NodeStore<K, u32, P>, Option<OpaqueNodePtr>),

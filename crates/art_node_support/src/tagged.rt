@@ -1,10 +1,10 @@
-//! Keys that can be told apart where they are equal.
+//! Keys that can be distinguished although they are equal.
 ghost use Rattle.std.specs.Prelude.{◌≡◌};
 
 use art_nodes::node::AsBytes;
 use std::alloc::AllocError;
 
-/// A key with a tag that its bytes don't show.
+/// A key with a tag that its bytes don't contain.
 #[derive(PartialEq, Eq, Debug, Drop)]
 pub struct Tagged {
     pub bytes: Vec<u8>,

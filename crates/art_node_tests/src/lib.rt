@@ -1,4 +1,4 @@
-//! Tests of nodes and of stores, by public calls. There is nothing here but tests.
+//! Tests of nodes and of stores, by public calls. There are only tests here.
 #![tactic(auto)]
 
 #[cfg(test)]

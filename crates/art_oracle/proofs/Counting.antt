@@ -62,7 +62,7 @@ module _ {K V : Type 0} (bytes : K → List ℕ) (store : finite.FinMap leaf_cmp
   changes last [] = 0
   changes last (p ∷ ps) = cond (eqb last (leaf_byte p)) 0 1 + changes (leaf_byte p) ps
 
-  -- the bytes don't fall from leaf to leaf, after a leaf with this one
+  -- the bytes don't decrease from leaf to leaf, after a leaf with this one
   abbrev pub Rises : ℕ → List LeafPtr → Type 0
   Rises last [] = Unit {0}
   Rises last (p ∷ ps) = (last ≤ leaf_byte p) × Rises (leaf_byte p) ps

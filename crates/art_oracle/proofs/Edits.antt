@@ -1,4 +1,4 @@
--- what a change at a key's place makes of a map
+-- what a change at a key's place does to a map
 use Rattle.std.proofs.Common.{◌≡◌, ℕ, suc, zero, List, [], ◌∷◌, ◌++◌, take, drop, refl, ap, ap₂, sym, ◌∙◌, true, false, ◌&&◌, not, Some, slice_get, subst, Result, Ok, Err, IfOk, IfErr, OnOk, is_ok, append_assoc, append-nil, slice_set}
 use Rattle.std.specs.List.{AllByRecursion as Each, insert, remove}
 use Rattle.std.proofs.lemmas.Bool.{or_parts}
@@ -58,7 +58,7 @@ module _ {A : Type 0} (bytes : A → List ℕ) (key : List ℕ) where
   no_conflict [] h = refl
   no_conflict (x ∷ xs) h = rw h.0 (no_conflict xs h.1)
 
--- where the neighbours are known to come before and after
+-- where the neighbours are known to be before and after
 module _ {A : Type 0} (bytes : A → List ℕ) (key : List ℕ) (xs zs : List A) (low : Each (λ y. Precedes (bytes y) key) xs) (high : Each (λ y. Precedes key (bytes y)) zs) where
   others_low : Each (λ y. are_same key (bytes y) ≡ false) xs
   others_low = Each-weaker (λ y. Precedes (bytes y) key) (λ y. are_same key (bytes y) ≡ false) (λ y h. same_related key (bytes y) (related_sym key (bytes y) ∙ h.1)) xs low
@@ -175,7 +175,7 @@ module _ {K V : Type 0} (bytes : K → List ℕ) where
       pub has_none : has_key (of_key bytes) key pairs ≡ false
       has_none = none_same (of_key bytes) key pairs no_other
 
-    -- where the key has no pair and is in no conflict
+    -- where the key has no pair and does not conflict
     module _ (gap : IsGapFor bytes pairs at key) (free : is_conflict (of_key bytes) key pairs ≡ false) where
       gap_map : IsMap (of_key bytes) (take at pairs ++ drop at pairs)
       gap_map = subst (IsMap (of_key bytes)) (sym (take-append-drop at pairs)) map

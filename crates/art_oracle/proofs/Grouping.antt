@@ -34,7 +34,7 @@ pub map-append : {A B : Type 0} (f : A → B) (xs ys : List A) → map f (xs ++ 
 map-append f [] ys = refl
 map-append f (x ∷ xs) ys = ap (λ l. f x ∷ l) (map-append f xs ys)
 
--- a name that is written above all others comes last
+-- a name that is written above all others is last
 put_last : (cs : List (ℕ × OpaqueNodePtr)) (b : ℕ) (n : OpaqueNodePtr) → Each (λ c. c.0 < b) cs → put_child cs b n ≡ cs ++ (b, n) ∷ []
 put_last [] b n h = refl
 put_last (c ∷ cs) b n h = rw (lt-ltb c.0 b h.0) (ap (λ l. c ∷ l) (put_last cs b n h.1))
@@ -113,7 +113,7 @@ module _ {A : Type 0} (byte : A → ℕ) where
       length (groups byte (group ++ others)) ≡ suc (length (groups byte others))
   count_more b x xs group others some own above = rw some (ap length (groups-block byte b x xs others (groups byte others) (rw some at own) refl (groups_apart b others above)))
 
--- a group in front of the leaves, which has one
+-- a group before the leaves, which has one
 pub record Grouped {K V : Type 0} (bytes : K → List ℕ) (store : finite.FinMap leaf_cmp (LeafNode K V)) (front : List ℕ) (leaves : List LeafPtr) (at byte n : ℕ) : Type 0 where
   pub ready : ReadyBelow bytes store front leaves at
   pub group : IsGroup bytes store leaves at byte n

@@ -53,7 +53,7 @@ module _ {K V : Type 0} where
       of_pairs (Some x) None e = absurd cc
       of_pairs (Some x) (Some y) e = let f : pair_of x ≡ pair_of y = cc in ap (λ z. z ∷ []) f
 
-  -- as many pairs as leaves that are there
+  -- as many pairs as leaves
   pub pairs_long : (m : finite.FinMap leaf_cmp (LeafNode K V)) (ps : List LeafPtr) → Each (λ p. IsSome (finite.get m p)) ps → length (pairs_at m ps) ≡ length ps
   pairs_long m [] h = refl
   pairs_long m (p ∷ ps) h = go (finite.get m p) h.0 (pairs_long m ps h.1)
@@ -69,7 +69,7 @@ module _ {K V : Type 0} where
       go None f s = absurd cc
       go (Some x) f s = absurd (let g = ap (finite.get m) e ∙ free in cc)
 
-  -- one leaf more
+  -- one more leaf
   module _ (old mid : finite.FinMap leaf_cmp (LeafNode K V)) (names : List LeafPtr) (pairs : List (K × V)) (so_far : IsPlaced old mid names pairs)
       (q : LeafPtr) (leaf : LeafNode K V) (free : finite.get mid q ≡ None) where
     abbrev new : finite.FinMap leaf_cmp (LeafNode K V)
@@ -115,7 +115,7 @@ pub record IsLinkedTo {K V : Type 0} (old new : Nodes K V) (names : List LeafPtr
   pub keeps : KeepsPairs old.leaves new.leaves names
 
 module _ {K V : Type 0} where
-  -- the links of a leaf that is there, or none
+  -- the links of a leaf in the store, or none
   abbrev links_in : finite.FinMap leaf_cmp (LeafNode K V) → LeafPtr → Option (Links OpaqueNodePtr)
   links_in m p = option_and_then links_of (option_map held_leaf (finite.get m p))
 

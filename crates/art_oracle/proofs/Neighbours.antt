@@ -24,11 +24,11 @@ other_before key k h = let e = later_no_front key k h in rw (e, or-false, and-fa
 related_by_front : (a b : List ℕ) → is_front a b ≡ true → are_related a b ≡ true
 related_by_front a b e = rw e refl
 
--- a key with another between it and the new one is no front of that
+-- a key with another between it and the new one is no prefix of that
 far_below : (k l key : List ℕ) → Precedes k l → is_before l key ≡ true → is_front k key ≡ false
 far_below k l key p h = false_from_ne_true (is_front k key) (λ e. true≢false (sym (related_by_front k l (between k l key (precedes_apart k l p) (before_apart l key h) e)) ∙ p.1))
 
--- what a key begins, the keys before that and after it begin with it too
+-- what a key is a prefix of, the keys between are too
 far_above : (key k l : List ℕ) → is_before key k ≡ true → Precedes k l → is_front key k ≡ false → is_front key l ≡ false
 far_above key k l h p n = false_from_ne_true (is_front key l) (λ e. true≢false (sym (between key k l (before_apart key k h) (precedes_apart k l p) e) ∙ n))
 
@@ -37,13 +37,13 @@ module _ {K V : Type 0} (bytes : K → List ℕ) where
       is_conflict (of_key bytes) key pairs ≡ (is_conflict (of_key bytes) key (take at pairs) || is_conflict (of_key bytes) key (drop at pairs))
   conflict_split key at pairs = ap (is_conflict (of_key bytes) key) (sym (take-append-drop at pairs)) ∙ list_any-append (λ x. is_other key (bytes x.0)) (take at pairs) (drop at pairs)
 
-  -- a key that is in conflict with a pair in front
+  -- a key that conflicts with an earlier pair
   pub conflict_low : (key : List ℕ) (at : ℕ) (pairs low : List (K × V)) (r : Bool) → low ≡ take at pairs → r ≡ is_conflict (of_key bytes) key low → r ≡ true →
       r ≡ is_conflict (of_key bytes) key pairs
   conflict_low key at pairs low r e is so =
       so ∙ sym (conflict_split key at pairs ∙ ap (λ b. b || is_conflict (of_key bytes) key (drop at pairs)) (sym (ap (is_conflict (of_key bytes) key) e) ∙ sym is ∙ so))
 
-  -- a key that is in no conflict with a pair in front
+  -- a key that does not conflict with an earlier pair
   pub conflict_high : (key : List ℕ) (at : ℕ) (pairs low high : List (K × V)) (s r : Bool) → low ≡ take at pairs → s ≡ is_conflict (of_key bytes) key low → s ≡ false →
       high ≡ drop at pairs → r ≡ is_conflict (of_key bytes) key high → r ≡ is_conflict (of_key bytes) key pairs
   conflict_high key at pairs low high s r e low_is not_so f is =

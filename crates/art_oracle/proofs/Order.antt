@@ -1,4 +1,4 @@
--- fronts and the order of keys
+-- prefixes and the order of keys
 use Rattle.std.proofs.Common.{◌≡◌, ℕ, ◌<◌, List, [], ◌∷◌, refl, ap, sym, ◌∙◌, arith, eqb, eq-eqb, true, false, Bool, ◌&&◌, ◌⊎◌, inl, inr}
 use Rattle.std.specs.List.{starts_with}
 use Rattle.std.specs.Cmp.Lexicographic.{slice_cmp, nat_list_cmp_total}
@@ -19,7 +19,7 @@ before_from_less a b e = ap is_lt e
 pub after_from_greater : (a b : List ℕ) → slice_cmp nat_cmp a b ≡ Greater → is_before b a ≡ true
 after_from_greater a b e = rw (nat_list_cmp_total.antisymm b a, e) refl
 
--- what stands between a key and one that it is a front of begins with it too
+-- a key is a prefix of all that is between it and one that it is a prefix of
 pub between : (a b c : List ℕ) → is_before b a ≡ false → is_before c b ≡ false → is_front a c ≡ true → is_front a b ≡ true
 between [] b c h k f = refl
 between (x ∷ a) b [] h k f = absurd (false≢true f)
@@ -37,7 +37,7 @@ between (x ∷ a) (y ∷ b) (z ∷ c) h k f = go (between a b c) (cases_order x 
     go ih e (inr (inl l)) = let f' = rw (ne_eqb x z (λ p. omega arith)) at f in absurd (false≢true f')
     go ih e (inr (inr l)) = let f' = rw (ne_eqb x z (λ p. omega arith)) at f in absurd (false≢true f')
 
--- a key is not after one that it is a front of
+-- a key is not after one that it is a prefix of
 pub front_not_after : (a b : List ℕ) → is_front a b ≡ true → is_before b a ≡ false
 front_not_after [] [] f = refl
 front_not_after [] (b ∷ bs) f = refl
@@ -49,7 +49,7 @@ front_not_after (a ∷ r) (b ∷ s) f = go (front_not_after r s) (cases_order a 
     go ih (inr (inl l)) = let f' = rw (ne_eqb a b (λ p. omega arith)) at f in absurd (false≢true f')
     go ih (inr (inr l)) = let f' = rw (ne_eqb a b (λ p. omega arith)) at f in absurd (false≢true f')
 
--- of two keys in order, only the first can be a front of the other
+-- of two keys in order, only the first can be a prefix of the other
 pub later_no_front : (a b : List ℕ) → is_before a b ≡ true → is_front b a ≡ false
 later_no_front a b h = go (is_front b a) refl
   where

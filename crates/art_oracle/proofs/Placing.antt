@@ -51,7 +51,7 @@ module _ {A : Type 0} where
   last_each Q x [] h = h.0
   last_each Q x (y ∷ ys) h = last_each Q y ys h.1
 
--- the last of a map comes after all others
+-- the last of a map is after all others
 module _ {A : Type 0} (bytes : A → List ℕ) where
   -- no key is after the last
   none_after : (x : A) (xs : List A) → IsMap bytes (x ∷ xs) → Each (λ z. is_before (bytes (last_from x xs)) (bytes z) ≡ false) (x ∷ xs)
@@ -61,7 +61,7 @@ module _ {A : Type 0} (bytes : A → List ℕ) where
   none_before : (x : A) (xs : List A) → IsMap bytes (x ∷ xs) → Each (λ z. is_before (bytes z) (bytes x) ≡ false) (x ∷ xs)
   none_before x xs h = (self (bytes x), Each-weaker (λ z. Precedes (bytes x) (bytes z)) (λ z. is_before (bytes z) (bytes x) ≡ false) (λ z p. precedes_apart (bytes x) (bytes z) p) xs h.0)
 
-  -- all keys begin with what the first and the last have in common
+  -- all keys start with what the first and the last have in common
   pub share : (way rf rl : List ℕ) (x : A) (xs : List A) → IsMap bytes (x ∷ xs) → Each (λ z. IsFront way (bytes z)) (x ∷ xs) → bytes x ≡ way ++ rf →
       bytes (last_from x xs) ≡ way ++ rl → Each (λ z. IsFront (way ++ common_front rf rl) (bytes z)) (x ∷ xs)
   share way rf rl x xs map ways e f = go (x ∷ xs) ways (none_before x xs map) (none_after x xs map)
@@ -193,7 +193,7 @@ module _ {K V : Type 0} (bytes : K → List ℕ) (P : ℕ) where
             come = record { fresh = tt; added = λ n used. inl used; distinct = tt };
           }
 
-  -- the node that was placed first, with the children that came to it
+  -- the node that was placed first, with the children that were added to it
   module _ (old mid new : Nodes K V) (way part : List ℕ) (leaves : List LeafPtr) (p : InnerPtr) (same : mid.leaves ≡ old.leaves)
       (placed : mid.inners ≡ finite.insert old.inners p (started P part)) (free : finite.get old.inners p ≡ None)
       (kind : p.kind ≡ kind_of (count_groups bytes old.leaves leaves (length (way ++ part)))) (two : 2 ≤ count_groups bytes old.leaves leaves (length (way ++ part)))
@@ -339,7 +339,7 @@ module _ {K V : Type 0} (bytes : K → List ℕ) (store : finite.FinMap leaf_cmp
   pub last_is_long : depth ≤ length last_bytes
   last_is_long = its_parting.in_last
 
-  -- whose bytes after the way were read
+  -- whose bytes after the path were read
   module _ {len : ℕ} {rf rl : List ℕ} (f : rf ≡ drop depth first_bytes) (l : rl ≡ drop depth last_bytes) (n : len ≡ length (common_front rf rl)) where
     len_is : len ≡ length its_part
     len_is = n ∙ ap₂ (λ (u v : List ℕ). length (common_front u v)) f l

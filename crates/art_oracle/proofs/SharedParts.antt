@@ -9,7 +9,7 @@ pub common_end_right : (a : List ℕ) → length (common_front a []) ≡ 0
 common_end_right [] = refl
 common_end_right (x ∷ a) = refl
 
--- what stands between two keys begins with what they have in common
+-- what is between two keys starts with what they have in common
 pub common_between : (a b c : List ℕ) → is_before b a ≡ false → is_before c b ≡ false → IsFront (common_front a c) b
 common_between [] b c h k = (b, refl)
 common_between (x ∷ a) b [] h k = (b, refl)

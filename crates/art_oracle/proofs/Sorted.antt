@@ -1,4 +1,4 @@
--- sorted pairs and a key: where it is, or where it would go
+-- sorted pairs and a key: where it is, or where it would be inserted
 use Rattle.std.proofs.Common.{◌≡◌, ℕ, suc, zero, ◌+◌, ◌<◌, ◌≤◌, List, [], ◌∷◌, length, take, drop, get_or, arith, true, ◌⊎◌, inl, inr, Some, None, Result, Ok, Err, IfOk, IfErr, slice_get, subst}
 use Rattle.std.specs.List.{AllByRecursion as Each, AllWithin}
 use Rattle.std.specs.List.Sorted.{IsBinarySearchResult, IsSearchInRange, IsSortedBy}

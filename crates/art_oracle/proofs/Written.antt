@@ -1,4 +1,4 @@
--- a store in which a child came to an inner node, between what was built before and after
+-- a store in which a child was added to an inner node, between what was built before and after
 use Rattle.std.proofs.Common.{◌≡◌, ◌≢◌, ap, sym, ◌∙◌, ◌⊎◌, inl, inr, Option, Some, None}
 use Rattle.std.specs.Option.{option_map}
 use Rattle.std.specs.List.{AllByRecursion as Each}

@@ -1,4 +1,4 @@
--- What the building of a tree asks of a store and leaves in it.
+-- What the building of a tree requires of a store and leaves in it.
 use Rattle.std.specs.Prelude.{◌≡◌, ◌≢◌, ℕ, ◌+◌, ◌<◌, ◌≤◌, List, [], ◌∷◌, ◌++◌, length, take, get_or, Option, Some, None, IsSome, map, ◌⊎◌}
 use Rattle.std.specs.Option.{option_map}
 use Rattle.std.specs.List.{AllByRecursion as Each, All}
@@ -18,11 +18,11 @@ use Rattle.art_model.specs.Layouts.{name_of, slots_of, leaf_names, leaf_names_be
 use Rattle.art_model.specs.Stores.{node_at, content_at, IsUsed, pair_of}
 use Rattle.art_model.specs.Footprints.{IsIn}
 
--- a node with no child, and what of its prefix is stored
+-- a node with no child, and the stored bytes of its prefix
 abbrev pub started : ℕ → List ℕ → Inner
 started P prefix = record { prefix = record { len = length prefix; stored = take P prefix }; children = [] }
 
--- the last of a list that begins with this one
+-- the last of a list that starts with this one
 abbrev pub last_from : {A : Type 0} → A → List A → A
 last_from x [] = x
 last_from x (y ∷ ys) = last_from y ys
@@ -65,13 +65,13 @@ module _ {K V : Type 0} where
     pub fresh : Each (λ p. finite.get old p ≡ None) names
     pub others : (p : LeafPtr) → IsIn p names ⊎ (finite.get new p ≡ finite.get old p)
 
-  -- leaves keep their pairs, and those with other names are as they were
+  -- leaves keep their pairs, and those with other names are unchanged
   pub record KeepsPairs (old new : finite.FinMap leaf_cmp (LeafNode K V)) (names : List LeafPtr) : Type 0 where
     pub its : (p : LeafPtr) → option_map pair_of (finite.get new p) ≡ option_map pair_of (finite.get old p)
     pub others : (p : LeafPtr) → IsIn p names ⊎ (finite.get new p ≡ finite.get old p)
 
   module _ (bytes : K → List ℕ) where
-    -- the leaves of a map whose keys all begin with a way of this length
+    -- the leaves of a map whose keys all start with bytes of this length
     pub record Ready (store : finite.FinMap leaf_cmp (LeafNode K V)) (way : List ℕ) (leaves : List LeafPtr)
         (depth : ℕ) : Type 0 where
       pub there : All (λ p. IsSome (finite.get store p)) leaves
@@ -79,7 +79,7 @@ module _ {K V : Type 0} where
       pub ways : Each (λ x. IsFront way (of_key bytes x)) (pairs_at store leaves)
       pub depth_is : length way ≡ depth
 
-    -- the leaves of a map whose keys all begin with this prefix and go on
+    -- the leaves of a map whose keys all start with this prefix and continue
     pub record ReadyBelow (store : finite.FinMap leaf_cmp (LeafNode K V)) (front : List ℕ)
         (leaves : List LeafPtr) (at : ℕ) : Type 0 where
       pub there : All (λ p. IsSome (finite.get store p)) leaves
@@ -88,7 +88,7 @@ module _ {K V : Type 0} where
       pub ways : Each (λ x. GoesOn front (of_key bytes x)) (pairs_at store leaves)
       pub depth_is : length front ≡ at
 
-    -- so many leaves in front have this byte, and the next has another
+    -- so many first leaves have this byte, and the next has another
     pub record IsGroup (store : finite.FinMap leaf_cmp (LeafNode K V)) (leaves : List LeafPtr)
         (at byte n : ℕ) : Type 0 where
       pub within : n ≤ length leaves
@@ -106,7 +106,7 @@ module _ {K V : Type 0} where
         Each (λ c. Each (λ x. c.0 < byte_at (of_key bytes) at x) (pairs_at store leaves)) node.children
 
     module _ (P : ℕ) where
-      -- the keys share a part after the way, go on, and the first and the last part there
+      -- the keys share a part after the path, continue, and the first and the last differ there
       pub record Starts (store : finite.FinMap leaf_cmp (LeafNode K V)) (way : List ℕ)
           (leaves : List LeafPtr) (depth at : ℕ) (node : Inner) : Type 0 where
         pub part : List ℕ
@@ -131,7 +131,7 @@ module _ {K V : Type 0} where
         pub holds : Holds (node_at new) tree
         pub come : HaveCome old new (inner_names tree)
 
-      -- the trees of the groups of the leaves, which came to a node's children
+      -- the trees of the groups of the leaves, which were added to a node's children
       pub record BuiltBelow (front : List ℕ) (leaves : List LeafPtr) (old new : Nodes K V) (from to : Inner)
           : Type 0 where
         pub children : Subtrees OpaqueNodePtr (K × V)

@@ -9,7 +9,7 @@ use Rattle.art_model.specs.Canonical.{IsCanonicalTree}
 use Rattle.art_model.specs.Footprints.{IsIn}
 
 module _ {K V : Type 0} where
-  -- each node that the store held is as it was
+  -- each node that the store held is unchanged
   abbrev pub KeepsNodes : Nodes K V → Nodes K V → Type 0
   KeepsNodes old new = (name : OpaqueNodePtr) → IsUsed old name → content_at new name ≡ content_at old name
 

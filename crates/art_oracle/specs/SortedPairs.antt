@@ -19,7 +19,7 @@ module _ {K V : Type 0} (bytes : K → List ℕ) where
   abbrev pub AllAfter : List ℕ → List (K × V) → Type 0
   AllAfter key = Each (λ x. is_before key (of_key bytes x) ≡ true)
 
-  -- a key that no pair has would go to this place
+  -- a key that no pair has would be inserted at this place
   pub record IsGapFor (pairs : List (K × V)) (at : ℕ) (key : List ℕ) : Type 0 where
     pub within : at ≤ length pairs
     pub low : AllBefore key (take at pairs)

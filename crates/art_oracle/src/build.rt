@@ -1,4 +1,4 @@
-//! The radix tree of a map, built in a store at one go.
+//! The radix tree of a map, built in a store at once.
 ghost use Rattle.std.specs.Prelude.{◌≡◌, ◌≢◌, ℕ, ◌+◌, ◌^◌, ◌<◌, ◌≤◌, List, length, get_or, Some, None, IsSome, IfOk, OnOk};
 ghost use Rattle.std.specs.Prelude.{map as list_map};
 ghost use Rattle.std.specs.FinMap as map;
@@ -24,7 +24,7 @@ use art_nodes::node::{
 use art_nodes::store::NodeStore;
 use std::alloc::AllocError;
 
-/// The length of the longest prefix that both keys have.
+/// Returns the length of the longest prefix that both keys have.
 fn common_len(a: &[u8], b: &[u8]) -> usize
     ensures { result ≡ length (common_front a.now b.now) }
 {
@@ -37,7 +37,7 @@ fn common_len(a: &[u8], b: &[u8]) -> usize
     count
 }
 
-/// The bytes of a leaf's key.
+/// Returns the bytes of a leaf's key.
 fn key_of<K: AsBytes + Drop, V: Drop, const P: usize>(
     store: &NodeStore<K, V, P>,
     leaf: LeafPtr,
@@ -51,7 +51,7 @@ fn key_of<K: AsBytes + Drop, V: Drop, const P: usize>(
     }
 }
 
-/// The byte of a leaf's key at a depth.
+/// Returns the byte of a leaf's key at a depth.
 fn byte_of<K: AsBytes + Drop, V: Drop, const P: usize>(
     store: &NodeStore<K, V, P>,
     leaf: LeafPtr,
@@ -65,7 +65,7 @@ fn byte_of<K: AsBytes + Drop, V: Drop, const P: usize>(
     key_of(store, leaf)[at]
 }
 
-/// How many leaves, from the first on, have this byte at a depth.
+/// Returns how many leaves, from the first on, have this byte at a depth.
 fn group_end<K: AsBytes + Drop, V: Drop, const P: usize>(
     store: &NodeStore<K, V, P>,
     leaves: &[LeafPtr],
@@ -82,7 +82,7 @@ fn group_end<K: AsBytes + Drop, V: Drop, const P: usize>(
     n
 }
 
-/// How many groups sorted leaves make by their bytes at a depth.
+/// Returns how many groups sorted leaves make by their bytes at a depth.
 fn group_count<K: AsBytes + Drop, V: Drop, const P: usize>(
     store: &NodeStore<K, V, P>,
     leaves: &[LeafPtr],
@@ -105,7 +105,7 @@ fn group_count<K: AsBytes + Drop, V: Drop, const P: usize>(
     count
 }
 
-/// The kind of a node with so many children.
+/// Returns the kind of a node with so many children.
 fn kind_for(children: usize) -> NodeType
     ensures kind { result ≡ kind_of children }
     ensures inner { result ≢ Leaf }
@@ -119,7 +119,7 @@ fn kind_for(children: usize) -> NodeType
     }
 }
 
-/// A node for the groups of some leaves, with the part that their keys share, and the depth after that part.
+/// Returns a node for the groups of some leaves, with the part that their keys share, and the depth after that part.
 fn start_node<K: AsBytes + Drop, V: Drop, const P: usize>(
     store: &NodeStore<K, V, P>,
     leaves: &[LeafPtr],
@@ -144,7 +144,7 @@ fn start_node<K: AsBytes + Drop, V: Drop, const P: usize>(
 
 /// Places the node for the groups of some leaves, still without children, and returns its name and the depth after the
 /// part that the keys share.
-// A node is large: it stands on the stack while it is placed, and not through the recursion.
+// A node is large: it is on the stack only while it is placed, and not through the recursion.
 #[inline(never)]
 fn place_node<K: AsBytes + Drop, V: Drop, const P: usize>(
     store: &mut NodeStore<K, V, P>,
@@ -171,7 +171,7 @@ fn place_node<K: AsBytes + Drop, V: Drop, const P: usize>(
     }
 }
 
-/// Builds the tree of sorted leaves, whose keys begin with the same bytes up to a depth, from that depth on.
+/// Builds the tree of sorted leaves, whose keys start with the same bytes up to a depth, from that depth on.
 #[cycle(nodes)]
 fn build_node<K: AsBytes + Drop, V: Drop, const P: usize>(
     store: &mut NodeStore<K, V, P>,
@@ -264,10 +264,10 @@ fn link_leaves<K: AsBytes + Drop, V: Drop, const P: usize>(
     }
 }
 
-/// Builds the canonical tree of a map in a store, and returns its root: none where there are no pairs.
+/// Builds the canonical tree of a map in a store, and returns its root: none if there are no pairs.
 ///
-/// An `Err` leaves the nodes that were placed so far in the store. The time is that of reading each key
-/// once for each inner node on the way to its leaf.
+/// If it fails the nodes that were placed so far stay in the store. It reads each key once for each inner node on the
+/// path to its leaf.
 pub fn build<K: AsBytes + Drop, V: Drop, const P: usize>(
     store: &mut NodeStore<K, V, P>,
     pairs: Vec<(K, V)>,

@@ -9,20 +9,20 @@ ghost use Rattle.art_oracle.specs.SortedPairs.{IsPairOf, IsGapFor, AllBefore, Al
 use art_nodes::node::AsBytes;
 use std::mem;
 
-/// Where the pair of a key is, or where it would go. One comparison for each halving of the list.
+/// Where the pair of a key is, or where it would be inserted. It makes one comparison for each halving of the list.
 pub fn search<K: AsBytes, V>(pairs: &[(K, V)], key: &[u8]) -> Result<usize, usize>
     requires { IsMap (of_key K.bytes) pairs.now }
     ensures stored { is_ok result ≡ has_key (of_key K.bytes) key.now pairs.now }
     ensures found { IfOk result (λ at. IsPairOf K.bytes pairs.now at key.now) }
     ensures absent { IfErr result (λ at. IsGapFor K.bytes pairs.now at key.now) }
 
-    // A key that is stored is in no conflict.
+    // A stored key does not conflict.
     ensures alone { OnOk result (is_conflict (of_key K.bytes) key.now pairs.now ≡ false) }
 {
     pairs.binary_search_by(|pair| pair.0.as_bytes().cmp(key))
 }
 
-/// Whether a key that isn't stored is related to a stored one. It looks at the two pairs beside its place.
+/// Returns whether a key that isn't stored is related to a stored one. It looks at the two pairs next to its place.
 pub fn has_related<K: AsBytes, V>(pairs: &[(K, V)], at: usize, key: &[u8]) -> bool
     requires map { IsMap (of_key K.bytes) pairs.now }
     requires gap { IsGapFor K.bytes pairs.now at key.now }
@@ -56,14 +56,14 @@ fn precedes_related<K: AsBytes, V>(pairs: &[(K, V)], key: &[u8]) -> bool
     }
 }
 
-// Whether a list of bytes begins with another.
+// Whether a list of bytes starts with another.
 fn is_front_of(front: &[u8], whole: &[u8]) -> bool
     ensures { result ≡ is_front front.now whole.now }
 {
     whole.starts_with(front)
 }
 
-/// Whether a key has a pair.
+/// Returns whether a key has a pair.
 pub fn contains<K: AsBytes, V>(pairs: &[(K, V)], key: &[u8]) -> bool
     requires { IsMap (of_key K.bytes) pairs.now }
     ensures { result ≡ has_key (of_key K.bytes) key.now pairs.now }
@@ -71,7 +71,7 @@ pub fn contains<K: AsBytes, V>(pairs: &[(K, V)], key: &[u8]) -> bool
     search(pairs, key).is_ok()
 }
 
-/// Gives the key at a place another value. The equal key that was handed in comes back with the old one.
+/// Replaces the value of the key at a place. Returns the equal key that was passed with the old value.
 pub fn replace_at<K: AsBytes, V>(pairs: &mut Vec<(K, V)>, at: usize, key: K, value: V) -> (K, V)
     requires map { IsMap (of_key K.bytes) pairs.old.items }
     requires here { IsPairOf K.bytes pairs.old.items at (K.bytes key) }
@@ -82,7 +82,7 @@ pub fn replace_at<K: AsBytes, V>(pairs: &mut Vec<(K, V)>, at: usize, key: K, val
     (key, mem::replace(&mut pairs[at].1, value))
 }
 
-/// Puts a pair in between, at the place of its key, or hands it back where there is no memory.
+/// Inserts a pair at the place of its key. If an allocation fails it is returned.
 pub fn insert_at<K: AsBytes, V>(
     pairs: &mut Vec<(K, V)>,
     at: usize,
@@ -104,7 +104,7 @@ pub fn insert_at<K: AsBytes, V>(
         .map_err(|failed| failed.value)
 }
 
-/// Takes the pair of a key out, if there is one.
+/// Removes the pair of a key, if there is one.
 pub fn remove<K: AsBytes, V>(pairs: &mut Vec<(K, V)>, key: &[u8]) -> Option<(K, V)>
     requires { IsMap (of_key K.bytes) pairs.old.items }
     ensures pairs { pairs.new.items ≡ remove_key (of_key K.bytes) key.now pairs.old.items }

@@ -1,4 +1,4 @@
-//! What is wrong with a tree, found by a list of what is still to be looked at.
+//! The flaws of a tree, found by a list of what is still to be looked at.
 
 use art_nodes::node::{
     AsBytes, InnerPtr, InnerRef, LeafNode, LeafPtr, NodePtr, NodeType, OpaqueNodePtr,
@@ -8,7 +8,7 @@ use art_nodes::store::NodeStore;
 use std::alloc::{AllocError, Global};
 use std::cmp::Ordering;
 
-/// What is wrong with a tree. The first bytes of each are those that lead to the node.
+/// A flaw of a tree. The first bytes of each are those that lead to the node.
 #[derive(Drop)]
 pub enum Flaw {
     /// A name is met twice.
@@ -17,15 +17,15 @@ pub enum Flaw {
     Children(Vec<u8>, NodeType, usize),
     /// A leaf has another key than the bytes that lead to it.
     Key(Vec<u8>, Vec<u8>),
-    /// The key of a sibling and that of a leaf stand in another order than the first of these.
+    /// The key of a sibling and that of a leaf are in another order than the first of these.
     Order(Vec<u8>, Vec<u8>, Ordering, Ordering),
-    /// A leaf with this key is to have the first links and has the second ones.
+    /// A leaf with this key should have the first links and has the second ones.
     Links(Vec<u8>, [OptionalLeafPtr; 2], [OptionalLeafPtr; 2]),
     /// There is no such node.
     NoNode(Vec<u8>, OpaqueNodePtr),
     /// A prefix can't be read.
     NoPrefix(Vec<u8>, OpaqueNodePtr),
-    /// The first bytes are stored of a prefix that begins with the second ones.
+    /// The first bytes are stored of a prefix that starts with the second ones.
     Stored(Vec<u8>, Vec<u8>, Vec<u8>),
 }
 
@@ -40,7 +40,7 @@ pub enum Verdict {
     Unknown,
 }
 
-/// A step that is still to be made.
+/// A pending step.
 #[derive(Drop)]
 enum Step {
     /// A look at the node that some bytes lead to.
@@ -49,12 +49,12 @@ enum Step {
     Count(Vec<u8>, NodeType, usize),
 }
 
-/// The way through a tree.
+/// The traversal of a tree.
 #[derive(Drop)]
 struct Way {
     alloc: Global,
     most_steps: usize,
-    // The next step stands last.
+    // The next step is last.
     steps: Vec<Step>,
     met: Vec<(OpaqueNodePtr, Vec<u8>)>,
 }
@@ -120,7 +120,7 @@ impl Way {
         self.look_at(store, name, place)
     }
 
-    /// The bytes that led to a name when it was met before.
+    /// Returns the bytes that led to a name when it was met before.
     fn first_place(&self, name: OpaqueNodePtr) -> Option<&[u8]> {
         for (other, first) in &self.met {
             if *other == name {
@@ -188,7 +188,7 @@ impl Way {
         Ok(())
     }
 
-    /// The prefix of a node at a depth. None where it can't be read.
+    /// Returns the prefix of a node at a depth. None where it can't be read.
     fn whole_prefix<'a, K: AsBytes + Drop, V: Drop, const P: usize>(
         &self,
         store: &'a NodeStore<K, V, P>,
@@ -203,7 +203,7 @@ impl Way {
         bytes_of(store, self.least_leaf(store, name)?, depth, len)
     }
 
-    /// The least leaf below a node. None where the way to it ends, or takes too many steps.
+    /// Returns the least leaf below a node. None where the path to it ends, or takes too many steps.
     fn least_leaf<K: AsBytes + Drop, V: Drop, const P: usize>(
         &self,
         store: &NodeStore<K, V, P>,
@@ -233,7 +233,7 @@ impl Way {
         })
     }
 
-    /// The leaves, in the order in which they were met.
+    /// Returns the leaves, in the order in which they were met.
     fn leaves_met(&self) -> Result<Vec<LeafPtr>, AllocError> {
         let mut leaves = Vec::new(self.alloc);
         for (name, _) in &self.met {
@@ -245,7 +245,7 @@ impl Way {
     }
 }
 
-/// The child under the least byte.
+/// Returns the child under the least byte.
 fn first_child<K: AsBytes + Drop, V: Drop, const P: usize>(
     store: &NodeStore<K, V, P>,
     name: InnerPtr,
@@ -257,7 +257,7 @@ fn first_child<K: AsBytes + Drop, V: Drop, const P: usize>(
     Some(node.min().1)
 }
 
-/// The bytes that lead to a child under a byte of a node with this prefix.
+/// Returns the bytes that lead to a child under a byte of a node with this prefix.
 fn way_below(alloc: Global, place: &[u8], prefix: &[u8], byte: u8) -> Result<Vec<u8>, AllocError> {
     let mut way = place.to_vec(alloc)?;
     way.extend_from_slice(prefix)?;
@@ -265,7 +265,7 @@ fn way_below(alloc: Global, place: &[u8], prefix: &[u8], byte: u8) -> Result<Vec
     Ok(way)
 }
 
-/// The first bytes, so many or all.
+/// Returns the first bytes, so many or all.
 fn front(bytes: &[u8], len: usize) -> &[u8] {
     match bytes.get(..len) {
         Some(part) => part,
@@ -273,7 +273,7 @@ fn front(bytes: &[u8], len: usize) -> &[u8] {
     }
 }
 
-/// So many bytes of a leaf's key from a depth on.
+/// Returns so many bytes of a leaf's key from a depth on.
 fn bytes_of<K: AsBytes + Drop, V: Drop, const P: usize>(
     store: &NodeStore<K, V, P>,
     leaf: LeafPtr,
@@ -284,7 +284,7 @@ fn bytes_of<K: AsBytes + Drop, V: Drop, const P: usize>(
     store.leaf(leaf)?.key.as_bytes().get(depth..end)
 }
 
-/// Whether a node has fewer or more children than its kind has.
+/// Returns whether a node has fewer or more children than its kind has.
 fn count_flaw(place: Vec<u8>, kind: NodeType, count: usize) -> Option<Flaw> {
     let (least, most) = match kind {
         NodeType::Leaf => (0, 0),
@@ -300,7 +300,7 @@ fn count_flaw(place: Vec<u8>, kind: NodeType, count: usize) -> Option<Flaw> {
     }
 }
 
-/// Copies of two lists of bytes.
+/// Returns copies of two lists of bytes.
 fn copies(alloc: Global, first: &[u8], second: &[u8]) -> Result<(Vec<u8>, Vec<u8>), AllocError> {
     Ok((first.to_vec(alloc)?, second.to_vec(alloc)?))
 }
@@ -310,7 +310,7 @@ fn no_node(alloc: Global, place: &[u8], name: OpaqueNodePtr) -> Result<Option<Fl
     Ok(Some(Flaw::NoNode(place.to_vec(alloc)?, name)))
 }
 
-/// Whether other bytes are stored of a prefix than those that it begins with.
+/// Returns whether other bytes are stored of a prefix than those that it starts with.
 fn stored_flaw(
     alloc: Global,
     place: &[u8],
@@ -326,7 +326,7 @@ fn stored_flaw(
     Ok(Some(Flaw::Stored(place, stored, read)))
 }
 
-/// Whether a leaf has a key that begins with other bytes, or siblings that don't stand around it.
+/// Returns whether a leaf has a key that starts with other bytes, or siblings that are not around it.
 fn leaf_flaw<K: AsBytes + Drop, V: Drop, const P: usize>(
     store: &NodeStore<K, V, P>,
     node: &LeafNode<K, V>,
@@ -351,7 +351,7 @@ fn leaf_flaw<K: AsBytes + Drop, V: Drop, const P: usize>(
     Ok(None)
 }
 
-/// Whether a leaf's sibling is missing, or stands on the other side of it.
+/// Returns whether a leaf's sibling is missing, or is on the other side of it.
 fn sibling_flaw<K: AsBytes + Drop, V: Drop, const P: usize>(
     store: &NodeStore<K, V, P>,
     (key, place): (&[u8], &[u8]),
@@ -370,7 +370,7 @@ fn sibling_flaw<K: AsBytes + Drop, V: Drop, const P: usize>(
     Ok(Some(Flaw::Order(other, key, wanted, order)))
 }
 
-/// The first of these leaves that has other links than its neighbours here.
+/// Returns the first of these leaves that has other links than its neighbours here.
 fn links_flaw<K: AsBytes + Drop, V: Drop, const P: usize>(
     store: &NodeStore<K, V, P>,
     leaves: &[LeafPtr],
@@ -388,7 +388,7 @@ fn links_flaw<K: AsBytes + Drop, V: Drop, const P: usize>(
     Ok(None)
 }
 
-/// Whether a leaf has other links than these.
+/// Returns whether a leaf has other links than these.
 fn link_flaw<K: AsBytes + Drop, V: Drop>(
     alloc: Global,
     node: &LeafNode<K, V>,

@@ -45,7 +45,7 @@ module _ {K V : Type 0} (s : Nodes K V) where
     ]
 
 module _ {K V : Type 0} where
-  -- a name is seen as it was if it is a leaf's, or holds what it held
+  -- a name is seen unchanged if it is a leaf's, or holds what it held
   same_shape : (s t : Nodes K V) (k : OpaqueNodePtr) → (k.kind ≢ Leaf → content_at t k ≡ content_at s k) → shape_at t k ≡ shape_at s k
   same_shape s t k stays = elim (leaf_or k) [
     | inl (p, is) ↦ subst (λ z. shape_at t z ≡ shape_at s z) (sym is) refl

@@ -1,4 +1,4 @@
-//! Tests of look-ups, of walks, of clones and of runs, by public calls. There is nothing here but tests.
+//! Tests of lookups, of iterations, of clones and of runs, by public calls. There are only tests here.
 #![tactic(auto)]
 
 #[cfg(test)]

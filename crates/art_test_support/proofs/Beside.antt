@@ -1,4 +1,4 @@
--- A tree is as it was where an inner node is placed beside it.
+-- A tree is unchanged where an inner node is placed outside it.
 use Rattle.std.proofs.Common.{◌≡◌, ◌≢◌, ap, sym, subst, ◌∙◌, None, Result, Ok, Err, IfOk, OnErr, inl, inr}
 use Rattle.std.specs.Option.{option_map}
 use Rattle.std.specs.FinMap.{get, insert}
@@ -10,7 +10,7 @@ use Rattle.art_nodes.proofs.StoreLaws.{inner_elsewhere as elsewhere}
 use Rattle.art_model.specs.Stores.{content_at, held_leaf, held_inner}
 use Rattle.art_model.proofs.stores.Views.{held_in_inner, leaf_or}
 
--- an inner node that is placed leaves what is in use, and so does one that is refused
+-- placing an inner node leaves what is in use, and so does a placement that fails
 pub inner_elsewhere : {K V E : Type 0} (s t : Nodes K V) (x : Inner) (result : Result InnerPtr E) →
     IfOk result (λ n. t.inners ≡ insert s.inners n x) → IfOk result (λ n. get s.inners n ≡ None) → t.leaves ≡ s.leaves → OnErr result (t ≡ s) →
     (k : OpaqueNodePtr) → content_at s k ≢ None → content_at t k ≡ content_at s k

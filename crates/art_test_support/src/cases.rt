@@ -10,7 +10,7 @@ use art_nodes::store::NodeStore;
 use std::fmt::Debug;
 use std::test::Fail;
 
-/// The tree of so many keys of one byte: 0, 1 and so on, each with its byte as its value.
+/// Returns the tree of so many keys of one byte: 0, 1 and so on, each with its byte as its value.
 pub fn planted_bytes<const P: usize>(
     store: &mut NodeStore<Key, u32, P>,
     count: u16,
@@ -24,7 +24,8 @@ pub fn planted_bytes<const P: usize>(
 /// Four keys. The first two part at their third byte, these and the third at their second one.
 pub static FOUR: [&[u8]; 4] = [&[1, 2, 3], &[1, 2, 4], &[1, 5], &[6]];
 
-/// The nodes of their tree: its three inner nodes from the root down, and the leaves in the order of their keys.
+/// Returns the nodes of their tree: its three inner nodes from the root down, and the leaves in the order of their
+/// keys.
 pub fn names_of_four<const P: usize>(
     store: &NodeStore<Key, u32, P>,
     root: OpaqueNodePtr,
@@ -50,7 +51,7 @@ pub struct Outline {
     is_stored: bool,
 }
 
-/// The outline of the inner node under a name; it is to store these bytes.
+/// Returns the outline of the inner node under a name; it is to store these bytes.
 pub fn outline_of<const P: usize>(
     store: &NodeStore<Key, u32, P>,
     name: OpaqueNodePtr,
@@ -65,7 +66,7 @@ pub fn outline_of<const P: usize>(
     })
 }
 
-/// A Node4 with two children whose prefix has this length and is stored as it is to be.
+/// Returns a Node4 with two children whose prefix has this length and is stored as it is to be.
 pub fn pair_below(prefix_len: usize) -> Outline {
     Outline {
         kind: NodeType::Node4,
@@ -75,7 +76,7 @@ pub fn pair_below(prefix_len: usize) -> Outline {
     }
 }
 
-/// A failure where something else is left of a refusal than was expected. Where there was a refusal, it says so.
+/// Returns a failure if an allocation failure left something else than was expected. If there was one, it is reported.
 pub fn assert_where_refused<T: PartialEq + Debug + Copy>(
     rt: &impl Print,
     left: Option<T>,

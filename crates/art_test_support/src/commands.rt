@@ -25,7 +25,7 @@ pub enum Asked<'a> {
     LongestMatch(&'a [u8]),
 }
 
-/// What a reply says, with the bytes of its keys.
+/// What a reply reports, with the bytes of its keys.
 #[derive(Clone, Copy, PartialEq, Eq)]
 pub enum Told<'a> {
     Inserted(Option<(&'a [u8], u32)>),
@@ -61,7 +61,7 @@ impl<'a> Asked<'a> {
     }
 }
 
-/// A command of its own.
+/// Returns a command of its own.
 pub fn command(alloc: Global, asked: Asked<'_>) -> Result<Command<Key, u32>, AllocError> {
     let key = asked.key().to_vec(alloc)?;
     Ok(match asked {
@@ -76,7 +76,7 @@ pub fn command(alloc: Global, asked: Asked<'_>) -> Result<Command<Key, u32>, All
     })
 }
 
-/// The commands of these rows.
+/// Returns the commands of these rows.
 pub fn commands(alloc: Global, rows: &[Row<'_>]) -> Result<Vec<Command<Key, u32>>, AllocError> {
     let mut commands = Vec::new(alloc);
     for (asked, _) in rows {
@@ -85,7 +85,7 @@ pub fn commands(alloc: Global, rows: &[Row<'_>]) -> Result<Vec<Command<Key, u32>
     Ok(commands)
 }
 
-/// What a reply says.
+/// What a reply reports.
 pub fn told_by(reply: &Reply<Key, u32>) -> Told<'_> {
     match reply {
         Reply::Inserted(old) => Told::Inserted(pair_told(old)),
@@ -105,7 +105,7 @@ fn pair_told(pair: &Option<(Key, u32)>) -> Option<(&[u8], u32)> {
     Some((key, *value))
 }
 
-/// The place of the first of these that is not as it is wanted, or that is missing or too many.
+/// Returns the place of the first of these that is not as it is wanted, or that is missing or too many.
 pub fn first_apart<T, W, F: Fn(&T, &W) -> bool + Drop>(
     these: &[T],
     wanted: &[W],
@@ -125,7 +125,7 @@ pub fn first_apart<T, W, F: Fn(&T, &W) -> bool + Drop>(
     Some(count)
 }
 
-/// The place of the first reply that is not the one of its row, or that is missing or too many.
+/// Returns the place of the first reply that is not the one of its row, or that is missing or too many.
 pub fn first_wrong(replies: &[Reply<Key, u32>], rows: &[Row<'_>]) -> Option<usize> {
     first_apart(replies, rows, is_told)
 }
@@ -146,7 +146,7 @@ fn left_by(done: &RunResult<Key, u32>, rows: &[Row<'_>]) -> Left
     }
 }
 
-/// Asks the commands of these rows. Returns what is left, and the root.
+/// Runs the commands of these rows. Returns what is left, and the root.
 pub fn ran_from<const P: usize>(
     first: &mut NodeStore<Key, u32, P>,
     second: &mut NodeStore<Key, u32, P>,
@@ -164,7 +164,7 @@ pub fn ran_from<const P: usize>(
     }
 }
 
-/// Asks the commands of these rows, from no root.
+/// Runs the commands of these rows, from no root.
 pub fn ran<const P: usize>(
     first: &mut NodeStore<Key, u32, P>,
     second: &mut NodeStore<Key, u32, P>,
@@ -173,7 +173,7 @@ pub fn ran<const P: usize>(
     Ok(ran_from(first, second, None, rows)?.0)
 }
 
-/// Runs commands where there is no memory but for the list of the replies.
+/// Runs commands where all allocations but that of the list of the replies fail.
 pub fn run_without_memory<const P: usize>(
     first: &mut NodeStore<Key, u32, P>,
     second: &mut NodeStore<Key, u32, P>,
@@ -193,7 +193,7 @@ pub fn run_without_memory<const P: usize>(
     ran.map_err(|refused| refused.1)
 }
 
-/// Asks the commands of these rows where there is no memory but for the list of the replies.
+/// Runs the commands of these rows where all allocations but that of the list of the replies fail.
 pub fn ran_without_memory<const P: usize>(
     first: &mut NodeStore<Key, u32, P>,
     second: &mut NodeStore<Key, u32, P>,

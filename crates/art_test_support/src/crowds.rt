@@ -1,4 +1,4 @@
-//! Nodes beside a tree, which take the room that its store has.
+//! Nodes outside a tree, which take the room that its store has.
 
 ghost use Rattle.art_parts.specs.declared.names.NodeType.TheVariants.{Leaf};
 ghost use Rattle.art_model.specs.Pairs.{of_key};
@@ -21,8 +21,8 @@ pub static KINDS: [NodeType; 5] = [
     NodeType::Leaf,
 ];
 
-// Places a node of a kind: a leaf of the empty key, or an inner node without children. Returns whether there was
-// memory.
+// Places a node of a kind: a leaf of the empty key, or an inner node without children. Returns whether no allocation
+// failed.
 fn place_one<const P: usize>(
     store: &mut NodeStore<Key, u32, P>,
     root: OpaqueNodePtr,
@@ -39,7 +39,7 @@ fn place_one<const P: usize>(
     store.place_inner(node).is_ok()
 }
 
-/// Places so many nodes of a kind beside a tree. Returns whether there was memory for all of them.
+/// Places so many nodes of a kind outside a tree. Returns whether no allocation failed.
 pub fn place_beside<const P: usize>(
     store: &mut NodeStore<Key, u32, P>,
     root: OpaqueNodePtr,
@@ -57,8 +57,8 @@ pub fn place_beside<const P: usize>(
     true
 }
 
-/// Places nodes of the smallest kind and leaves beside a tree, until there is room for no more node of any kind. Returns
-/// whether there was memory for all of them.
+/// Places nodes of the smallest kind and leaves outside a tree, until there is room for no more node of any kind.
+/// Returns whether no allocation failed.
 pub fn fill<const P: usize>(store: &mut NodeStore<Key, u32, P>, root: OpaqueNodePtr) -> bool
     requires { IsCanonicalRoot (of_key (λ key. key.items)) P store.old root }
     ensures { IsCanonicalRoot (of_key (λ key. key.items)) P store.new root }

@@ -12,7 +12,7 @@ use art_operations::run::{Command, Side, run};
 use std::alloc::{AllocError, Global};
 use std::test::Fail;
 
-/// Takes memory for leaves and an inner node beside a tree.
+/// Allocates room for leaves and an inner node outside a tree.
 pub fn promise<K: AsBytes + Drop, const P: usize>(
     store: &mut NodeStore<K, u32, P>,
     root: OpaqueNodePtr,
@@ -26,8 +26,8 @@ pub fn promise<K: AsBytes + Drop, const P: usize>(
     store.reserve(leaves, Some(kind))
 }
 
-/// The tree of these keys, with the place of each among them as its value, or `None` where there is no key. The second
-/// store is for the run alone.
+/// Returns the tree of these keys, with the place of each among them as its value, or `None` where there is no key. The
+/// second store is for the run alone.
 pub fn planted<K: AsBytes + Clone + Drop, const P: usize>(
     store: &mut NodeStore<K, u32, P>,
     second: &mut NodeStore<K, u32, P>,
@@ -57,7 +57,7 @@ fn insertions<K: Drop>(alloc: Global, keys: Vec<K>) -> Result<Vec<Command<K, u32
     Ok(commands)
 }
 
-/// Copies of these keys.
+/// Returns copies of these keys.
 pub fn keys(alloc: Global, slices: &[&[u8]]) -> Result<Vec<Key>, AllocError> {
     let mut keys = Vec::new(alloc);
     for slice in slices {
@@ -66,7 +66,7 @@ pub fn keys(alloc: Global, slices: &[&[u8]]) -> Result<Vec<Key>, AllocError> {
     Ok(keys)
 }
 
-/// So many keys: some bytes and then one of 0, 1 and so on.
+/// Returns so many keys: some bytes and then one of 0, 1 and so on.
 pub fn keys_after(alloc: Global, front: &[u8], count: u16) -> Result<Vec<Key>, AllocError> {
     let mut keys = Vec::new(alloc);
     for number in 0..count {
@@ -102,7 +102,7 @@ pub fn try_planted_keys<const P: usize>(
     planted(store, &mut NodeStore::new(alloc), all)
 }
 
-/// The tree of these keys, or `None` where there is no key or no memory.
+/// Returns the tree of these keys, or `None` if there is no key or an allocation fails.
 pub fn planted_keys<const P: usize>(
     store: &mut NodeStore<Key, u32, P>,
     all: Vec<Key>,
@@ -136,7 +136,7 @@ pub fn keys_of_three(alloc: Global, limits: [u8; 3]) -> Result<Vec<Key>, Fail> {
     Ok(keys)
 }
 
-/// The child of an inner node under a byte.
+/// Returns the child of an inner node under a byte.
 pub fn child<K: AsBytes + Drop, const P: usize>(
     store: &NodeStore<K, u32, P>,
     node: OpaqueNodePtr,
@@ -145,7 +145,7 @@ pub fn child<K: AsBytes + Drop, const P: usize>(
     store.inner(node.as_inner()?)?.lookup_child(byte)
 }
 
-/// The value of a leaf.
+/// Returns the value of a leaf.
 pub fn value_of<K: AsBytes + Drop, const P: usize>(
     store: &NodeStore<K, u32, P>,
     leaf: LeafPtr,

@@ -1,4 +1,5 @@
-//! Tests of whole trees and of the stores that they are in, and of drawn commands beside the oracle. There is nothing here but tests.
+//! Tests of whole trees and of the stores that they are in, and of drawn commands compared with the oracle. There are
+//! only tests here.
 #![tactic(auto)]
 
 #[cfg(test)]

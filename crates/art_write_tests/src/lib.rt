@@ -1,4 +1,4 @@
-//! Tests of insertions, of deletions and of freed trees, by public calls. There is nothing here but tests.
+//! Tests of insertions, of deletions and of freed trees, by public calls. There are only tests here.
 #![tactic(auto)]
 
 #[cfg(test)]

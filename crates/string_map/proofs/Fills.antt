@@ -21,7 +21,7 @@ pub fills_none : {wanted : List (List ℕ × ℕ)} {buffer : List ℕ} {written 
 fills_none = record { given = []; whole = refl; count_is = refl; pairs = refl; keys = refl; end_is = refl; few = omega arith; fits = omega arith }
 
 module _ {wanted left : List (List ℕ × ℕ)} {count end : ℕ} {buffer : List ℕ} {written : List Pair} where
-  -- one pair more
+  -- one more pair
   pub fills_next : {x : List ℕ × ℕ} {rest : List (List ℕ × ℕ)} {next : ℕ} {after : List ℕ} → IsFilling wanted left count end buffer written →
       left ≡ x ∷ rest → next ≡ end + length x.0 → take next after ≡ take end buffer ++ x.0 → count < length written →
       IsFilling wanted rest (count + 1) next after (set written count (record { value = x.1; key_len = next - end }))

@@ -1,4 +1,4 @@
--- A string starts with a prefix just where it is from the prefix on and before its end.
+-- A string starts with a prefix exactly if it is from the prefix on and before its end.
 use Rattle.std.proofs.Common.{◌≡◌, ◌<◌, ◌≤◌, ◌+◌, ◌&&◌, ◌⊎◌, ◌-◌, ℕ, Bool, zero, suc, List, [], ◌∷◌, ◌++◌, not, true, false, refl, ap, ap₂, add-one, sym, ◌∙◌, arith}
 use Rattle.std.proofs.Common.{inl, inr, drop, get_or, length, set, subst, take}
 use Rattle.std.proofs.lemmas.List.{drop_more, take-append-drop, take_more_set}
@@ -32,7 +32,7 @@ none_before : (text : List ℕ) → is_less text [] ≡ false
 none_before [] = refl
 none_before (t ∷ text) = refl
 
--- a prefix of which each byte is 255 begins all strings from it on
+-- a prefix of which each byte is 255 is one of all strings from it on
 all_from : (prefix text : List ℕ) → Each (λ byte. byte ≡ 255) prefix → Each (λ byte. byte < 256) text → is_front prefix text ≡ not (is_less text prefix)
 all_from [] text is bytes = rw (none_before text) refl
 all_from (p ∷ prefix) [] is bytes = refl
@@ -83,7 +83,7 @@ pub has_no_end : (prefix after : List ℕ) (len : ℕ) → len ≡ 0 → Each (�
 has_no_end prefix after len none is = λ text bytes.
     all_from prefix text (subst (λ n. Each (λ byte. byte ≡ 255) (drop n prefix)) none is) bytes ∙ and_true (not (is_less text prefix))
 
--- else the last other byte is one more in the end, and what follows it goes
+-- else the last other byte is one more in the end, and what follows it is removed
 ends_at : (prefix : List ℕ) (n d byte : ℕ) → n < length prefix → Each (λ byte. byte ≡ 255) (drop (suc n) prefix) →
     byte ≡ get_or prefix n d + 1 → IsPrefixEnd prefix (suc n) (set prefix n byte)
 ends_at prefix n d byte few is more = λ text bytes.

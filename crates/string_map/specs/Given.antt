@@ -1,4 +1,4 @@
--- Many pairs, written where the caller asks.
+-- Many pairs, written where the caller requests.
 use Rattle.std.specs.Prelude.{◌≡◌, ◌≢◌, ◌<◌, ◌≤◌, ◌+◌, ◌⊎◌, ℕ, zero, suc, Bool, true, false, List, length, take, drop, map, reverse, IsSomeAnd, MatchOption, Option}
 use Rattle.std.specs.Cmp.Lexicographic.{slice_cmp}
 use Rattle.std.specs.List.{flat_map}

@@ -8,12 +8,12 @@ use Rattle.std.specs.declared.ops.Bound.TheVariants.{Included, Excluded, Unbound
 use Rattle.art_keyed.specs.KeyedPairs.{is_key_from, is_key_up_to}
 use Rattle.art_model.specs.Keys.{is_front}
 
--- the bound that a buffer holds at its front, if its length is not zero
+-- the bound at the front of a buffer, if its length is not zero
 abbrev pub end_in : ℕ → List ℕ → Bound (List ℕ)
 end_in zero buffer = Unbounded
 end_in (suc n) buffer = Excluded (take (suc n) buffer)
 
--- a string of bytes starts with a prefix just where it is from the prefix on and before this end
+-- a string of bytes starts with a prefix exactly if it is from the prefix on and before this end
 abbrev pub IsPrefixEnd : List ℕ → ℕ → List ℕ → Type 0
 IsPrefixEnd prefix len buffer =
     (text : List ℕ) → Each (λ byte. byte < 256) text →

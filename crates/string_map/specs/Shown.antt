@@ -1,13 +1,13 @@
--- One pair, written where the caller asks.
+-- One pair, written where the caller requests.
 use Rattle.std.specs.Prelude.{◌≡◌, ◌<◌, ◌≤◌, ℕ, List, length, take, MatchOption, Option}
 use Rattle.string_map.specs.Calls.{absent, done, freed, too_long}
 use Rattle.string_map.specs.declared.pairs.Pair.{Pair}
 
--- a pair as it is written: its key stands elsewhere
+-- a pair as it is written: its key is elsewhere
 abbrev pub pair_of : List ℕ × ℕ → Pair
 pair_of pair = record { value = pair.1; key_len = length pair.0 }
 
--- a key stands at the front of a buffer, or is longer than it
+-- a key is at the front of a buffer, or is longer than it
 abbrev pub IsInFront : List ℕ → ℕ → List ℕ → Type 0
 IsInFront key code buffer =
     (length key ≤ length buffer → (code ≡ done) × (take (length key) buffer ≡ key)) ×

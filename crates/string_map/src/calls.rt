@@ -15,7 +15,7 @@ use art_keyed::map::TreeMap;
 use art_keys::escaped::Escaped;
 use std::alloc::Global;
 
-/// Returns an empty map. It takes no memory.
+/// Returns an empty map. It allocates nothing.
 pub fn new(alloc: Global) -> StringMap
     ensures { result ≡ Some [] }
 {
@@ -47,7 +47,7 @@ pub fn len(map: &StringMap, len: &mut usize) -> u32
     DONE
 }
 
-/// Removes all pairs. It takes no memory.
+/// Removes all pairs. It allocates nothing.
 pub fn clear(map: &mut StringMap) -> u32
     ensures { (map.new ≡ option_map (λ _. []) map.old) × (result ≡ code_of map.old) }
 {
@@ -58,7 +58,7 @@ pub fn clear(map: &mut StringMap) -> u32
     DONE
 }
 
-/// Moves the pairs into the order of their keys in memory, so that an iteration reads memory from front to back.
+/// Moves the pairs into the order of their keys in memory, so that an iteration reads memory from first to last.
 pub fn compact(map: &mut StringMap) -> u32
     ensures { (map.new ≡ map.old) × (result ≢ no_memory → result ≡ code_of map.old) }
 {

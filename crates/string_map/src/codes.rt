@@ -1,4 +1,4 @@
-//! What a call reports.
+//! The codes that calls return.
 
 /// The call did what was asked. Where it looks something up, that was found and is written.
 pub const DONE: u32 = 0;
@@ -17,5 +17,5 @@ pub const FREED: u32 = 5;
 pub const UNBOUNDED: u32 = 0;
 /// A range whose bound is one of its keys, if that is stored.
 pub const INCLUDED: u32 = 1;
-/// A range whose bound is none of its keys.
+/// A range whose bound is not one of its keys.
 pub const EXCLUDED: u32 = 2;

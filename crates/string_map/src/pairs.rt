@@ -10,7 +10,7 @@ use art_keys::escaped::Escaped;
 use art_map::map::Range;
 use std::ops::Bound;
 
-/// A pair whose key stands in a buffer.
+/// A pair whose key is in a buffer.
 #[repr(C)]
 #[derive(Clone, Copy)]
 pub struct Pair {
@@ -27,11 +27,11 @@ pub struct Given {
 }
 
 /// Writes the pairs whose keys are between two bounds, by rising keys, or backward by falling keys: as many as there is
-/// space for. Their keys stand one after another at the front of the buffer; what follows them there is not specified.
+/// space for. Their keys are one after another at the front of the buffer; what follows them there is not specified.
 ///
-/// A bound is a kind and a key: `UNBOUNDED` (the key is ignored), `INCLUDED` or `EXCLUDED`. Returns `DONE` when all pairs
-/// are written, `FULL` when `pairs` is full, and `TOO_LONG` when the next key is longer than the rest of the buffer. To
-/// continue, call it again with the last key as an excluded bound.
+/// A bound is a kind and a key: `UNBOUNDED` (the key is ignored), `INCLUDED` or `EXCLUDED`. Returns `DONE` when all
+/// pairs are written, `FULL` when `pairs` is full, and `TOO_LONG` when the next key is longer than the rest of the
+/// buffer. To continue, call it again with the last key as an excluded bound.
 pub fn next_pairs(
     map: &StringMap,
     from: &[u8],

@@ -1,4 +1,4 @@
-//! The check of trees that insertions make, and what counts of nodes are.
+//! The check of trees that insertions make, and its counts of nodes.
 ghost use Rattle.std.specs.Prelude.{◌<◌};
 
 use super::told::{Told, check_says};
@@ -198,7 +198,7 @@ fn no_tree_has_no_length(rt: HostRuntime) -> Result<(), Fail> {
     same(three_without_root(rt.alloc()), [true; 3])
 }
 
-/// How many nodes the tree of two keys has, where the check is told two other lengths.
+/// How many nodes the tree of two keys has, where two other lengths are passed to the check.
 fn counts_of_two(store: &mut NodeStore<Key, u32, 4>) -> Option<[Option<Counts>; 2]> {
     let root = planted_all(store, &[&[1, 0], &[1, 1]]).ok()??;
     Some([counts_of(store, root, 0), counts_of(store, root, 5)])

@@ -1,5 +1,5 @@
-//! What the check finds in nodes that were placed one by one. A name in what is told has its place in the list of nodes
-//! as its slot.
+//! What the check finds in nodes that were placed one by one. A name in a reported fault has its place in the list of
+//! nodes as its slot.
 ghost use Rattle.std.specs.Prelude.{◌<◌};
 
 use super::told::{Told, is_cloned, listed, told_by};
@@ -97,7 +97,7 @@ fn first_wrong<const P: usize>(alloc: Global, cases: &[Case<'_>]) -> Option<usiz
     None
 }
 
-/// Two inner nodes below a root, each with a prefix, where the second one has these children and this node stands last.
+/// Two inner nodes below a root, each with a prefix, where the second one has these children and this node is last.
 macro_rules! two_branches {
     ($children:expr, $last:expr) => {
         [
@@ -180,7 +180,7 @@ fn siblings_are_to_stand_in_order(rt: HostRuntime) -> Result<(), Fail> {
     same(first_wrong::<16>(rt.alloc(), &SIBLINGS), None)
 }
 
-/// Three leaves below a root, with a leaf beside them, where the first leaf has these links.
+/// Three leaves below a root, with a leaf outside, where the first leaf has these links.
 macro_rules! three_leaves {
     ($previous:expr, $next:expr) => {
         [
@@ -193,7 +193,7 @@ macro_rules! three_leaves {
     };
 }
 
-/// The first leaf names its neighbours, or leaves one out, or names the leaf beside the tree, or that alone.
+/// The first leaf names its neighbours, or leaves one out, or names the leaf outside the tree, or only that.
 static NEIGHBOURS: [Case<'static>; 4] = cases! {
     three_leaves!(None, Some(2)) => Told::Whole(3, 1),
     three_leaves!(None, Some(3)) => Told::Links(&[1], (None, Some(2)), (None, Some(3))),

@@ -1,6 +1,5 @@
-//! Checks where there is no memory: all of it held, or each request refused in turn by tools/refusals. A refusal that
-//! falls outside the check that a test is on decides nothing; after one within it the test says that it asserted what
-//! holds then.
+//! Checks whose allocations fail: all memory is held, or tools/refusals makes one allocation fail in turn. A failure
+//! outside the check under test decides nothing; after one within it the test reports that it asserted what holds then.
 ghost use Rattle.std.specs.Prelude.{◌<◌};
 
 use super::told::{Told, check_says, fault, named, told_by, told_by_fault};
@@ -19,12 +18,12 @@ use std::cmp::Ordering;
 use std::process::Abort;
 use std::test::Fail;
 
-/// Whether a check is refused.
+/// Whether a check fails.
 fn is_refused<const P: usize>(store: &NodeStore<Key, u32, P>, root: OpaqueNodePtr) -> bool {
     check_says(store, Some(root), 0, Told::OutOfMemory)
 }
 
-/// Whether there is no tree where there is no root, and a length of none is a fault. It takes no memory.
+/// Whether there is no tree where there is no root, and another length than 0 is a fault. It allocates nothing.
 fn is_told_without_root<const P: usize>(store: &NodeStore<Key, u32, P>) -> bool {
     check_says(store, None, 0, Told::Whole(0, 0)) && check_says(store, None, 1, Told::LenOfNone)
 }
@@ -56,8 +55,8 @@ fn without_memory_there_is_no_verdict(rt: HostRuntime) -> Result<(), Fail> {
     same(without_memory(rt.alloc()), Some([true; 2]))
 }
 
-/// Whether clones of a prefix and of two faults are refused while all memory is held, and so are copies of bytes, but
-/// for the clone of the second fault, which has no bytes.
+/// Whether clones of a prefix and of two faults fail while all memory is held, and copies of bytes too, except for the
+/// clone of the second fault, which has no bytes.
 fn are_refused(
     alloc: Global,
     prefix: &KeyPrefix,
@@ -92,7 +91,7 @@ fn without_memory_no_fault_is_cloned(rt: HostRuntime) -> Result<(), Fail> {
     same(are_clones_refused(rt.alloc()), Some([true; 4]))
 }
 
-/// What comes of a check or a clone: it is refused, or it is as it should, or other than that.
+/// The result of a check or a clone: it fails, or it is right, or wrong.
 #[derive(Clone, Copy, PartialEq, Eq)]
 enum Outcome {
     Refused,
@@ -100,7 +99,7 @@ enum Outcome {
     Wrong,
 }
 
-/// What comes of the check of a name that is to say this.
+/// The result of the check of a name that should report this.
 fn what_comes<const P: usize>(
     store: &NodeStore<Key, u32, P>,
     root: OpaqueNodePtr,
@@ -110,7 +109,7 @@ fn what_comes<const P: usize>(
     outcome_of(told_by(&answer), wanted)
 }
 
-/// What comes of a check that tells this.
+/// The result of a check that reports this.
 fn outcome_of(told: Told<'_>, wanted: Told<'_>) -> Outcome {
     match told {
         Told::OutOfMemory => Outcome::Refused,
@@ -119,7 +118,7 @@ fn outcome_of(told: Told<'_>, wanted: Told<'_>) -> Outcome {
     }
 }
 
-/// A tree of all nodes of a store, of which there are fewer where a refusal fell on an insertion.
+/// A tree of all nodes of a store, of which there are fewer if an allocation of an insertion failed.
 fn all_nodes<const P: usize>(store: &NodeStore<Key, u32, P>) -> Told<'_> {
     let (leaves, inners) = count_nodes(store, 100);
     Told::Whole(leaves, inners)
@@ -134,7 +133,7 @@ fn many_keys(alloc: Global) -> Result<Vec<Key>, AllocError> {
     Ok(keys)
 }
 
-/// The check of a tree of 53 leaves. None where a refusal falls outside it.
+/// The check of a tree of 53 leaves. None if an allocation fails outside it.
 fn check_of_many<const P: usize>(store: &mut NodeStore<Key, u32, P>) -> Option<Outcome> {
     let keys = many_keys(store.alloc()).ok()?;
     let root = planted_keys(store, keys)?;
@@ -184,7 +183,7 @@ fn twins_checked(alloc: Global) -> Option<Outcome> {
     check_of_twins::<4>(&mut NodeStore::new(alloc))
 }
 
-/// What came of these, where no refusal fell outside, with none for those that were not reached.
+/// The results of these, if no allocation failed outside, with none for those that were not reached.
 fn outcomes(alloc: Global) -> [Option<Outcome>; 6] {
     let [at_0, at_2, at_4, at_16] = with_each!(many_checked, alloc);
     [
@@ -197,7 +196,7 @@ fn outcomes(alloc: Global) -> [Option<Outcome>; 6] {
     ]
 }
 
-/// Asserts that none of these is wrong, and says so where one was refused.
+/// Asserts that none of these is wrong, and reports if one failed.
 fn assert_none_wrong(rt: &(impl Abort + Print), outcomes: &[Option<Outcome>]) -> Result<(), Fail> {
     assert!(rt; !outcomes.contains(&Some(Outcome::Wrong)));
     if outcomes.contains(&Some(Outcome::Refused)) {
@@ -211,7 +210,7 @@ fn refused_checks_say_nothing_of_the_tree(rt: HostRuntime) -> Result<(), Fail> {
     assert_none_wrong(&rt, &outcomes(rt.alloc()))
 }
 
-/// What comes of a clone, which may be right, of what still may be as it was.
+/// The result of a clone, which may be right, of what should be unchanged.
 fn outcome_of_clone(is_right: Result<bool, AllocError>, is_kept: bool) -> Outcome {
     match is_right {
         Ok(true) if is_kept => Outcome::Right,
@@ -220,8 +219,8 @@ fn outcome_of_clone(is_right: Result<bool, AllocError>, is_kept: bool) -> Outcom
     }
 }
 
-/// What comes of the clone of the fault that says this: it is refused, or it is the same fault, or another. None where the
-/// fault itself is refused.
+/// The result of the clone of the fault that reports this: it fails, or it is the same fault, or another. None if the
+/// fault itself can't be made.
 fn clone_of(alloc: Global, told: Told<'_>) -> Option<Outcome> {
     let fault = fault(alloc, told).ok()?;
     let is_kept = told_by_fault(&fault) == told;
@@ -251,7 +250,7 @@ fn clone_of_conflict(alloc: Global) -> Option<Outcome> {
     Some(outcome_of_clone(is_same, conflict.byte_repr[..] == [1, 2]))
 }
 
-/// What faults of all kinds say.
+/// The contents of faults of all kinds.
 static FAULTS: [Told<'static>; 10] = [
     Told::Loop((NodeType::Node48, 3), &[1], &[2, 3]),
     Told::Count(&[1], NodeType::Node4, 1),
@@ -265,7 +264,7 @@ static FAULTS: [Told<'static>; 10] = [
     Told::OutOfMemory,
 ];
 
-/// What comes of clones of them, of a prefix, and of the error of an insertion.
+/// The result of clones of them, of a prefix, and of the error of an insertion.
 fn clones(alloc: Global) -> [Option<Outcome>; 12] {
     let mut outcomes = [None; 12];
     for (outcome, told) in outcomes.iter_mut().zip(&FAULTS) {

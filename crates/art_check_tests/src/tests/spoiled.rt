@@ -1,4 +1,4 @@
-//! The check of trees that were spoiled in one place, beside a check that stands apart.
+//! The check of trees that were damaged in one place, compared with an independent check.
 ghost use Rattle.std.specs.Prelude.{◌<◌};
 
 use super::spoiling::{draw_keys, names_below, spoil};
@@ -12,7 +12,7 @@ use art_test_support::trees::{Key, try_planted_keys};
 use std::alloc::{AllocError, Global};
 use std::test::Fail;
 
-/// What a verdict says. One that is unknown says what no check returns here.
+/// What a verdict reports. One that is unknown reports what no check returns here.
 fn told_by_verdict(verdict: &Verdict) -> Told<'_> {
     match verdict {
         Verdict::Tree(leaves, inners) => Told::Whole(*leaves, *inners),
@@ -40,7 +40,7 @@ fn told_by_flaw(flaw: &Flaw) -> Told<'_> {
     }
 }
 
-/// A number for what is told.
+/// A number for what is reported.
 fn number_of(told: Told<'_>) -> usize {
     match told {
         Told::Whole(..) => 0,
@@ -56,7 +56,7 @@ fn number_of(told: Told<'_>) -> usize {
     }
 }
 
-/// The number of what the check tells of a name, where the other check tells the same.
+/// The number of what the check reports of a name, if the other check reports the same.
 fn number_if_same<const P: usize>(
     store: &NodeStore<Key, u32, P>,
     root: OpaqueNodePtr,
@@ -78,8 +78,8 @@ fn is_counted<const P: usize>(
     check_tree_says(store, root, told)
 }
 
-/// Checks a tree of nodes with these names, and checks it again once it is spoiled. Returns the number of what is told
-/// then. None where one of the checks is wrong.
+/// Checks a tree of nodes with these names, and checks it again after it is damaged. Returns the number of what is
+/// reported then. None if one of the checks is wrong.
 fn spoil_and_check<const P: usize>(
     store: &mut NodeStore<Key, u32, P>,
     names: &[OpaqueNodePtr],
@@ -116,7 +116,7 @@ fn try_one<const P: usize>(
     try_in::<P>(&mut NodeStore::new(alloc), numbers)
 }
 
-/// How often each was told of 2,500 spoiled trees with so many stored bytes, and last how many checks were wrong.
+/// How often each was reported of 2,500 damaged trees with so many stored bytes, and last how many checks were wrong.
 fn try_many<const P: usize>(alloc: Global) -> Result<[usize; 10], AllocError>
     requires { P < 256 }
 {
@@ -131,8 +131,8 @@ fn try_many<const P: usize>(alloc: Global) -> Result<[usize; 10], AllocError>
     Ok(counts)
 }
 
-/// Whether no check of 2,500 spoiled trees with so many stored bytes was wrong, and each was told but the last of so
-/// many: a stored byte can be wrong only where bytes are stored.
+/// Whether no check of 2,500 damaged trees with so many stored bytes was wrong, and each was reported but the last of
+/// so many: a stored byte can be wrong only where bytes are stored.
 fn are_told<const P: usize>(alloc: Global) -> bool
     requires { P < 256 }
 {

@@ -1,4 +1,4 @@
-//! Trees that are drawn, and then spoiled in one place.
+//! Trees that are drawn, and then damaged in one place.
 
 use art_nodes::node::{
     AnyInner, Header, InnerPtr, LeafPtr, NodePtr, NodeType, OpaqueNodePtr, OptionalLeafPtr,
@@ -13,7 +13,7 @@ use std::alloc::{AllocError, Global};
 // No drawn tree has more nodes.
 const MOST_NODES: usize = 400;
 
-/// Some keys: of one byte, or of few bytes, or with long common fronts.
+/// Some keys: of one byte, or of few bytes, or with long common prefixes.
 pub fn draw_keys(alloc: Global, numbers: &mut Numbers) -> Result<Vec<Key>, AllocError> {
     let mut keys = Vec::new(alloc);
     let (shape, count) = (numbers.below(4), numbers.below(60));
@@ -54,7 +54,7 @@ fn long_key(alloc: Global, numbers: &mut Numbers, len: usize) -> Result<Key, All
     Ok(key)
 }
 
-// Puts the names of a node's children into a list.
+// Adds the names of a node's children to a list.
 fn push_children<const P: usize>(
     store: &NodeStore<Key, u32, P>,
     name: OpaqueNodePtr,
@@ -85,7 +85,7 @@ pub fn names_below<const P: usize>(
     Ok(names)
 }
 
-/// Spoils one place of a tree whose nodes have these names, or leaves it as it is. Returns the root's name, which may
+/// Damages one place of a tree whose nodes have these names, or leaves it unchanged. Returns the root's name, which may
 /// be another then.
 pub fn spoil<const P: usize>(
     store: &mut NodeStore<Key, u32, P>,
@@ -148,7 +148,7 @@ fn odd_name(names: &[OpaqueNodePtr], name: OpaqueNodePtr, numbers: &mut Numbers)
     }
 }
 
-// Gives a leaf this link in the place of one of its own, turns these round, changes the key, or frees the leaf.
+// Replaces a link of a leaf by this one, swaps its links, changes the key, or frees the leaf.
 fn spoil_leaf<const P: usize>(
     store: &mut NodeStore<Key, u32, P>,
     name: LeafPtr,
@@ -185,7 +185,7 @@ fn spoil_key<const P: usize>(
     Ok(())
 }
 
-// Bytes of which one is another, or the last is gone, or which have one more.
+// Bytes of which one is changed, or the last is removed, or to which one is added.
 fn changed(mut bytes: Vec<u8>, numbers: &mut Numbers) -> Result<Vec<u8>, AllocError> {
     match numbers.below(4) {
         0 => {
@@ -239,7 +239,7 @@ fn drawn_child<const P: usize>(
     node.iter().nth(at)
 }
 
-// Puts a name under a byte of a node, where there is room.
+// Adds a name under a byte of a node, if there is room.
 fn add_child<const P: usize>(
     store: &mut NodeStore<Key, u32, P>,
     name: InnerPtr,
@@ -251,7 +251,7 @@ fn add_child<const P: usize>(
     }
 }
 
-// Puts another name in the place of a child.
+// Replaces a child by another name.
 fn spoil_child<const P: usize>(
     store: &mut NodeStore<Key, u32, P>,
     name: InnerPtr,
@@ -263,7 +263,7 @@ fn spoil_child<const P: usize>(
     }
 }
 
-// Takes some children from a node, or all.
+// Removes some or all children from a node.
 fn drop_children<const P: usize>(
     store: &mut NodeStore<Key, u32, P>,
     name: InnerPtr,
@@ -280,7 +280,7 @@ fn drop_children<const P: usize>(
     }
 }
 
-// Changes a byte of what is stored of a prefix, or the length of it.
+// Changes a stored byte of a prefix, or its length.
 fn spoil_prefix<const P: usize>(
     store: &mut NodeStore<Key, u32, P>,
     name: InnerPtr,
@@ -315,7 +315,7 @@ fn another_length(len: usize, numbers: &mut Numbers) -> usize {
     }
 }
 
-// Puts a node of a greater kind in the place of a child.
+// Replaces a child by a node of a greater kind.
 fn grow_child<const P: usize>(
     store: &mut NodeStore<Key, u32, P>,
     name: InnerPtr,

@@ -18,7 +18,7 @@ fn is_printed(alloc: Global, fault: &MalformedTreeError, text: &str) -> bool {
     }
 }
 
-/// Whether the fault that is made to say this does, with this text, and a clone of it is the same.
+/// Whether the fault that is made to report this does, with this text, and a clone of it is the same.
 fn is_right(alloc: Global, told: Told<'_>, text: &str) -> bool {
     match fault(alloc, told) {
         Ok(fault) => told_by_fault(&fault) == told
@@ -38,7 +38,7 @@ fn first_other(alloc: Global, rows: &[(Told<'_>, &str)]) -> Option<usize> {
     None
 }
 
-/// What faults of inner nodes say, and their texts.
+/// The contents of faults of inner nodes, and their texts.
 static OF_INNER_NODES: [(Told<'static>, &str); 8] = [
     (
         Told::Loop((NodeType::Node4, 7), &[], &[1, 2]),
@@ -79,7 +79,7 @@ fn faults_of_inner_nodes_have_their_texts(rt: HostRuntime) -> Result<(), Fail> {
     same(first_other(rt.alloc(), &OF_INNER_NODES), None)
 }
 
-/// What the other faults say, and their texts.
+/// The contents of the other faults, and their texts.
 static OF_LEAVES_AND_NAMES: [(Told<'static>, &str); 10] = [
     (
         Told::Prefix(&[1, 2], &[255, 255]),

@@ -15,12 +15,12 @@ pub type Named = (NodeType, usize);
 /// The slots of a leaf's links.
 pub type Links = (Option<usize>, Option<usize>);
 
-/// What a check says, with the bytes of its prefixes and keys.
+/// What a check reports, with the bytes of its prefixes and keys.
 #[derive(Clone, Copy, PartialEq, Eq)]
 pub enum Told<'a> {
     /// So many leaves and inner nodes.
     Whole(usize, usize),
-    /// A name, and the bytes of the first and the later way to it.
+    /// A name, and the bytes of the first and the later path to it.
     Loop(Named, &'a [u8], &'a [u8]),
     /// The bytes that lead to a node, its kind, and how many children it has.
     Count(&'a [u8], NodeType, usize),
@@ -49,7 +49,7 @@ pub fn slots((previous, next): (OptionalLeafPtr, OptionalLeafPtr)) -> Links {
     (previous.map(slot), next.map(slot))
 }
 
-/// What an answer says.
+/// What a result reports.
 pub fn told_by(answer: &Result<WellFormedTreeStats, MalformedTreeError>) -> Told<'_> {
     match answer {
         Ok(stats) => Told::Whole(stats.num_leaf, stats.num_inner),
@@ -57,12 +57,12 @@ pub fn told_by(answer: &Result<WellFormedTreeStats, MalformedTreeError>) -> Told
     }
 }
 
-/// Whether an answer says this.
+/// Whether a result reports this.
 fn says(answer: &Result<WellFormedTreeStats, MalformedTreeError>, told: Told<'_>) -> bool {
     told_by(answer) == told
 }
 
-/// Whether the check of a tree, or of no tree, says this.
+/// Whether the check of a tree, or of no tree, reports this.
 pub fn check_says<const P: usize>(
     store: &NodeStore<Key, u32, P>,
     root: Option<OpaqueNodePtr>,
@@ -72,7 +72,7 @@ pub fn check_says<const P: usize>(
     says(&WellFormedChecker::check(store, root, len), told)
 }
 
-/// Whether the check of a name says this.
+/// Whether the check of a name reports this.
 pub fn check_tree_says<const P: usize>(
     store: &NodeStore<Key, u32, P>,
     name: OpaqueNodePtr,
@@ -81,7 +81,7 @@ pub fn check_tree_says<const P: usize>(
     says(&WellFormedChecker::check_tree(store, name), told)
 }
 
-/// What a fault says.
+/// What a fault reports.
 pub fn told_by_fault(fault: &MalformedTreeError) -> Told<'_> {
     match fault {
         MalformedTreeError::LoopFound {
@@ -135,7 +135,7 @@ pub fn told_by_fault(fault: &MalformedTreeError) -> Told<'_> {
     }
 }
 
-// A fault, or want of memory for its bytes.
+// A fault, or out of memory for its bytes.
 type Made = Result<MalformedTreeError, AllocError>;
 
 // The name of this kind and slot.
@@ -153,7 +153,7 @@ fn copies(alloc: Global, first: &[u8], second: &[u8]) -> Result<(Vec<u8>, Vec<u8
     Ok((first.to_vec(alloc)?, second.to_vec(alloc)?))
 }
 
-/// The fault that says this. What is told of no fault has that of want of memory.
+/// The fault that reports this. What no fault reports has that of out of memory.
 pub fn fault(alloc: Global, told: Told<'_>) -> Made {
     match told {
         Told::Loop(name, first, later) => a_loop(alloc, name, first, later),
@@ -254,7 +254,7 @@ fn wrongly_stored(alloc: Global, place: &[u8], stored: &[u8], actual: &[u8]) -> 
     })
 }
 
-/// Whether a clone of a fault equals it and says the same.
+/// Whether a clone of a fault equals it and reports the same.
 pub fn is_cloned(fault: &MalformedTreeError) -> bool {
     match fault.clone() {
         Ok(copy) => copy == *fault && told_by_fault(&copy) == told_by_fault(fault),

@@ -18,8 +18,8 @@ use uses::longest_key;
 /// What is seen of an inner node: how many leaves are met before it, its kind, prefix's length and children.
 type Inner = (usize, NodeType, usize, usize);
 
-/// What a walk meets: how many leaves, the first inner nodes, and how many of these. An output is a number and a height. The
-/// number is ten times what came so far and the next child's, and an inner node adds one of its own.
+/// What a traversal meets: how many leaves, the first inner nodes, and how many of these. An output is a number and a
+/// height. The number is ten times the output so far plus the next child's, and an inner node adds one of its own.
 #[derive(Drop)]
 struct Met {
     of_node: u64,
@@ -92,8 +92,8 @@ fn fold_of<const P: usize>(
     (number, (height, met.leaves, met.at, met.inners))
 }
 
-/// What folds of a tree give: its number where an inner node adds nothing and where it adds one, its shape, and the length
-/// of the longest key.
+/// What folds of a tree return: its number where an inner node adds nothing and where it adds one, its shape, and the
+/// length of the longest key.
 #[derive(Clone, Copy)]
 struct Folds {
     numbers: [u64; 2],
@@ -190,7 +190,7 @@ fn prefixes_seen(alloc: Global) -> Option<[[bool; 4]; 2]> {
     Some([with_bytes, prefix_seen(alloc, &[]).ok()?])
 }
 
-/// Whether a prefix is before the whole, in two cases, and a lesser byte decides, one way and the other.
+/// Whether a prefix is before the whole, in two cases, and a lesser byte decides, in both directions.
 fn orders_seen(alloc: Global) -> Option<[bool; 4]> {
     let of_none = is_before(alloc, &[], &[0]).ok()?;
     let of_front = is_before(alloc, &[1, 2], &[1, 2, 0]).ok()?;

@@ -1,4 +1,4 @@
-//! Lines that ask for nothing that there is, each as the first one, and one that lacks its line feed.
+//! Lines that are no valid requests, each as the first one, and one that lacks its line feed.
 
 use super::in_memory::{Calls, served};
 use art_node_support::expected::same;
@@ -24,7 +24,7 @@ static BAD_LINES: [&str; 16] = [
     "Insert 1 1",
 ];
 
-/// The status, and whether this was written, after a line without its line feed, and a feed where it is to have one.
+/// The status after a line that ends with this feed, or `None` if other than these replies were written.
 fn status_after(alloc: Global, line: &str, feed: &str, replies: &str) -> Option<u8> {
     let text = format!(in alloc; "{line}{feed}").ok()?;
     let calls = Calls::of_at_most(10_000);
@@ -35,7 +35,7 @@ fn status_after(alloc: Global, line: &str, feed: &str, replies: &str) -> Option<
     Some(came.status)
 }
 
-/// The first line that is not refused with status 2.
+/// The first line after which the status is not 2.
 fn first_accepted(alloc: Global) -> Option<&'static str> {
     for line in BAD_LINES {
         if status_after(alloc, line, "\nfind 1\n", "line 1: refused\n") != Some(2) {

@@ -14,8 +14,8 @@ enum Failing {
     Writer,
 }
 
-/// What comes of the text where the reader or the writer fails at its call of this number, and whether it was met. No
-/// call takes more than a few bytes.
+/// The result of the text if the reader or the writer fails at its call of this number, and whether it was met. No call
+/// takes more than a few bytes.
 fn served_failing(alloc: Global, text: &[u8], which: Failing, number: u64) -> (Outcome, bool) {
     let (few, failing) = (Calls::of_at_most(5), Calls::failing_at(number, 5));
     match which {
@@ -38,7 +38,7 @@ enum End {
     /// Each run that met its fault ended with status 1 after a beginning of the replies, and the last one met none and
     /// wrote them all.
     Right,
-    /// This run did otherwise.
+    /// This run was otherwise.
     WrongAt(u64),
     /// There were more runs, or fewer, than such a text can have.
     Unmet,

@@ -36,7 +36,7 @@ impl Calls {
         }
     }
 
-    /// One call more, and how many of so many bytes it takes.
+    /// One further call, and how many of so many bytes it takes.
     fn take(&mut self, len: usize) -> io::Result<usize>
         ensures { IfOk result (λ count. count ≤ len) }
     {
@@ -82,7 +82,7 @@ impl Write for Sink {
     }
 }
 
-/// What a text came to: the status, what was written, and how many calls there were of the reader and of the writer.
+/// The result of a text: the status, what was written, and how many calls there were of the reader and of the writer.
 #[derive(Drop)]
 pub struct Outcome {
     pub status: u8,
@@ -91,7 +91,7 @@ pub struct Outcome {
     pub writes: u64,
 }
 
-// The status of a text that is served, 1 where there is no memory for the buffers.
+// The status of a text that is served, 1 if the allocation of a buffer fails.
 fn status_of(alloc: Global, input: &mut Source<'_>, output: &mut Sink) -> u8 {
     let Ok(mut input) = BufReader::new(alloc, input) else {
         return 1;

@@ -41,7 +41,7 @@ pub static EXAMPLE: [Turn; 10] = [
     ("check", &["ok 2 leaves 1 inner"]),
 ];
 
-/// A pair that takes the place of two, and then one of one.
+/// A pair that replaces two, and then one that replaces one.
 static TAKING_OVER: [Turn; 7] = [
     ("insert 1.2 1", &["inserted"]),
     ("insert 1.3 2", &["inserted"]),
@@ -100,7 +100,7 @@ pub static EVERY_LINE: [Turn; 15] = [
     ("last", &["deleted 2 6"]),
 ];
 
-/// What is said of no tree.
+/// What is replied where there is no tree.
 static OF_NOTHING: [Turn; 11] = [
     ("check", &["ok 0 leaves 0 inner"]),
     ("nodes", &["empty"]),

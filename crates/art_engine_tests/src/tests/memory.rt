@@ -1,4 +1,4 @@
-//! Want of memory for the buffers.
+//! Out of memory for the buffers.
 
 use super::in_memory::{Calls, served};
 use art_node_support::expected::same;
@@ -6,7 +6,7 @@ use art_node_support::memory::all_memory;
 use std::alloc::{AllocError, Global};
 use std::test::Fail;
 
-/// The status, and how many reads and writes there were, where there is no memory at all.
+/// The status, and how many reads and writes there were, where every allocation fails.
 fn served_without_memory(alloc: Global) -> Result<(u8, u64, u64), AllocError> {
     let held = all_memory(alloc)?;
     let calls = Calls::of_at_most(10_000);

@@ -8,7 +8,7 @@ use std::io;
 use std::io::{BufReader, BufWriter, Read, Write};
 use std::test::Fail;
 
-/// What comes by each read, and how many bytes of replies are to be written by then.
+/// What each read returns, and how many bytes of replies should be written by then.
 static READS: [(&[u8], usize); 6] = [
     (b"insert 1 2\n", 0),
     (b"find 1\nfind", 9),
@@ -18,7 +18,7 @@ static READS: [(&[u8], usize); 6] = [
     (b"", 23),
 ];
 
-/// Gives what comes by each read, and notes whether the replies before it were written.
+/// Returns parts of the input by each read, and notes whether the replies before it were written.
 #[derive(Drop)]
 struct Source<'a> {
     reads: u64,
@@ -54,7 +54,7 @@ impl Write for Sink<'_> {
     }
 }
 
-// The status of an input that is served, 1 where there is no memory for the buffers.
+// The status of an input that is served, 1 if the allocation of a buffer fails.
 fn status_of(alloc: Global, input: &mut Source<'_>, output: Sink<'_>) -> u8 {
     let Ok(mut input) = BufReader::new(alloc, input) else {
         return 1;
@@ -65,8 +65,8 @@ fn status_of(alloc: Global, input: &mut Source<'_>, output: Sink<'_>) -> u8 {
     serve(alloc, &mut input, &mut output)
 }
 
-/// The status, how many reads there were, whether at each the replies to all lines before had been written, and how many
-/// bytes were written at the end.
+/// The status, how many reads there were, whether at each the replies to all lines before had been written, and how
+/// many bytes were written at the end.
 fn served(alloc: Global) -> (u8, u64, bool, usize) {
     let written = Cell::new(0);
     let mut input = Source {

@@ -1,9 +1,9 @@
-//! The child beside a byte that has none, at a node of each kind.
+//! The child next to a byte that has none, at a node of each kind.
 use art_node_support::expected::same;
 use art_nodes::node::{AnyInner, Header, InnerRef, NodeType, OpaqueNodePtr};
 use std::test::Fail;
 
-// The child that is put under a byte, with the byte.
+// The child that is set under a byte, with the byte.
 fn child(byte: u8) -> (u8, OpaqueNodePtr) {
     (
         byte,
@@ -11,7 +11,7 @@ fn child(byte: u8) -> (u8, OpaqueNodePtr) {
     )
 }
 
-// The child beside a byte, where the node has children and none under the byte.
+// The child next to a byte, if the node has children and none under the byte.
 fn beside(node: InnerRef<'_, 4>, byte: u8) -> Option<(u8, OpaqueNodePtr)> {
     if node.num_children() == 0 || node.lookup_child(byte).is_some() {
         return None;
@@ -19,8 +19,8 @@ fn beside(node: InnerRef<'_, 4>, byte: u8) -> Option<(u8, OpaqueNodePtr)> {
     Some(node.beside(byte))
 }
 
-// What stands beside the least byte, two between the children, and the greatest byte, at a node of a
-// kind with children under 10, 20 and 200.
+// What is next to the least byte, two between the children, and the greatest byte, at a node of a kind with children
+// under 10, 20 and 200.
 fn beside_each(kind: NodeType) -> [Option<(u8, OpaqueNodePtr)>; 4] {
     if kind == NodeType::Leaf {
         return [None; 4];
@@ -41,7 +41,7 @@ fn beside_each(kind: NodeType) -> [Option<(u8, OpaqueNodePtr)>; 4] {
     ]
 }
 
-// The children that are put under these bytes.
+// The children that are set under these bytes.
 fn children(bytes: [u8; 4]) -> [Option<(u8, OpaqueNodePtr)>; 4] {
     [
         Some(child(bytes[0])),

@@ -52,7 +52,7 @@ fn drawn_pair(numbers: &mut Numbers) -> ([u8; 2], u32) {
     ([numbers.byte(), numbers.byte()], numbers.value())
 }
 
-// A prefix: bytes of which the front is stored, and a length.
+// A prefix: its first bytes, which are stored, and a length.
 fn drawn_prefix(numbers: &mut Numbers) -> PlainPrefix {
     PlainPrefix {
         bytes: [numbers.byte(), numbers.byte(), numbers.byte()],
@@ -153,7 +153,7 @@ fn has_place(store: &Store, name: InnerPtr, byte: u8) -> bool
     }
 }
 
-/// What of a leaf is given anew.
+/// What is changed of a leaf.
 #[derive(Clone, Copy)]
 enum LeafChange {
     Links,
@@ -161,8 +161,8 @@ enum LeafChange {
     Value,
 }
 
-/// A store, and beside it a list of the names that it gave out with what is to be under them. Each call
-/// returns whether the store did as the list says, or None where it needs a listed name and there is none.
+/// A store, and a list of the names that it returned with what should be under them. Each call returns whether the
+/// store did as the list says, or None if it needs a listed name and there is none.
 #[derive(Drop)]
 struct Trial {
     store: Store,
@@ -234,7 +234,7 @@ impl Trial {
         Some(node.node_type() == name.kind && is_like(node.as_ref(), &want))
     }
 
-    /// Gives a leaf something else, and compares what it gave up.
+    /// Changes a leaf, and compares what was replaced.
     fn change_leaf(&mut self, change: LeafChange) -> Option<bool> {
         let (name, want) = drawn_of(&mut self.numbers, &mut self.leaves)?;
         if self.store.leaf(*name).is_none() {
@@ -260,7 +260,7 @@ impl Trial {
         Some(is_right)
     }
 
-    /// Gives an inner node another header.
+    /// Replaces the header of an inner node.
     fn set_header(&mut self) -> Option<bool> {
         let (name, want) = drawn_of(&mut self.numbers, &mut self.inners)?;
         want.prefix = drawn_prefix(&mut self.numbers);
@@ -271,7 +271,7 @@ impl Trial {
         Some(true)
     }
 
-    /// Puts some children into one node, where there is a place for them.
+    /// Sets some children of a node, if there is a place for them.
     fn write_children(&mut self) -> Option<bool> {
         let (name, want) = drawn_of(&mut self.numbers, &mut self.inners)?;
         for _ in 0..self.numbers.below(12) {
@@ -284,7 +284,7 @@ impl Trial {
         Some(true)
     }
 
-    /// Takes some children out of one node.
+    /// Removes some children from a node.
     fn remove_children(&mut self) -> Option<bool> {
         let (name, want) = drawn_of(&mut self.numbers, &mut self.inners)?;
         for _ in 0..self.numbers.below(60) {
@@ -317,7 +317,7 @@ impl Trial {
         Ok(true)
     }
 
-    /// One call. While the store is filled seven of eight placements and frees are placements, else one.
+    /// One call. While the store is being filled seven of eight placements and frees are placements, else one.
     fn step(&mut self, is_filled: bool) -> Result<bool, AllocError> {
         let is_rare = self.numbers.below(8) == 0;
         let is_placement = is_filled != is_rare;
@@ -340,7 +340,7 @@ impl Trial {
         Ok(is_right.unwrap_or(true))
     }
 
-    /// Whether each listed name has what is to be under it, and no other name has anything.
+    /// Whether each listed name has what should be under it, and no other name has anything.
     fn is_as_listed(&self) -> bool {
         for (name, want) in &self.leaves {
             if self.store.leaf(*name).map(PlainLeaf::of) != Some(*want) {
@@ -381,7 +381,7 @@ impl Trial {
         [all_right, self.is_as_listed(), is_empty]
     }
 
-    /// Makes the calls and then frees all nodes, and returns what both say.
+    /// Makes the calls and then frees all nodes, and returns the results of both.
     fn outcome(&mut self) -> Result<(Option<usize>, [bool; 3]), AllocError> {
         let wrong = self.first_wrong_call()?;
         Ok((wrong, self.free_all()))

@@ -1,4 +1,4 @@
-//! The order and the hashes of names of one type, and what names and leaves print for a programmer.
+//! The order and the hashes of names of one type, and how names and leaves print for debugging.
 use art_node_support::expected::same;
 use art_nodes::node::{InnerPtr, LeafNode, LeafPtr, NodePtr, NodeType, OpaqueNodePtr};
 use std::alloc::Global;
@@ -97,7 +97,7 @@ fn equal_names_have_equal_hashes(rt: HostRuntime) -> Result<(), Fail> {
     )
 }
 
-// Whether a value prints something for a programmer.
+// Whether a value prints something for debugging.
 fn is_printed<T: Debug>(alloc: Global, value: &T) -> bool {
     match format!(in alloc; "{value:?}") {
         Ok(text) => !text.is_empty(),

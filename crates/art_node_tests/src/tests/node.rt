@@ -34,7 +34,7 @@ fn reads_key_bytes(rt: HostRuntime) -> Result<(), Fail> {
     same(seen, [true; 4])
 }
 
-// Whether a name prints so, and whether it does so once it is told apart.
+// Whether a name prints so, and whether it does so after `split`.
 fn prints_as(alloc: Global, name: OpaqueNodePtr, text: &str) -> Result<[bool; 2], AllocError> {
     let whole = name.to_string(alloc)?.as_str() == text;
     let part = match name.split() {
@@ -78,7 +78,7 @@ fn tells_leaf_names_apart(rt: HostRuntime) -> Result<(), Fail> {
     )
 }
 
-// What the name of the inner node of a kind in a slot is, told apart.
+// What the name of the inner node of a kind in a slot is, after `split`.
 fn told_apart(
     kind: NodeType,
     slot: usize,
@@ -240,7 +240,7 @@ fn empties_a_prefix() -> Result<(), Fail> {
     )
 }
 
-// A walk over the children comes by what a look-up finds.
+// An iteration over the children returns what a lookup finds.
 fn find_child<N: InnerNode<4>>(node: &N, byte: u8) -> Option<OpaqueNodePtr>
     ensures { result ≡ child_at (N.view_of node.now).children byte }
 {
@@ -252,7 +252,7 @@ fn find_child<N: InnerNode<4>>(node: &N, byte: u8) -> Option<OpaqueNodePtr>
     None
 }
 
-// Whether these children come, each under its own name, and then none from either side.
+// Whether these children are returned, each under its own name, and then none from either side.
 fn are_children(mut children: Children<'_>, bytes: &[u8]) -> bool {
     let counts = (children.len(), children.size_hint());
     for byte in bytes {
@@ -264,7 +264,7 @@ fn are_children(mut children: Children<'_>, bytes: &[u8]) -> bool {
     counts == (bytes.len(), (bytes.len(), Some(bytes.len()))) && rest == (None, None)
 }
 
-// Whether children stand under the bytes from 0 on, each under its own name.
+// Whether children are under the bytes from 0 on, each under its own name.
 fn count_up(children: Children<'_>) -> bool {
     let mut next = Some(0u8);
     for (byte, child) in children {
@@ -282,7 +282,7 @@ struct FullNode {
     count: usize,
     is_full: bool,
     ends: Option<[(u8, OpaqueNodePtr); 2]>,
-    /// The child under the last byte, as a look-up and as a walk finds it.
+    /// The child under the last byte, as a lookup and as an iteration finds it.
     found: [Option<OpaqueNodePtr>; 2],
     counts_up: bool,
     /// Whether the ranges are right: in the middle, of one byte, past the last, of none.
@@ -300,7 +300,7 @@ fn read_empty<N: InnerNode<4>>(node: &N) -> (usize, [bool; 2], [bool; 2]) {
     )
 }
 
-// Puts a child under each byte from a last one down to 0; returns whether the node was full too early.
+// Sets a child under each byte from a last one down to 0; returns whether the node was full too early.
 fn fill<N: InnerNode<4>>(node: &mut N, last: u8) -> bool {
     for byte in (0..=last).rev() {
         if node.is_full() {
@@ -336,7 +336,7 @@ fn read_full<N: InnerNode<4>>(node: &N, last: u8) -> FullNode {
     }
 }
 
-// Puts another child under 0, and returns what is then there and how many there are.
+// Sets another child under 0, and returns what is then there and how many there are.
 fn replace<N: InnerNode<4>>(
     node: &mut N,
     other: OpaqueNodePtr,
@@ -346,15 +346,15 @@ fn replace<N: InnerNode<4>>(
     Some((node.lookup_child(0), node.num_children()))
 }
 
-// Takes the child under 2 out twice, and returns what each time tells, how many there are and whether
-// the range about it is right.
+// Removes the child under 2 twice, and returns what each call returned, how many there are and whether the range about
+// it is right.
 fn take_out<N: InnerNode<4>>(node: &mut N) -> ([Option<OpaqueNodePtr>; 2], usize, bool) {
     let removed = [node.remove_child(2), node.remove_child(2)];
     let around = are_children(node.range(1, 3), &[1, 3]);
     (removed, node.num_children(), around)
 }
 
-// What a node of a kind tells from its first child to its last, and as it changes.
+// What a node of a kind returns from its first child to its last, and as it changes.
 #[derive(Clone, Copy, PartialEq, Eq, Debug)]
 struct Life {
     empty: (usize, [bool; 2], [bool; 2]),
@@ -365,13 +365,13 @@ struct Life {
     is_its_kind: bool,
 }
 
-// What stands under 0 instead.
+// What is under 0 instead.
 const OTHER: OpaqueNodePtr = OpaqueNodePtr {
     kind: NodeType::Node256,
     slot: 1,
 };
 
-// Leads a node of a kind through its life, with room for children up to this byte.
+// Adds and removes children of a node of a kind, which has room for children up to this byte.
 fn live<N: InnerNode<4>>(last: u8) -> Life {
     let mut node = N::from_header(Header::new(&[9], 1));
     let empty = read_empty(&node);
@@ -389,7 +389,7 @@ fn live<N: InnerNode<4>>(last: u8) -> Life {
     }
 }
 
-// What it is to tell.
+// What is expected of it.
 fn expected_life(last: u8) -> Life {
     let count = last as usize + 1;
     Life {
@@ -426,7 +426,7 @@ fn holds_as_many_as_its_kind(rt: HostRuntime) -> Result<(), Fail> {
     same(lives, expected)
 }
 
-// A node with a child under each of these bytes but one, which is taken out last.
+// A node with a child under each of these bytes but one, which is removed last.
 fn with_hole<N: InnerNode<4>>(bytes: &[u8], removed: u8) -> N {
     let mut node = N::from_header(Header::new(&[9], 1));
     for byte in bytes {
@@ -456,8 +456,8 @@ static FIVES: [u8; 48] = [
     210, 215, 220, 225, 230, 235,
 ];
 
-// What stands under 100 before a child is put there, and whether a walk and look-ups then find one under each of these
-// bytes. None where the node is full before.
+// What is under 100 before a child is set there, and whether an iteration and lookups then find one under each of these
+// bytes. None if the node is full before.
 fn filled_again<N: InnerNode<4>>(node: &mut N) -> Option<(Option<OpaqueNodePtr>, [bool; 2])> {
     if node.is_full() {
         return None;
@@ -484,10 +484,10 @@ struct Reading {
     prefix: ([bool; 2], [bool; 2]),
     count: usize,
     is_full: bool,
-    /// What stands under 20 and 21.
+    /// What is under 20 and 21.
     found: [Option<OpaqueNodePtr>; 2],
     ends: Option<[(u8, OpaqueNodePtr); 2]>,
-    /// Whether the walk, a range in the middle and one to the end are right.
+    /// Whether the iteration, a range in the middle and one to the end are right.
     walks: [bool; 3],
 }
 
@@ -520,7 +520,7 @@ fn read_any(node: InnerRef<'_, 4>) -> Reading {
     }
 }
 
-// Puts three children into a node, unless it is full before.
+// Adds three children to a node, unless it is full before.
 fn put_three(any: &mut AnyInner<4>) -> bool {
     for byte in [20, 255, 0] {
         if any.as_ref().is_full() {
@@ -585,7 +585,7 @@ fn shrink_where_it_fits(any: AnyInner<4>) -> AnyInner<4> {
     }
 }
 
-// Whether a node with this number of children from 0 on is as it is to be.
+// Whether a node with this number of children from 0 on is as it should be.
 fn is_of_count(any: &AnyInner<4>, count: usize) -> bool {
     let kind = match count {
         0..=4 => NodeType::Node4,
@@ -599,7 +599,7 @@ fn is_of_count(any: &AnyInner<4>, count: usize) -> bool {
     seen == (kind, [true; 2], count) && count_up(node.iter())
 }
 
-// Puts a child under each byte from 0 on, and returns the node and how often it was as it is to be.
+// Sets a child under each byte from 0 on, and returns the node and how often it was as it should be.
 fn grown() -> (AnyInner<4>, usize) {
     let mut any: AnyInner<4> = AnyInner::from_header(NodeType::Node4, Header::new(&[9], 1));
     let mut right = 0usize;
@@ -616,8 +616,8 @@ fn grown() -> (AnyInner<4>, usize) {
     (any, right)
 }
 
-// Takes the children out from the last one on, each once and then once more; returns how often the
-// answers and the node were as they are to be.
+// Removes the children from the last one on, each once and then once more; returns how often the results and the node
+// were as they should be.
 fn emptied(full: AnyInner<4>) -> usize {
     let mut any = full;
     let mut right = 0usize;

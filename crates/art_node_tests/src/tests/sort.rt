@@ -11,8 +11,8 @@ use art_nodes::node::{LeafPtr, NodeType, OpaqueNodePtr};
 use art_nodes::store::NodeStore;
 use std::test::Fail;
 
-// Three leaves in slots against their order, one between them that is gone, one that is not in their row, and a node of
-// each kind above.
+// Three leaves in slots against their order, one freed slot between them, one leaf that is not in their row, and a node
+// of each kind above.
 static UNSORTED: [Plain; 9] = [
     Plain::Leaf {
         key: &[3],
@@ -65,7 +65,7 @@ static UNSORTED: [Plain; 9] = [
     },
 ];
 
-// The same nodes with their leaves in the first slots, and the leaf that was not in the row gone.
+// The same nodes with their leaves in the first slots, and the leaf that was not in the row freed.
 static SORTED: [Plain; 7] = [
     Plain::Leaf {
         key: &[1],
@@ -127,7 +127,7 @@ fn has_links<const P: usize>(
     }
 }
 
-// Whether these leaves stand in a row.
+// Whether these leaves are in a row.
 fn are_in_row<const P: usize>(
     store: &NodeStore<Key, u32, P>,
     first: LeafPtr,
@@ -141,7 +141,7 @@ fn are_in_row<const P: usize>(
         && has_links(store, third, Some(second), None)
 }
 
-// Sorts the leaves that were placed under these names, and returns whether that was refused. None where they stand in no row.
+// Sorts the leaves that were placed under these names, and returns whether that failed. None if they are not in a row.
 fn is_refused<const P: usize>(
     store: &mut NodeStore<Key, u32, P>,
     names: &[OpaqueNodePtr],
@@ -172,7 +172,7 @@ fn have_same_nodes<const P: usize>(
 }
 
 // Places the nodes that are not sorted in one store, sorts them there, and places in another those that are then to be
-// seen. Returns whether the call was refused, and whether both stores have the same nodes.
+// seen. Returns whether the call failed, and whether both stores have the same nodes.
 fn sort_placed<const P: usize>(
     store: &mut NodeStore<Key, u32, P>,
     other: &mut NodeStore<Key, u32, P>,
@@ -191,7 +191,7 @@ fn leaves_are_sorted_by_their_links(rt: HostRuntime) -> Result<(), Fail> {
     same(sorted, Some((false, true)))
 }
 
-// Says with each request for memory refused that all nodes stay.
+// Asserts, with each allocation made to fail, that all nodes stay.
 #[test]
 fn refused_each_request_leaves_the_leaves_in_their_slots(rt: HostRuntime) -> Result<(), Fail> {
     let mut store: NodeStore<Key, u32, 2> = NodeStore::new(rt.alloc());

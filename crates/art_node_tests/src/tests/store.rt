@@ -15,7 +15,7 @@ use std::test::Fail;
 
 type Store = NodeStore<[u8; 1], u32, 2>;
 
-// No store has room for so many nodes before it is asked for.
+// No store has room for so many nodes before it is requested.
 const MORE_THAN_FIT: usize = 1_000;
 
 // A leaf with no siblings.
@@ -62,7 +62,7 @@ fn move_pair<K: AsBytes + Drop, V: Drop, const P: usize>(
     store.swap_pair(to, leaf.key, leaf.value)
 }
 
-// A caller: gives a leaf another value and then the old one again; no other leaf has changed.
+// A caller: replaces a leaf's value and then restores it; no other leaf has changed.
 #[tactic(auto, using(crate::proofs::Laws::leaf_laws))]
 fn try_value<K: AsBytes + Drop, V: Drop, const P: usize>(
     store: &mut NodeStore<K, V, P>,
@@ -116,7 +116,7 @@ fn move_header<K: AsBytes + Drop, V: Drop, const P: usize>(
     node
 }
 
-// A caller: cuts a child off, which is then gone.
+// A caller: removes a child.
 #[tactic(auto, using(crate::proofs::Laws::inner_changed_here, crate::proofs::Laws::children_laws))]
 fn cut_child<K: AsBytes + Drop, V: Drop, const P: usize>(
     store: &mut NodeStore<K, V, P>,
@@ -130,7 +130,7 @@ fn cut_child<K: AsBytes + Drop, V: Drop, const P: usize>(
     store.remove_child(from, byte)
 }
 
-// A caller: no placement is refused that the promise covers.
+// A caller: no placement fails that the promise covers.
 #[tactic(auto, using(crate::proofs::Laws::leaf_laws))]
 fn place_promised<K: AsBytes + Drop, V: Drop, const P: usize>(
     store: &mut NodeStore<K, V, P>,
@@ -269,8 +269,8 @@ fn place_pair(store: &mut Store) -> Result<(LeafPtr, LeafPtr), AllocError>
     Ok((first, second))
 }
 
-// Frees the first of two leaves and gives its pair to the second; returns whether each is right: what is
-// under the second name before, the pair that comes back, and what is under both names afterwards.
+// Frees the first of two leaves and gives its pair to the second; returns whether each is right: what is under the
+// second name before, the old pair, and what is under both names afterwards.
 fn move_first(store: &mut Store) -> Option<[bool; 4]> {
     let (first, second) = place_pair(store).ok()?;
     if first == second {
@@ -292,8 +292,8 @@ fn leaves_are_linked_and_freed(rt: HostRuntime) -> Result<(), Fail> {
     same(move_first(&mut store), Some([true; 4]))
 }
 
-// Gives the second of two leaves another value; returns whether each is right: the old value, what is under
-// both names then, and which value comes back and stays where it is tried.
+// Replaces the value of the second of two leaves; returns whether each is right: the old value, what is under both
+// names then, what `try_value` returns, and that the second leaf is unchanged after it.
 fn give_value(store: &mut Store) -> Option<[bool; 5]> {
     let (first, second) = place_pair(store).ok()?;
     if first == second || store.leaf(second).is_none() {
@@ -357,8 +357,8 @@ fn inner_nodes_are_written_and_freed(rt: HostRuntime) -> Result<(), Fail> {
     same(move_lower(&mut store), Some([true; 5]))
 }
 
-// Cuts off an only child, which stands under 3, after none under 4; returns whether what comes back each
-// time and what is left are right.
+// Removes an only child, which is under 3, after none under 4; returns whether what is returned each time and what is
+// left are right.
 fn cut_off(store: &mut Store) -> Option<[bool; 3]> {
     let child = LeafPtr::from_slot(7).to_opaque();
     let upper = place_above(store, Header::new(&[5, 6], 2), 3, child).ok()?;
@@ -436,8 +436,8 @@ fn counts_of(store: &Store) -> (usize, [usize; 3]) {
     (store.leaf_count(), kinds)
 }
 
-// The counts of an empty store, then with two leaves, with one of them freed, and once two nodes are placed of which one
-// is freed.
+// The counts of an empty store, then with two leaves, with one of them freed, and after two nodes are placed of which
+// one is freed.
 fn count_steps(store: &mut Store) -> Option<[(usize, [usize; 3]); 4]> {
     let empty = counts_of(store);
     let (first, _) = place_pair(store).ok()?;
@@ -455,7 +455,7 @@ fn a_store_counts_its_nodes(rt: HostRuntime) -> Result<(), Fail> {
     same(counted, Some(expected))
 }
 
-// Places leaves that are linked behind this one until one is refused, and returns what is handed back.
+// Places leaves that are linked behind this one until one fails, and returns the leaf that it returns.
 fn refused_leaf(store: &mut Store, last: LeafPtr) -> Option<SeenLeaf> {
     for _ in 0..MORE_THAN_FIT {
         let leaf = LeafNode {
@@ -471,7 +471,7 @@ fn refused_leaf(store: &mut Store, last: LeafPtr) -> Option<SeenLeaf> {
     None
 }
 
-// Places inner nodes with this child under 7 until one is refused, and returns what is handed back.
+// Places inner nodes with this child under 7 until one fails, and returns the node that it returns.
 fn refused_inner(store: &mut Store, child: OpaqueNodePtr) -> Option<SeenInner> {
     for _ in 0..MORE_THAN_FIT {
         let mut node = AnyInner::from_header(NodeType::Node4, Header::new(&[8, 9], 2));
@@ -483,8 +483,8 @@ fn refused_inner(store: &mut Store, child: OpaqueNodePtr) -> Option<SeenInner> {
     None
 }
 
-// Whether one more leaf and one more inner node are placed, and whether each is then there or is handed
-// back as it was.
+// Whether one more leaf and one more inner node are placed, and whether each is then in the store or is returned as it
+// was.
 fn place_one_each(store: &mut Store, value: u32) -> ([bool; 2], [bool; 2]) {
     let (is_leaf_placed, leaf) = match store.place_leaf(leaf_of(2, value)) {
         Ok(name) => (true, leaf_seen(store, name)),
@@ -501,8 +501,8 @@ fn place_one_each(store: &mut Store, value: u32) -> ([bool; 2], [bool; 2]) {
     ([is_leaf_placed, is_inner_placed], right)
 }
 
-// Places twenty of each; returns whether one was refused, and whether each time both of them and the first
-// leaf were as they are to be.
+// Places twenty of each; returns whether one failed, and whether each time both of them and the first leaf were as they
+// should be.
 fn place_twenty_each(store: &mut Store, first: LeafPtr) -> (bool, bool) {
     let (mut any_refused, mut all_right) = (false, true);
     for value in 0..20 {
@@ -514,13 +514,13 @@ fn place_twenty_each(store: &mut Store, first: LeafPtr) -> (bool, bool) {
     (any_refused, all_right)
 }
 
-// Places a leaf and then twenty of each. None where the leaf was refused.
+// Places a leaf and then twenty of each. None if the leaf failed.
 fn place_beside_first(store: &mut Store) -> Option<(bool, bool)> {
     let first = place(store, leaf_of(1, 10)).ok()?;
     Some(place_twenty_each(store, first))
 }
 
-// Says the same with ample memory and with requests for memory refused.
+// Asserts the same with enough memory and with failing allocations.
 #[test]
 fn refused_placements_leave_the_nodes(rt: HostRuntime) -> Result<(), Fail> {
     let placed = place_beside_first(&mut Store::new(rt.alloc()));
@@ -533,7 +533,7 @@ fn refused_placements_leave_the_nodes(rt: HostRuntime) -> Result<(), Fail> {
     Ok(())
 }
 
-// Whether the first placement of a store is refused, and how many leaves it has then.
+// Whether the first placement of a store fails, and how many leaves it has then.
 fn place_first(alloc: Global, store: &mut Store) -> (bool, usize) {
     begin_refusals(alloc);
     let is_refused = store.place_leaf(leaf_of(1, 10)).is_err();
@@ -551,7 +551,7 @@ fn refused_each_first_placement_leaves_no_leaf(rt: HostRuntime) -> Result<(), Fa
     Ok(())
 }
 
-// What is refused and handed back while all memory is held.
+// What failing calls return while all memory is held.
 fn refused_without_memory(
     store: &mut Store,
     first: LeafPtr,
@@ -563,8 +563,8 @@ fn refused_without_memory(
     Ok((leaf, inner))
 }
 
-// Places a leaf and a node above it, and sees that no more is placed while all memory is held; returns
-// whether the leaf and the node that are handed back are right, and those under the two names.
+// Places a leaf and a node above it, and sees that no more is placed while all memory is held; returns whether the leaf
+// and the node that are returned are right, and those under the two names.
 fn hand_back(store: &mut Store) -> Result<[bool; 4], AllocError> {
     let first = place(store, leaf_of(1, 10))?;
     let child = first.to_opaque();
@@ -584,8 +584,8 @@ fn without_memory_placements_hand_the_node_back(rt: HostRuntime) -> Result<(), F
     same(hand_back(&mut store).ok(), Some([true; 4]))
 }
 
-// Places a leaf, and returns whether a reservation without memory is refused, and whether what is then
-// under the leaf's name is right.
+// Places a leaf, and returns whether a reservation without memory fails, and whether the leaf under the name is right
+// then.
 fn reserve_without_memory(store: &mut Store) -> Result<[bool; 2], AllocError> {
     let first = place(store, leaf_of(1, 10))?;
     let held = all_memory(store.alloc())?;
@@ -603,7 +603,8 @@ fn without_memory_reservations_leave_the_nodes(rt: HostRuntime) -> Result<(), Fa
     same(reserve_without_memory(&mut store).ok(), Some([true; 2]))
 }
 
-// Whether each of two leaves and a node that were promised is placed without memory, and a promise is repeated between.
+// Whether each of two leaves and a node that were promised is placed without memory, and a promise is repeated in
+// between.
 fn place_without_memory(store: &mut Store) -> Result<[bool; 4], AllocError> {
     store.reserve(2, Some(NodeType::Node4))?;
     let held = all_memory(store.alloc())?;
@@ -630,7 +631,7 @@ fn place_node16_without_memory(store: &mut Store) -> Result<[bool; 2], AllocErro
     Ok(placed)
 }
 
-// Whether two Node4s are placed without memory where room was asked for as many as another store has.
+// Whether two Node4s are placed without memory after room was requested for as many as another store has.
 fn place_like_another_without_memory(store: &mut Store) -> Result<[bool; 2], AllocError> {
     let mut other = Store::new(store.alloc());
     let _ = other.place_inner(node4(&[1, 2]));

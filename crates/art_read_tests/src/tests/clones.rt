@@ -18,7 +18,7 @@ use art_test_support::trees::{Key, keys, keys_after, planted_keys};
 use std::alloc::{AllocError, Global};
 use std::test::Fail;
 
-// A clone alone.
+// A single clone command.
 static CLONE: [Row<'static>; 1] = [(Asked::Clone, Told::Cloned)];
 
 #[test]
@@ -31,8 +31,8 @@ fn clones_no_tree(rt: HostRuntime) -> Result<(), Fail> {
     same(left_by(rt.alloc(), &CLONE), Some(wanted))
 }
 
-// What a run leaves whose root is a leaf of the second store, whether that has the key [2], and how many nodes each store
-// has.
+// What a run leaves whose root is a leaf of the second store, whether that has the key [2], and how many nodes each
+// store has.
 type GoneOver = (Left, bool, [(usize, usize); 2]);
 
 fn gone_over<const P: usize>(
@@ -73,7 +73,7 @@ fn goes_over_to_the_other_store(rt: HostRuntime) -> Result<(), Fail> {
 // The only pair.
 static STORED: [Row<'static>; 1] = [(Asked::Insert(&[1], 10), Told::Inserted(None))];
 
-// A clone that there is no memory for.
+// A clone whose allocation fails.
 static NOT_CLONED: [Row<'static>; 1] = [(Asked::Clone, Told::NoMemory(None))];
 
 #[test]
@@ -233,7 +233,7 @@ fn a_clone_is_the_same_tree(rt: HostRuntime) -> Result<(), Fail> {
     Ok(())
 }
 
-// A clone that may be refused.
+// A clone that may fail.
 #[derive(Clone, Copy)]
 struct Case {
     tree: CaseTree,
@@ -241,7 +241,7 @@ struct Case {
     is_beside: bool,
     /// How many leaves and inner nodes the tree has.
     planted: (usize, usize),
-    /// How many the other store has then, where the clone is made.
+    /// How many the other store has afterwards, if the clone is made.
     made: (usize, usize),
 }
 
@@ -249,7 +249,7 @@ struct Case {
 enum CaseTree {
     /// The keys of one byte from 1 to 5.
     Five,
-    /// The keys of one byte from 0 to 49, and three that begin with 50.
+    /// The keys of one byte from 0 to 49, and three that start with 50.
     Many,
 }
 
@@ -296,15 +296,15 @@ fn pairs_in(alloc: Global, case: Case) -> Result<Vec<(Key, u32)>, AllocError> {
     numbered(&keys, alloc)
 }
 
-// What comes of a clone: it is refused, and what it touches in the other store; or it is made, whether both trees are
-// the same and have the pairs, and how many nodes the other store has.
+// The result of a clone: a failure, with what it touches in the other store; or a clone, whether both trees are the
+// same and have the pairs, and how many nodes the other store has.
 #[derive(Clone, Copy, PartialEq, Eq, Debug)]
 enum Outcome {
     Refused((usize, usize, usize)),
     Made(bool, (usize, usize)),
 }
 
-// What a clone is that was made.
+// A clone that was made.
 fn judged<const P: usize>(
     (store, root): (&NodeStore<Key, u32, P>, OpaqueNodePtr),
     (into, copy): (&NodeStore<Key, u32, P>, OpaqueNodePtr),
@@ -315,7 +315,7 @@ fn judged<const P: usize>(
     Ok(Outcome::Made(kind.is_some(), count_nodes(into, 100)))
 }
 
-// Clones the tree of a case beside these nodes, and judges with memory what came of it.
+// Clones the tree of a case into a store with these nodes, and judges the result with memory.
 fn clone_beside<const P: usize>(
     store: &NodeStore<Key, u32, P>,
     root: OpaqueNodePtr,
@@ -334,7 +334,7 @@ fn clone_beside<const P: usize>(
     }
 }
 
-// The same beside all nodes that are there. None where a refusal fell outside the clone.
+// The same with all nodes that are in the store. None if an allocation failed outside the clone.
 fn clone_tried<const P: usize>(
     store: &NodeStore<Key, u32, P>,
     root: OpaqueNodePtr,
@@ -349,7 +349,7 @@ fn clone_tried<const P: usize>(
     }
 }
 
-// Plants the tree of a case. None where that was refused, or the tree has not the nodes that it is to have.
+// Builds the tree of a case. None if that failed, or the tree has not the expected nodes.
 fn case_planted<const P: usize>(
     store: &mut NodeStore<Key, u32, P>,
     case: Case,
@@ -365,7 +365,7 @@ fn case_planted<const P: usize>(
     }
 }
 
-// Makes both stores what they are to be before the clone, and clones. None where that went wrong before the clone.
+// Makes both stores what they should be before the clone, and clones. None if that went wrong before the clone.
 fn clone_in<const P: usize>(
     store: &mut NodeStore<Key, u32, P>,
     into: &mut NodeStore<Key, u32, P>,
@@ -385,8 +385,8 @@ fn clone_with<const P: usize>(alloc: Global, case: Case) -> Option<Outcome>
     clone_in::<P>(&mut NodeStore::new(alloc), &mut NodeStore::new(alloc), case)
 }
 
-// What comes of the clone of a case, beside what is to come of it. Where a refusal fell outside the clone all is done once
-// more, with no refusal, so that None says that it goes wrong without one.
+// The result of the clone of a case, and the expected one. If an allocation failed outside the clone all is done once
+// more, without a failure, so that None means that it goes wrong without one.
 fn clone_seen<const P: usize>(alloc: Global, case: Case) -> Option<(Outcome, Outcome)>
     requires { P < 256 }
 {
@@ -401,7 +401,7 @@ fn clone_seen<const P: usize>(alloc: Global, case: Case) -> Option<(Outcome, Out
     }
 }
 
-// Fails where other came of a clone than what was to come, and says so where the clone was refused.
+// Fails if the result of a clone was not as expected, and reports if the clone failed.
 fn assert_clone(rt: &impl Print, seen: Option<(Outcome, Outcome)>) -> Result<(), Fail> {
     as_expected(seen)?;
     if let Some((Outcome::Refused(_), _)) = seen {

@@ -1,4 +1,4 @@
-//! Walks of leaves.
+//! Iterations over leaves.
 ghost use Rattle.std.specs.Prelude.{List, IfSome};
 ghost use Rattle.art_parts.specs.declared.names.OpaqueNodePtr.{OpaqueNodePtr};
 ghost use Rattle.art_operations.specs.Iterators.{IsIteratorOf};
@@ -42,7 +42,7 @@ fn back<const P: usize>(leaves: &mut RawIterator, store: &NodeStore<Key, u32, P>
     value_under(store, name)
 }
 
-// The value of a leaf that came.
+// The value of a returned leaf.
 fn value_under<const P: usize>(
     store: &NodeStore<Key, u32, P>,
     name: OptionalLeafPtr,
@@ -50,7 +50,7 @@ fn value_under<const P: usize>(
     value_of(store, name?)
 }
 
-// What comes of all leaves of a tree, from both ends.
+// What an iteration over all leaves of a tree returns, from both ends.
 fn from_both_ends<const P: usize>(
     store: &NodeStore<Key, u32, P>,
     root: OpaqueNodePtr,
@@ -72,7 +72,7 @@ fn from_both_ends<const P: usize>(
 // The keys of the tree of five leaves.
 static FIVE: [&[u8]; 5] = [&[1], &[2], &[3], &[4], &[5]];
 
-// What comes of some leaves, from the back first.
+// What an iteration over some leaves returns, from the back first.
 fn from_the_back<const P: usize>(
     leaves: RawIterator,
     store: &NodeStore<Key, u32, P>,
@@ -114,7 +114,7 @@ fn between<const P: usize>(
     again(inner, store)
 }
 
-// What comes of the leaves between the first and the last one, from the back first.
+// What an iteration over the leaves between the first and the last one returns, from the back first.
 fn from_between<const P: usize>(
     store: &NodeStore<Key, u32, P>,
     root: OpaqueNodePtr,
@@ -124,7 +124,7 @@ fn from_between<const P: usize>(
     Some(from_the_back(between(store, root)?, store))
 }
 
-// What comes of no leaf, and of all leaves of a tree.
+// What iterations over no leaf and over all leaves of a tree return.
 fn from_none_and_all<const P: usize>(
     store: &NodeStore<Key, u32, P>,
     root: OpaqueNodePtr,
@@ -137,8 +137,8 @@ fn from_none_and_all<const P: usize>(
     ]
 }
 
-// What comes of the leaves of a tree: from both ends, of those between the first and the last one,
-// and of none and all.
+// What iterations over the leaves of a tree return: from both ends, over those between the first and the last one, and
+// over none and all.
 #[derive(Clone, Copy)]
 struct Came {
     from_both_ends: [Option<u32>; 7],

@@ -1,4 +1,4 @@
-//! Keys that are told apart where they are equal: a stored one stays.
+//! Keys with tags that distinguish equal ones: a stored key stays.
 use art_nodes::node::{AsBytes, OpaqueNodePtr};
 use art_nodes::store::NodeStore;
 use art_operations::run::{Command, Reply, RunResult, run};
@@ -10,7 +10,7 @@ use std::test::Fail;
 // The bytes of a key, its tag and its value.
 type Pair<'a> = (&'a [u8], u32, u32);
 
-// An insertion, the pair that is to be told of it, and the only pair that is to be stored then.
+// An insertion, the pair that it should return, and the only pair that should be stored then.
 #[derive(Clone, Copy)]
 struct Row<'a> {
     is_prefix: bool,
@@ -48,7 +48,7 @@ fn pair_seen(pair: &Option<(Tagged, u32)>) -> Option<Pair<'_>> {
     Some((key.as_bytes(), key.tag, *value))
 }
 
-// Whether a reply to an insertion tells what it is to tell, and that no more leaves are gone.
+// Whether a reply to an insertion is as expected, and reports no removed leaves.
 fn is_told(reply: &Reply<Tagged, u32>, row: Row<'_>) -> bool {
     match reply {
         Reply::Inserted(old) => !row.is_prefix && pair_seen(old) == row.told,
@@ -57,13 +57,13 @@ fn is_told(reply: &Reply<Tagged, u32>, row: Row<'_>) -> bool {
     }
 }
 
-// Whether a root is the leaf that is to be stored.
+// Whether a root is the leaf that should be stored.
 fn is_stored(store: &NodeStore<Tagged, u32, 4>, root: OpaqueNodePtr, row: Row<'_>) -> Option<bool> {
     let leaf = store.leaf(root.as_leaf()?)?;
     Some((leaf.key.as_bytes(), leaf.key.tag, leaf.value) == row.stored)
 }
 
-// Whether the last reply of a run tells what it is to tell, and the run leaves what is to be stored.
+// Whether the last reply of a run is as expected, and the run leaves what should be stored.
 fn last_of(
     store: &NodeStore<Tagged, u32, 4>,
     done: &RunResult<Tagged, u32>,
@@ -102,7 +102,7 @@ fn last_seen(alloc: Global, rows: &[Row<'_>]) -> Option<(bool, bool)> {
     last_in(&mut NodeStore::new(alloc), &mut NodeStore::new(alloc), rows)
 }
 
-// Insertions of one key, and one of its front in the place of it.
+// Insertions of one key, and one of its prefix that replaces it.
 static ROWS: [Row<'static>; 4] = [
     Row {
         is_prefix: false,

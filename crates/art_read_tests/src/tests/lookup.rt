@@ -91,7 +91,7 @@ fn readings_with(alloc: Global, searches: &[Search<'_>; 5]) -> Option<[(Option<u
     readings_in::<4>(&mut NodeStore::new(alloc), searches)
 }
 
-// Searches that end at a leaf, or for a key that is the front of others.
+// Searches that end at a leaf, or for a key that is the prefix of others.
 static AT_LEAVES_OR_FRONTS: [Search<'static>; 5] = [
     Search::Whole(&[255]),
     Search::Whole(&[0, 0, 0, 0, 0, 0, 0, 0, 0, 0, 0, 255]),
@@ -115,7 +115,8 @@ fn counts_readings(rt: HostRuntime) -> Result<(), Fail> {
     )
 }
 
-// What searches that part from the stored bytes of the root's prefix find, and one that does not, with what each reads.
+// What searches that differ from the stored bytes of the root's prefix find, and one that does not, with what each
+// reads.
 fn readings_of_two(
     store: &mut NodeStore<Key, u32, 16>,
 ) -> Option<([(Option<u32>, usize); 2], (Option<u32>, usize))> {
@@ -267,7 +268,7 @@ fn answers_the_same_at_every_length(rt: HostRuntime) -> Result<(), Fail> {
     same(answers_with_each(rt.alloc()), [Some(wanted); 4])
 }
 
-// What came of the comparison of a prefix, and how the next ones are to be made.
+// The result of the comparison of a prefix, and how the next ones are to be made.
 type Compared = (
     Result<AttemptOptimisticPrefixMatch, PessimisticMismatch>,
     PrefixMatchBehavior,
@@ -328,7 +329,7 @@ fn compares_stored_bytes_and_then_lengths(rt: HostRuntime) -> Result<(), Fail> {
     same((first, seen), (pessimistic, wanted))
 }
 
-// Compares the prefix of a node of one kind with a key that begins with it.
+// Compares the prefix of a node of one kind with a key that starts with it.
 fn compared_whole<N: InnerNode<4>>(header: Header<4>) -> Compared {
     let node = N::from_header(header);
     compared(&node, PrefixMatchBehavior::Pessimistic, &[7, 8, 9])
@@ -365,7 +366,7 @@ fn equal_to_leaf() -> [bool; 6] {
     ]
 }
 
-// Whether [1, 2, 3] is the front of keys from a depth on or whole.
+// Whether [1, 2, 3] is the prefix of keys from a depth on or whole.
 fn front_is_leaf() -> [bool; 5] {
     let pessimistic = PrefixMatchBehavior::Pessimistic;
     let optimistic = PrefixMatchBehavior::Optimistic;
@@ -395,8 +396,8 @@ static TWO_LEVELS: [&[u8]; 3] = [
     &[1, 1, 1, 1, 1, 6, 2, 2, 2, 2, 2, 8],
 ];
 
-// What the searches for the leaf at a bound find, and how many readings they count: from the third key on, and before the
-// second one.
+// What the searches for the leaf at a bound find, and how many readings they count: from the third key on, and before
+// the second one.
 fn readings_to_bounds<const P: usize>(
     store: &NodeStore<Key, u32, P>,
     root: OpaqueNodePtr,

@@ -31,7 +31,7 @@ fn is_node16_of_six<const P: usize>(node: InnerRef<'_, P>) -> bool {
     node.node_type() == NodeType::Node16 && node.num_children() == 6
 }
 
-// Puts the children of a node into a list. Returns whether it is a leaf, or a Node16 with six children.
+// Adds the children of a node to a list. Returns whether it is a leaf, or a Node16 with six children.
 fn push_children<const P: usize>(
     store: &NodeStore<Key, u32, P>,
     name: OpaqueNodePtr,

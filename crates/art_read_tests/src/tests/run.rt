@@ -19,7 +19,7 @@ use std::boxed::BoxedSlice;
 use std::fmt::Display;
 use std::test::Fail;
 
-// What a run leaves that tells what is wanted.
+// What a run leaves whose replies are as expected.
 const A_TREE: Left = Left {
     wrong: None,
     has_root: true,
@@ -64,7 +64,7 @@ fn left_at_each(alloc: Global, rows: &[Row<'_>]) -> [Option<Left>; 4] {
     ]
 }
 
-// Insertions of a key, and of one that it is the front of, with these values.
+// Insertions of a key, and of one that it is the prefix of, with these values.
 macro_rules! related {
     ($value:literal, $longer_value:literal) => {
         [
@@ -84,7 +84,7 @@ fn refuses_a_related_key(rt: HostRuntime) -> Result<(), Fail> {
     same(left_at_each(rt.alloc(), &RELATED), [Some(A_TREE); 4])
 }
 
-// Insertions in the place of related keys.
+// Insertions that replace related keys.
 static OVER_RELATED: [Row<'static>; 7] = [
     (Asked::Insert(&[1, 2], 1), Told::Inserted(None)),
     (Asked::Insert(&[1, 3], 2), Told::Inserted(None)),
@@ -189,11 +189,11 @@ fn prints_and_copies_an_error(rt: HostRuntime) -> Result<(), Fail> {
     same(seen, Some((true, true)))
 }
 
-// The text of a want of memory.
+// The text of an out of memory error.
 static MEMORY_TEXT: &str = "memory allocation failed";
 
-// Whether the errors of a map have their texts: where a key like this one is related to another, where there is no memory
-// for an insertion, and where there is none for a removal.
+// Whether the errors of a map have their texts: where a key like this one is related to another, where an allocation of
+// an insertion fails, and where one of a removal would.
 fn are_map_errors_shown(alloc: Global, key: &[u8]) -> Option<[bool; 3]> {
     let byte_repr = BoxedSlice::from_slice(alloc, key).ok()?;
     let conflict: MapInsertError<u8, u8> = MapInsertError::Conflict {
@@ -256,7 +256,7 @@ fn a_longer_key_is_in_conflict(rt: HostRuntime) -> Result<(), Fail> {
     same(seen, Some((None, true)))
 }
 
-// The value that a command is to insert.
+// The value that a command inserts.
 fn value_in(command: Option<&Command<Key, u32>>) -> Option<u32> {
     match command? {
         Command::Insert(_, value) => Some(*value),
@@ -264,8 +264,7 @@ fn value_in(command: Option<&Command<Key, u32>>) -> Option<u32> {
     }
 }
 
-// How many commands a refused run handed back, and the value that the first is to insert. None
-// where it was not refused.
+// How many commands a failed run returned, and the value that the first inserts. None if it did not fail.
 fn commands_back(
     outcome: &Result<RunResult<Key, u32>, (Vec<Command<Key, u32>>, AllocError)>,
 ) -> Option<(usize, Option<u32>)> {
@@ -288,7 +287,7 @@ fn handed_back<const P: usize>(
     Ok(commands_back(&outcome))
 }
 
-/// Places a leaf of the key [9] with the value 90. None where it is refused.
+/// Places a leaf of the key [9] with the value 90. None where it fails.
 pub fn place_nine<const P: usize>(store: &mut NodeStore<Key, u32, P>) -> Option<LeafPtr> {
     match placed_all(store, &[lone_leaf(&[9], 90)]) {
         Ok(Some(names)) => leaf_at(&names, Some(0)),
@@ -296,7 +295,7 @@ pub fn place_nine<const P: usize>(store: &mut NodeStore<Key, u32, P>) -> Option<
     }
 }
 
-// How many commands come back and the value of the first, and the value of a leaf that stands beside.
+// How many commands are returned and the value of the first, and the value of another leaf in the store.
 type HandedBack = (Option<(usize, Option<u32>)>, Option<u32>);
 
 fn handed_back_beside<const P: usize>(
@@ -314,7 +313,7 @@ fn handed_back_with(alloc: Global, rows: &[Row<'_>]) -> Option<HandedBack> {
     handed_back_beside::<4>(&mut NodeStore::new(alloc), &mut NodeStore::new(alloc), rows)
 }
 
-// An insertion and a deletion, which come back.
+// An insertion and a deletion, which are returned.
 static TWO_COMMANDS: [Row<'static>; 2] = [
     (Asked::Insert(&[1], 10), Told::Inserted(None)),
     (Asked::Delete(&[1]), Told::Deleted(Some((&[1], 10)))),
@@ -338,7 +337,7 @@ fn value_at<const P: usize>(
     value_of(store, root?.as_leaf()?)
 }
 
-// Asks commands, and then others without memory.
+// Runs commands, and then others without memory.
 fn ran_in_turn<const P: usize>(
     first: &mut NodeStore<Key, u32, P>,
     second: &mut NodeStore<Key, u32, P>,
@@ -366,7 +365,7 @@ pub fn ran_in_turn_with(alloc: Global, rows: &[Row<'_>], later: &[Row<'_>]) -> O
     )
 }
 
-// An insertion that there is no memory for.
+// An insertion whose allocation fails.
 static UNSTORED: [Row<'static>; 1] = [(Asked::Insert(&[1], 10), Told::NoMemory(Some((&[1], 10))))];
 
 #[test]

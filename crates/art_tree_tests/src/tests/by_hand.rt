@@ -1,12 +1,12 @@
-//! What is read back of nodes that were placed one by one.
+//! Nodes that were placed one by one, read back.
 
 use art_nodes::node::{InnerRef, LeafNode, NodePtr, OpaqueNodePtr};
 use art_nodes::store::NodeStore;
 use art_test_support::placing::{Plain, leaf_at};
 use art_test_support::trees::Key;
 
-/// The place of the first name under which a store has not the node that is wanted there, or the length of the shorter
-/// list where one is longer.
+/// The place of the first name under which a store does not have the wanted node, or the length of the shorter list if
+/// one is longer.
 pub fn first_wrong<const P: usize>(
     store: &NodeStore<Key, u32, P>,
     names: &[OpaqueNodePtr],

@@ -1,4 +1,4 @@
-//! What a command touches, over all nodes of a store.
+//! What a command touches, among all nodes of a store.
 ghost use Rattle.std.specs.Prelude.{◌<◌, Some, IfSome};
 ghost use Rattle.art_tree_tests.specs.Trees.{HasTree};
 
@@ -17,8 +17,8 @@ use std::test::Fail;
 /// How many names came into use, went out of it, and have another node.
 type Touched = (usize, usize, usize);
 
-// Asks a command, with a second store for the run alone, and returns the root. None where the reply is not the one of
-// the row, or the tree came into the second store.
+// Runs a command, with a second store for the run alone, and returns the root. None if the reply is not the one of the
+// row, or the tree moved to the second store.
 fn root_after<const P: usize>(
     store: &mut NodeStore<Key, u32, P>,
     second: &mut NodeStore<Key, u32, P>,
@@ -37,7 +37,7 @@ fn root_after<const P: usize>(
     }
 }
 
-// Asks a command, with a second store for the run alone. Returns what it touches in the first, which had these nodes.
+// Runs a command, with a second store for the run alone. Returns what it touches in the first, which had these nodes.
 // None where the reply is not the one of the row.
 fn touched_since<const P: usize>(
     store: &mut NodeStore<Key, u32, P>,
@@ -69,7 +69,7 @@ fn touched_by<const P: usize>(
     }
 }
 
-/// What is seen of the nodes before and after the insertion of a key behind all others.
+/// What is seen of the nodes before and after the insertion of a key after all others.
 #[derive(Clone, Copy, PartialEq, Eq, Debug)]
 struct SeenBehind {
     nodes_before: usize,
@@ -131,10 +131,10 @@ fn behind_seen<const P: usize>(
     }
 }
 
-/// The insertion of a key behind all others.
+/// The insertion of a key after all others.
 static BEHIND_ALL: Row<'static> = (Asked::Insert(&[60, 0, 0], 7), Told::Inserted(None));
 
-// What the insertion does, where it is replied to as told and keeps the root.
+// What the insertion does, if its reply is as expected and the root stays.
 fn behind_since<const P: usize>(
     store: &mut NodeStore<Key, u32, P>,
     root: OpaqueNodePtr,
@@ -179,7 +179,7 @@ fn behind_last_with(alloc: Global, keys: Vec<Key>) -> Option<SeenBehind> {
     behind_last::<16>(&mut NodeStore::new(alloc), keys)
 }
 
-/// What is to be seen: the root and the last leaf have another node.
+/// What is expected: the root and the last leaf have another node.
 static BEHIND: SeenBehind = SeenBehind {
     nodes_before: 306 + 154,
     touched: (1, 0, 2),
@@ -315,7 +315,7 @@ fn count_small_steps<const P: usize>(
 /// left.
 type GrownAndShrunk = (usize, usize, Option<OpaqueNodePtr>, (usize, usize));
 
-// What comes of all insertions and all deletions.
+// The result of all insertions and all deletions.
 fn grown_and_shrunk<const P: usize>(store: &mut NodeStore<Key, u32, P>) -> Option<GrownAndShrunk> {
     let mut root = None;
     let grown = count_small_steps(store, &mut root, true)?;
@@ -351,7 +351,7 @@ fn chained_key(alloc: Global, zeros: usize) -> Result<Key, AllocError> {
     Ok(key)
 }
 
-// Puts so many keys of a byte and of another into a list.
+// Adds so many keys of a byte and of another to a list.
 fn push_pairs(keys: &mut Vec<Key>, alloc: Global, front: u8, count: u8) -> Result<(), AllocError> {
     for byte in 0..count {
         keys.push([front, byte].to_vec(alloc)?)?;
@@ -359,7 +359,7 @@ fn push_pairs(keys: &mut Vec<Key>, alloc: Global, front: u8, count: u8) -> Resul
     Ok(())
 }
 
-// Puts the keys of these groups into a list.
+// Adds the keys of these groups to a list.
 fn push_groups(keys: &mut Vec<Key>, alloc: Global, groups: Groups) -> Result<(), AllocError> {
     push_pairs(keys, alloc, 0, groups.count)?;
     push_pairs(keys, alloc, 1, groups.others)?;
@@ -376,7 +376,7 @@ fn keys_of_groups(alloc: Global, groups: Groups) -> Result<Vec<Key>, AllocError>
     Ok(keys)
 }
 
-/// The deletion of [0, 2], where it is made.
+/// The deletion of [0, 2], if it is made.
 static THIRD: [Row<'static>; 1] = [(Asked::Delete(&[0, 2]), Told::Deleted(Some((&[0, 2], 2))))];
 
 // Whether the deletion was made, by the reply to it and what it touched.
@@ -419,8 +419,8 @@ fn deletion_from(alloc: Global, groups: Groups) -> Option<bool> {
     deletion_in::<4>(&mut NodeStore::new(alloc), &mut NodeStore::new(alloc), keys)
 }
 
-// Deletes the third key below a parent of four, which keeps its kind, and of five, which gives way to a smaller node, beside
-// so many others. Returns how many of both are made.
+// Deletes the third key below a parent of four, which keeps its kind, and of five, which is replaced by a smaller node,
+// with so many other keys. Returns how many of both are made.
 fn delete_beside(alloc: Global, others: u8, chained: usize) -> Option<usize> {
     let five = Groups {
         count: 5,
@@ -432,7 +432,7 @@ fn delete_beside(alloc: Global, others: u8, chained: usize) -> Option<usize> {
     Some(usize::from(from_four).saturating_add(usize::from(from_five)))
 }
 
-// How many of these deletions are made, beside none to fifteen others each time, with no chain and with one of sixteen
+// How many of these deletions are made, with none to fifteen others each time, with no chain and with one of sixteen
 // keys.
 fn count_deletions(alloc: Global) -> Option<usize> {
     let mut made = 0usize;

@@ -1,4 +1,4 @@
-//! Parts of maps: the pairs below a prefix, and those between two bounds, of whole trees with each number of stored
+//! Parts of maps: the pairs with a prefix, and those between two bounds, of whole trees with each number of stored
 //! bytes.
 ghost use Rattle.std.specs.Prelude.{◌<◌, ◌^◌, length};
 
@@ -37,7 +37,7 @@ enum Part {
     Between(Bound<&'static [u8]>, Bound<&'static [u8]>),
 }
 
-// Puts the keys in, with their places as values. Returns whether all are new.
+// Inserts the keys, with their places as values. Returns whether all are new.
 fn fill<const P: usize>(map: &mut Map<P>, keys: Vec<Key>) -> bool {
     let mut value = 0u32;
     for key in keys {

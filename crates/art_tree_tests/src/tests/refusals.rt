@@ -1,5 +1,5 @@
-//! Calls whose requests for memory are refused, in turn, by tools/refusals. A refusal that falls outside the call that
-//! a test is on decides nothing; after one within it the test says that it asserted what holds then.
+//! Calls whose allocations tools/refusals makes fail, one at a time. A failure outside the call under test decides
+//! nothing; after one within it the test reports that it asserted what holds then.
 ghost use Rattle.art_model.specs.Pairs.{of_key};
 ghost use Rattle.art_model.specs.Roots.{IsCanonicalRoot};
 
@@ -14,7 +14,7 @@ use art_test_support::trees::{Key, planted_all, planted_keys};
 use std::alloc::{AllocError, Global};
 use std::test::Fail;
 
-/// Six keys, of which the last is in conflict with the first.
+/// Six keys, the last of which conflicts with the first.
 static SIX: [&[u8]; 6] = [&[1], &[2], &[3], &[4], &[5], &[1, 2]];
 
 // The insertions of these keys.
@@ -26,7 +26,7 @@ fn insertions(alloc: Global, slices: &[&[u8]]) -> Result<Vec<Command<Key, u32>>,
     Ok(commands)
 }
 
-/// How many replies there are, and how many of them tell of a new key, of want of memory, and of a conflict.
+/// How many replies there are, and how many of them report a new key, out of memory, and a conflict.
 #[derive(Clone, Copy)]
 struct Tally {
     replies: usize,
@@ -53,16 +53,17 @@ fn count_replies(replies: &[Reply<Key, u32>]) -> Tally {
     }
 }
 
-/// What comes of a run.
+/// The result of a run.
 #[derive(Clone, Copy)]
 enum Outcome {
-    /// It was refused: how many commands came back, and whether the store has no first leaf.
+    /// It failed: how many commands were returned, and whether the store has no first leaf.
     HandedBack(usize, bool),
-    /// It was made: its replies, and how many leaves the tree has, or None where it has the name of no node.
+    /// It was made: its replies, and how many leaves the tree has, or None if it has the name of no node.
     Ran(Tally, Option<usize>),
 }
 
-// How many leaves a tree has. The outer None is for want of memory, the inner one for a tree with the name of no node.
+// How many leaves a tree has. The outer None is for a failed allocation, the inner one for a tree with the name of no
+// node.
 fn count_leaves<const P: usize>(
     store: &NodeStore<Key, u32, P>,
     root: Option<OpaqueNodePtr>,
@@ -74,7 +75,7 @@ fn count_leaves<const P: usize>(
     Some(shape.map(|shape| shape.leaves))
 }
 
-// What comes of a run that left this.
+// The result of a run that left this.
 fn outcome_of<const P: usize>(
     store: &NodeStore<Key, u32, P>,
     done: &RunResult<Key, u32>,
@@ -83,7 +84,7 @@ fn outcome_of<const P: usize>(
     Some(Outcome::Ran(count_replies(&done.replies), leaves))
 }
 
-// Runs the insertions of the six keys. None where a refusal fell outside the run.
+// Runs the insertions of the six keys. None where an allocation failed outside the run.
 fn run_insertions<const P: usize>(
     first: &mut NodeStore<Key, u32, P>,
     second: &mut NodeStore<Key, u32, P>,
@@ -126,10 +127,10 @@ fn refused_commands_leave_the_tree_of_the_others(rt: HostRuntime) -> Result<(), 
     Ok(())
 }
 
-/// A clone that is refused.
+/// A clone that fails.
 static NO_CLONE: [Row<'static>; 1] = [(Asked::Clone, Told::NoMemory(None))];
 
-// Asks for a clone. Returns whether it was refused, and nothing else.
+// Asks for a clone. Returns whether it failed, and nothing else.
 fn is_clone_refused<const P: usize>(
     first: &mut NodeStore<Key, u32, P>,
     second: &mut NodeStore<Key, u32, P>,
@@ -143,8 +144,8 @@ fn is_clone_refused<const P: usize>(
     }
 }
 
-// How many nodes the first store has before a clone that is refused, and the first and the second have after it. None
-// where the clone was not refused, or something else was.
+// How many nodes the first store has before a clone that fails, and the first and the second have after it. None if the
+// clone did not fail, or something else did.
 fn counts_at_refused_clone<const P: usize>(
     first: &mut NodeStore<Key, u32, P>,
     second: &mut NodeStore<Key, u32, P>,
@@ -172,10 +173,10 @@ fn refused_clones_leave_both_stores(rt: HostRuntime) -> Result<(), Fail> {
     Ok(())
 }
 
-/// What comes of an overwrite of a whole tree.
+/// The result of an overwrite of a whole tree.
 #[derive(Clone, Copy, PartialEq, Eq, Debug)]
 enum Overwrite {
-    /// It was refused; and whether the nodes are as many as before, under the same root.
+    /// It failed; and whether the nodes are as many as before, under the same root.
     Refused(bool),
     /// It was made; and how many nodes are left.
     Made((usize, usize)),
@@ -198,7 +199,7 @@ fn overwrite_alone(alloc: Global) -> Result<Vec<Command<Key, u32>>, AllocError> 
     Ok(commands)
 }
 
-// What comes of an overwrite by these replies. `is_kept` says whether there are as many nodes as before, under the same
+// The result of an overwrite by these replies. `is_kept` says whether there are as many nodes as before, under the same
 // root; `left` is how many there are.
 fn overwrite_told(replies: &[Reply<Key, u32>], is_kept: bool, left: (usize, usize)) -> Overwrite {
     match replies {
@@ -208,7 +209,7 @@ fn overwrite_told(replies: &[Reply<Key, u32>], is_kept: bool, left: (usize, usiz
     }
 }
 
-// What comes of an overwrite that was run and left this, where there was this root and so many nodes.
+// The result of an overwrite that was run and left this, where there was this root and so many nodes.
 fn overwrite_left<const P: usize>(
     store: &NodeStore<Key, u32, P>,
     done: &RunResult<Key, u32>,
@@ -220,7 +221,7 @@ fn overwrite_left<const P: usize>(
     overwrite_told(&done.replies, is_kept, after)
 }
 
-// Overwrites a whole tree, with the value 7. None where a refusal fell outside the run.
+// Overwrites a whole tree, with the value 7. None where an allocation failed outside the run.
 fn overwrite_all<const P: usize>(
     first: &mut NodeStore<Key, u32, P>,
     second: &mut NodeStore<Key, u32, P>,

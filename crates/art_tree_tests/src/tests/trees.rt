@@ -5,7 +5,7 @@ use art_nodes::store::NodeStore;
 use art_test_support::trees::Key;
 use std::alloc::AllocError;
 
-/// How a tree is made, as met by walking children from its root.
+/// How a tree is made, as seen by a traversal from its root.
 #[derive(Clone, Copy, PartialEq, Eq, Debug)]
 pub struct Shape {
     pub leaves: usize,
@@ -36,7 +36,7 @@ impl Shape {
         self.longest_prefix = self.longest_prefix.max(node.prefix_len());
     }
 
-    // Meets the node under a name, and puts its children's names into the list. Returns whether there is one.
+    // Meets the node under a name, and adds its children's names to the list. Returns whether there is one.
     fn meet<const P: usize>(
         &mut self,
         store: &NodeStore<Key, u32, P>,
@@ -70,7 +70,7 @@ fn count_children<const P: usize>(
     Some(store.inner(name.as_inner()?)?.num_children())
 }
 
-// The shape of a tree, with a list for the names of the nodes that are still to be met.
+// The shape of a tree, with a list for the names of the pending nodes.
 fn walk<const P: usize>(
     store: &NodeStore<Key, u32, P>,
     root: OpaqueNodePtr,
@@ -90,7 +90,7 @@ fn walk<const P: usize>(
     Ok(None)
 }
 
-/// The shape of a tree of at most 10,000 nodes. None where a name on the way is the name of no node.
+/// The shape of a tree of at most 10,000 nodes. None if a name in it is the name of no node.
 pub fn shape_of<const P: usize>(
     store: &NodeStore<Key, u32, P>,
     root: OpaqueNodePtr,

@@ -22,7 +22,7 @@ type Store = NodeStore<Key, u32, 1>;
 
 type Model = BTreeMap<Key, u32>;
 
-// How many nodes a tree has, where the checker finds no fault. It says that the root is canonical.
+// How many nodes a tree has, if the checker finds no fault. Its contract says that the root is canonical then.
 fn checked<K: AsBytes + Drop, const P: usize>(
     store: &NodeStore<K, u32, P>,
     root: OpaqueNodePtr,
@@ -43,7 +43,7 @@ fn planted(store: &mut Store, key: Key, value: u32) -> Option<OpaqueNodePtr> {
     }
 }
 
-// The root after a pair was put into a tree, and the value that it replaced.
+// The root after a pair was inserted into a tree, and the value that it replaced.
 fn put(
     store: &mut Store,
     root: OpaqueNodePtr,
@@ -63,7 +63,8 @@ fn put(
     }
 }
 
-// Puts a pair into a tree, or plants one, and into its model, and returns the root, if both had the same value before.
+// Inserts a pair into a tree, or plants one, and into its model, and returns the root, if both had the same value
+// before.
 fn insert(
     store: &mut Store,
     root: Option<OpaqueNodePtr>,
@@ -83,8 +84,8 @@ fn insert(
     }
 }
 
-// The root that is left after a key was taken out of a tree, and the value that it had. The inner `None` is for a key that
-// is not there.
+// The root that is left after a key was removed from a tree, and its value. The inner `None` is for a key that is not
+// stored.
 fn taken(
     store: &mut Store,
     root: OpaqueNodePtr,
@@ -100,7 +101,7 @@ fn taken(
     }
 }
 
-// Takes a key out of a tree and of its model, and returns the root that is left, if both had the same value.
+// Removes a key from a tree and from its model, and returns the root that is left, if both had the same value.
 fn delete(
     store: &mut Store,
     root: OpaqueNodePtr,

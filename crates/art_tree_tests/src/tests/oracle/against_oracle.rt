@@ -1,4 +1,4 @@
-//! Trees that runs of drawn commands leave, each compared with the tree that is built of the pairs at one go.
+//! Trees that runs of drawn commands leave, each compared with the tree that is built from the pairs at once.
 ghost use Rattle.std.specs.Prelude.{ℕ, ◌<◌, List};
 ghost use Rattle.art_model.specs.Canonical.{IsCanonical};
 ghost use Rattle.art_model.specs.Clones.{KeepBytes};
@@ -39,7 +39,7 @@ struct Hundred {
 }
 
 impl Hundred {
-    /// Draws one command more, and carries it out on a list.
+    /// Draws one further command, and carries it out on a list.
     fn draw(
         &mut self,
         drawer: &mut Drawer,
@@ -79,7 +79,7 @@ fn draw_hundred(
     Ok(hundred)
 }
 
-/// The replies to commands on a tree. The store that it is in at the end comes to be the first.
+/// The replies to commands on a tree. The store that it is in at the end becomes the first.
 fn run_all<K: AsBytes + Clone + Drop, const P: usize>(
     first: &mut NodeStore<K, u32, P>,
     second: &mut NodeStore<K, u32, P>,
@@ -103,7 +103,7 @@ fn run_all<K: AsBytes + Clone + Drop, const P: usize>(
     }
 }
 
-/// Whether two replies say the same, of the tags of keys too.
+/// Whether two replies report the same, including the tags of keys.
 fn are_alike(one: &Reply<Tagged, u32>, other: &Reply<Tagged, u32>) -> bool {
     match (one, other) {
         (Reply::Inserted(old), Reply::Inserted(want)) => old == want,
@@ -121,7 +121,7 @@ fn are_alike(one: &Reply<Tagged, u32>, other: &Reply<Tagged, u32>) -> bool {
     }
 }
 
-/// Compares a tree with the one that is built of these pairs. Returns the greatest kind of node, or None where they are
+/// Compares a tree with the one that is built from these pairs. Returns the greatest kind of node, or None if they are
 /// not the same.
 fn compare<const P: usize>(
     store: &NodeStore<Tagged, u32, P>,
@@ -136,7 +136,7 @@ fn compare<const P: usize>(
 }
 
 /// Carries commands out on a tree. Returns the place of the first reply that is not the list's, and the greatest kind
-/// of node, or None where the tree is not the one that is built of the list's pairs.
+/// of node, or None if the tree is not the one that is built from the list's pairs.
 fn carry_out<const P: usize>(
     first: &mut NodeStore<Tagged, u32, P>,
     second: &mut NodeStore<Tagged, u32, P>,
@@ -165,8 +165,8 @@ struct Met {
 }
 
 impl Met {
-    /// Whether commands of each kind were drawn, and trees came to be large, to be empty, and to have a node of this
-    /// kind but of no greater one.
+    /// Whether commands of each kind were drawn, and trees became large, became empty, and had a node of this kind but
+    /// of no greater one.
     fn is_wide(self, greatest_kind: NodeType) -> bool {
         self.drawn.is_each()
             && self.most_pairs > 80
@@ -236,7 +236,7 @@ fn are_wide(alloc: Global, shape: KeyShape, greatest_kind: NodeType) -> Result<[
     ])
 }
 
-/// Shapes of keys, each with the greatest kind of node that its trees come to have.
+/// Shapes of keys, each with the greatest kind of node that its trees have.
 static SHAPES: [(KeyShape, NodeType); 4] = [
     (KeyShape::OneByte, NodeType::Node256),
     (KeyShape::TwoBytes, NodeType::Node48),

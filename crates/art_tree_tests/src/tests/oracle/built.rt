@@ -1,4 +1,4 @@
-//! Trees that are built of sorted pairs at one go.
+//! Trees that are built from sorted pairs at once.
 ghost use Rattle.std.specs.Prelude.{◌<◌, IfOk};
 ghost use Rattle.art_model.specs.Pairs.{IsMap, of_key};
 
@@ -46,7 +46,7 @@ fn two_long_keys(alloc: Global) -> Result<Vec<([u8; 6], u32)>, AllocError>
     Ok(pairs)
 }
 
-/// An inner node: its kind, the length of its prefix, how many children it has, and whether just these bytes of its
+/// An inner node: its kind, the length of its prefix, how many children it has, and whether exactly these bytes of its
 /// prefix are stored.
 type Seen = (NodeType, usize, usize, bool);
 

@@ -11,7 +11,7 @@ use std::alloc::{AllocError, Global};
 use std::boxed::BoxedSlice;
 use std::mem;
 
-/// Carries a command out, and returns as is to be replied to it.
+/// Carries a command out, and returns the expected reply.
 pub fn answer<K: AsBytes + Drop>(
     alloc: Global,
     pairs: &mut Vec<(K, u32)>,
@@ -51,7 +51,7 @@ fn insert<K: AsBytes + Drop>(
     }
 }
 
-/// The reply to a key that is in conflict with a stored one.
+/// The reply to a key that conflicts with a stored one.
 fn conflict<K: AsBytes + Drop>(
     alloc: Global,
     key: K,
@@ -61,7 +61,7 @@ fn conflict<K: AsBytes + Drop>(
     Ok(Reply::Conflict(key, value, InsertPrefixError { byte_repr }))
 }
 
-/// Puts a pair in, in the place of all with related keys; but a stored key that is equal stays, and gets the value.
+/// Inserts a pair and removes all with related keys; but an equal stored key stays, and gets the value.
 fn overwrite<K: AsBytes + Drop>(
     alloc: Global,
     pairs: &mut Vec<(K, u32)>,
@@ -82,7 +82,7 @@ fn overwrite<K: AsBytes + Drop>(
     })
 }
 
-/// Takes all pairs with related keys out. Returns the last of them, and how many there were.
+/// Removes all pairs with related keys. Returns the last of them, and how many there were.
 fn take_related<K: AsBytes + Drop>(
     alloc: Global,
     pairs: &mut Vec<(K, u32)>,
@@ -110,7 +110,7 @@ fn are_related(one: &[u8], other: &[u8]) -> bool {
     one.starts_with(other) || other.starts_with(one)
 }
 
-/// Takes out the pair at a place of the list, if there is one.
+/// Removes the pair at a place of the list, if there is one.
 fn delete_listed<K: AsBytes + Drop>(
     alloc: Global,
     pairs: &mut Vec<(K, u32)>,
@@ -136,7 +136,7 @@ fn match_len<K: AsBytes>(pairs: &[(K, u32)], query: &[u8]) -> Option<usize> {
     None
 }
 
-/// The same pairs once more.
+/// A copy of the pairs.
 pub fn copy(alloc: Global, pairs: &[(Tagged, u32)]) -> Result<Vec<(Tagged, u32)>, AllocError>
     ensures { IfOk result (λ copy. IsMap (of_key ⟦<Tagged as AsBytes>⟧.bytes) copy.items) }
 {

@@ -162,8 +162,8 @@ impl Drawer {
         Ok(Command::Insert(self.tagged(key), self.numbers.value()))
     }
 
-    /// A command, where these pairs are stored. While they are to become more half of all are insertions, else half are
-    /// deletions that find a pair.
+    /// A command, where these pairs are stored. While their number should grow more than half of all are insertions,
+    /// else half are deletions that find a pair.
     pub fn command(
         &mut self,
         pairs: &[(Tagged, u32)],

@@ -1,5 +1,5 @@
-//! A run of many commands while requests for memory are refused, in turn, by tools/refusals. The commands that were not
-//! refused are carried out on a list too. After each refusal that was met a test says once that it asserted what holds.
+//! A run of many commands while tools/refusals makes allocations fail, one at a time. The commands that did not fail
+//! are carried out on a list too. After each failure that was met a test reports once that it asserted what holds.
 ghost use Rattle.std.specs.Prelude.{◌<◌};
 ghost use Rattle.art_model.specs.Pairs.{IsMap, of_key};
 
@@ -29,7 +29,7 @@ const BYTES: [u8; 51] = [
     50,
 ];
 
-/// What is asked once there is each of the first fifty bytes as a key.
+/// What is asked after each of the first fifty bytes was inserted as a key.
 static AT_ITS_LARGEST: [Row<'static>; 6] = [
     (Asked::Insert(&[50, 0], 0), Told::Inserted(None)),
     (Asked::Insert(&[50, 1], 1), Told::Inserted(None)),
@@ -39,7 +39,7 @@ static AT_ITS_LARGEST: [Row<'static>; 6] = [
     (Asked::DeleteMax, Told::Deleted(Some((&[50], 7)))),
 ];
 
-/// What is asked once the first three are left.
+/// What is asked when the first three are left.
 static WITH_THREE_LEFT: [Row<'static>; 3] = [
     (Asked::Insert(&[], 9), Told::Conflict(&[], 9, &[])),
     (Asked::InsertPrefix(&[], 9), Told::Overwrote(None, 3)),
@@ -56,7 +56,7 @@ fn key_at(bytes: &[u8], at: u8) -> &[u8] {
     }
 }
 
-/// Each of the first fifty bytes comes as a key.
+/// Each of the first fifty bytes is inserted as a key.
 fn push_insertions<'a>(rows: &mut Vec<Row<'a>>, bytes: &'a [u8]) -> Result<(), AllocError> {
     for value in 0..50u8 {
         let key = key_at(bytes, value);
@@ -65,7 +65,7 @@ fn push_insertions<'a>(rows: &mut Vec<Row<'a>>, bytes: &'a [u8]) -> Result<(), A
     Ok(())
 }
 
-/// All but the first three go, from the last one on.
+/// All but the first three are removed, from the last one on.
 fn push_deletions<'a>(rows: &mut Vec<Row<'a>>, bytes: &'a [u8]) -> Result<(), AllocError> {
     for value in (3..50u8).rev() {
         let pair = (key_at(bytes, value), u32::from(value));
@@ -74,8 +74,8 @@ fn push_deletions<'a>(rows: &mut Vec<Row<'a>>, bytes: &'a [u8]) -> Result<(), Al
     Ok(())
 }
 
-/// 106 commands, and the replies to them where there is memory: a tree grows to 51 children and to every kind of node,
-/// goes over to the other store and shrinks again.
+/// 106 commands, and the replies to them with enough memory: a tree grows to 51 children and to every kind of node,
+/// moves to the other store and shrinks again.
 fn script(alloc: Global, bytes: &[u8]) -> Result<Vec<Row<'_>>, AllocError> {
     let mut rows = Vec::with_capacity(alloc, 106)?;
     push_script(&mut rows, bytes)?;
@@ -95,8 +95,8 @@ fn scripted(alloc: Global) -> Result<Vec<Command<Key, u32>>, AllocError> {
     commands(alloc, &rows)
 }
 
-/// What a run with memory leaves: the first reply that is not the one of its row, the side, whether the root is a leaf
-/// of the empty key, and how many nodes each store has.
+/// What a run with enough memory leaves: the first reply that is not the one of its row, the side, whether the root is
+/// a leaf of the empty key, and how many nodes each store has.
 type Left = (Option<usize>, Side, bool, [(usize, usize); 2]);
 
 fn is_leaf_of_nothing<const P: usize>(
@@ -173,7 +173,7 @@ fn count_related(pairs: &[(Key, u32)], key: &[u8]) -> usize {
         .count()
 }
 
-/// Whether a command takes memory where these pairs are stored.
+/// Whether a command allocates where these pairs are stored.
 fn may_be_refused(pairs: &[(Key, u32)], asked: Asked<'_>) -> bool {
     match asked {
         Asked::Insert(key, _) => !pairs.iter().any(|pair| pair.0.as_slice() == key),
@@ -184,7 +184,7 @@ fn may_be_refused(pairs: &[(Key, u32)], asked: Asked<'_>) -> bool {
     }
 }
 
-/// The reply to a command that is refused.
+/// The reply to a command that fails.
 fn refusal_of(asked: Asked<'_>) -> Told<'_> {
     Told::NoMemory(match asked {
         Asked::Insert(key, value) | Asked::InsertPrefix(key, value) => Some((key, value)),
@@ -192,7 +192,7 @@ fn refusal_of(asked: Asked<'_>) -> Told<'_> {
     })
 }
 
-/// Whether a reply is a refusal, of a command that takes memory where these pairs are stored.
+/// Whether a reply is a failure, of a command that allocates where these pairs are stored.
 fn is_refusal(pairs: &[(Key, u32)], asked: Asked<'_>, reply: &Reply<Key, u32>) -> bool {
     told_by(reply) == refusal_of(asked) && may_be_refused(pairs, asked)
 }
@@ -211,8 +211,8 @@ fn is_answer(
     Ok(told_by(reply) == told_by(&wanted))
 }
 
-/// How many replies are refusals. None where one came to a command that takes no memory, or where another reply is not
-/// that of the list, which carries out the commands that were not refused.
+/// How many replies are failures. None if one is to a command that allocates nothing, or if another reply is not that
+/// of the list, which carries out the commands that did not fail.
 fn count_refused(
     alloc: Global,
     pairs: &mut Vec<(Key, u32)>,
@@ -260,20 +260,20 @@ fn checked_counts<const P: usize>(
     }
 }
 
-/// What comes of commands of which some may be refused.
+/// The result of commands of which some may fail.
 #[derive(Clone, Copy, PartialEq, Eq, Debug)]
 enum Outcome {
-    /// The refusal fell outside the run.
+    /// The failure was outside the run.
     Undecided,
-    /// All commands came back, and no store has a node.
+    /// All commands were returned, and no store has a node.
     HandedBack,
-    /// So many commands were refused, and all that is left is what the others leave.
+    /// So many commands failed, and all that is left is what the others leave.
     Ran(usize),
     Wrong,
 }
 
 impl Outcome {
-    /// How many refusals were met.
+    /// How many failures were met.
     fn refusals(self) -> usize {
         match self {
             Outcome::HandedBack => 1,
@@ -293,7 +293,7 @@ fn judge<const P: usize>(
     judge_beside(store, other, done, &rows, &mut Vec::new(store.alloc()))
 }
 
-/// The same beside a list without pairs, which carries out the commands of these rows that were not refused.
+/// The same with a list without pairs, which carries out the commands of these rows that did not fail.
 fn judge_beside<const P: usize>(
     store: &NodeStore<Key, u32, P>,
     other: &NodeStore<Key, u32, P>,
@@ -333,7 +333,7 @@ fn is_asked(command: &Command<Key, u32>, row: &Row<'_>) -> bool {
     is_same(command, row.0)
 }
 
-/// Whether all commands came back, and there is no node in either store.
+/// Whether all commands were returned, and there is no node in either store.
 fn are_handed_back<const P: usize>(
     first: &NodeStore<Key, u32, P>,
     second: &NodeStore<Key, u32, P>,
@@ -344,7 +344,7 @@ fn are_handed_back<const P: usize>(
     Ok(first_apart(back, &rows, is_asked).is_none() && counts == [(0, 0); 2])
 }
 
-/// Runs the commands while requests may be refused, and then judges with memory what came of it.
+/// Runs the commands while allocations may fail, and then judges the result with memory.
 fn tried<const P: usize>(
     first: &mut NodeStore<Key, u32, P>,
     second: &mut NodeStore<Key, u32, P>,
@@ -381,7 +381,7 @@ fn tried_with<const P: usize>(alloc: Global) -> Result<Outcome, AllocError>
     tried_beside::<P>(&mut NodeStore::new(alloc))
 }
 
-/// Asserts what came of a run, and says so once for each refusal that was met.
+/// Asserts the result of a run, and reports it once for each failure that was met.
 fn assert_whole(rt: &(impl Abort + Print), outcome: Outcome) -> Result<(), Fail> {
     assert_ne!(rt; outcome, Outcome::Wrong);
     for _ in 0..outcome.refusals() {

@@ -10,7 +10,7 @@ use art_test_support::trees::Key;
 use std::alloc::{AllocError, Global};
 use std::test::Fail;
 
-/// Puts a pair in if no stored key is equal or related, and returns whether it did.
+/// Inserts a pair if no stored key is equal or related, and returns whether it did.
 pub fn insert_apart<K: AsBytes + Drop, V: Drop>(
     pairs: &mut Vec<(K, V)>,
     key: K,
@@ -28,7 +28,7 @@ pub fn insert_apart<K: AsBytes + Drop, V: Drop>(
     }
 }
 
-/// Gives a stored key another value, and returns the old one.
+/// Replaces the value of a stored key, and returns the old one.
 fn replace<K: AsBytes + Drop, V: Drop>(pairs: &mut Vec<(K, V)>, key: K, value: V) -> Option<V>
     requires { IsMap (of_key K.bytes) pairs.old.items }
     ensures { IsMap (of_key K.bytes) pairs.new.items }
@@ -40,7 +40,7 @@ fn replace<K: AsBytes + Drop, V: Drop>(pairs: &mut Vec<(K, V)>, key: K, value: V
     Some(old)
 }
 
-/// Takes a key out, and returns its value.
+/// Removes a key, and returns its value.
 fn take<K: AsBytes + Drop, V: Drop>(pairs: &mut Vec<(K, V)>, key: &[u8]) -> Option<V>
     requires { IsMap (of_key K.bytes) pairs.old.items }
     ensures { IsMap (of_key K.bytes) pairs.new.items }
@@ -81,7 +81,7 @@ fn keeps_keys_in_order(rt: HostRuntime) -> Result<(), Fail> {
     same(searched(&pairs), wanted)
 }
 
-/// Whether each of three more keys comes in.
+/// Whether each of three further keys is inserted.
 fn are_apart(alloc: Global, pairs: &mut Vec<(Key, u32)>) -> Result<[bool; 3], AllocError>
     requires { IsMap (of_key ⟦<Vec<u8> as AsBytes>⟧.bytes) pairs.old.items }
 {
@@ -99,7 +99,7 @@ fn sees_related_keys(rt: HostRuntime) -> Result<(), Fail> {
     same((came, pairs.len()), ([false, false, true], 4))
 }
 
-/// The old values of keys that are given others, and then of one that is taken out twice.
+/// The old values of keys whose values are replaced, and then of one that is removed twice.
 fn replaced_and_taken(
     alloc: Global,
     pairs: &mut Vec<(Key, u32)>,
@@ -121,7 +121,7 @@ fn replaces_and_removes(rt: HostRuntime) -> Result<(), Fail> {
     same((old, pairs.len()), ([Some(20), None, Some(21), None], 2))
 }
 
-/// Whether a pair comes in where there is no memory, and how many pairs there are then.
+/// Whether a pair is inserted where allocations fail, and how many pairs there are then.
 fn inserted_without_memory(
     alloc: Global,
     pairs: &mut Vec<([u8; 1], u32)>,

@@ -17,7 +17,8 @@ use std::test::Fail;
 // The root that a deletion leaves, the deleted pair, and what else is seen.
 type Left<T> = (Option<OpaqueNodePtr>, Gone, T);
 
-// What is left without [1, 2, 9] beside [1, 2, 3, 4], with whether the parent of both is there still, and what is to be.
+// What is left without [1, 2, 9] beside [1, 2, 3, 4], with whether the parent of both is still in the store, and what
+// is expected.
 fn raise_leaf<const P: usize>(
     store: &mut NodeStore<Key, u32, P>,
 ) -> Option<(Left<bool>, Left<bool>)> {
@@ -40,7 +41,7 @@ fn raises_the_other_leaf(rt: HostRuntime) -> Result<(), Fail> {
 // How many names came into use, went out of it, and have another node, and the root that is left.
 type Merged = ((usize, usize, usize), Outline);
 
-// Deletes [7, 1, 1, 9] beside two keys with a longer prefix. Returns what is seen, and what is to be.
+// Deletes [7, 1, 1, 9] beside two keys with a longer prefix. Returns what is seen, and what is expected.
 fn merge_long<const P: usize>(store: &mut NodeStore<Key, u32, P>) -> Option<(Merged, Merged)> {
     let slices: [&[u8]; 3] = [&[7, 1, 1, 1, 1, 5], &[7, 1, 1, 1, 1, 6], &[7, 1, 1, 9]];
     let seen = deletion_from(store, &slices, &[7, 1, 1, 9])?;
@@ -65,11 +66,11 @@ fn pairs_left(alloc: Global) -> Result<Vec<(Key, u32)>, AllocError> {
     Ok(pairs)
 }
 
-// How many slots the deletion of an inserted key places, frees and changes, whether the root is the one that it was, and
+// How many slots the deletion of an inserted key places, frees and changes, whether the root is the same as before, and
 // the greatest kind of node where the tree is the one of the other keys.
 type Undone = ((usize, usize, usize), bool, Option<NodeType>);
 
-// What is seen of that, and what is to be.
+// What is seen of that, and what is expected.
 fn undone<const P: usize>(
     store: &mut NodeStore<Key, u32, P>,
     other: &mut NodeStore<Key, u32, P>,
@@ -98,7 +99,7 @@ fn undoes_an_insertion(rt: HostRuntime) -> Result<(), Fail> {
     as_expected(undone_with::<16>(rt.alloc()))
 }
 
-// The root that is left without [1, 9] beside [1, 1, 5] and [1, 1, 6], while all memory is held, and what is to be.
+// The root that is left without [1, 9] beside [1, 1, 5] and [1, 1, 6], while all memory is held, and what is expected.
 fn compress_without_memory<const P: usize>(
     store: &mut NodeStore<Key, u32, P>,
 ) -> Option<(Outline, Outline)> {
@@ -114,7 +115,7 @@ fn without_memory_a_parent_is_compressed(rt: HostRuntime) -> Result<(), Fail> {
     as_expected(compress_without_memory::<4>(&mut NodeStore::new(rt.alloc())))
 }
 
-// What is left without the only key, with how many leaves and inner nodes there are, and what is to be.
+// What is left without the only key, with how many leaves and inner nodes there are, and what is expected.
 fn delete_last<const P: usize>(
     store: &mut NodeStore<Key, u32, P>,
 ) -> Option<(Left<(usize, usize)>, Left<(usize, usize)>)> {

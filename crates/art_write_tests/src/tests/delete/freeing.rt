@@ -1,4 +1,4 @@
-//! Whole trees that are freed.
+//! Freeing whole trees.
 ghost use Rattle.art_model.specs.Pairs.{of_key};
 ghost use Rattle.art_model.specs.Roots.{IsCanonicalRoot};
 
@@ -12,10 +12,10 @@ use art_test_support::trees::{Key, keys_of_three, planted_all, planted_keys, val
 use std::alloc::Global;
 use std::test::Fail;
 
-// What comes of a tree that is freed.
+// The result of freeing a tree.
 #[derive(Clone, Copy, PartialEq, Eq, Debug)]
 struct Left {
-    // How many leaves the call says that it freed.
+    // How many leaves the call reports to have freed.
     count: usize,
     // How many leaves and inner nodes there are.
     nodes: (usize, usize),
@@ -86,7 +86,7 @@ fn a_freed_tree_leaves_nothing(rt: HostRuntime) -> Result<(), Fail> {
     Ok(())
 }
 
-// What is left of the tree of these 24 keys, and what is to be.
+// What is left of the tree of these 24 keys, and what is expected.
 fn freed_of_many<const P: usize>(
     store: &mut NodeStore<Key, u32, P>,
     all: Vec<Key>,

@@ -23,7 +23,7 @@ pub fn point_of<K: AsBytes + Drop, const P: usize>(
     search_for_delete_point(store, root, key_bytes)
 }
 
-/// Takes a key out, and returns the root that is left. The outer `None` is for an absent key or a refusal.
+/// Removes a key, and returns the root that is left. The outer `None` is for an absent key or a failure.
 pub fn take_out<K: AsBytes + Drop, const P: usize>(
     store: &mut NodeStore<K, u32, P>,
     root: OpaqueNodePtr,
@@ -38,8 +38,8 @@ pub fn take_out<K: AsBytes + Drop, const P: usize>(
     }
 }
 
-/// Deletes a key. Returns the root that is left and the deleted pair, or `None` where the key is absent or the deletion
-/// is refused.
+/// Deletes a key. Returns the root that is left and the deleted pair, or `None` if the key is absent or the deletion
+/// fails.
 pub fn delete<const P: usize>(
     store: &mut NodeStore<Key, u32, P>,
     root: OpaqueNodePtr,

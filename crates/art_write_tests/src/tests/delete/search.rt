@@ -1,4 +1,4 @@
-//! Points of leaves that go.
+//! Points of leaves to be deleted.
 ghost use Rattle.art_model.specs.Pairs.{of_key};
 ghost use Rattle.art_model.specs.Roots.{IsCanonicalRoot};
 
@@ -59,7 +59,7 @@ fn point_at_root(root: OpaqueNodePtr) -> Option<DeletePoint> {
     })
 }
 
-// The points of the only leaf, as they are found, and as they are to be.
+// The points of the only leaf, as they are found, and as they are expected.
 type OfOne = [Option<DeletePoint>; 3];
 
 fn points_of_one<const P: usize>(store: &mut NodeStore<Key, u32, P>) -> Option<(OfOne, OfOne)> {
@@ -74,8 +74,8 @@ fn names_no_parent_of_the_root(rt: HostRuntime) -> Result<(), Fail> {
     as_expected(points_of_one::<16>(&mut NodeStore::new(rt.alloc())))
 }
 
-// How many nodes a search for a key reads that parts from the stored bytes of the root's prefix, and whether it finds a
-// point.
+// How many nodes a search reads for a key that differs from the stored bytes of the root's prefix, and whether it finds
+// a point.
 fn searched_aside(store: &mut NodeStore<Key, u32, 16>) -> Option<(bool, usize)> {
     let root = planted_all(store, &[&[1, 2, 3], &[1, 2, 4]]).ok()??;
     let (point, count) = searched(store, root, &[9, 9, 3]);
@@ -140,7 +140,7 @@ fn found_points<const P: usize>(store: &NodeStore<Key, u32, P>, root: OpaqueNode
     ]
 }
 
-// The points in the tree of four keys, as they are found, and as they are to be.
+// The points in the tree of four keys, as they are found, and as they are expected.
 fn points_of_four<const P: usize>(store: &mut NodeStore<Key, u32, P>) -> Option<(Points, Points)> {
     let root = planted_all(store, &FOUR).ok()??;
     Some((found_points(store, root), expected_points(store, root)?))
@@ -208,7 +208,7 @@ fn are_named_alike<const P: usize>(
     Some(first_told_apart(store, root, keys).is_none())
 }
 
-// The three keys, and some that part from them in the prefix, at the leaf and at a child, or end before.
+// The three keys, and some that differ from them in the prefix, at the leaf and at a child, or end before.
 static SOUGHT: [&[u8]; 9] = [
     &[1, 2, 3],
     &[1, 2, 4],
@@ -318,7 +318,7 @@ fn points_with<const P: usize>(
     }
 }
 
-// The points of both ends of the tree of these keys, as they are found, and as they are to be.
+// The points of both ends of the tree of these keys, as they are found, and as they are expected.
 type BothEnds = [DeletePoint; 2];
 
 fn both_ends<const P: usize>(

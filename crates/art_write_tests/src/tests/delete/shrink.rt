@@ -32,8 +32,8 @@ fn kind_left(root: Option<OpaqueNodePtr>) -> Option<NodeType> {
     Some(root?.node_type())
 }
 
-// Takes all 256 keys of one byte out. Returns the root that is left, and how many keys there were when the root was of
-// another kind than it had to be.
+// Removes all 256 keys of one byte. Returns the root that is left, and how many keys there were when the root was of
+// another kind than expected.
 fn take_all_out<const P: usize>(
     store: &mut NodeStore<Key, u32, P>,
     root: OpaqueNodePtr,
@@ -42,7 +42,7 @@ fn take_all_out<const P: usize>(
 {
     let mut root = Some(root);
     for turn in 0..=255u8 {
-        // 77 is odd: each byte comes once, and few come in order.
+        // 77 is odd: each byte occurs once, and few are in order.
         let top = root?;
         root = take_out(store, top, &[turn.wrapping_mul(77)])?;
         let left = usize::from(255 - turn);
@@ -100,10 +100,10 @@ static SEVENTEEN: [&[u8]; 18] = [
 #[test]
 fn touches_no_more_than_it_must(rt: HostRuntime) -> Result<(), Fail> {
     let cases: [(&[&[u8]], &[u8], (usize, usize, usize)); 4] = [
-        // The leaf, with those beside it and the parent.
+        // The leaf, with its neighbours and the parent.
         (&SIX, &[2], (0, 1, 3)),
         (&SIX, &[5], (0, 1, 2)),
-        // The leaf and the parent, with the leaves beside it and a smaller node.
+        // The leaf and the parent, with the leaf's neighbours and a smaller node.
         (&SIX[..5], &[2], (1, 2, 2)),
         // And the grandparent.
         (&SEVENTEEN, &[0, 2], (1, 2, 3)),
@@ -133,7 +133,7 @@ fn left_without_memory<const P: usize>(
     left
 }
 
-// The same in the tree of four keys of one byte, and what is to be.
+// The same in the tree of four keys of one byte, and what is expected.
 fn left_of_four<const P: usize>(store: &mut NodeStore<Key, u32, P>) -> Option<(Left, Left)> {
     let root = planted_all(store, &SIX[..4]).ok()??;
     let left = left_without_memory(store, root)?;
@@ -161,11 +161,11 @@ fn without_memory_a_promised_shrink_is_made(rt: HostRuntime) -> Result<(), Fail>
     same(left, Some((2, Some(NodeType::Node4))))
 }
 
-// More nodes of one kind than a store has room for before it is asked for.
+// More nodes of one kind than a store has room for before they are requested.
 const MORE_THAN_FIT: usize = 100_000;
 
-// What the deletion of [2] frees and changes of these nodes, beside leaves and nodes of the smaller kind that take all
-// that there is room for.
+// What the deletion of [2] frees and changes of these nodes, in addition to leaves and nodes of the smaller kind that
+// take all the room.
 fn touched_in_full<const P: usize>(
     store: &mut NodeStore<Key, u32, P>,
     root: OpaqueNodePtr,
@@ -200,7 +200,7 @@ fn touched_with(alloc: Global, count: u16, kind: NodeType) -> Option<(usize, usi
     touched_of_many::<4>(&mut NodeStore::new(alloc), count, kind)
 }
 
-// The numbers of children from which a node comes to be of a smaller kind, with that kind.
+// The numbers of children from which a node becomes one of a smaller kind, with that kind.
 static SHRINKING: [(u16, NodeType); 3] = [
     (5, NodeType::Node4),
     (17, NodeType::Node16),
@@ -216,7 +216,7 @@ fn without_memory_a_shrink_is_made(rt: HostRuntime) -> Result<(), Fail> {
     Ok(())
 }
 
-// What is left of the tree of all keys of one byte once they are taken out while all memory is held.
+// What is left of the tree of all keys of one byte once they are removed while all memory is held.
 fn taken_out_without_memory<const P: usize>(
     store: &mut NodeStore<Key, u32, P>,
 ) -> Option<(Option<OpaqueNodePtr>, Option<usize>)> {

@@ -1,4 +1,4 @@
-//! Deletions of all keys that begin with a prefix.
+//! Deletions of all keys that start with a prefix.
 ghost use Rattle.std.specs.Prelude.{◌<◌, IfSome};
 ghost use Rattle.art_model.specs.Pairs.{of_key};
 ghost use Rattle.art_model.specs.Roots.{IsCanonicalRoot};
@@ -18,7 +18,7 @@ use std::test::Fail;
 // How many names came into use, went out of it, and have another node.
 type Touched = (usize, usize, usize);
 
-// The root that is left, how many leaves went, and what was touched.
+// The root that is left, how many leaves were removed, and what was touched.
 #[derive(Clone, Copy)]
 struct Removal {
     new_root: Option<OpaqueNodePtr>,
@@ -55,9 +55,9 @@ fn removed_from<const P: usize>(
     remove_below(store, root, &before, prefix)
 }
 
-// Keys, of which so many at the front do not begin with the prefix and stand in their order, and what their removal is to
-// touch. The greatest kind of inner node that is left, which is `Node4` where there is none, is told where the tree is that
-// of the keys that stay.
+// Keys, of which so many at the front do not start with the prefix and are in their order, and what their removal is
+// expected to touch. The greatest kind of inner node that is left, `Node4` if there is none, is given if the tree is
+// that of the keys that stay.
 struct Row {
     slices: &'static [&'static [u8]],
     kept: usize,
@@ -83,7 +83,7 @@ static ROWS: [Row; 9] = [
         touched: (0, 3, 0),
         kind: NodeType::Node4,
     },
-    // Below a child of the root, which keeps its kind: the leaves beside it and the root change.
+    // Below a child of the root, which keeps its kind: the leaf's neighbours and the root change.
     Row {
         slices: &[&[0], &[2], &[1, 1, 5], &[1, 1, 6], &[1, 9]],
         kept: 2,
@@ -99,7 +99,7 @@ static ROWS: [Row; 9] = [
         touched: (0, 1, 3),
         kind: NodeType::Node4,
     },
-    // The root goes with its child, and its other child is the root then.
+    // The root is removed with its child, and its other child becomes the root.
     Row {
         slices: &[&[0, 0, 1], &[0, 0, 2], &[1, 1], &[1, 2]],
         kept: 2,
@@ -129,7 +129,7 @@ static ROWS: [Row; 9] = [
         touched: (0, 3, 3),
         kind: NodeType::Node4,
     },
-    // The parent goes, and the grandparent has another child.
+    // The parent is removed, and the grandparent has another child.
     Row {
         slices: &[&[3], &[7, 0, 0], &[7, 0, 1], &[7, 1, 1, 5], &[7, 1, 1, 6]],
         kept: 3,
@@ -137,7 +137,7 @@ static ROWS: [Row; 9] = [
         touched: (0, 4, 3),
         kind: NodeType::Node4,
     },
-    // A smaller node comes in the parent's place, under the name of one that was freed.
+    // A smaller node replaces the parent, under the name of one that was freed.
     Row {
         slices: &[&[0], &[2], &[3], &[4], &[1, 1], &[1, 2]],
         kept: 4,
@@ -158,7 +158,8 @@ fn pairs_kept(alloc: Global, slices: &[&[u8]]) -> Result<Vec<(Key, u32)>, AllocE
     Ok(pairs)
 }
 
-// How many leaves went, what was touched, and the greatest kind of node where the tree is that of the keys that stay.
+// How many leaves were removed, what was touched, and the greatest kind of node where the tree is that of the keys that
+// stay.
 type Left = (usize, Touched, Option<NodeType>);
 
 // What is left of a row.
@@ -239,7 +240,7 @@ fn finds_no_point_where_no_key_begins_with_the_prefix(rt: HostRuntime) -> Result
     same(found, [Some(0); 3])
 }
 
-// The tree of so many keys of one byte and two keys that begin with 255.
+// The tree of so many keys of one byte and two keys that start with 255.
 fn planted_with_two<const P: usize>(
     store: &mut NodeStore<Key, u32, P>,
     count: u16,
@@ -264,7 +265,7 @@ fn shrunk<const P: usize>(
     Some((done.new_root?.node_type(), done.touched))
 }
 
-// The numbers of other children from which a node comes to be of a smaller kind, with that kind, and what is touched. A
+// The numbers of other children from which a node becomes one of a smaller kind, with that kind, and what is touched. A
 // node of the kind of the two keys' parent has its name.
 static SHRINKING: [(u16, NodeType, Touched); 3] = [
     (4, NodeType::Node4, (0, 3, 2)),
@@ -281,11 +282,11 @@ fn shrinks_a_parent_of_each_kind(rt: HostRuntime) -> Result<(), Fail> {
     Ok(())
 }
 
-// More nodes of one kind than a store has room for before it is asked for.
+// More nodes of one kind than a store has room for before they are requested.
 const MORE_THAN_FIT: usize = 100_000;
 
-// What the removal of the keys that begin with 255 frees and changes of these nodes, beside nodes of the smaller kind that
-// take all that there is room for.
+// What the removal of the keys that start with 255 frees and changes of these nodes, in addition to nodes of the
+// smaller kind that take all the room.
 fn touched_in_full<const P: usize>(
     store: &mut NodeStore<Key, u32, P>,
     root: OpaqueNodePtr,
@@ -302,7 +303,7 @@ fn touched_in_full<const P: usize>(
     Some((freed, changed))
 }
 
-// The same in the tree of so many keys of one byte and two that begin with 255.
+// The same in the tree of so many keys of one byte and two that start with 255.
 fn touched_of_many<const P: usize>(
     store: &mut NodeStore<Key, u32, P>,
     count: u16,

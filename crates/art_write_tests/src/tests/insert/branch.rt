@@ -14,7 +14,7 @@ use std::test::Fail;
 // An inner node, and whether it has children under two bytes.
 type Branch = (Outline, [bool; 2]);
 
-// The same of the node under a name, which is to store these bytes.
+// The same of the node under a name, which should store these bytes.
 fn branch_of<const P: usize>(
     store: &NodeStore<Key, u32, P>,
     name: OpaqueNodePtr,
@@ -29,7 +29,7 @@ fn branch_of<const P: usize>(
     Some((outline, has_children))
 }
 
-// A node with both children and no other, whose prefix has this length and is stored as it is to be.
+// A node with both children and no other, whose prefix has this length and is stored as it should be.
 fn branch_below(prefix_len: usize) -> Branch {
     (pair_below(prefix_len), [true; 2])
 }
@@ -42,7 +42,7 @@ struct Case<'a> {
     byte: Option<u8>,
     // The length and the stored bytes of the new parent's prefix, and the byte of the split node below it.
     parent: (usize, &'a [u8], u8),
-    // The length and the stored bytes that the split node's prefix has left. A leaf has none.
+    // The length and the stored bytes of what is left of the split node's prefix. A leaf has none.
     rest: Option<(usize, &'a [u8])>,
     touched: (usize, usize, usize),
 }
@@ -88,7 +88,7 @@ fn split_seen<const P: usize>(
     })
 }
 
-// The point of a key that parts from the prefix [1, 1] of what the root has under a byte, after one byte of it.
+// The point of a key that differs from the prefix [1, 1] of what the root has under a byte, after one byte of it.
 fn point_below(effect: Effect, byte: Option<u8>) -> Option<PrefixInsertPoint> {
     let byte = byte?;
     let root = effect.root;
@@ -110,13 +110,13 @@ fn point_below(effect: Effect, byte: Option<u8>) -> Option<PrefixInsertPoint> {
     }))
 }
 
-// What the split node is to be, where that is an inner one.
+// What the split node should be, if it is an inner one.
 fn rest_expected(case: Case<'_>) -> Option<Branch> {
     let (len, _) = case.rest?;
     Some(branch_below(len))
 }
 
-// What is to be seen of it. The root stays where what is below it is split.
+// What is expected of it. The root stays where what is below it is split.
 fn split_expected(case: Case<'_>, effect: Effect, parent: OpaqueNodePtr) -> Option<Split> {
     let new_root = if case.byte.is_some() {
         effect.root
@@ -132,7 +132,7 @@ fn split_expected(case: Case<'_>, effect: Effect, parent: OpaqueNodePtr) -> Opti
     })
 }
 
-// Splits a node as a case has it. Returns what is seen, and what is to be.
+// Splits a node as a case has it. Returns what is seen, and what is expected.
 fn split_by<const P: usize>(
     store: &mut NodeStore<Key, u32, P>,
     case: Case<'_>,
@@ -187,8 +187,8 @@ fn splits_the_prefix_of_a_child(rt: HostRuntime) -> Result<(), Fail> {
     as_expected(split_by::<16>(&mut NodeStore::new(rt.alloc()), CHILD))
 }
 
-// The root once [1, 2, 9] came in beside [1, 2, 3, 4] while all memory was held but for the nodes that it needs, and
-// what is to be.
+// The root after [1, 2, 9] was inserted beside [1, 2, 3, 4] while all memory was held but for the nodes that it needs,
+// and what is expected.
 fn split_without_memory<const P: usize>(
     store: &mut NodeStore<Key, u32, P>,
 ) -> Option<(Branch, Branch)> {

@@ -12,18 +12,18 @@ use art_test_support::nodes::{Seen, nodes_seen};
 use art_test_support::points::{Gone, Insertion, Put, Way, insertion_seen, put};
 use art_test_support::trees::{Key, child, planted_all};
 
-/// A key that comes into a tree, with the value 9.
+/// A key that is inserted into a tree, with the value 9.
 #[derive(Clone, Copy)]
 pub struct Comer<'a> {
     way: Way,
     key: &'a [u8],
-    // The key of a pair that gives way to it.
+    // The key of a pair that it replaces.
     old: &'a [u8],
     // The byte of a child of the root, or none for the root.
     byte: Option<u8>,
 }
 
-/// One that comes in apart from all others, where this byte is looked at.
+/// One that changes no other pair, where this byte is looked at.
 pub fn apart(key: &[u8], byte: Option<u8>) -> Comer<'_> {
     Comer {
         way: Way::Apart,
@@ -33,7 +33,7 @@ pub fn apart(key: &[u8], byte: Option<u8>) -> Comer<'_> {
     }
 }
 
-/// One in the place of all related ones, where its first byte is looked at. A pair that gives way is to have the key
+/// One that replaces all related ones, where its first byte is looked at. A pair that is replaced should have the key
 /// `old`.
 pub fn over<'a>(key: &'a [u8], old: &'a [u8]) -> Comer<'a> {
     Comer {
@@ -44,16 +44,16 @@ pub fn over<'a>(key: &'a [u8], old: &'a [u8]) -> Comer<'a> {
     }
 }
 
-/// What came of a key.
+/// The result of a key.
 #[derive(Clone, Copy, PartialEq, Eq, Debug)]
 pub struct Effect {
     /// The root before, and what that had under the byte that is looked at.
     pub root: OpaqueNodePtr,
     pub below: Option<OpaqueNodePtr>,
-    /// The point of the key in the place of all related ones.
+    /// The point of the key that replaces all related ones.
     pub point: PrefixInsertPoint,
     pub done: Insertion,
-    /// How many leaves went.
+    /// How many leaves were removed.
     pub removed: usize,
 }
 
@@ -69,7 +69,7 @@ pub fn node_under<const P: usize>(
     }
 }
 
-/// What comes of a key in the tree of these, each of which has its place as its value.
+/// The result of a key in the tree of these, each of which has its place as its value.
 pub fn effect_of<const P: usize>(
     store: &mut NodeStore<Key, u32, P>,
     slices: &[&[u8]],
@@ -99,7 +99,7 @@ pub fn effect_in<const P: usize>(
     })
 }
 
-// What the insertion of a key does, and how many leaves go.
+// What the insertion of a key does, and how many leaves are removed.
 fn insertion_of<const P: usize>(
     store: &mut NodeStore<Key, u32, P>,
     root: OpaqueNodePtr,
@@ -130,7 +130,7 @@ fn insertion_after<const P: usize>(
     }
 }
 
-/// What is to be done where a key becomes a child of this node.
+/// What is expected where a key becomes a child of this node.
 pub fn done_below(
     seen: Insertion,
     new_root: OpaqueNodePtr,
@@ -150,7 +150,7 @@ pub fn done_below(
     })
 }
 
-/// What is to be done where a key takes the place of one pair with this value, in its leaf.
+/// What is expected where a key replaces one pair with this value, in its leaf.
 pub fn done_in_place(root: OpaqueNodePtr, leaf: OpaqueNodePtr, value: u32) -> Option<Insertion> {
     Some(Insertion {
         leaf: leaf.as_leaf()?,
@@ -166,10 +166,10 @@ pub fn done_in_place(root: OpaqueNodePtr, leaf: OpaqueNodePtr, value: u32) -> Op
     })
 }
 
-/// The value of the pair that gave way to a key, and how many leaves went.
+/// The value of the replaced pair, and how many leaves were removed.
 pub type Told = (Option<u32>, usize);
 
-/// The same, where the key came in.
+/// The same, where the key was inserted.
 pub fn told(answer: Put<Key>) -> Option<Told> {
     match answer {
         Ok(done) => Some((
@@ -180,7 +180,7 @@ pub fn told(answer: Put<Key>) -> Option<Told> {
     }
 }
 
-/// The root once a key came in while all memory was held, and what is told of that.
+/// The root after a key was inserted while all memory was held, and what is reported of that.
 pub fn put_without_memory<const P: usize>(
     way: Way,
     store: &mut NodeStore<Key, u32, P>,
@@ -197,7 +197,7 @@ pub fn put_without_memory<const P: usize>(
     Some((new_root, told(answer)?))
 }
 
-/// What is told of the same in the tree of some others.
+/// What is reported of the same in the tree of some others.
 pub fn told_without_memory<const P: usize>(
     way: Way,
     store: &mut NodeStore<Key, u32, P>,

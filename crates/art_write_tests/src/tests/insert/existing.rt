@@ -1,4 +1,4 @@
-//! Insertions that give a node a child more, or replace a value.
+//! Insertions that give a node a further child, or replace a value.
 
 use super::effect::{
     Effect, apart, done_below, done_in_place, effect_in, effect_of, told_without_memory,
@@ -17,7 +17,7 @@ use std::test::Fail;
 #[derive(Clone, Copy, PartialEq, Eq, Debug)]
 struct Growth {
     done: Insertion,
-    // The kind of the parent that is told, and what it has under the byte that is told.
+    // The kind of the parent that is reported, and what it has under the byte that is reported.
     parent_kind: Option<NodeType>,
     found: Option<OpaqueNodePtr>,
     // The value of the leaf.
@@ -44,12 +44,12 @@ fn growth_seen<const P: usize>(store: &NodeStore<Key, u32, P>, done: Insertion) 
     }
 }
 
-// What is to come of a key.
+// What is expected of a key.
 #[derive(Clone, Copy)]
 enum Wanted {
     /// It becomes a child of the root, which has room for it.
     Child,
-    /// It becomes a child of a larger root, where the old one is gone.
+    /// It becomes a child of a larger root, and the old one is freed.
     LargerRoot,
     /// It becomes a child of a larger node under its first byte.
     LargerChild,
@@ -57,7 +57,7 @@ enum Wanted {
     InPlace(u32),
 }
 
-// An inner node that a key becomes a child of, with its kind, the root above it, and what that touches.
+// An inner node of which a key becomes a child, with its kind, the root above it, and what that touches.
 type Parent = (
     OpaqueNodePtr,
     NodeType,
@@ -65,7 +65,7 @@ type Parent = (
     (usize, usize, usize),
 );
 
-// The same of a larger root, where the old one is gone.
+// The same of a larger root, where the old one is freed.
 fn larger_root<const P: usize>(store: &NodeStore<Key, u32, P>, effect: Effect) -> Option<Parent> {
     if store.inner(effect.root.as_inner()?).is_some() {
         return None;
@@ -74,7 +74,7 @@ fn larger_root<const P: usize>(store: &NodeStore<Key, u32, P>, effect: Effect) -
     Some((root, NodeType::Node16, root, (2, 1, 1)))
 }
 
-// What is to come of a key that becomes a child of an inner node.
+// The expected result of a key that becomes a child of an inner node.
 fn grown_below(seen: Insertion, parent: Parent, byte: u8) -> Option<Growth> {
     let (name, kind, root, touched) = parent;
     Some(Growth {
@@ -85,7 +85,7 @@ fn grown_below(seen: Insertion, parent: Parent, byte: u8) -> Option<Growth> {
     })
 }
 
-// What is to come of a stored key, by the name of its leaf and the old value.
+// The expected result of a stored key, by the name of its leaf and the old value.
 fn grown_in_place(effect: Effect, value: u32) -> Option<Growth> {
     Some(Growth {
         done: done_in_place(effect.root, effect.below?, value)?,
@@ -95,7 +95,7 @@ fn grown_in_place(effect: Effect, value: u32) -> Option<Growth> {
     })
 }
 
-// What is to come of a key.
+// The expected result of a key.
 fn growth_expected<const P: usize>(
     store: &NodeStore<Key, u32, P>,
     effect: Effect,
@@ -115,7 +115,7 @@ fn growth_expected<const P: usize>(
     grown_below(effect.done, parent, *key.last()?)
 }
 
-// What comes of a key in the tree of some others, and what is to come.
+// The result of a key in the tree of some others, and the expected result.
 fn grow<const P: usize>(
     store: &mut NodeStore<Key, u32, P>,
     slices: &[&[u8]],

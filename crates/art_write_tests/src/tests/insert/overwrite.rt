@@ -1,4 +1,4 @@
-//! Insertions in the place of all related keys.
+//! Insertions that replace all related keys.
 ghost use Rattle.art_model.specs.Pairs.{of_key};
 ghost use Rattle.art_model.specs.Roots.{IsCanonicalRoot};
 
@@ -42,7 +42,7 @@ fn value_behind<const P: usize>(
     value_of(store, link?)
 }
 
-// What a store has once the leaf of a key came.
+// What a store has after the leaf of a key was inserted.
 fn after_insertion<const P: usize>(
     store: &NodeStore<Key, u32, P>,
     done: Insertion,
@@ -58,7 +58,7 @@ fn after_insertion<const P: usize>(
     })
 }
 
-// What comes of a key in the tree of some others. A pair that gives way is to have the key `old`.
+// The result of a key in the tree of some others. A pair that is replaced should have the key `old`.
 fn overwritten<const P: usize>(
     store: &mut NodeStore<Key, u32, P>,
     slices: &[&[u8]],
@@ -74,7 +74,7 @@ fn tried(alloc: Global, slices: &[&[u8]], key: &[u8], old: &[u8]) -> Option<Outc
     overwritten::<16>(&mut NodeStore::new(alloc), slices, key, old)
 }
 
-// The point of a key that takes the place of the root.
+// The point of a key that replaces the root.
 fn at_root(root: OpaqueNodePtr, key_bytes_used: usize) -> PrefixInsertPoint {
     PrefixInsertPoint::OverwritePoint(OverwritePoint {
         path: TreePath::Root,
@@ -84,7 +84,7 @@ fn at_root(root: OpaqueNodePtr, key_bytes_used: usize) -> PrefixInsertPoint {
     })
 }
 
-// The point of a key that takes the place of a child of the root.
+// The point of a key that replaces a child of the root.
 fn at_child(
     root: OpaqueNodePtr,
     byte: u8,
@@ -102,7 +102,7 @@ fn at_child(
     }))
 }
 
-// What is to come of a key by this point, for which so many leaves and inner nodes go.
+// The expected result of a key by this point, for which so many leaves and inner nodes are removed.
 fn expected_over(
     seen: Effect,
     point: PrefixInsertPoint,
@@ -125,7 +125,7 @@ fn expected_over(
     }
 }
 
-// A key that takes the place of two leaves and their parent, how many of its bytes are used, how many other nodes
+// A key that replaces two leaves and their parent, how many of its bytes are used, how many other nodes
 // change, and the values around the new leaf.
 #[derive(Clone, Copy)]
 struct Below<'a> {
@@ -136,7 +136,7 @@ struct Below<'a> {
     values: [Option<u32>; 3],
 }
 
-// What is to come of a key in the place of a child of the root with two leaves.
+// The expected result of a key that replaces a child of the root with two leaves.
 fn expected_below(seen: Effect, case: Below<'_>) -> Option<Outcome> {
     let point = at_child(seen.root, *case.key.first()?, seen.below?, case.used)?;
     let effect = expected_over(seen, point, seen.root, 2, (1, 3, case.changed));
@@ -148,13 +148,13 @@ fn expected_below(seen: Effect, case: Below<'_>) -> Option<Outcome> {
     Some((effect, after))
 }
 
-// What comes of such a key, and what is to come.
+// The result of such a key, and the expected result.
 fn tried_below(alloc: Global, case: Below<'_>) -> Option<(Outcome, Outcome)> {
     let seen = tried(alloc, case.slices, case.key, &[])?;
     Some((seen, expected_below(seen.0, case)?))
 }
 
-// Keys in the place of two leaves at the end of the others and between them, within a prefix and at its end.
+// Keys that replace two leaves at the end of the others and between them, within a prefix and at its end.
 static BELOW: [Below<'static>; 4] = [
     Below {
         slices: &[&[1, 2], &[1, 3], &[2]],
@@ -201,7 +201,7 @@ const ALONE: After = After {
     values: [None, Some(9), None],
 };
 
-// What is to come of a key in the place of the whole tree, with so many leaves and inner nodes.
+// The expected result of a key that replaces the whole tree, with so many leaves and inner nodes.
 fn expected_at_root(seen: Effect, used: usize, leaves: usize, inners: usize) -> Outcome {
     let gone = leaves.saturating_add(inners);
     let new_root = seen.done.leaf.to_opaque();
@@ -210,10 +210,10 @@ fn expected_at_root(seen: Effect, used: usize, leaves: usize, inners: usize) -> 
     (effect, ALONE)
 }
 
-// Keys in the place of the whole tree, and how many of their bytes are used.
+// Keys that replace the whole tree, and how many of their bytes are used.
 static AT_ROOT: [(&[u8], usize); 4] = [(&[], 0), (&[4], 0), (&[4, 1], 0), (&[4, 1, 2], 2)];
 
-// What comes of such a key in the tree of two others, and what is to come.
+// The result of such a key in the tree of two others, and the expected result.
 fn tried_at_root(alloc: Global, key: &[u8], used: usize) -> Option<(Outcome, Outcome)> {
     let seen = tried(alloc, &[&[4, 1, 2, 7], &[4, 1, 2, 8]], key, &[])?;
     Some((seen, expected_at_root(seen.0, used, 2, 1)))
@@ -227,7 +227,7 @@ fn gives_way_at_the_root(rt: HostRuntime) -> Result<(), Fail> {
     Ok(())
 }
 
-// What comes of the empty key in the tree of these, and what is to come.
+// The result of the empty key in the tree of these, and the expected result.
 fn overwritten_by_empty<const P: usize>(
     store: &mut NodeStore<Key, u32, P>,
     all: Vec<Key>,
@@ -244,7 +244,7 @@ fn the_empty_key_takes_the_place_of_all(rt: HostRuntime) -> Result<(), Fail> {
     as_expected(overwritten_by_empty::<16>(&mut NodeStore::new(rt.alloc()), all))
 }
 
-// What is to come of a key by this point, in the place of one pair.
+// The expected result of a key by this point, which replaces one pair.
 fn expected_for_leaf(
     seen: Effect,
     point: PrefixInsertPoint,
@@ -259,7 +259,7 @@ fn expected_for_leaf(
     })
 }
 
-// What comes of a key in the place of the only other, and what is to come.
+// The result of a key that replaces the only other, and the expected result.
 fn tried_for_one(alloc: Global, old: &[u8], key: &[u8]) -> Option<(Outcome, Outcome)> {
     let seen = tried(alloc, &[old], key, old)?;
     let root = seen.0.root;
@@ -267,7 +267,7 @@ fn tried_for_one(alloc: Global, old: &[u8], key: &[u8]) -> Option<(Outcome, Outc
     Some((seen, (effect, ALONE)))
 }
 
-// Keys, each with one in its place.
+// Keys, each with one that it replaces.
 static FOR_ONE: [(&[u8], &[u8]); 4] = [
     (&[1, 2, 3], &[1, 2]),
     (&[1, 2, 3], &[1, 2, 3, 4]),
@@ -283,7 +283,7 @@ fn replaces_one_leaf(rt: HostRuntime) -> Result<(), Fail> {
     Ok(())
 }
 
-// What is to come of [1, 2] in the place of the leaf of [1, 2, 3] between two others.
+// The expected result of [1, 2], which replaces the leaf of [1, 2, 3] between two others.
 fn expected_between(seen: Effect) -> Option<Outcome> {
     let leaf = seen.below?;
     let effect = expected_for_leaf(seen, at_child(seen.root, 1, leaf, 1)?, leaf, 1)?;
@@ -297,7 +297,7 @@ fn expected_between(seen: Effect) -> Option<Outcome> {
 
 static BETWEEN: [&[u8]; 3] = [&[0], &[1, 2, 3], &[2]];
 
-// What comes of this key, and what is to come.
+// The result of this key, and the expected result.
 fn tried_between(alloc: Global) -> Option<(Outcome, Outcome)> {
     let seen = tried(alloc, &BETWEEN, &[1, 2], &[1, 2, 3])?;
     Some((seen, expected_between(seen.0)?))
@@ -334,21 +334,21 @@ fn kind_of(point: PrefixInsertPoint) -> Kind {
 #[derive(Clone, Copy, PartialEq, Eq, Debug)]
 struct Ordinary {
     kind: Kind,
-    /// The value of the pair that gave way.
+    /// The value of the pair that was replaced.
     existing: Option<u32>,
     removed: usize,
     keeps_root: bool,
-    /// Whether a parent is told, and under which byte.
+    /// Whether a parent is reported, and under which byte.
     told: Option<u8>,
     touched: (usize, usize, usize),
 }
 
-// The value of a pair that gave way.
+// The value of a pair that was replaced.
 fn value_of_gone(pair: Option<Gone>) -> Option<u32> {
     Some(pair?.value)
 }
 
-// What comes of a key that is related to no unequal one.
+// The result of a key that is related to no unequal one.
 fn tried_apart(alloc: Global, slices: &[&[u8]], key: &[u8]) -> Option<Ordinary> {
     let (seen, _) = tried(alloc, slices, key, key)?;
     let told = match seen.done.change {
@@ -368,7 +368,7 @@ fn tried_apart(alloc: Global, slices: &[&[u8]], key: &[u8]) -> Option<Ordinary> 
     })
 }
 
-// Keys that are related to no unequal one, and what comes of each.
+// Keys that are related to no unequal one, and the result of each.
 static APART: [(&[&[u8]], &[u8], Ordinary); 4] = [
     (
         &[&[1], &[2]],
@@ -428,7 +428,7 @@ fn comes_in_beside_unrelated_keys(rt: HostRuntime) -> Result<(), Fail> {
     Ok(())
 }
 
-// The first of these keys of which the point is another than an insertion finds.
+// The first of these keys for which the point is another than an insertion finds.
 fn first_apart<'a, const P: usize>(
     store: &NodeStore<Key, u32, P>,
     root: OpaqueNodePtr,
@@ -481,7 +481,7 @@ fn stored<const P: usize>(
     value_of(store, search_unchecked(store, root, key)?)
 }
 
-// The kind of a point and what is told of the key, if there was memory for it.
+// The kind of a point and what is reported of the key, if no allocation failed.
 type Reply = Option<(Kind, Told)>;
 
 // The root after a prefix insertion, and the reply to it.
@@ -502,16 +502,16 @@ fn insert_text<const P: usize>(
     (root, told(answer).map(|told| (kind, told)))
 }
 
-// What is told of three texts.
+// What is reported of three texts.
 #[derive(Clone, Copy, PartialEq, Eq, Debug)]
 struct Texts {
-    // What the prefix insertion of each told.
+    // What the prefix insertion of each reported.
     replies: [Reply; 3],
-    // Their values once all came.
+    // Their values after all were inserted.
     values: [Option<u32>; 3],
 }
 
-// What is to be told of abb, b and ab, of which the first two are stored before.
+// What is expected of abb, b and ab, of which the first two are stored before.
 const TEXTS: Texts = Texts {
     replies: [
         Some((Kind::Exact, (Some(0), 0))),
@@ -521,7 +521,7 @@ const TEXTS: Texts = Texts {
     values: [None, Some(0xBB), Some(0xCC)],
 };
 
-// What is told of these three, one after another.
+// What is reported of these three, one after another.
 fn told_of_texts<const P: usize>(store: &mut NodeStore<Key, u32, P>, root: OpaqueNodePtr) -> Texts
     requires { IsCanonicalRoot (of_key (λ key. key.items)) P store.old root }
 {
@@ -551,7 +551,7 @@ fn a_shorter_text_takes_the_place_of_a_longer_one(rt: HostRuntime) -> Result<(),
     same(seen, Some(TEXTS))
 }
 
-// What is told of a key between two others while all memory is held.
+// What is reported of a key between two others while all memory is held.
 fn told_between(alloc: Global, key: &[u8]) -> Option<Told> {
     told_without_memory::<16>(Way::Over, &mut NodeStore::new(alloc), &BETWEEN, key)
 }

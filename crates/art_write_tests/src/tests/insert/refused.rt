@@ -1,4 +1,4 @@
-//! What is left of refused insertions.
+//! What failed insertions leave.
 ghost use Rattle.std.specs.Prelude.{◌<◌};
 
 use art_nodes::store::NodeStore;
@@ -7,7 +7,8 @@ use art_test_support::points::{HANDED_BACK, Refusal, Way, refused_insertion};
 use std::alloc::Global;
 use std::test::Fail;
 
-// What is left of a refusal to put a key into the tree of some others, in a store of its own that may be filled before.
+// What a failed insertion of a key into the tree of some others leaves, in a store of its own that may be filled
+// before.
 fn left_with<const P: usize>(
     alloc: Global,
     way: Way,
@@ -35,7 +36,7 @@ fn left<const P: usize>(
     ]
 }
 
-// A failure where one of these did not hand the pair back, or changed something.
+// A failure where one of these did not return the pair, or changed something.
 fn assert_handed_back(rt: &impl Print, left: [Option<Refusal>; 2]) -> Result<(), Fail> {
     for refusal in left {
         assert_where_refused(rt, refusal, HANDED_BACK)?;
@@ -43,7 +44,7 @@ fn assert_handed_back(rt: &impl Print, left: [Option<Refusal>; 2]) -> Result<(),
     Ok(())
 }
 
-// Asserts something where a request for memory of the insertion is refused.
+// Asserts something where an allocation of the insertion fails.
 #[test]
 fn refused_splits_hand_the_pair_back(rt: HostRuntime) -> Result<(), Fail> {
     let others: [&[u8]; 3] = [&[255], &[0, 255], &[0, 0, 255]];
@@ -72,7 +73,7 @@ fn refused_growths_hand_the_pair_back(rt: HostRuntime) -> Result<(), Fail> {
     assert_handed_back(&rt, left)
 }
 
-// More and more keys; all but the first two stand beside those.
+// More and more keys; all but the first two are inserted in addition to those.
 static BESIDE: [&[u8]; 9] = [
     &[4, 1, 2, 3, 7],
     &[4, 1, 2, 3, 8],
@@ -98,7 +99,7 @@ static ONE_PREFIX: [&[u8]; 9] = [
     &[1, 2, 9],
 ];
 
-// The same where a key comes in the place of all related ones, beside so many of these keys and more and more of them.
+// The same where a key replaces all related ones, with so many of these keys and more and more of them.
 fn assert_left_over(
     rt: &impl Print,
     alloc: Global,
@@ -112,7 +113,7 @@ fn assert_left_over(
     Ok(())
 }
 
-// Asserts something where a request for memory is refused while a key comes that ends in the prefix of a child.
+// Asserts something where an allocation fails while a key that ends in the prefix of a child is inserted.
 #[test]
 fn refused_overwrites_within_a_prefix_hand_the_pair_back(rt: HostRuntime) -> Result<(), Fail> {
     assert_left_over(&rt, rt.alloc(), &BESIDE, 3, &[4, 1, 2])
@@ -126,7 +127,7 @@ fn refused_overwrites_at_the_end_of_a_prefix_hand_the_pair_back(
     assert_left_over(&rt, rt.alloc(), &BESIDE, 3, &[4, 1, 2, 3])
 }
 
-// The same in the place of the root.
+// The same where it replaces the root.
 #[test]
 fn refused_overwrites_of_the_root_hand_the_pair_back(rt: HostRuntime) -> Result<(), Fail> {
     assert_left_over(&rt, rt.alloc(), &ONE_PREFIX, 2, &[1, 2])

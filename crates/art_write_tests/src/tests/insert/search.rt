@@ -20,16 +20,16 @@ use std::test::Fail;
 
 static LONG: [&[u8]; 2] = [&[7, 1, 1, 1, 1, 5], &[7, 1, 1, 1, 1, 6]];
 
-// What a search for a point tells.
+// What a search for a point returns.
 #[derive(Clone, Copy, PartialEq, Eq, Debug)]
 enum Told {
     Point(InsertPoint),
-    /// A refusal, and whether it has the bytes of the key.
+    /// An error, and whether it has the bytes of the key.
     Related(bool),
     NoMemory,
 }
 
-// The point of a key, or its refusal.
+// The point of a key, or its error.
 fn told_of<const P: usize>(
     store: &NodeStore<Key, u32, P>,
     root: OpaqueNodePtr,
@@ -46,7 +46,7 @@ fn told_of<const P: usize>(
     }
 }
 
-// The point where something is to be done at the root.
+// The point where the root is changed.
 fn at_root(root: OpaqueNodePtr, insert_kind: InsertKind) -> Told {
     Told::Point(InsertPoint {
         path: TreePath::Root,
@@ -56,7 +56,7 @@ fn at_root(root: OpaqueNodePtr, insert_kind: InsertKind) -> Told {
     })
 }
 
-// The same where the key of [7, 1, 1, 9] parts from the root's prefix.
+// The same where the key of [7, 1, 1, 9] differs from the root's prefix.
 fn parted(root: OpaqueNodePtr, leaf_ptr: OptionalLeafPtr) -> Option<Told> {
     let insert_kind = InsertKind::MismatchPrefix {
         mismatch: ExplicitMismatch {
@@ -69,7 +69,7 @@ fn parted(root: OpaqueNodePtr, leaf_ptr: OptionalLeafPtr) -> Option<Told> {
     Some(at_root(root, insert_kind))
 }
 
-// The same where the root gets a child more.
+// The same where the root gets a further child.
 fn beside_children(root: OpaqueNodePtr) -> Option<Told> {
     let inner_node_ptr = root.as_inner()?;
     Some(at_root(root, InsertKind::IntoExisting { inner_node_ptr }))
@@ -90,10 +90,10 @@ fn at_leaf(root: OpaqueNodePtr) -> Option<Told> {
     Some(at_root(root, InsertKind::Exact { leaf_node_ptr }))
 }
 
-// What is to be told of a key.
+// What is expected of a key.
 #[derive(Clone, Copy)]
 enum Wanted {
-    /// That it parts from the root's prefix, where the first leaf is read for it.
+    /// That it differs from the root's prefix, where the first leaf is read for it.
     PartsByLeaf,
     /// The same where no leaf is read.
     Parts,
@@ -103,7 +103,7 @@ enum Wanted {
     AtLeaf,
 }
 
-// What is to be told of a key in full, where the root has this under 5.
+// What is expected of a key in full, where the root has this under 5.
 fn expected(root: OpaqueNodePtr, below: Option<OpaqueNodePtr>, wanted: Wanted) -> Option<Told> {
     match wanted {
         Wanted::PartsByLeaf => parted(root, Some(below?.as_leaf()?)),
@@ -115,10 +115,10 @@ fn expected(root: OpaqueNodePtr, below: Option<OpaqueNodePtr>, wanted: Wanted) -
     }
 }
 
-// A key, and what is to be told of it.
+// A key, and what is expected of it.
 type Row<'a> = (&'a [u8], Wanted);
 
-// What is told of a key in the tree of others, and what is to be.
+// What is reported of a key in the tree of others, and what is expected.
 fn told_in<const P: usize>(
     store: &mut NodeStore<Key, u32, P>,
     slices: &[&[u8]],
@@ -129,7 +129,7 @@ fn told_in<const P: usize>(
     Some((told_of(store, root, key), expected(root, below, wanted)?))
 }
 
-// A failure where one of these keys is told otherwise in the tree of others.
+// A failure where one of these keys is reported otherwise in the tree of others.
 fn all_told<const P: usize>(alloc: Global, slices: &[&[u8]], rows: &[Row<'_>]) -> Result<(), Fail>
     requires { P < 256 }
 {
@@ -139,7 +139,7 @@ fn all_told<const P: usize>(alloc: Global, slices: &[&[u8]], rows: &[Row<'_>]) -
     Ok(())
 }
 
-// A key that parts from a long prefix, and two that end in it or with it.
+// A key that differs from a long prefix, and two that end in it or with it.
 fn long_rows(first: Wanted) -> [Row<'static>; 3] {
     [
         (&[7, 1, 1, 9], first),
@@ -158,7 +158,7 @@ fn reads_no_leaf_for_a_stored_prefix(rt: HostRuntime) -> Result<(), Fail> {
     all_told::<16>(rt.alloc(), &LONG, &long_rows(Wanted::Parts))
 }
 
-// Two keys that end in the key of a leaf or go on after it, and the empty one.
+// Two keys that end in the key of a leaf or continue after it, and the empty one.
 static RELATED: [Row<'static>; 3] = [
     (&[1, 2], Wanted::Related),
     (&[1, 2, 3, 4], Wanted::Related),
@@ -205,7 +205,7 @@ fn told_below<const P: usize>(
     })
 }
 
-// What is told of three keys below the root's child.
+// What is reported of three keys below the root's child.
 #[derive(Clone, Copy, PartialEq, Eq, Debug)]
 struct Below {
     beside: (TreePath, usize),
@@ -215,7 +215,7 @@ struct Below {
     value: Option<u32>,
 }
 
-// What is to be told, by the names of the inner nodes and of the leaf of [1, 2, 3].
+// What is expected, by the names of the inner nodes and of the leaf of [1, 2, 3].
 fn expected_below(
     root: OpaqueNodePtr,
     [top, parent, lowest]: [InnerPtr; 3],
@@ -252,7 +252,7 @@ fn expected_below(
     }
 }
 
-// What is told in the tree of four keys, and what is to be.
+// What is reported in the tree of four keys, and what is expected.
 fn below_of_four<const P: usize>(store: &mut NodeStore<Key, u32, P>) -> Option<(Below, Below)> {
     let root = planted_all(store, &FOUR).ok()??;
     let (inners, leaves) = names_of_four(store, root)?;
@@ -266,7 +266,7 @@ fn names_parents_and_grandparents(rt: HostRuntime) -> Result<(), Fail> {
     as_expected(below_of_four::<0>(&mut NodeStore::new(rt.alloc())))
 }
 
-// What is told of a key that parts from the others, of a stored one, and of a related one.
+// What is reported of a key that differs from the others, of a stored one, and of a related one.
 fn told_of_each<const P: usize>(store: &NodeStore<Key, u32, P>, root: OpaqueNodePtr) -> [bool; 3]
     requires { IsCanonicalRoot (of_key (λ key. key.items)) P store.now root }
 {
@@ -312,7 +312,7 @@ fn readings<const P: usize>(
     visits.count()
 }
 
-// The same of a stored key, of one that parts from the root's prefix, and of one that parts from a leaf's key.
+// The same of a stored key, of one that differs from the root's prefix, and of one that differs from a leaf's key.
 fn readings_in<const P: usize>(store: &mut NodeStore<Key, u32, P>) -> Option<[usize; 3]> {
     let root = planted_all(store, &TWO_LEVELS).ok()??;
     Some([
