@@ -30,7 +30,7 @@ typedef struct {
     uint64_t words[36];
 } vokujin_map;
 
-/* A pair whose key stands in a buffer. */
+/* A pair whose key is in a buffer. */
 typedef struct {
     uint64_t value;
     size_t key_len;
@@ -59,14 +59,14 @@ enum {
     VOKUJIN_UNBOUNDED = 0,
     /* A range whose bound is one of its keys, if that is stored. */
     VOKUJIN_INCLUDED = 1,
-    /* A range whose bound is none of its keys. */
+    /* A range whose bound is not one of its keys. */
     VOKUJIN_EXCLUDED = 2,
 };
 
 /* Returns the size of a map in bytes. It is aligned to eight bytes. */
 size_t vokujin_size(void);
 
-/* Makes an empty map in the memory of the caller. It takes no other memory. */
+/* Makes an empty map in the memory of the caller. It allocates nothing. */
 void vokujin_new(vokujin_map *map);
 
 /* Frees a map. Calls on it return `VOKUJIN_FREED` from then on, until its memory is used for something else. */
@@ -78,7 +78,7 @@ uint32_t vokujin_len(const vokujin_map *map, size_t *len);
 /* Removes all pairs. */
 uint32_t vokujin_clear(vokujin_map *map);
 
-/* Moves the pairs into the order of their keys in memory, so that an iteration reads memory from front to back. */
+/* Moves the pairs into the order of their keys in memory, so that an iteration reads memory from first to last. */
 uint32_t vokujin_compact(vokujin_map *map);
 
 /* Looks up a key, and writes its value. */
@@ -104,14 +104,14 @@ uint32_t vokujin_last(const vokujin_map *map, void *buffer, size_t buffer_len, v
 
 /* Writes the pairs of a range, by rising keys, or backward by falling keys: as many as there is space for.
  *
- * The keys stand one after another at the front of the buffer; the bytes after them are not specified. A bound is a kind
- * and a key: VOKUJIN_UNBOUNDED (the key is ignored), VOKUJIN_INCLUDED or VOKUJIN_EXCLUDED. Returns VOKUJIN_DONE when all
- * pairs of the range are written, VOKUJIN_FULL when there is no space for another pair, and VOKUJIN_TOO_LONG when the next
- * key is longer than the rest of the buffer. To continue, pass the last key as an excluded bound. */
+ * The keys are one after another at the front of the buffer; the bytes after them are not specified. A bound is a kind
+ * and a key: VOKUJIN_UNBOUNDED (the key is ignored), VOKUJIN_INCLUDED or VOKUJIN_EXCLUDED. Returns VOKUJIN_DONE when
+ * all pairs of the range are written, VOKUJIN_FULL when there is no space for another pair, and VOKUJIN_TOO_LONG when
+ * the next key is longer than the rest of the buffer. To continue, pass the last key as an excluded bound. */
 uint32_t vokujin_next_pairs(const vokujin_map *map, const void *from, size_t from_len, uint32_t from_kind, const void *to, size_t to_len, uint32_t to_kind, bool is_backward, void *buffer, size_t buffer_len, vokujin_pair *pairs, size_t pairs_len, vokujin_given *given);
 
-/* Turns a prefix into the end of the range of the strings that start with it, and returns the length of that end. It is 0
- * if all strings from the prefix on start with it: that range has no end. */
+/* Turns a prefix into the end of the range of the strings that start with it, and returns the length of that end. It
+ * is 0 if all strings from the prefix on start with it: that range has no end. */
 size_t vokujin_prefix_end(void *prefix, size_t prefix_len);
 
 #ifdef __cplusplus

@@ -7,7 +7,7 @@ use std::mem::MaybeUninit;
 #[repr(C)]
 pub struct Place(pub MaybeUninit<[u64; 36]>);
 
-/// A pair whose key stands in a buffer.
+/// A pair whose key is in a buffer.
 #[repr(C)]
 #[derive(Clone, Copy, Default)]
 pub struct Pair {

@@ -93,7 +93,7 @@ fn find_all(store: &Store, root: OpaqueNodePtr, asked: &[u8], ends: &[u64]) -> u
     count
 }
 
-/// The number of leaves of a tree without a fault.
+/// Returns the number of leaves of a tree without a fault.
 #[inline(never)]
 fn leaf_count(store: &Store, root: OpaqueNodePtr) -> u64 {
     match WellFormedChecker::check_tree(store, root) {

@@ -1,8 +1,8 @@
 //! A map of byte strings to numbers, for programs that are not in Rattle.
 //!
-//! A map lies in memory of the caller's, behind a pointer without a type. A contract says what lies there before the call
-//! and after it: the list of pairs of a map, or `None` once it was freed. The caller has to meet each `requires`, and what
-//! the types of the parameters say; nothing checks that.
+//! A map lies in memory of the caller, behind a pointer without a type. A contract says what lies there before the call
+//! and after it: the list of pairs of a map, or `None` after it was freed. The caller has to meet each `requires`, and
+//! the conditions of the types of the parameters; nothing checks that.
 #![tactic(auto)]
 
 ghost use Rattle.std.specs.Prelude.{◌≡◌, ◌≢◌, ℕ, List, [], length, MatchOption, Option, Some, None};
@@ -30,7 +30,7 @@ pub extern "C" fn vokujin_size() -> usize
     std::mem::size_of::<StringMap>()
 }
 
-/// Makes an empty map in the memory of the caller. It takes no other memory.
+/// Makes an empty map in the memory of the caller. It allocates nothing.
 #[unsafe(no_mangle)]
 pub unsafe extern "C" fn vokujin_new(alloc: Global, map: *mut u8)
     requires* { sem 𝓛 (room_at MapRow map) }
@@ -73,7 +73,7 @@ pub unsafe extern "C" fn vokujin_clear(map: *mut u8) -> u32
     string_map::calls::clear(&mut *(map as *mut StringMap))
 }
 
-/// Moves the pairs into the order of their keys in memory, so that an iteration reads memory from front to back.
+/// Moves the pairs into the order of their keys in memory, so that an iteration reads memory from first to last.
 #[unsafe(no_mangle)]
 pub unsafe extern "C" fn vokujin_compact(map: *mut u8) -> u32
     ghost pairs: { Option (List (List ℕ × ℕ)) }
@@ -174,10 +174,10 @@ pub unsafe extern "C" fn vokujin_last(map: *const u8, buffer: &mut [u8], pair: &
 
 /// Writes the pairs of a range, by rising keys, or backward by falling keys: as many as there is space for.
 ///
-/// The keys stand one after another at the front of the buffer; the bytes after them are not specified. A bound is a kind
-/// and a key: VOKUJIN_UNBOUNDED (the key is ignored), VOKUJIN_INCLUDED or VOKUJIN_EXCLUDED. Returns VOKUJIN_DONE when all
-/// pairs of the range are written, VOKUJIN_FULL when there is no space for another pair, and VOKUJIN_TOO_LONG when the next
-/// key is longer than the rest of the buffer. To continue, pass the last key as an excluded bound.
+/// The keys are one after another at the front of the buffer; the bytes after them are not specified. A bound is a kind
+/// and a key: VOKUJIN_UNBOUNDED (the key is ignored), VOKUJIN_INCLUDED or VOKUJIN_EXCLUDED. Returns VOKUJIN_DONE when
+/// all pairs of the range are written, VOKUJIN_FULL when there is no space for another pair, and VOKUJIN_TOO_LONG when
+/// the next key is longer than the rest of the buffer. To continue, pass the last key as an excluded bound.
 #[unsafe(no_mangle)]
 pub unsafe extern "C" fn vokujin_next_pairs(
     map: *const u8,
@@ -209,8 +209,8 @@ pub unsafe extern "C" fn vokujin_next_pairs(
     )
 }
 
-/// Turns a prefix into the end of the range of the strings that start with it, and returns the length of that end. It is 0
-/// if all strings from the prefix on start with it: that range has no end.
+/// Turns a prefix into the end of the range of the strings that start with it, and returns the length of that end. It
+/// is 0 if all strings from the prefix on start with it: that range has no end.
 #[unsafe(no_mangle)]
 pub extern "C" fn vokujin_prefix_end(prefix: &mut [u8]) -> usize
     ensures { IsPrefixEnd prefix.old result prefix.new }

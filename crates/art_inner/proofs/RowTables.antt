@@ -68,7 +68,7 @@ module _ {N : ℕ} (t : Inside N) (cs : Children) (s : Shows t cs) where
   table_vacant at past_all = ap (option_map (λ (c : Entry). c.1)) (slice_get_past cs at (omega (arith, past_all, table_length)))
 
   module _ (at b : ℕ) (place : at ≡ count_below cs b) where
-    -- a byte that is there stands at its place
+    -- a byte that is there is at its place
     pub table_place : IsSome (child_at cs b) → at < t.len
     table_place there = omega (arith, place, table_length, (place_of_child cs b past s.rising there).0)
 

@@ -98,7 +98,7 @@ impl<const P: usize> AnyInner<P> {
         }
     }
 
-    /// The kind of the node.
+    /// Returns the kind of the node.
     pub fn node_type(&self) -> NodeType
         ensures kind { result ≡ any_kind self.now }
         ensures inner { any_kind self.now ≢ Leaf }
@@ -129,7 +129,7 @@ impl<const P: usize> AnyInner<P> {
         on_each_kind!(AnyInner, self, node => node.remove_child(byte))
     }
 
-    /// The node of the next larger kind.
+    /// Returns the node of the next larger kind.
     pub fn grow(self) -> Self
         requires { any_kind self ≢ kinds.Node256 }
         ensures kind { any_kind result ≡ larger_kind (any_kind self.entry) }
@@ -138,7 +138,7 @@ impl<const P: usize> AnyInner<P> {
         on_each_kind!(AnyInner, self, node => node.grow())
     }
 
-    /// The node of the next smaller kind.
+    /// Returns the node of the next smaller kind.
     pub fn shrink(self) -> Self
         requires smaller { any_kind self ≢ kinds.Node4 }
         requires fit { length (any_view self).children ≤
@@ -178,7 +178,7 @@ impl<'a, const P: usize> InnerRef<'a, P> {
     ghost use Rattle.art_parts.specs.Kinds.{kind_capacity};
     ghost use Rattle.art_parts.specs.declared.names.NodeType.TheVariants.{Leaf};
 
-    /// The kind of the node.
+    /// Returns the kind of the node.
     #[inline(always)]
     pub fn node_type(&self) -> NodeType
         ensures kind { result ≡ ref_kind self.now }
@@ -199,7 +199,7 @@ impl<'a, const P: usize> InnerRef<'a, P> {
         on_each_kind!(InnerRef, self, node => node.header())
     }
 
-    /// The length of the prefix, which may be more than is stored.
+    /// Returns the length of the prefix, which may be more than is stored.
     #[inline(always)]
     pub fn prefix_len(&self) -> usize
         ensures { result ≡ (ref_view self.now).prefix.len }
@@ -207,7 +207,7 @@ impl<'a, const P: usize> InnerRef<'a, P> {
         on_each_kind!(InnerRef, self, node => node.prefix_len())
     }
 
-    /// The stored bytes of the prefix.
+    /// Returns the stored bytes of the prefix.
     #[inline(always)]
     pub fn read_prefix(&self) -> &[u8]
         ensures stored { result.now ≡ (ref_view self.now).prefix.stored }
@@ -217,7 +217,7 @@ impl<'a, const P: usize> InnerRef<'a, P> {
         on_each_kind!(InnerRef, self, node => node.read_prefix())
     }
 
-    /// The children by rising bytes.
+    /// Returns the children by rising bytes.
     pub fn iter(&self) -> Children<'a>
         ensures children { result ≡ (ref_view self.now).children }
         ensures rising { IsRising (ref_view self.now).children }
@@ -226,7 +226,7 @@ impl<'a, const P: usize> InnerRef<'a, P> {
         on_each_kind!(InnerRef, *self, node => node.table.iter())
     }
 
-    /// The number of children.
+    /// Returns the number of children.
     pub fn num_children(&self) -> usize
         ensures value { result ≡ length (ref_view self.now).children }
         ensures bound { length (ref_view self.now).children ≤ kind_capacity (ref_kind self.now) }
@@ -234,7 +234,7 @@ impl<'a, const P: usize> InnerRef<'a, P> {
         self.iter().len()
     }
 
-    /// Whether there are as many children as the kind has room for.
+    /// Returns whether there are as many children as the kind has room for.
     pub fn is_full(&self) -> bool
         ensures { IsTrue result ↔
             (kind_capacity (ref_kind self.now) ≤ length (ref_view self.now).children) }
@@ -242,7 +242,7 @@ impl<'a, const P: usize> InnerRef<'a, P> {
         self.num_children() >= self.node_type().capacity()
     }
 
-    /// The name under a byte.
+    /// Returns the name under a byte.
     #[inline(always)]
     pub fn lookup_child(&self, byte: u8) -> Option<OpaqueNodePtr>
         ensures { result ≡ child_at (ref_view self.now).children byte }
@@ -255,7 +255,7 @@ impl<'a, const P: usize> InnerRef<'a, P> {
         }
     }
 
-    /// The least byte, and the name under it.
+    /// Returns the least byte, and the name under it.
     pub fn min(&self) -> (u8, OpaqueNodePtr)
         requires { 0 < length (ref_view self.now).children }
         ensures first { slice_get (ref_view self.now).children 0 ≡ Some result }
@@ -264,7 +264,7 @@ impl<'a, const P: usize> InnerRef<'a, P> {
         self.iter().least()
     }
 
-    /// The greatest byte, and the name under it.
+    /// Returns the greatest byte, and the name under it.
     pub fn max(&self) -> (u8, OpaqueNodePtr)
         requires { 0 < length (ref_view self.now).children }
         ensures last { slice_get (ref_view self.now).children
@@ -274,7 +274,7 @@ impl<'a, const P: usize> InnerRef<'a, P> {
         self.iter().greatest()
     }
 
-    /// The children under the bytes from `first` to `last`, both included: none where `last` is less.
+    /// Returns the children under the bytes from `first` to `last`, both included: none where `last` is less.
     pub fn range(&self, first: u8, last: u8) -> Children<'a>
         ensures { result ≡ children_between first last (ref_view self.now).children }
     {

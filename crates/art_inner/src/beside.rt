@@ -11,8 +11,8 @@ use art_parts::names::OpaqueNodePtr;
 impl<'a, const P: usize> InnerRef<'a, P> {
     ghost use Rattle.art_inner.specs.Views.{ref_view};
 
-    /// A child next to a byte that has none itself, with the child's own byte. It is above or below, and no other child
-    /// is between.
+    /// Returns a child next to a byte that has none itself, with the child's own byte. It is above or below, and no
+    /// other child is between.
     #[inline(always)]
     pub fn beside(&self, byte: u8) -> (u8, OpaqueNodePtr)
         requires some { 0 < length (ref_view self.now).children }

@@ -34,17 +34,17 @@ pub trait InnerNode<const P: usize>: FromHeader<Header<P>> {
     fn header(&self) -> Header<P>
         ensures { result ≡ (view_of self.now).prefix };
 
-    /// The length of the prefix, which may be more than is stored.
+    /// Returns the length of the prefix, which may be more than is stored.
     fn prefix_len(&self) -> usize
         ensures { result ≡ (view_of self.now).prefix.len };
 
-    /// The stored bytes of the prefix.
+    /// Returns the stored bytes of the prefix.
     fn read_prefix(&self) -> &[u8]
         ensures stored { result.now ≡ (view_of self.now).prefix.stored }
         ensures count { length (view_of self.now).prefix.stored ≡
             min (view_of self.now).prefix.len P };
 
-    /// The children by rising bytes.
+    /// Returns the children by rising bytes.
     fn iter(&self) -> Children<'_>
         ensures children { result ≡ (view_of self.now).children }
         ensures rising { IsRising (view_of self.now).children }
@@ -68,12 +68,12 @@ pub trait InnerNode<const P: usize>: FromHeader<Header<P>> {
         ensures kind { any_kind result ≡ TYPE }
         ensures view { any_view result ≡ view_of self };
 
-    /// The node of the next larger kind. A node of the largest kind stays what it is.
+    /// Returns the node of the next larger kind. A node of the largest kind stays what it is.
     fn grow(self) -> AnyInner<P>
         ensures kind { any_kind result ≡ larger_kind TYPE }
         ensures view { any_view result ≡ view_of self };
 
-    /// The node of the next smaller kind. A node of the smallest kind stays what it is.
+    /// Returns the node of the next smaller kind. A node of the smallest kind stays what it is.
     fn shrink(self) -> AnyInner<P>
         requires { length (view_of self).children ≤ kind_capacity (smaller_kind TYPE) }
         ensures kind { any_kind result ≡ smaller_kind TYPE }
@@ -92,11 +92,11 @@ pub trait InnerNode<const P: usize>: FromHeader<Header<P>> {
         self.num_children() >= Self::TYPE.capacity()
     }
 
-    /// The name under a byte.
+    /// Returns the name under a byte.
     fn lookup_child(&self, byte: u8) -> Option<OpaqueNodePtr>
         ensures { result ≡ child_at (view_of self.now).children byte };
 
-    /// The least byte, and the name under it.
+    /// Returns the least byte, and the name under it.
     fn min(&self) -> (u8, OpaqueNodePtr)
         requires { 0 < length (view_of self.now).children }
         ensures first { slice_get (view_of self.now).children 0 ≡ Some result }
@@ -105,7 +105,7 @@ pub trait InnerNode<const P: usize>: FromHeader<Header<P>> {
         self.iter().least()
     }
 
-    /// The greatest byte, and the name under it.
+    /// Returns the greatest byte, and the name under it.
     fn max(&self) -> (u8, OpaqueNodePtr)
         requires { 0 < length (view_of self.now).children }
         ensures last { slice_get (view_of self.now).children
@@ -115,7 +115,7 @@ pub trait InnerNode<const P: usize>: FromHeader<Header<P>> {
         self.iter().greatest()
     }
 
-    /// The children under the bytes from `first` to `last`, both included: none where `last` is less.
+    /// Returns the children under the bytes from `first` to `last`, both included: none where `last` is less.
     fn range(&self, first: u8, last: u8) -> Children<'_>
         ensures { result ≡ children_between first last (view_of self.now).children }
     {

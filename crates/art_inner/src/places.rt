@@ -14,7 +14,7 @@ pub(crate) trait Places {
     /// The children of the table.
     ghost children_of: { Self → Children };
 
-    /// The name under a byte.
+    /// Returns the name under a byte.
     fn get(&self, byte: u8) -> Option<OpaqueNodePtr>
         ensures { result ≡ child_at (children_of self.now) byte };
 }

@@ -10,7 +10,7 @@ use crate::table::Table;
 pub trait Grows<const P: usize>: InnerNode<P> {
     type Larger: InnerNode<P>;
 
-    /// A node of the next larger kind with the same children.
+    /// Returns a node of the next larger kind with the same children.
     fn grown(self) -> Self::Larger
         ensures { Self.Larger.view_of result ≡ Self.view_of self };
 }
@@ -21,7 +21,7 @@ pub trait Shrinks<const P: usize>: InnerNode<P> {
 
     type Smaller: InnerNode<P>;
 
-    /// A node of the next smaller kind with the same children.
+    /// Returns a node of the next smaller kind with the same children.
     fn shrunk(self) -> Self::Smaller
         requires { length (Self.view_of self).children ≤ kind_capacity Self.Smaller.TYPE }
         ensures { Self.Smaller.view_of result ≡ Self.view_of self };

@@ -15,7 +15,7 @@ pub record IsOneFewer {N : Type 0} (old new : Slab N) : Type 0 where
   pub len : slab_len new + 1 ≡ slab_len old
   pub capacity : new.capacity ≡ old.capacity
 
--- a slab has one value more, and as many slots
+-- a slab has one more value, and as many slots
 pub record IsOneMore {N : Type 0} (old new : Slab N) : Type 0 where
   pub len : slab_len new ≡ slab_len old + 1
   pub capacity : new.capacity ≡ old.capacity

@@ -44,7 +44,7 @@ impl<K, V> LeafNode<K, V> {
         }
     }
 
-    /// The key.
+    /// Returns the key.
     #[inline(always)]
     pub fn key_ref(&self) -> &K
         ensures { result.now ≡ self.now.key }
@@ -52,7 +52,7 @@ impl<K, V> LeafNode<K, V> {
         &self.key
     }
 
-    /// The value.
+    /// Returns the value.
     #[inline(always)]
     pub fn value_ref(&self) -> &V
         ensures { result.now ≡ self.now.value }

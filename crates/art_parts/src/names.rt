@@ -21,7 +21,7 @@ impl NodeType {
     ghost use Rattle.art_parts.specs.Kinds.{kind_capacity, kind_least, next_larger, next_smaller};
     ghost use Rattle.art_parts.specs.declared.names.NodeType.TheVariants.{Leaf};
 
-    /// How many children a node of this kind has in a well-formed tree.
+    /// Returns how many children a node of this kind has in a well-formed tree.
     pub fn capacity_range(self) -> RangeInclusive<usize>
         requires { self ≢ Leaf }
         ensures least { range_inclusive_start result ≡ kind_least self }
@@ -38,7 +38,7 @@ impl NodeType {
         least..=self.capacity()
     }
 
-    /// The next kind with room for more children, if there is one.
+    /// Returns the next kind with room for more children, if there is one.
     pub fn larger(self) -> Option<NodeType>
         ensures { result ≡ next_larger self }
     {
@@ -50,7 +50,7 @@ impl NodeType {
         }
     }
 
-    /// The next kind with room for fewer children, if there is one.
+    /// Returns the next kind with room for fewer children, if there is one.
     pub fn smaller(self) -> Option<NodeType>
         ensures { result ≡ next_smaller self }
     {
@@ -62,7 +62,7 @@ impl NodeType {
         }
     }
 
-    /// How many children a node of this kind has room for.
+    /// Returns how many children a node of this kind has room for.
     pub fn capacity(self) -> usize
         ensures { result ≡ kind_capacity self }
     {
@@ -177,7 +177,7 @@ impl OpaqueNodePtr {
         OpaqueNodePtr { kind, slot }
     }
 
-    /// The kind of the node.
+    /// Returns the kind of the node.
     #[inline(always)]
     pub fn node_type(self) -> NodeType
         ensures { result ≡ self.kind }

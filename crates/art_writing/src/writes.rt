@@ -24,7 +24,7 @@ pub(crate) enum Direction {
 }
 
 impl Direction {
-    /// The direction from the byte of a child to that of a new one.
+    /// Returns the direction from the byte of a child to that of a new one.
     #[inline(always)]
     pub(crate) fn of(new: u8, other: u8) -> Self
         ensures { result ≡ side_of new other }
@@ -160,7 +160,7 @@ pub(crate) fn replace_at<K: AsBytes + Drop, V: Drop, const P: usize>(
     }
 }
 
-/// The neighbours of a new leaf right before the first leaf of a tree, or right after the last one.
+/// Returns the neighbours of a new leaf right before the first leaf of a tree, or right after the last one.
 #[inline(always)]
 pub(crate) fn links_beside<K: AsBytes + Drop, V: Drop, const P: usize>(
     store: &NodeStore<K, V, P>,

@@ -150,9 +150,9 @@ impl<K: AsBytes + Drop, V: Drop, const P: usize> NodeStore<K, V, P> {
     ghost use Rattle.art_nodes.specs.Nodes.{take_inner};
     ghost use Rattle.art_parts.specs.declared.names.NodeType.TheVariants.{Node4};
 
-    /// Replaces an inner node by one of the next smaller kind, without the child under a byte. It never fails: the store
-    /// keeps a slot for it, as it does for each larger node. A promise of another kind is void afterwards, as after a
-    /// placement.
+    /// Replaces an inner node by one of the next smaller kind, without the child under a byte. It never fails: the
+    /// store keeps a slot for it, as it does for each larger node. A promise of another kind is void afterwards, as
+    /// after a placement.
     pub fn put_smaller(&mut self, inner: InnerPtr, byte: u8) -> InnerPtr
         requires kind { inner.kind ≢ Node4 }
         requires fit { IsSomeAnd (map.get self.old.inners inner) (λ node.

@@ -170,7 +170,7 @@ impl DeletePoint {
     }
 }
 
-/// Whether a node has more children than its kind's minimum.
+/// Returns whether a node has more children than its kind's minimum.
 #[inline(always)]
 pub(super) fn has_spare_child<const P: usize>(node: InnerRef<'_, P>) -> bool
     ensures { result ≡
