@@ -54,7 +54,7 @@ pub fn work(
     write_more(&mut map, alloc, asked);
 }
 
-/// Puts in each key with its number. Returns how many were new.
+/// Inserts each key with its number. Returns how many were new.
 #[inline(never)]
 fn insert_all(map: &mut Map, alloc: Global, keys: &[u8], ends: &[u64]) -> u64 {
     let (mut count, mut value, mut from) = (0u64, 0u32, 0);
@@ -96,7 +96,7 @@ fn is_stored_now(map: &mut Map, key: Vec<u8>) -> bool {
     map.insert(key, 7).is_ok()
 }
 
-/// Puts in each key, in the place of those related to it. Returns how many could be put in.
+/// Inserts each key and removes those related to it. Returns how many could be inserted.
 #[inline(never)]
 fn over_all(map: &mut Map, alloc: Global, keys: &[u8], ends: &[u64]) -> u64 {
     let (mut count, mut from) = (0u64, 0);
@@ -159,7 +159,7 @@ fn match_all(map: &Map, asked: &[u8], ends: &[u64]) -> u64 {
     count
 }
 
-/// Walks all pairs. Returns the sum of their values and of the lengths of their keys.
+/// Iterates over all pairs. Returns the sum of their values and of the lengths of their keys.
 #[inline(never)]
 fn walk_all(map: &Map) -> u64 {
     let mut sum = 0u64;
@@ -183,7 +183,7 @@ fn back_all(map: &Map) -> u64 {
     sum
 }
 
-/// Walks the pairs below each prefix. Returns how many came.
+/// Iterates over the pairs with each prefix. Returns how many there were.
 #[inline(never)]
 fn below_all(map: &Map, prefixes: &[u8], ends: &[u64]) -> u64 {
     let (mut count, mut from) = (0u64, 0);
@@ -220,7 +220,7 @@ fn is_first_from(map: &Map, key_bytes: &[u8]) -> bool {
     }
 }
 
-/// Clones the map, walks the clone and lets it go. Returns what `walk_all` does.
+/// Clones the map, iterates over the clone and drops it. Returns what `walk_all` does.
 #[inline(always)]
 fn clone_all(map: &Map, alloc: Global) -> u64 {
     begin(alloc, parts::CLONE);
@@ -234,7 +234,7 @@ fn clone_all(map: &Map, alloc: Global) -> u64 {
     sum
 }
 
-/// Moves all pairs into order, and walks. Returns the sum of the walk.
+/// Compacts the map, and iterates. Returns the sum of the iteration.
 fn compact_all(map: &mut Map, alloc: Global) -> u64 {
     begin(alloc, parts::COMPACT);
     let Ok(()) = map.compact() else {
@@ -249,7 +249,7 @@ fn let_go(copy: Map) {
     drop(copy);
 }
 
-/// Takes each key out. Returns how many were stored.
+/// Removes each key. Returns how many were stored.
 #[inline(never)]
 fn remove_all(map: &mut Map, asked: &[u8], ends: &[u64]) -> u64 {
     let (mut count, mut from) = (0u64, 0);

@@ -39,7 +39,7 @@ pub fn work(
     write_more(&mut map, alloc, asked);
 }
 
-/// Puts in each key with its number. Returns how many were new.
+/// Inserts each key with its number. Returns how many were new.
 #[inline(never)]
 fn insert_all(map: &mut Map, alloc: Global, keys: &[u8], ends: &[u64]) -> u64 {
     let (mut count, mut value, mut from) = (0u64, 0u32, 0);
@@ -112,7 +112,7 @@ fn is_written(map: &mut Map, key_bytes: &[u8]) -> bool {
     }
 }
 
-/// Walks all pairs. Returns the sum of their values and of the lengths of their keys.
+/// Iterates over all pairs. Returns the sum of their values and of the lengths of their keys.
 #[inline(never)]
 fn walk_all(map: &Map) -> u64 {
     let mut sum = 0u64;
@@ -136,7 +136,7 @@ fn back_all(map: &Map) -> u64 {
     sum
 }
 
-/// Clones the map, walks the clone and lets it go. Returns what `walk_all` does.
+/// Clones the map, iterates over the clone and drops it. Returns what `walk_all` does.
 #[inline(always)]
 fn clone_all(map: &Map, alloc: Global) -> u64 {
     begin(alloc, parts::CLONE);
@@ -150,7 +150,7 @@ fn clone_all(map: &Map, alloc: Global) -> u64 {
     sum
 }
 
-/// Takes each key out. Returns how many were stored.
+/// Removes each key. Returns how many were stored.
 #[inline(never)]
 fn remove_all(map: &mut Map, asked: &[u8], ends: &[u64]) -> u64 {
     let (mut count, mut from) = (0u64, 0);

@@ -1,5 +1,5 @@
-//! Work on maps for tools/bench, which gives the keys, keeps the time and counts instructions and memory.
-//! Each call of a map that is measured has several callers here, as it has in programs.
+//! Work on maps for tools/bench, which gives the keys, keeps the time and counts instructions and memory. Each call of
+//! a map that is measured has several callers here, as it has in programs.
 #![tactic(auto)]
 
 use std::alloc::Global;
@@ -10,7 +10,7 @@ mod parts;
 mod store_calls;
 mod text_map;
 
-/// How many keys or pairs each part came to.
+/// How many keys or pairs each part gave.
 #[repr(C)]
 #[derive(Drop)]
 pub struct Counts {

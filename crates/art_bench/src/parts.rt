@@ -47,14 +47,14 @@ pub const RANGE: usize = 20;
 
 pub const REST: usize = 21;
 
-/// Tells the heap that a part begins, by a request that none can meet.
+/// Reports to the heap that a part begins, by a request that none can meet.
 #[inline(never)]
 pub fn begin(alloc: Global, part: usize) {
     let asked = (1 << 62) + part.min(REST);
     let _ = Vec::<u8>::with_capacity(alloc, asked);
 }
 
-/// Returns the bytes from one place to another, or all where there is no such part.
+/// Returns the bytes from one place to another, or all if there is no such part.
 #[inline(always)]
 pub fn between(bytes: &[u8], from: usize, to: usize) -> &[u8] {
     bytes.get(from..to).unwrap_or(bytes)

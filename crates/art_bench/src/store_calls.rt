@@ -17,8 +17,8 @@ const PREFIX_LEN: usize = 16;
 
 type Store = NodeStore<Vec<u8>, u32, PREFIX_LEN>;
 
-/// Makes a tree of all keys, finds each key, checks the tree, and takes each key out. Counts those that were
-/// found, the leaves of the tree, if it has no fault, and the keys that were taken out.
+/// Makes a tree of all keys, finds each key, checks the tree, and removes each key. Counts the found keys, the leaves
+/// of the tree, if it has no fault, and the removed keys.
 #[inline(always)]
 pub fn work(
     alloc: Global,
@@ -42,7 +42,7 @@ pub fn work(
     begin(alloc, parts::REST);
 }
 
-/// Puts all keys into a tree, and returns its root. `None` where there is no key, or no memory for one.
+/// Inserts all keys into a tree, and returns its root; `None` if there is no key, or an allocation fails.
 #[inline(never)]
 fn build(store: &mut Store, alloc: Global, keys: &[u8], ends: &[u64]) -> Option<OpaqueNodePtr>
     ensures { IfSome result (IsCanonicalRoot (of_key (λ key. key.items)) 16 store.new) }
@@ -59,7 +59,7 @@ fn build(store: &mut Store, alloc: Global, keys: &[u8], ends: &[u64]) -> Option<
     root
 }
 
-/// Puts a pair into a tree, or begins one. Returns the root, or `None` where it is refused.
+/// Inserts a pair into a tree, or begins one. Returns the root, or `None` if it fails.
 fn put_in<K: AsBytes + Drop, V: Drop, const P: usize>(
     store: &mut NodeStore<K, V, P>,
     root: Option<OpaqueNodePtr>,
@@ -102,7 +102,7 @@ fn leaf_count(store: &Store, root: OpaqueNodePtr) -> u64 {
     }
 }
 
-/// Takes keys out until one isn't stored or none is left. Returns how many were.
+/// Removes keys until one isn't stored or none is left. Returns how many were removed.
 #[inline(never)]
 fn take_all(store: &mut Store, root: OpaqueNodePtr, asked: &[u8], ends: &[u64]) -> u64
     requires { IsCanonicalRoot (of_key (λ key. key.items)) 16 store.old root }
@@ -123,8 +123,8 @@ fn take_all(store: &mut Store, root: OpaqueNodePtr, asked: &[u8], ends: &[u64]) 
     count
 }
 
-/// Takes the pair of a key out. Returns the root that is left, if any; `None` where the key isn't stored, or
-/// for want of memory.
+/// Removes the pair of a key. Returns the root that is left, if any; `None` if the key isn't stored, or an allocation
+/// fails.
 fn root_without<K: AsBytes + Drop, V: Drop, const P: usize>(
     store: &mut NodeStore<K, V, P>,
     root: OpaqueNodePtr,

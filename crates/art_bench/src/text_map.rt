@@ -1,4 +1,4 @@
-//! The work on a map of strings, by texts of which no key is made but to insert it.
+//! The work on a map of strings, by texts of which no key is built but to insert it.
 
 use crate::parts::{begin, between};
 use crate::{Counts, parts};

@@ -1,4 +1,4 @@
--- The walk of a check: the nodes above the one whose children have their turns, and what was passed and met so far.
+-- The traversal of a check: the nodes above the current one, and what was passed and met so far.
 use Rattle.std.proofs.Common.{◌≡◌, ◌≢◌, ℕ, suc, ◌+◌, ◌*◌, ◌-◌, ◌<◌, ◌≤◌, List, [], ◌∷◌, ◌++◌, length, length-append, reverse, take, Option, Some, None, IsSome, refl, ap, sym, ◌∙◌, subst, arith}
 use Rattle.std.proofs.Math.Seq.{take-append_seam}
 use Rattle.std.proofs.lemmas.List.{reverse-append}
@@ -32,7 +32,7 @@ module _ {K V : Type 0} (bytes : K × V → List ℕ) (P : ℕ) (s : Nodes K V) 
     pub bound : length node.children ≤ kind_capacity name.kind
     pub deep : depth ≡ length place
 
-  -- It is the turn of a child of this node, which was met behind what stands above it.
+  -- A child of this node, which was met after the nodes above it, is next.
   pub record IsAboveChild (Outer : Seen → List ℕ → OpaqueNodePtr → Type 0) (f : Above) (now : Seen) (pushed : List ℕ) (child : OpaqueNodePtr) : Type 0 where
     pub before : Seen
     pub old : Seen
@@ -44,12 +44,12 @@ module _ {K V : Type 0} (bytes : K × V → List ℕ) (P : ℕ) (s : Nodes K V) 
     pub met : IsNode before old place f.name f.depth node
     pub turn : IsTurn bytes P s old now place whole pushed f.name node byte child f.children
 
-  -- The nodes above a name, the innermost first, up to the root: of each the child below it has its turn.
+  -- The nodes above a name, the innermost first, up to the root: of each the child below it is being checked.
   abbrev pub AreAbove : OpaqueNodePtr → List Above → Seen → List ℕ → OpaqueNodePtr → Type 0
   AreAbove root [] now place name = IsStart now × (place ≡ []) × (name ≡ root)
   AreAbove root (f ∷ fs) now place name = IsAboveChild (AreAbove root fs) f now place name
 
-  -- The children of a node have their turns, and these are left.
+  -- The children of a node are being checked, and these are left.
   pub record IsAt (root : OpaqueNodePtr) (above : List Above) (now : Seen) (whole : List ℕ) (name : InnerPtr) (depth : ℕ) (left : Children) : Type 0 where
     pub before : Seen
     pub old : Seen
@@ -98,7 +98,7 @@ module _ {K V : Type 0} {bytes : K × V → List ℕ} {P : ℕ} {s : Nodes K V} 
         let most = at.met.bound in
         omega (arith, all, both, most)
 
-  -- ---- a node is come to
+  -- ---- a node is reached
 
   pub entered : {root : OpaqueNodePtr} {above : List Above} {before old : Seen} {place read : List ℕ} {name : InnerPtr} {depth : ℕ} {node : Inner} {left : Children} →
       AreAbove bytes P s root above before place (inner_name name) → NoneFrom (place_in before) place → IsFirstMet before old (inner_name name) place → name.kind ≢ Leaf →
@@ -113,7 +113,7 @@ module _ {K V : Type 0} {bytes : K × V → List ℕ} {P : ℕ} {s : Nodes K V} 
     turns = none_turned (sym enters.all) enters.prefix (none_below first.met none);
   }
 
-  -- the root is come to
+  -- the root is reached
   pub started : {above : List Above} {start old : Seen} {place read : List ℕ} {name : InnerPtr} {node : Inner} {left : Children} → IsStart start →
       IsFirstMet start old (inner_name name) [] → name.kind ≢ Leaf → map.get s.inners name ≡ Some node → place ≡ [] → above ≡ [] →
       IsEntered bytes P s place read name node left → IsAt bytes P s (inner_name name) (reverse above) old read name 0 left
@@ -122,7 +122,7 @@ module _ {K V : Type 0} {bytes : K × V → List ℕ} {P : ℕ} {s : Nodes K V} 
       (entered {root = inner_name name} {above = []} (starts, refl, refl) (λ n other e front. let h = starts.none n in absurd cc) first proper there refl
       (subst (λ p. IsEntered bytes P s p read name node left) at enters))
 
-  -- ---- it is a child's turn
+  -- ---- a child is next
 
   module _ {root : OpaqueNodePtr} {above : List Above} {now : Seen} {whole pushed : List ℕ} {name : InnerPtr} {depth : ℕ} {rest left : Children} {byte : ℕ} {child : OpaqueNodePtr}
       (at : IsAt bytes P s root above now whole name depth rest) (steps : rest ≡ (byte, child) ∷ left) (more : pushed ≡ whole ++ byte ∷ []) where
@@ -139,7 +139,7 @@ module _ {K V : Type 0} {bytes : K × V → List ℕ} {P : ℕ} {s : Nodes K V} 
     pub parent_above : AreAbove bytes P s root (record { name = name; depth = depth; children = left } ∷ above) now pushed child
     parent_above = record { before = at.before; old = at.old; place = at.place; whole = whole; node = at.node; byte = byte; outer = at.outer; met = at.met; turn = turn_of }
 
-    -- once all below it was passed the others have their turns
+    -- once all below it was passed the others follow
     pub turn_over : {new : Seen} {behind cut : List ℕ} {len : ℕ} → IsPassed bytes P s now new pushed child → IsWalked bytes P s (place_in now) (place_in new) pushed child →
         behind ≡ pushed → length behind ≡ len → cut ≡ take (len - 1) behind → IsAt bytes P s root above new cut name depth left
     turn_over passed walked kept long cut = record {
@@ -157,7 +157,7 @@ module _ {K V : Type 0} {bytes : K × V → List ℕ} {P : ℕ} {s : Nodes K V} 
         length pushed ≡ len → cut ≡ take (len - 1) pushed → IsAt bytes P s root above new cut name depth left
     leaf_over leaf_ptr first is stands long cut = turn_over (passed_leaf first leaf_ptr is refl stands) (met_walked first.met) refl long cut
 
-  -- ---- a node goes
+  -- ---- a node is done
 
   module _ {root : OpaqueNodePtr} {above : List Above} {now : Seen} {whole : List ℕ} {name : InnerPtr} {depth : ℕ} {rest : Children}
       (at : IsAt bytes P s root above now whole name depth rest) (none : rest ≡ []) (enough : kind_least name.kind ≤ length at.node.children) where
@@ -170,7 +170,7 @@ module _ {K V : Type 0} {bytes : K × V → List ℕ} {P : ℕ} {s : Nodes K V} 
     node_walked : IsWalked bytes P s (place_in at.before) (place_in now) at.place (inner_name name)
     node_walked = walked_also refl (met_walked at.met.first.met) at.turns.walked.walked
 
-    -- the node above it goes on with its other children
+    -- the node above it continues with its other children
     pub parent_goes_on : (f : Above) (fs : List Above) → above ≡ f ∷ fs → {behind cut : List ℕ} {len : ℕ} → behind ≡ at.place → length behind ≡ len → cut ≡ take (len - 1) behind →
         IsAt bytes P s root fs now cut f.name f.depth f.children
     parent_goes_on f fs is kept long cut =
@@ -218,7 +218,7 @@ module _ (m n a b k l : ℕ) where
   pub falls_in : n < m → b ≡ a + 1 → l ≤ 256 → 600 * n + 300 * b + l < 600 * m + 300 * a + k
   falls_in less more few = omega arith
 
-  -- an inner node goes
+  -- an inner node is done
   pub falls_out : n ≡ m → a ≡ b + 1 → l ≤ 256 → 600 * n + 300 * b + l < 600 * m + 300 * a + k
   falls_out same less few = omega arith
 

@@ -1,4 +1,4 @@
--- walks down least children, step by step
+-- descents along least children, step by step
 use Rattle.std.proofs.Common.{◌≡◌, ◌≢◌, ℕ, Bool, true, List, [], ◌∷◌, ◌++◌, refl, ap, sym, ◌∙◌, subst, Option, Some, None, ◌⊎◌, inl, inr}
 use Rattle.std.specs.FinMap as map
 use Rattle.std.specs.Option.{option_map}
@@ -33,7 +33,7 @@ module _ {K V : Type 0} (s : Nodes K V) where
   pub none_at_leaf : (p : LeafPtr) → map.get s.leaves p ≡ None → node_at s (leaf_name p) ≡ None
   none_at_leaf p gone = ap (λ o. option_map (tree_node Leaf) (option_map held_leaf o)) gone
 
--- ---- one step more
+-- ---- one further step
 bottom_more : (name : OpaqueNodePtr) (ns : List OpaqueNodePtr) (c : OpaqueNodePtr) → bottom_of name (ns ++ c ∷ []) ≡ c
 bottom_more name [] c = refl
 bottom_more name (n ∷ ns) c = bottom_more n ns c
@@ -65,7 +65,7 @@ met_twice name [] i apart = i
 met_twice name (n ∷ ns) (inl e) apart = each_in (λ m. name ≢ m) (bottom_of n ns) (n ∷ ns) apart.0 (bottom_in n ns) e
 met_twice name (n ∷ ns) (inr i) apart = met_twice n ns i apart.1
 
--- A walk down least children came from the start to a name, and passed these inner nodes.
+-- A descent along least children leads from the start to a name, and passed these inner nodes.
 pub record IsDown {A : Type 0} (at : OpaqueNodePtr → Option (Node OpaqueNodePtr A)) (passed : InnerPtr → Bool) (start now : OpaqueNodePtr) : Type 0 where
   pub names : List OpaqueNodePtr
   pub descent : IsDescent at start names
@@ -87,7 +87,7 @@ down_more {A} {at} {passed} {more} {start} {now} p least down is has either =
     go q (inl same) = inl (down.ends ∙ sym is ∙ ap inner_name (sym same))
     go q (inr e) = inr (down.passes q e)
 
--- ---- where a walk ends
+-- ---- where a descent ends
 module _ {K V : Type 0} (bytes : K × V → List ℕ) (P : ℕ) (s : Nodes K V) {passed : InnerPtr → Bool} {start now : OpaqueNodePtr} (down : IsDown (node_at s) passed start now) where
   pub ends_at_leaf : (p : LeafPtr) (found : Option LeafPtr) (o : Option (LeafNode K V)) → leaf_name p ≡ now → map.get s.leaves p ≡ o → found ≡ option_map (λ _. p) o → IsLeastLeaf bytes P s start found
   ends_at_leaf p found None is gone e = subst (IsLeastLeaf bytes P s start) (sym e) (down.names, down.descent, λ root needed. inl (ap (node_at s) (down.ends ∙ sym is) ∙ none_at_leaf s p gone))

@@ -22,12 +22,12 @@ use Rattle.art_checking.proofs.Descents.{inner_at}
 use Rattle.art_checking.specs.declared.well_formed.fault.MalformedTreeError.{MalformedTreeError}
 use Rattle.art_checking.specs.declared.well_formed.fault.MalformedTreeError.TheVariants.{LoopFound, WrongChildrenCount, PrefixMismatch, EmptyTreeWithLen, LeafSiblingWrongOrder, WrongSiblingLinks, DeadName, UnreadablePrefix, StoredPrefixMismatch, OutOfMemory}
 
--- what holds of an error holds of it as `?` passes it on
+-- what holds of an error holds of it after `?`
 pub passed_on : {T E : Type 0} (r : Result T E) (source : E) (Q : E → Type 0) → IsErrAnd r (λ e. e ≡ source) → Q source → IfErr r Q
 passed_on (Ok x) source Q same q = tt
 passed_on (Err e) source Q same q = subst Q (sym same) q
 
--- one error alone says the want of memory
+-- only one error is out of memory
 memory_alone : (error : MalformedTreeError) → fault_of error ≡ out_of_memory → error ≡ OutOfMemory
 memory_alone (LoopFound node_ptr first_observed later_observed) is = absurd cc
 memory_alone (WrongChildrenCount key_prefix inner_node_type num_children) is = absurd cc
@@ -40,12 +40,12 @@ memory_alone (UnreadablePrefix key_prefix name) is = absurd cc
 memory_alone (StoredPrefixMismatch key_prefix stored actual) is = absurd cc
 memory_alone OutOfMemory is = refl
 
--- what is true of a canonical root is the want of memory alone
+-- the only error that a canonical root can have is out of memory
 pub canonical_error : {K V : Type 0} {bytes : K × V → List ℕ} {P : ℕ} {s : Nodes K V} {root : OpaqueNodePtr} (error : MalformedTreeError) →
     IsCanonicalRoot bytes P s root → IsTrueOf bytes P s root (fault_of error) → error ≡ OutOfMemory
 canonical_error {bytes = bytes} {P = P} {s = s} {root = root} error (pairs, layout, by) is = memory_alone error (no_fault bytes P s root pairs layout (laid_out by) (fault_of error) is)
 
--- what an error says is true, or there was no memory to say it
+-- what an error reports is true, or the allocation for it failed
 pub said : {K V : Type 0} (bytes : K × V → List ℕ) (P : ℕ) (s : Nodes K V) (root : OpaqueNodePtr) {fault : Fault} (error : MalformedTreeError) → Says fault error →
     IsTrueOf bytes P s root fault → IsTrueOf bytes P s root (fault_of error)
 said bytes P s root error (inl e) true = subst (IsTrueOf bytes P s root) (sym e) true

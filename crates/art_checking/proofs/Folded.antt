@@ -1,4 +1,4 @@
--- A fold goes on child by child: some children of a node are joined, and the others are left.
+-- A fold proceeds child by child: some children of a node are joined, and the others are left.
 use Rattle.std.specs.Option.{option_map}
 use Rattle.std.proofs.Common.{◌≡◌, ◌≢◌, ℕ, ◌<◌, ◌≤◌, List, [], ◌∷◌, length, refl, ap, ap₂, sym, ◌∙◌, arith, subst, Some, None}
 use Rattle.std.specs.FinMap as map
@@ -156,7 +156,7 @@ module _ {K V T Out : Type 0} (OfLeaf : T → LeafNode K V → Out → T → Typ
           go no_child t below joins = absurd joins
           go (child c u cs) t below (mid, first, of_u, rest) = (mid, first, of_u, Joins-more cs next.0 t mid now new first joined own out rest (folds t below) combines)
 
-  -- at the end the node goes to its hook
+  -- at the end the node is passed to its hook
   pub ended : {layout : Tree OpaqueNodePtr (K × V)} {name : OpaqueNodePtr} {kind : NodeType} {shown : Inner} (old now new : T) (joined out : Out) →
       HasJoined layout name kind shown [] old joined now → content_at s name ≡ Some (held_inner shown) → OfInner now kind shown joined out new → FoldsIt layout old out new
   ended {layout} {name} {kind} {shown} old now new joined out has there answers = go has.rest has.slots has.is
@@ -165,20 +165,20 @@ module _ {K V T Out : Type 0} (OfLeaf : T → LeafNode K V → Out → T → Typ
       go no_child none is = subst (λ z. FoldsIt z old out new) (sym (is ∙ ap (inner name (header_at kind shown)) (join_none has.done))) (shown, now, joined, there, has.joins, answers)
       go (child b t cs) some is = absurd cc
 
-  -- a leaf goes to its hook
+  -- a leaf is passed to its hook
   pub folds_leaf : {name : OpaqueNodePtr} (layout : Tree OpaqueNodePtr (K × V)) (p : LeafPtr) (shown : LeafNode K V) (old new : T) (out : Out) →
       IsFullTree s name layout → leaf_name p ≡ name → Some shown ≡ map.get s.leaves p → OfLeaf old shown out new → FoldsIt layout old out new
   folds_leaf layout p shown old new out full is there answers =
       subst (λ z. FoldsIt z old out new) (sym (leaf_shown s p layout (full.0.named ∙ sym is) full.0.holds shown there)) (shown, held_at_leaf s p shown there, answers)
 
--- what has a leaf's name is there
+-- what has a leaf's name is a leaf of the store
 pub full_leaf : {K V : Type 0} (s : Nodes K V) {name : OpaqueNodePtr} {layout : Tree OpaqueNodePtr (K × V)} → IsFullTree s name layout →
     (p : LeafPtr) → leaf_name p ≡ name → None ≡ map.get s.leaves p → ⊥
 full_leaf s {name} {layout} full p is gone = no_leaf_gone s p layout (full.0.named ∙ sym is) full.0.holds gone
 
 module _ {K V : Type 0} (s : Nodes K V) {name : OpaqueNodePtr} {layout : Tree OpaqueNodePtr (K × V)} (full : IsFullTree s name layout) (p : InnerPtr)
     (proper : p.kind ≢ Leaf) (is : inner_name p ≡ name) where
-  -- an inner node is there
+  -- an inner node is in the store
   pub full_inner : None ≡ map.get s.inners p → ⊥
   full_inner gone = no_inner_gone s p proper layout (full.0.named ∙ sym is) full.0.holds gone
 

@@ -1,4 +1,4 @@
--- For callers: what a fold answers, said of the tree's pairs. To show are three steps: for a leaf's pair, for the hook of an inner node, and for two lists in a row where their outputs are joined.
+-- For callers: what a fold returns, in terms of the tree's pairs. Three steps are to be shown: for a leaf's pair, for the hook of an inner node, and for two adjacent lists whose outputs are joined.
 use Rattle.std.proofs.Common.{◌≡◌, List, [], ◌∷◌, ◌++◌, sym, ap, ◌∙◌, subst, append-nil, append_assoc, Option, Some}
 use Rattle.std.specs.Option.{option_map}
 use Rattle.art_inner.specs.Inner.{Inner}
@@ -33,7 +33,7 @@ module _ {K V T Out : Type 0} (OfLeaf : T → LeafNode K V → Out → T → Typ
     joins_all_to (child b t cs) old new out holds (mid, first, folds, joins) =
         joins_to cs mid new first out (pairs_of t) holds.1 (folds_to t old mid first holds.0 folds) joins
 
-    -- of the children that are left, where so much has come
+    -- of the remaining children, with the output so far
     joins_to : (cs : Subtrees OpaqueNodePtr (K × V)) (old new : T) (so_far out : Out) (xs : List (K × V)) → HoldsBelow (node_at s) cs →
         IsOf xs so_far → Joins OfLeaf OfInner Combines s cs old so_far out new → IsOf (xs ++ pairs_below cs) out
     joins_to no_child old new so_far out xs holds of (e, f) = subst (λ ys. IsOf ys out) (sym (append-nil xs)) (subst (IsOf xs) (sym e) of)

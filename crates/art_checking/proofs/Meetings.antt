@@ -20,7 +20,7 @@ use Rattle.art_model.proofs.lists.Pairwises.{Pairwise-append}
 use Rattle.art_checking.specs.Marks.{same_name, place_under}
 use Rattle.art_checking.specs.Meetings.{Places, IsMet, Meets}
 
--- ---- the order of names tells them apart
+-- ---- the order of names distinguishes them
 
 pub is_eq_nat : (i j : ℕ) → is_eq (nat_cmp i j) ≡ eqb i j
 is_eq_nat i j = elim (cases_order i j) [
@@ -76,8 +76,8 @@ same_inner p q e =
 pub same_apart : (n k : OpaqueNodePtr) → n ≢ k → same_name n k ≡ false
 same_apart n k off = elim (cases_Bool (same_name n k)) [ inl e ↦ absurd (off (same_is n k e)) | inr e ↦ e ]
 
--- ---- what is met last
--- it stands where the others end
+-- ---- the name met last
+-- it is at the end
 pub place_here : (met : List (OpaqueNodePtr × List ℕ)) (name : OpaqueNodePtr) (place : List ℕ) → place_under name (slice_get (met ++ (name, place) ∷ []) (length met)) ≡ Some place
 place_here [] name place = rw (same_self name) refl
 place_here (m ∷ met) name place = place_here met name place

@@ -65,7 +65,7 @@ names_head (inner n h cs) = (names_below cs, refl)
 head_is : {N : Type 0} {n k : N} {ks : List N} (ms : List N) → (ns : List N) × (ms ≡ n ∷ ns) → ms ≡ k ∷ ks → n ≡ k
 head_is ms (ns, e) f = let g : ◌≡◌ {A = List _} (_ ∷ ns) (_ ∷ _) = sym e ∙ f in cc
 
--- the leaves with one more, by their names
+-- the leaves with a further one, by their names
 leaf_more : (name : LeafPtr) (leaves : List LeafPtr) → names_of_leaves (leaves_with (leaf_name name) leaves) ≡ names_of_leaves leaves ++ leaf_name name ∷ []
 leaf_more name [] = refl
 leaf_more name (l ∷ ls) = ap (λ ns. leaf_name l ∷ ns) (leaf_more name ls)
@@ -123,7 +123,7 @@ module _ {K V : Type 0} {bytes : K × V → List ℕ} {P : ℕ} {s : Nodes K V} 
           count = let one = first.count in let more = checked.count in rw checked.names (omega arith);
         }
 
-  -- one child more was passed
+  -- one further child was passed
   pub passed_more : {new : Seen} {front : List ℕ} {all left : List (ℕ × OpaqueNodePtr)} (b : ℕ) (name : OpaqueNodePtr) →
       HasPassed bytes P s old mid front all ((b, name) ∷ left) → IsPassed bytes P s mid new (front ++ b ∷ []) name → HasPassed bytes P s old new front all left
   passed_more {new} {front} {all} {left} b name has passed =
@@ -187,7 +187,7 @@ module _ {K V : Type 0} {bytes : K × V → List ℕ} {P : ℕ} {s : Nodes K V} 
           ap₂ (λ k l. let h : NodeHeader = record { kind = k; length_of = l; stored = node.prefix.stored } in h) k l ∙
           ap (λ b. let h : NodeHeader = record { kind = kind_of n; length_of = length part; stored = b } in h) b
 
--- ---- what a step of the check leaves to try
+-- ---- what a step of the check leaves untried
 some_from : {X : Type 0} (o : Option X) → o ≢ None → is_some o ≡ true
 some_from None f = absurd (f refl)
 some_from (Some x) f = refl
@@ -208,13 +208,13 @@ less_to_try inners f g p node place there free met =
     (still_met f g (inner_name p ∷ []) (meets_one f g (inner_name p) place free met))
     (finite.keys inners) p (key_of_inner inners p node there) (ap is_some free) (ap is_some met.here)
 
--- and none more is to try once others were met
+-- and no more are to be tried once others were met
 pub no_more_to_try : (inners : finite.FinMap inner_cmp Inner) (f g : Places) (names : List OpaqueNodePtr) → Meets f g names →
     untried (λ q. is_some (g (inner_name q))) (finite.keys inners) ≤ untried (λ q. is_some (f (inner_name q))) (finite.keys inners)
 no_more_to_try inners f g names meets =
     untried_no_more (λ q. is_some (f (inner_name q))) (λ q. is_some (g (inner_name q))) (still_met f g names meets) (finite.keys inners)
 
--- a name in use is there
+-- a name in use is in the store
 pub inner_is_there : {K V : Type 0} (s : Nodes K V) (p : InnerPtr) → p.kind ≢ Leaf → IsUsed s (inner_name p) → (node : Inner) × (finite.get s.inners p ≡ Some node)
 inner_is_there {K} {V} s p proper used = go (finite.get s.inners p) refl (λ e. used (held_in_inner s p.kind p.slot proper ∙ e))
   where
@@ -258,7 +258,7 @@ module _ {N A : Type 0} where
         omega arith
 
 module _ {K V : Type 0} (s : Nodes K V) where
-  -- a leaf of a tree is there
+  -- a leaf of a tree is in the store
   abbrev IsLeafName : OpaqueNodePtr → Type 0
   IsLeafName n = (x : K × V) × (node_at s n ≡ Some (leaf_node x))
 
@@ -278,7 +278,7 @@ module _ {K V : Type 0} (s : Nodes K V) where
       go [] h = tt
       go (l ∷ ls) h = (let (node, there, same) = leaf_there s l h.0.0 h.0.1 in rw there refl, go ls h.1)
 
--- what was passed from nothing on is a whole tree
+-- what was passed from an empty state is a whole tree
 pub met_tree : {K V : Type 0} {bytes : K × V → List ℕ} {P : ℕ} {s : Nodes K V} {start end : Seen} {root : OpaqueNodePtr} → start.leaves.items ≡ [] →
     count_met start ≡ 0 → IsPassed bytes P s start end [] root → IsMetTree bytes P s end root
 met_tree none zero passed = record {
@@ -296,7 +296,7 @@ module _ {K V : Type 0} {bytes : K × V → List ℕ} {P : ℕ} {s : Nodes K V} 
   pub met_layout : IsLayout (node_at s) root met.layout
   met_layout = record { named = met.named; holds = met.holds; distinct = met.distinct }
 
-  -- its leaves are there
+  -- its leaves are in the store
   pub met_leaves_there : Each (λ l. IsSome (finite.get s.leaves l)) seen.leaves.items
   met_leaves_there = leaves_there s seen.leaves.items met.layout met.leaves met.holds
 

@@ -27,7 +27,7 @@ module _ {K V : Type 0} (bytes : K × V → List ℕ) (P : ℕ) (s : Nodes K V) 
   read_part depth len leaf None (ns, x, descent, ends, there) is = (ns, descent, λ root. inr (inr (inr (x, ap (node_at s) ends ∙ there, is x there))))
   read_part depth len leaf (Some part) (ns, x, descent, ends, there) is = (x, (ns, descent, ap (node_at s) ends ∙ there), is x there)
 
-  -- what was read for a depth and a length, said by the place and the node
+  -- what was read for a depth and a length, in terms of the place and the node
   pub read_found : (name : OpaqueNodePtr) (place : List ℕ) (node : Inner) {depth len : ℕ} {found part : Option (Bor (List ℕ))} → depth ≡ length place → len ≡ node.prefix.len → found ≡ part →
       IsReadFrom bytes P s name depth len found → IsReadFrom bytes P s name (length place) node.prefix.len part
   read_found name place node {depth} {len} {found} deep long is read =

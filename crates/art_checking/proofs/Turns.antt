@@ -1,4 +1,4 @@
--- One turn of the walk over the children of a node.
+-- One step over the children of a node.
 use Rattle.std.proofs.Common.{◌≡◌, ◌≢◌, ℕ, ◌-◌, List, [], ◌∷◌, ◌++◌, length, take, Some, sym, ap, subst, ◌∙◌}
 use Rattle.std.specs.FinMap as map
 use Rattle.art_inner.specs.Inner.{Inner, Children, IsBelow, IsRising}
@@ -16,13 +16,13 @@ use Rattle.art_checking.specs.declared.well_formed.seen.Seen.{Seen}
 use Rattle.art_checking.proofs.Passed.{HasPassed, before_last, passed_more, passed_none}
 use Rattle.art_checking.proofs.Walked.{HasWalked, child_reached, read_again, rising_right, walked_more, walked_none}
 
--- Some children of a node have had their turns, and these are left: the prefix that was read before all of them, and what was passed and walked.
+-- Some children of a node were checked, and these are left: the prefix that was read before all of them, and what was passed and met.
 pub record HasTurned {K V : Type 0} (bytes : K × V → List ℕ) (P : ℕ) (s : Nodes K V) (old now : Seen) (place whole : List ℕ) (p : InnerPtr) (node : Inner) (left : Children) : Type 0 where
   pub read : IsRead bytes P s place whole (inner_name p) (header_at p.kind node)
   pub passed : HasPassed bytes P s old now (place ++ read.part) node.children left
   pub walked : HasWalked bytes P s (place_in old) (place_in now) place read.part (inner_name p) left
 
--- It is the turn of a child: where its byte was pushed, where it is reached, and that its byte is below those that are left.
+-- A child is next: its byte was pushed, it is reached, and its byte is below those that are left.
 pub record IsTurn {K V : Type 0} (bytes : K × V → List ℕ) (P : ℕ) (s : Nodes K V) (old now : Seen) (place whole pushed : List ℕ) (p : InnerPtr) (node : Inner)
     (byte : ℕ) (child : OpaqueNodePtr) (left : Children) : Type 0 where
   pub so_far : HasTurned bytes P s old now place whole p node ((byte, child) ∷ left)
@@ -32,7 +32,7 @@ pub record IsTurn {K V : Type 0} (bytes : K × V → List ℕ) (P : ℕ) (s : No
   pub rises : IsBelow byte left
 
 module _ {K V : Type 0} {bytes : K × V → List ℕ} {P : ℕ} {s : Nodes K V} {old : Seen} {place whole : List ℕ} {p : InnerPtr} {node : Inner} where
-  -- before the first turn
+  -- before the first step
   pub none_turned : {left : Children} → node.children ≡ left → IsRead bytes P s place whole (inner_name p) (header_at p.kind node) → NoneBelow (place_in old) place →
       HasTurned bytes P s old old place whole p node left
   none_turned all read none = record {
@@ -41,7 +41,7 @@ module _ {K V : Type 0} {bytes : K × V → List ℕ} {P : ℕ} {s : Nodes K V} 
     walked = subst (HasWalked bytes P s (place_in old) (place_in old) place read.part (inner_name p)) all (walked_none read.part (inner_name p) node.children none);
   }
 
-  -- a turn begins where the iterator steps to a child, whose byte is pushed
+  -- a step begins where the iterator returns a child, whose byte is pushed
   pub turn_from : {now : Seen} {pushed : List ℕ} {rest : Children} {byte : ℕ} {child : OpaqueNodePtr} {left : Children} → p.kind ≢ Leaf → map.get s.inners p ≡ Some node →
       IsRising node.children → rest ≡ (byte, child) ∷ left → HasTurned bytes P s old now place whole p node rest → pushed ≡ whole ++ byte ∷ [] →
       IsTurn bytes P s old now place whole pushed p node byte child left
@@ -62,11 +62,11 @@ module _ {K V : Type 0} {bytes : K × V → List ℕ} {P : ℕ} {s : Nodes K V} 
   pub reached : (root : OpaqueNodePtr) → Reaches bytes P s root place (inner_name p) → Reaches bytes P s root pushed child
   reached root reach = subst (λ ps. Reaches bytes P s root ps child) (sym turn.at) (turn.step root reach)
 
-  -- nothing that was met stands there or below
+  -- nothing that was met is there or below
   pub free : NoneFrom (place_in now) pushed
   free = subst (NoneFrom (place_in now)) (sym turn.at) turn.walked.free.0
 
-  -- The turn is over once the child and all below it were passed, and the byte was taken away: the next child is on.
+  -- The step ends once the child and all below it were passed, and the byte was removed: the next child follows.
   pub turned : {new : Seen} {behind rest : List ℕ} {len : ℕ} → IsPassed bytes P s now new pushed child → IsWalked bytes P s (place_in now) (place_in new) pushed child →
       behind ≡ pushed → length behind ≡ len → rest ≡ take (len - 1) behind → HasTurned bytes P s old new place rest p node left
   turned {new} {behind} {rest} {len} passed walked kept long cut = record {

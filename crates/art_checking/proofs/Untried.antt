@@ -1,4 +1,4 @@
--- fewer keys are left to try once one more passes the test
+-- fewer keys are left to try once a further one passes the test
 use Rattle.std.proofs.Common.{◌≡◌, ℕ, suc, ◌<◌, ◌≤◌, Bool, true, false, cond, not, ◌||◌, List, [], ◌∷◌, refl, ap, sym, ◌∙◌, arith, Some, is_some, inl, inr}
 use Rattle.std.proofs.lemmas.Bool.{cases_Bool, true≢false, false≢true}
 use Rattle.std.specs.FinMap as map
@@ -49,7 +49,7 @@ pub still : (b x : Bool) → x ≡ true → cond b true x ≡ true
 still true x e = refl
 still false x e = e
 
--- what was added was not there
+-- what was added was not in the set
 pub was_new : (b added : Bool) → added ≡ not b → added ≡ true → b ≡ false
 was_new true added e h = absurd (false≢true (sym e ∙ h))
 was_new false added e h = refl
@@ -59,7 +59,7 @@ is_equal Less e = absurd (false≢true e)
 is_equal Equal e = refl
 is_equal Greater e = absurd (false≢true e)
 
--- a name that is there is among the keys
+-- a name in use is among the keys
 pub key_of_inner : (m : map.FinMap inner_cmp Inner) (p : InnerPtr) (node : Inner) → map.get m p ≡ Some node → IsIn p (map.keys m)
 key_of_inner m p node there = go (map.keys m) (sym (map.contains_key-keys m p) ∙ ap is_some there)
   where

@@ -1,4 +1,4 @@
--- What a check has met stands on trails from the root, and below the places that it came to.
+-- What a check has met is on trails from the root, and below the places that it reached.
 use Rattle.std.proofs.Common.{◌≡◌, ◌≢◌, ℕ, ◌<◌, List, [], ◌∷◌, ◌++◌, length, length-append, append-nil, refl, ap, sym, ◌∙◌, arith, subst, eq-eqb, Option, Some, None, IfSome, ◌⊎◌, inl, inr}
 use Rattle.std.proofs.lemmas.Bool.{cases_Bool, ne_eqb, true≢false}
 use Rattle.std.specs.FinMap as map
@@ -38,7 +38,7 @@ pub rising_right : (xs ys : entries.Children) → entries.IsRising (xs ++ ys) �
 rising_right [] ys h = h
 rising_right (x ∷ xs) ys h = rising_right xs ys h.1
 
--- ---- one step more on a trail
+-- ---- one further step on a trail
 module _ {A : Type 0} (at : OpaqueNodePtr → Option (Node OpaqueNodePtr A)) where
   end_more : (name : OpaqueNodePtr) (steps : List (ℕ × OpaqueNodePtr)) (step : ℕ × OpaqueNodePtr) → end_of name (steps ++ step ∷ []) ≡ step.1
   end_more name [] step = refl
@@ -56,7 +56,7 @@ module _ {A : Type 0} (at : OpaqueNodePtr → Option (Node OpaqueNodePtr A)) whe
   read_more bytes P front name (s ∷ ss) step place part (q, own, rest) has = (q, own, read_more bytes P (front ++ q ++ s.0 ∷ []) s.1 ss step place part rest has)
 
 module _ {K V : Type 0} (bytes : K × V → List ℕ) (P : ℕ) (s : Nodes K V) where
-  -- a child of a node that is reached is reached behind the node's prefix and the child's byte
+  -- a child of a node that is reached is reached after the node's prefix and the child's byte
   pub reach_child : {root name : OpaqueNodePtr} {place : List ℕ} (part : List ℕ) (b : ℕ) (child : OpaqueNodePtr) → Reaches bytes P s root place name →
       HasPrefix (node_at s) bytes P (length place) name part → HasChild (node_at s) name (b, child) →
       Reaches bytes P s root (place ++ part ++ b ∷ []) child
@@ -99,7 +99,7 @@ too_long place part b (rest, e) =
 same_some : {X : Type 0} {x y : X} {o : Option X} → o ≡ Some x → o ≡ Some y → y ≡ x
 same_some e f = cc
 
--- what holds of a name that was met just now and of all others holds of each
+-- what holds of a name that was just met and of all others holds of each
 met_or_before : {old new : Places} {name : OpaqueNodePtr} {place : List ℕ} → IsMet old new name place → (n : OpaqueNodePtr) (other : List ℕ) →
     new n ≡ Some other → ((n ≡ name) × (other ≡ place)) ⊎ (old n ≡ Some other)
 met_or_before {old} {new} {name} {place} met n other e = elim (cases_Bool (same_name n name)) [
@@ -107,11 +107,11 @@ met_or_before {old} {new} {name} {place} met n other e = elim (cases_Bool (same_
   | inr h ↦ inr (sym (met.elsewhere n (λ same. true≢false (sym (same_self n) ∙ ap (same_name n) same ∙ h))) ∙ e)
 ]
 
--- nothing else is below the place of a name that was met just now
+-- nothing else is below the place of a name that was just met
 pub none_below : {old new : Places} {name : OpaqueNodePtr} {place : List ℕ} → IsMet old new name place → NoneFrom old place → NoneBelow new place
 none_below met none n other e front = elim (met_or_before met n other e) [ inl h ↦ h.1 | inr h ↦ absurd (none n other h front) ]
 
--- and a name that was met before stands elsewhere
+-- and a name that was met before is elsewhere
 pub stands_elsewhere : {old : Places} {place : List ℕ} (name : OpaqueNodePtr) → NoneFrom old place → (other : List ℕ) → old name ≡ Some other → other ≢ place
 stands_elsewhere {old} {place} name none other e same = none name other e (front_self place other (sym same))
 

@@ -1,4 +1,4 @@
--- What the steps of a check say of a store. No public clause cites this module.
+-- What the steps of a check establish about a store. No public clause cites this module.
 use Rattle.std.specs.Prelude.{◌≡◌, ℕ, ◌+◌, ◌≤◌, ◌⊎◌, List, [], ◌∷◌, ◌++◌, length, map, take, drop, Option, Some, None, IfSome}
 use Rattle.std.specs.Borrow.{Bor}
 use Rattle.std.specs.Cmp.Lexicographic.{slice_cmp}
@@ -26,12 +26,12 @@ use Rattle.art_checking.specs.Meetings.{Places, Meets, IsMet, count_met, leaves_
 use Rattle.art_checking.specs.declared.well_formed.fault.MalformedTreeError.{MalformedTreeError}
 use Rattle.art_checking.specs.declared.well_formed.seen.Seen.{Seen}
 
--- nothing that was met stands below the place, but what stands there
+-- nothing that was met is below the place, except what is there
 abbrev pub NoneBelow : Places → List ℕ → Type 0
 NoneBelow places place =
     (n : OpaqueNodePtr) (other : List ℕ) → places n ≡ Some other → IsFront place other → other ≡ place
 
--- nothing that was met stands there or below
+-- nothing that was met is there or below
 abbrev pub NoneFrom : Places → List ℕ → Type 0
 NoneFrom places place = (n : OpaqueNodePtr) (other : List ℕ) → places n ≡ Some other → IsFront place other → ⊥
 
@@ -57,16 +57,16 @@ pub record IsStart (seen : Seen) : Type 0 where
   pub leaves : seen.leaves.items ≡ []
   pub count : count_met seen ≡ 0
 
--- the error says the fault, or that there was no memory to say it
+-- the error reports the fault, or that the allocation for it failed
 abbrev pub Says : Fault → MalformedTreeError → Type 0
 Says fault error = (fault_of error ≡ fault) ⊎ (fault_of error ≡ out_of_memory)
 
 module _ {K V : Type 0} (bytes : K × V → List ℕ) (P : ℕ) (s : Nodes K V) where
-  -- a leaf stands there, and its key begins with the place
+  -- a leaf is there, and its key starts with the place
   abbrev pub IsLeafAt : LeafPtr → List ℕ → Type 0
   IsLeafAt leaf place = (x : K × V) × (node_at s (leaf_name leaf) ≡ Some (leaf_node x)) × IsFront place (bytes x)
 
-  -- the sibling is a leaf, whose key stands in this order to the key
+  -- the sibling is a leaf, whose key compares to the key in this order
   abbrev pub IsInOrder : LeafPtr → Ordering → List ℕ → Type 0
   IsInOrder sibling order key =
       (node : LeafNode K V) × (finite.get s.leaves sibling ≡ Some node) ×
@@ -109,7 +109,7 @@ module _ {K V : Type 0} (bytes : K × V → List ℕ) (P : ℕ) (s : Nodes K V) 
     pub leaves : names_of_leaves seen.leaves.items ≡ leaf_names layout
     pub count : count_met seen ≡ length (names_of layout)
 
-  -- a walk down least children ends at the leaf, or badly where there is none
+  -- a descent along least children ends at the leaf, or badly where there is none
   abbrev pub IsLeastLeaf : OpaqueNodePtr → Option LeafPtr → Type 0
   IsLeastLeaf name None =
       (ns : List OpaqueNodePtr) × IsDescent (node_at s) name ns × ((root : OpaqueNodePtr) (needed : ℕ) →
@@ -130,7 +130,7 @@ module _ {K V : Type 0} (bytes : K × V → List ℕ) (P : ℕ) (s : Nodes K V) 
   abbrev pub AreReached : OpaqueNodePtr → Places → Type 0
   AreReached root places = (n : OpaqueNodePtr) (place : List ℕ) → places n ≡ Some place → Reaches bytes P s root place n
 
-  -- the error is true of the store, whatever root the name is reached from
+  -- the error is true of the store, from whatever root the name is reached
   abbrev pub IsTrueAt : List ℕ → OpaqueNodePtr → MalformedTreeError → Type 0
   IsTrueAt place name error =
       (root : OpaqueNodePtr) → Reaches bytes P s root place name → IsTrueOf bytes P s root (fault_of error)
@@ -141,12 +141,12 @@ module _ {K V : Type 0} (bytes : K × V → List ℕ) (P : ℕ) (s : Nodes K V) 
       (root : OpaqueNodePtr) → AreReached root places → Reaches bytes P s root place name →
       IsTrueOf bytes P s root (fault_of error)
 
-  -- What was met since stands below the place of the name, and on trails where the name and all before do.
+  -- What was met since is below the place of the name, and on trails where the name and all before are.
   pub record IsWalked (old new : Places) (place : List ℕ) (name : OpaqueNodePtr) : Type 0 where
     pub below : (n : OpaqueNodePtr) (other : List ℕ) → new n ≡ Some other → (old n ≡ Some other) ⊎ IsFront place other
     pub reached : (root : OpaqueNodePtr) → AreReached root old → Reaches bytes P s root place name → AreReached root new
 
-  -- The prefix of a node was put behind the bytes that lead to it.
+  -- The prefix of a node was appended to the bytes that lead to it.
   pub record IsRead (place read : List ℕ) (name : OpaqueNodePtr) (h : NodeHeader) : Type 0 where
     pub part : List ℕ
     pub is : read ≡ place ++ part
@@ -154,7 +154,7 @@ module _ {K V : Type 0} (bytes : K × V → List ℕ) (P : ℕ) (s : Nodes K V) 
     pub stored : take P part ≡ h.stored
     pub is_prefix : IsPrefix (node_at s) bytes P (length place) name h part
 
-  -- The prefix of a node was put behind the bytes that lead to it, and these are its children.
+  -- The prefix of a node was appended to the bytes that lead to it, and these are its children.
   pub record IsEntered (place read : List ℕ) (name : InnerPtr) (node : Inner) (children : Children) : Type 0 where
     pub prefix : IsRead place read (inner_name name) (header_at name.kind node)
     pub all : children ≡ node.children

@@ -1,4 +1,4 @@
--- What the answers of a check say.
+-- The results of a check.
 use Rattle.std.specs.Prelude.{◌≡◌, ℕ, ◌+◌, ◌≤◌, List, length, Option}
 use Rattle.std.specs.Cmp.Lexicographic.{slice_cmp}
 use Rattle.std.specs.Option.{option_map}
@@ -29,7 +29,7 @@ prefix_cmp = on prefix_bytes (slice_cmp nat_cmp)
 abbrev pub between : Option LeafPtr → Option LeafPtr → Links OpaqueNodePtr
 between previous next = record { previous = option_map leaf_name previous; next = option_map leaf_name next }
 
--- the fault that an error says
+-- the fault that an error reports
 abbrev pub fault_of : MalformedTreeError → Fault
 fault_of (LoopFound node_ptr first_observed later_observed) =
     loop_found node_ptr (prefix_bytes first_observed) (prefix_bytes later_observed)
@@ -47,7 +47,7 @@ fault_of (StoredPrefixMismatch key_prefix stored actual) =
     stored_prefix_mismatch (prefix_bytes key_prefix) stored.items actual.items
 fault_of OutOfMemory = out_of_memory
 
--- the root is canonical for some pairs, of which and of whose inner nodes these are the numbers
+-- the root is canonical for some pairs, and these are the numbers of them and of the inner nodes
 abbrev pub IsWellFormed : {K V : Type 0} → (K × V → List ℕ) → ℕ → Nodes K V → OpaqueNodePtr →
     WellFormedTreeStats → Type 0
 IsWellFormed {K} {V} bytes P s root stats =

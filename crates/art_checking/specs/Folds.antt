@@ -8,12 +8,12 @@ use Rattle.art_parts.specs.declared.names.OpaqueNodePtr.{OpaqueNodePtr}
 use Rattle.art_model.specs.Stores.{content_at, held_leaf, held_inner}
 use Rattle.art_model.specs.Trees.{Tree, leaf, inner, Subtrees, child, no_child}
 
--- T is the visitor and Out its output. Of each hook it is said what it may answer, and which state it may leave.
+-- T is the visitor and Out its output. Each hook has a relation: what it may return, and which state it may leave.
 module _ {K V T Out : Type 0} (OfLeaf : T → LeafNode K V → Out → T → Type 0)
     (OfInner : T → NodeType → Inner → Out → Out → T → Type 0) (Combines : T → Out → Out → Out → Type 0)
     (s : Nodes K V) where
   abbrev mutual
-    -- A leaf goes to its hook. An inner node's children are joined, and the node goes to its hook with what they gave.
+    -- A leaf is passed to its hook. An inner node's children are joined, and the node is passed to its hook with their output.
     pub Folds : Tree OpaqueNodePtr (K × V) → T → Out → T → Type 0
     Folds (leaf n x) old out new = (node : LeafNode K V) × (content_at s n ≡ Some (held_leaf node)) × OfLeaf old node out new
     Folds (inner n h cs) old out new =
@@ -25,7 +25,7 @@ module _ {K V T Out : Type 0} (OfLeaf : T → LeafNode K V → Out → T → Typ
     JoinsAll no_child old out new = ⊥
     JoinsAll (child b t cs) old out new = (mid : T) × (first : Out) × Folds t old first mid × Joins cs mid first out new
 
-    -- what came so far is combined with the output of each further child
+    -- the output so far is combined with that of each further child
     pub Joins : Subtrees OpaqueNodePtr (K × V) → T → Out → Out → T → Type 0
     Joins no_child old so_far out new = (out ≡ so_far) × (new ≡ old)
     Joins (child b t cs) old so_far out new =

@@ -37,7 +37,7 @@ place_in seen name = place_under name (slice_get seen.met (number_of seen.number
 abbrev pub count_met : Seen → ℕ
 count_met seen = length seen.met
 
--- the leaves with one more, where this is a leaf's name
+-- the leaves with a further one, if this is a leaf's name
 abbrev pub leaves_with : OpaqueNodePtr → List LeafPtr → List LeafPtr
 leaves_with name leaves = elim name.kind [ Leaf ↦ leaves ++ record { slot = name.slot } ∷ [] | _ ↦ leaves ]
 
@@ -45,7 +45,7 @@ leaves_with name leaves = elim name.kind [ Leaf ↦ leaves ++ record { slot = na
 abbrev pub Places : Type 0
 Places = OpaqueNodePtr → Option (List ℕ)
 
--- one name more was met, at this place
+-- one further name was met, at this place
 pub record IsMet (old new : Places) (name : OpaqueNodePtr) (place : List ℕ) : Type 0 where
   pub here : new name ≡ Some place
   pub elsewhere : (n : OpaqueNodePtr) → n ≢ name → new n ≡ old n

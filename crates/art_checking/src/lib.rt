@@ -1,4 +1,4 @@
-//! Folds of a tree, and a check of what may be none.
+//! Folds of a tree, and a check of stores that may hold none.
 #![tactic(auto)]
 
 pub mod visitor;

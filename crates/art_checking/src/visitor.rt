@@ -12,8 +12,8 @@ ghost use Rattle.art_checking.specs.Folds.{Folds};
 use art_nodes::node::{AsBytes, InnerRef, LeafNode, NodePtr, OpaqueNodePtr};
 use art_nodes::store::NodeStore;
 
-/// What a tree is folded with: a hook for leaves, one for inner nodes, and how the outputs of children are joined.
-/// Hooks require nothing: each may be called in any state.
+/// A fold of a tree: a hook for leaves, one for inner nodes, and a function that combines the outputs of children.
+/// Hooks have no preconditions: each may be called in any state.
 pub trait Visitor<K, V, const P: usize> {
     type Output;
 
@@ -23,35 +23,35 @@ pub trait Visitor<K, V, const P: usize> {
     /// What `combine_output` may return.
     ghost combines: { Self → Self.Output → Self.Output → Self.Output → Type 0 };
 
-    /// What `visit_inner_node` may return, by the node's kind and value and by what its children gave,
-    /// and the visitor after it.
+    /// What `visit_inner_node` may return, by the node's kind and value and by the output of its children, and the
+    /// visitor afterwards.
     ghost of_inner: { Self → NodeType → Inner → Self.Output → Self.Output → Self → Type 0 };
 
-    /// What `visit_leaf` may return, and the visitor after it.
+    /// What `visit_leaf` may return, and the visitor afterwards.
     ghost of_leaf: { Self → LeafNode K V → Self.Output → Self → Type 0 };
 
-    /// Returns the output of nothing, where a fold has to begin with one. `visit_with` never asks for it, since an
-    /// inner node of a canonical tree has two children at least and the join begins with the first one's output.
+    /// Returns the output of an empty fold. `visit_with` never calls it, since an inner node of a canonical tree has at
+    /// least two children, and the fold over them begins with the first one's output.
     fn default_output(&self) -> Self::Output
         ensures { is_default self.now result };
 
-    /// Returns what came so far, combined with the output of one child more.
+    /// Returns the output so far, combined with that of a further child.
     fn combine_output(&self, o1: Self::Output, o2: Self::Output) -> Self::Output
         ensures { combines self.now o1 o2 result };
 
-    /// Returns the output of an inner node. It is called after the node's children were visited, with what they gave.
+    /// Returns the output of an inner node. It is called after the node's children were visited, with their output.
     fn visit_inner_node(&mut self, node: InnerRef<'_, P>, children: Self::Output) -> Self::Output
         ensures { of_inner self.old (ref_kind node.entry) (ref_view node.entry)
             children result self.new };
 
-    /// Returns the output of a leaf. It is called with each leaf once, by rising keys.
+    /// Returns the output of a leaf. It is called once for each leaf, in key order.
     fn visit_leaf(&mut self, leaf: &LeafNode<K, V>) -> Self::Output
         ensures { of_leaf self.old leaf.now result self.new };
 }
 
-/// Folds the tree of a canonical root: a leaf goes to `visit_leaf`; an inner node's children are
-/// visited in the order of their bytes, the first one's output is joined with each further one's,
-/// and then the node goes to `visit_inner_node`. The recursion is as deep as the tree.
+/// Folds the tree of a canonical root: a leaf is passed to `visit_leaf`. An inner node's children are visited in the
+/// order of their bytes, their outputs are combined, beginning with the first one's, and then the node is passed to
+/// `visit_inner_node`. The recursion is as deep as the tree.
 pub fn visit_with<
     K: AsBytes + Drop,
     V: Drop,
@@ -65,7 +65,7 @@ pub fn visit_with<
     visit(store, root, visitor)
 }
 
-// Folds the tree that a name stands for.
+// Folds the tree at a name.
 fn visit<K: AsBytes + Drop, V: Drop, T: Visitor<K, V, P>, const P: usize>(
     store: &NodeStore<K, V, P>,
     name: OpaqueNodePtr,

@@ -1,4 +1,4 @@
-//! Whether a tree is well formed, asked of any store and any name.
+//! Whether a tree is well formed, for any store and any name.
 ghost use Rattle.std.specs.Prelude.{◌≡◌, ◌+◌, ◌^◌, ◌<◌, ◌≢◌, [], IfOk, IfErr, IfSome, IsNone, IsOkAnd, IsErrAnd};
 ghost use Rattle.art_model.specs.Pairs.{of_key};
 ghost use Rattle.art_checking.specs.Checks.{IsWellFormed, prefix_bytes, prefix_cmp};
@@ -27,7 +27,7 @@ pub struct KeyPrefix {
 }
 
 impl KeyPrefix {
-    /// Returns a prefix of no bytes, and takes no memory.
+    /// Returns a prefix of no bytes, without an allocation.
     pub fn new(alloc: Global) -> Self
         ensures { prefix_bytes result ≡ [] }
     {
@@ -36,7 +36,7 @@ impl KeyPrefix {
         }
     }
 
-    /// Returns a copy of these bytes. The only error is want of memory.
+    /// Returns a copy of these bytes. Fails only if an allocation fails.
     pub fn from_slice(alloc: Global, bytes: &[u8]) -> Result<Self, AllocError>
         ensures { IfOk result (λ prefix. prefix_bytes prefix ≡ bytes.now) }
     {
@@ -44,7 +44,7 @@ impl KeyPrefix {
         Ok(KeyPrefix { bytes })
     }
 
-    /// Returns the bytes themselves, from the root on: of an inner node, those that end before its prefix.
+    /// Returns the bytes, from the root on; those of an inner node end before its prefix.
     pub fn as_slice(&self) -> &[u8]
         ensures { result.now ≡ prefix_bytes self.now }
     {
@@ -52,7 +52,7 @@ impl KeyPrefix {
     }
 }
 
-/// Prefixes are in the order of their bytes, and equal where these are.
+/// Prefixes are ordered by their bytes, and are equal if these are.
 pub fn key_prefixes_are_in_order()
     ensures order { (a b : KeyPrefix) → ⟦<KeyPrefix as Ord>⟧.cmp a b ≡ prefix_cmp a b }
     ensures equal { (a b : KeyPrefix) →
@@ -81,7 +81,7 @@ pub struct WellFormedTreeStats {
     pub num_inner: usize,
 }
 
-/// By default no node is counted.
+/// By default the numbers are 0.
 pub fn stats_start_at_zero()
     ensures { (stats : WellFormedTreeStats) →
         ⟦<WellFormedTreeStats as Default>⟧.is_default stats →
@@ -89,7 +89,7 @@ pub fn stats_start_at_zero()
 {}
 
 impl WellFormedTreeStats {
-    /// Returns the number of all nodes, leaves and inner ones.
+    /// Returns the number of all nodes, leaves and inner nodes.
     pub fn total_nodes(self) -> usize
         requires { self.num_leaf + self.num_inner < 2 ^ 64 }
         ensures { result ≡ self.num_leaf + self.num_inner }
@@ -128,10 +128,10 @@ impl AddAssign for WellFormedTreeStats {
     }
 }
 
-/// Checks trees. It visits each node once; besides, it looks up the siblings of each leaf, and walks down
-/// each chain of least children once where a prefix is read from the leaf below. It finds the names that were
-/// met by their slots, in rows up to the highest slot of each kind, and notes each with a copy of all bytes
-/// that lead to it. The inner nodes above the one that it is at stand in a list.
+/// Checks trees. It visits each node once, looks up the siblings of each leaf, and descends each chain of least
+/// children once where a prefix is read from the leaf below. It finds the names that it met by their slots, in rows up
+/// to the highest slot of each kind, and stores each with a copy of all bytes that lead to it. The inner nodes above
+/// the current one are kept in a list.
 pub struct WellFormedChecker;
 
 impl WellFormedChecker {
@@ -140,10 +140,10 @@ impl WellFormedChecker {
     ghost use Rattle.art_checking.specs.Checks.{fault_of};
     ghost use Rattle.art_checking.specs.declared.well_formed.fault.MalformedTreeError.TheVariants.{EmptyTreeWithLen, OutOfMemory};
 
-    /// Returns how many nodes the tree of a canonical root has, and else what is wrong; it takes any store and any
-    /// name. Of several faults it returns the one that is met first: at an inner node its prefix, then what is below
-    /// its children, by rising bytes, then their number; and the links of the leaves last, in their order.
-    /// `OutOfMemory` says nothing of the tree.
+    /// Returns how many nodes the tree of a canonical root has, and otherwise a fault; it accepts any store and any
+    /// name. Of several faults it returns the first one met: at an inner node its prefix, then what is below its
+    /// children, by rising bytes, then their number; the links of the leaves last, in their order. `OutOfMemory`
+    /// reports nothing about the tree.
     pub fn check_tree<K: AsBytes + Drop, V: Drop, const PREFIX_LEN: usize>(
         store: &NodeStore<K, V, PREFIX_LEN>,
         root: OpaqueNodePtr,
@@ -165,8 +165,8 @@ impl WellFormedChecker {
         })
     }
 
-    /// Returns what `check_tree` does of the root, if there is one; the length is not compared then. Without a root it
-    /// returns zeros where the length is 0, and else `EmptyTreeWithLen`.
+    /// Returns what `check_tree` does for the root, if there is one; the length is not compared then. Without a root it
+    /// returns zeros if the length is 0, and else `EmptyTreeWithLen`.
     pub fn check<K: AsBytes + Drop, V: Drop, const PREFIX_LEN: usize>(
         store: &NodeStore<K, V, PREFIX_LEN>,
         root: Option<OpaqueNodePtr>,

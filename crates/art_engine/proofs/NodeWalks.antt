@@ -1,4 +1,4 @@
--- The lines that are still to be written of a walk of nodes.
+-- The lines still to be written of a traversal of nodes.
 use Rattle.std.proofs.Common.{◌≡◌, ◌≢◌, ℕ, zero, suc, ◌+◌, List, [], ◌∷◌, ◌++◌, length, codes, Option, Some, None, IfSome, OnOk, Result, Ok, Err, refl, ap, sym, ◌∙◌, subst, append_assoc, append-nil, arith, inl, inr}
 use Rattle.std.specs.FinMap as map
 use Rattle.std.specs.Io.KnownBytes.{Appends}
@@ -24,7 +24,7 @@ use Rattle.art_engine.specs.NodeLines.{children_text, indent, inner_text, line_a
 use Rattle.art_engine.specs.Shown.{AppendsUnlessNoMemory}
 use Rattle.art_engine.proofs.Rows.{appends_more, appends_none}
 
--- an indent goes on by two spaces
+-- an indent continues by two spaces
 indent_next : (n : ℕ) → indent n ++ codes "  " ≡ indent (suc n)
 indent_next zero = refl
 indent_next (suc n) = ap (λ bs. codes "  " ++ bs) (indent_next n)
@@ -38,7 +38,7 @@ pub inner_seen_at : {K V : Type 0} (s : Nodes K V) (p : InnerPtr) (name : Opaque
 inner_seen_at s p name node is proper there =
     ap (node_at s) (sym is) ∙ ap (option_map (tree_node p.kind)) (held_in_inner s p.kind p.slot proper ∙ ap (option_map held_inner) (sym there))
 
--- what is written of a node that is there
+-- what is written of a node in the store
 pub line_written : {E : Type 0} (s : Nodes Key ℕ) (name : OpaqueNodePtr) (there : Node OpaqueNodePtr (Key × ℕ)) (depth : ℕ) (byte : Option ℕ) (old new : Option (List ℕ)) (text : List ℕ)
     (r : Result (Unit {0}) E) → node_at s name ≡ Some there → text ≡ line_at depth byte (node_text there) → OnOk r (Appends old new text) →
     OnOk r (IfSome (node_at s name) (λ node. Appends old new (line_at depth byte (node_text node))))
@@ -70,7 +70,7 @@ length-slots no_child = refl
 length-slots (child b t cs) = ap suc (length-slots cs)
 
 module _ (s : Nodes Key ℕ) where
-  -- the nodes to come stand for trees, whose lines are this text; the last node comes first
+  -- the nodes still to be written stand for trees, whose lines are this text; the last node comes first
   abbrev pub ComesTo : List Pending → List ℕ → Type 0
   ComesTo [] text = text ≡ []
   ComesTo (next ∷ rest) text =
@@ -98,7 +98,7 @@ module _ (s : Nodes Key ℕ) where
       comes_append (reversed_children depth (slots_of cs)) (record { depth = depth; byte = Some b; name = name_of t } ∷ []) (children_text depth cs)
       (tree_text depth (Some b) t) others (t, [], is, refl, refl)
 
-  -- A node's line is written, and then what is left comes to the rest.
+  -- A node's line is written, and then what is left gives the rest.
   pub record IsTurned (next : Pending) (left : List Pending) (text : List ℕ) : Type 0 where
     pub there : Node OpaqueNodePtr (Key × ℕ)
     pub is_there : node_at s next.name ≡ Some there
@@ -145,7 +145,7 @@ module _ (s : Nodes Key ℕ) where
         text_is = text_is ∙ ap (λ bs. bs ++ own) turn.text_is ∙ append_assoc (line_at next.depth next.byte (node_text turn.there)) turn.rest own;
       }
 
-  -- Of the whole text so much is written that what is left comes to the rest.
+  -- So much of the whole text is written that what is left gives the rest.
   pub record IsWritten (pending : List Pending) (whole : List ℕ) (old now : Option (List ℕ)) : Type 0 where
     pub written : List ℕ
     pub rest : List ℕ
@@ -177,7 +177,7 @@ module _ (s : Nodes Key ℕ) where
       some [] first e = cc
       some (next ∷ rest) first e = some rest next e
 
--- ---- what the writer says
+-- ---- what the writer states
 
 module _ (P : ℕ) (s : Nodes Key ℕ) (root : OpaqueNodePtr) where
   -- what holds of a canonical root's pairs

@@ -1,4 +1,4 @@
--- Pairs that are written one after another, as a walk finds their leaves.
+-- Pairs that are written one after another, in the order of their leaves.
 use Rattle.std.proofs.Common.{◌≡◌, ◌≢◌, ℕ, ◌+◌, ◌-◌, List, [], ◌∷◌, ◌++◌, length, flat_map, reverse, codes, Option, Some, None, OnOk, Result, Ok, Err, refl, ap, sym, ◌∙◌, subst, append_assoc, append-nil, length-append}
 use Rattle.std.specs.FinMap as map
 use Rattle.std.specs.Option.{option_map}
@@ -40,7 +40,7 @@ appends_more (Some p) (Some q) (Some r) xs ys h k = k ∙ ap (λ bs. bs ++ ys) h
 
 -- ---- rows
 
--- a row goes on with a gap and a pair
+-- a row continues with a gap and a pair
 row_more : (done : List (Key × ℕ)) (pair : Key × ℕ) → row_text (done ++ pair ∷ []) ≡ row_text done ++ (gap_after (length done) ++ entry_text pair)
 row_more [] pair = append-nil (entry_text pair)
 row_more (d ∷ ds) pair =
@@ -56,7 +56,7 @@ ordered_some : {A : Type 0} (order : Order) (xs : List A) → xs ≢ [] → in_o
 ordered_some Rising xs h = h
 ordered_some Falling xs h = λ e. h (sym (reverse-reverse xs) ∙ ap reverse e)
 
--- The pairs that came are written, in order, and these are left of the walk.
+-- The pairs so far are written, in order, and these are left of the iteration.
 pub record IsRow (s : Nodes Key ℕ) (order : Order) (walk : Option (LeafPtr × LeafPtr)) (pairs : List (Key × ℕ)) (written : ℕ) (old new : Option (List ℕ)) : Type 0 where
   pub len : ℕ
   pub walk_is : IsWalk s walk len
@@ -140,7 +140,7 @@ module _ (s : Nodes Key ℕ) (walk left : Option (LeafPtr × LeafPtr)) (pairs : 
       let is : pairs_text (in_order order pairs) ≡ row_text h.done = row_is (in_order order pairs) (ordered_some order pairs some) ∙ ap row_text all in
       subst (λ bs. Appends old next (bs ++ codes "\n")) (sym is) (appends_more old now next _ _ h.text ended)
 
--- ---- what the writer says
+-- ---- what the writer states
 
 module _ (P : ℕ) (s : Nodes Key ℕ) (order : Order) (root : OpaqueNodePtr) where
   -- what holds of a canonical root's pairs

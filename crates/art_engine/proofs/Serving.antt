@@ -12,7 +12,7 @@ use Rattle.text_lines.specs.Lines.{lines}
 use Rattle.art_engine.specs.Shown.{IsReplied}
 use Rattle.art_engine.specs.Served.{AllAsk, AreServed, AreServedAnew, AsksFor, AsksForNothing, IsClone, OneAsksForNothing, refusal}
 
--- Whatever the lines that are left come to from here, all lines come to from the start.
+-- Whatever the replies to the remaining lines are from here, those to all lines are from the start.
 abbrev pub GoesOn : ℕ → KeptTree → KeptTree → Option (List ℕ) → Option (List ℕ) → List (List ℕ) → Type 0
 GoesOn number first tree old now before =
     (rest : List (List ℕ)) (why : Ending) (new : Option (List ℕ)) → AreServed rest number tree now why new → AreServed (before ++ rest) 1 first old why new
@@ -34,7 +34,7 @@ module _ (number : ℕ) (first tree : KeptTree) (old now : Option (List ℕ)) (l
       GoesOn number first tree old now before → AreServed (before ++ line ∷ after) 1 first old BadLine new
   refused_here new nothing appends before after n goes = goes (line ∷ after) BadLine new (inl (nothing, refl, appends))
 
--- ---- what the status tells of the lines
+-- ---- what the status reports of the lines
 
 -- lines that are served to their end all ask for something
 all_ask : (ls : List (List ℕ)) (number : ℕ) (tree : KeptTree) (old new : Option (List ℕ)) → AreServed ls number tree old Input new → AllAsk ls
@@ -51,7 +51,7 @@ one_asks_for_nothing (line ∷ ls) number tree old new (inr (request, left, repl
     let (before, bad, after, are, ask, nothing) = one_asks_for_nothing ls (number + 1) left kept new served in
     (line ∷ before, bad, after, ap (λ all. line ∷ all) are, ((request, asked), ask), nothing)
 
--- what was served stays so where what was written stays
+-- what was served stays so while what was written stays
 still_served : (ls : List (List ℕ)) (number : ℕ) (tree : KeptTree) (old now new : Option (List ℕ)) (why : Ending) →
     AreServed ls number tree old why now → Keeps now new → AreServed ls number tree old why new
 still_served [] number tree old now new why served keeps = (served.0, keeps_both old now new served.1 keeps)
@@ -97,7 +97,7 @@ module _ (text : Option (List ℕ)) (tree : KeptTree) (old new : Option (List �
   served (Ok why) (Err e) status last done keeps empty failed other = absurd (other (failed (λ both. false≢true both.1)))
   served (Err e) written status last done keeps empty failed other = absurd (other (failed (λ both. false≢true both.0)))
 
--- a status other than 1 tells that the last writing succeeded
+-- a status other than 1 reports that the last write succeeded
 pub was_written : {E F : Type 0} (end : Result Ending E) (written : Result (Unit {0}) F) (status : ℕ) → (¬ (IsOk end × IsOk written) → status ≡ 1) → status ≢ 1 → IsOk written
 was_written end (Ok u) status failed other = refl
 was_written end (Err e) status failed other = absurd (other (failed (λ both. false≢true both.1)))

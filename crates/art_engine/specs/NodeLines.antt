@@ -17,7 +17,7 @@ abbrev pub indent : ℕ → List ℕ
 indent zero = []
 indent (suc depth) = codes "  " ++ indent depth
 
--- where a node stands: below so many inner nodes, and under which byte, or as the root
+-- the position of a node: below so many inner nodes, and under which byte, or as the root
 abbrev pub line_start : ℕ → Option ℕ → List ℕ
 line_start depth None = indent depth ++ codes "*: "
 line_start depth (Some byte) = indent depth ++ (decimal byte ++ codes ": ")
@@ -26,7 +26,7 @@ line_start depth (Some byte) = indent depth ++ (decimal byte ++ codes ": ")
 abbrev pub leaf_text : Key × ℕ → List ℕ
 leaf_text pair = codes "Leaf " ++ entry_text pair
 
--- an inner node has its kind, the length of its prefix, the bytes that are stored of it, and so many children
+-- an inner node has its kind, the length of its prefix, the stored bytes of it, and so many children
 abbrev pub inner_text : NodeHeader → ℕ → List ℕ
 inner_text h count =
     kind_text h.kind ++ (codes " prefix " ++ (decimal h.length_of ++ (codes " stored " ++ (key_word h.stored ++ (codes " children " ++ decimal count)))))
@@ -36,11 +36,11 @@ abbrev pub node_text : {N : Type 0} → Node N (Key × ℕ) → List ℕ
 node_text (leaf_node pair) = leaf_text pair
 node_text (inner_node h slots) = inner_text h (length slots)
 
--- a line: where a node stands, and what is written of it
+-- a line: the position of a node, and what is written of it
 abbrev pub line_at : ℕ → Option ℕ → List ℕ → List ℕ
 line_at depth byte text = line_start depth byte ++ (text ++ codes "\n")
 
--- the lines of a tree that stands there: its root's, and then those of what stands below it
+-- the lines of a tree: its root's, and then those of what is below it
 abbrev mutual
   pub tree_text : {N : Type 0} → ℕ → Option ℕ → Tree N (Key × ℕ) → List ℕ
   tree_text depth byte (leaf n pair) = line_at depth byte (leaf_text pair)

@@ -1,4 +1,4 @@
--- What the lines of a text come to.
+-- The replies to the lines of a text.
 use Rattle.std.specs.Prelude.{◌≡◌, ◌≢◌, ℕ, ◌+◌, ◌⊎◌, List, [], ◌∷◌, ◌++◌, codes, Option, None, vec_len}
 use Rattle.std.specs.Fmt.{decimal}
 use Rattle.std.specs.List.{AllByRecursion as Each, AllZip}
@@ -13,7 +13,7 @@ use Rattle.art_keeping.specs.KeptKeys.{Key}
 use Rattle.art_keeping.specs.KeptTrees.{state_of}
 use Rattle.art_engine.specs.Shown.{IsReplied}
 
--- the line is how the request is written, and its value is one that a request can have
+-- the line writes the request, and its value is one that a request can have
 abbrev pub AsksFor : List ℕ → Request → Type 0
 AsksFor line request = HasSmallValue request × (line ≡ line_of request)
 
@@ -21,7 +21,7 @@ AsksFor line request = HasSmallValue request × (line ≡ line_of request)
 abbrev pub IsAsked : List ℕ → Type 0
 IsAsked line = (request : Request) × AsksFor line request
 
--- the line asks for nothing that there is
+-- the line is no valid request
 abbrev pub AsksForNothing : List ℕ → Type 0
 AsksForNothing line = (request : Request) → HasSmallValue request → line ≢ line_of request
 
@@ -29,13 +29,13 @@ AsksForNothing line = (request : Request) → HasSmallValue request → line ≢
 abbrev pub AllAsk : List (List ℕ) → Type 0
 AllAsk = Each IsAsked
 
--- one line asks for nothing that there is, and each before it for something
+-- one line is no valid request, and each before it is one
 abbrev pub OneAsksForNothing : List (List ℕ) → Type 0
 OneAsksForNothing lines =
     (before : List (List ℕ)) × (line : List ℕ) × (after : List (List ℕ)) × (lines ≡ before ++ line ∷ after) ×
     AllAsk before × AsksForNothing line
 
--- the reply to a line of this number that asks for nothing
+-- the reply to a line of this number that is no valid request
 abbrev pub refusal : ℕ → List ℕ
 refusal number = codes "line " ++ decimal number ++ codes ": refused\n"
 
@@ -43,8 +43,8 @@ refusal number = codes "line " ++ decimal number ++ codes ": refused\n"
 abbrev pub IsClone : Key × ℕ → Key × ℕ → Type 0
 IsClone = IsPairClone (λ old new. AllZip (λ b c. c ≡ b) old.items new.items × (vec_len new ≡ vec_len old)) (λ old new. new ≡ old)
 
--- Each line is answered in its turn, and leaves the tree that the next one finds; the first that asks for nothing that
--- there is gets a refusal with its number, and no further one is answered.
+-- Each line is answered in its turn, and leaves the tree that the next one finds; the first that is no valid request
+-- gets an error with its number, and no further one is answered.
 abbrev pub AreServed : List (List ℕ) → ℕ → KeptTree → Option (List ℕ) → Ending → Option (List ℕ) → Type 0
 AreServed [] number tree old why new = (why ≡ Input) × Keeps old new
 AreServed (line ∷ lines) number tree old why new =
@@ -53,7 +53,7 @@ AreServed (line ∷ lines) number tree old why new =
     AsksFor line request × IsReplied IsClone request tree left old replied × Keeps replied kept ×
     AreServed lines (number + 1) left kept why new)
 
--- each line is answered in its turn, the first one by no tree
+-- each line is answered in its turn, the first one from no tree
 abbrev pub AreServedAnew : List (List ℕ) → Option (List ℕ) → Option (List ℕ) → Type 0
 AreServedAnew lines old new =
     (tree : KeptTree) × (why : Ending) × ((state_of tree).root ≡ None) × AreServed lines 1 tree old why new

@@ -20,7 +20,7 @@ use Rattle.art_keeping.specs.KeptKeys.{Key, key_bytes}
 use Rattle.art_engine.specs.NodeLines.{nodes_text}
 use Rattle.art_engine.specs.Texts.{check_text, pairs_text, reply_text}
 
--- these bytes are appended, or a line that says that there was no memory
+-- these bytes are appended, or a line that reports that an allocation failed
 abbrev pub AppendsUnlessNoMemory : Option (List ℕ) → Option (List ℕ) → List ℕ → Type 0
 AppendsUnlessNoMemory old new text = Appends old new (codes "no memory\n") ⊎ Appends old new text
 
@@ -36,20 +36,20 @@ ShowsNodes tree old new =
     (pairs : List (Key × ℕ)) → IsCanonical (of_key key_bytes) 4 (state_of tree).first (state_of tree).root pairs →
     AppendsUnlessNoMemory old new (nodes_text 4 pairs)
 
--- what a check of the tree may answer: the numbers of its nodes, or that there was no memory
+-- what a check of the tree may return: the numbers of its nodes, or out of memory
 abbrev pub IsCheckOf : KeptTree → Result WellFormedTreeStats MalformedTreeError → Type 0
 IsCheckOf tree checked =
     ((state_of tree).root ≡ None → IsOkAnd checked (λ stats. (stats.num_leaf ≡ 0) × (stats.num_inner ≡ 0))) ×
     IfSome (state_of tree).root (λ name. IfOk checked (IsWellFormed (of_key key_bytes) 4 (state_of tree).first name)) ×
     IfErr checked (λ error. fault_of error ≡ out_of_memory)
 
--- the line of such an answer
+-- the line of such a result
 abbrev pub ShowsCheck : KeptTree → Option (List ℕ) → Option (List ℕ) → Type 0
 ShowsCheck tree old new =
     (checked : Result WellFormedTreeStats MalformedTreeError) × IsCheckOf tree checked ×
     IfSome (check_text checked) (λ text. Appends old new (text ++ codes "\n"))
 
--- the pairs rising or falling, the nodes, or a check's answer; no other request asks to see something
+-- the pairs in either order, the nodes, or a check's result; no other request asks to see something
 abbrev pub IsShown : Request → KeptTree → Option (List ℕ) → Option (List ℕ) → Type 0
 IsShown Walk tree old new = ShowsPairs (λ pairs. pairs) tree old new
 IsShown Back tree old new = ShowsPairs reverse tree old new
@@ -57,8 +57,8 @@ IsShown Check tree old new = ShowsCheck tree old new
 IsShown Nodes tree old new = ShowsNodes tree old new
 IsShown request tree old new = ⊥
 
--- What is appended for a request: where it asks for a command, that there was no memory, and then the tree is as before; or
--- the reply to a run of that one command; or what is asked to be seen of the tree, which is as before.
+-- What is appended for a request: where it asks for a command, that an allocation failed, and then the tree is unchanged; or
+-- the reply to a run of that one command; or what is asked to be seen of the tree, which is unchanged.
 abbrev pub IsReplied : (Key × ℕ → Key × ℕ → Type 0) → Request → KeptTree → KeptTree → Option (List ℕ) → Option (List ℕ) → Type 0
 IsReplied IsClone request tree after old new =
     (AsksForCommand request × (state_of after ≡ state_of tree) × Appends old new (codes "no memory\n")) ⊎

@@ -19,12 +19,12 @@ use Rattle.art_operations.specs.declared.run.Reply.TheVariants.{Inserted, Confli
 abbrev pub pair_text : List ℕ → Key × ℕ → List ℕ
 pair_text outcome pair = outcome ++ codes " " ++ key_word pair.0.items ++ codes " " ++ decimal pair.1
 
--- the reply to an insertion, with the pair that gave way
+-- the reply to an insertion, with the pair that was replaced
 abbrev pub inserted_text : Option (Key × ℕ) → List ℕ
 inserted_text None = codes "inserted"
 inserted_text (Some old) = pair_text (codes "replaced") old
 
--- the same, or how many gave way
+-- the same, or how many were replaced
 abbrev pub overwrote_text : Option (Key × ℕ) → ℕ → List ℕ
 overwrote_text (Some old) count = pair_text (codes "replaced") old
 overwrote_text None zero = codes "inserted"
@@ -50,7 +50,7 @@ reply_text (Found false) = codes "no"
 reply_text (MatchLen len) = match_text len
 reply_text (NoMemory pair) = codes "no memory"
 
--- what a check has found, but a fault is not said
+-- what a check has found, without the details of a fault
 abbrev pub check_text : Result WellFormedTreeStats MalformedTreeError → Option (List ℕ)
 check_text (Ok stats) = Some (codes "ok " ++ decimal stats.num_leaf ++ codes " leaves " ++ decimal stats.num_inner ++ codes " inner")
 check_text (Err OutOfMemory) = Some (codes "no memory")
@@ -60,12 +60,12 @@ check_text (Err fault) = None
 abbrev pub entry_text : Key × ℕ → List ℕ
 entry_text pair = key_word pair.0.items ++ codes "=" ++ decimal pair.1
 
--- what parts a pair from so many before it
+-- what separates a pair from so many before it
 abbrev pub gap_after : ℕ → List ℕ
 gap_after zero = []
 gap_after (suc n) = codes " "
 
--- pairs, parted by spaces
+-- pairs, separated by spaces
 abbrev pub row_text : List (Key × ℕ) → List ℕ
 row_text [] = []
 row_text (pair ∷ pairs) = entry_text pair ++ flat_map (λ p. codes " " ++ entry_text p) pairs

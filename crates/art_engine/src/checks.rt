@@ -1,4 +1,4 @@
-//! What is written of a check.
+//! The text of a check.
 ghost use Rattle.std.specs.Prelude.{◌++◌, IfSome, OnOk, codes};
 ghost use Rattle.std.specs.Io.KnownBytes.{Appends};
 ghost use Rattle.art_engine.specs.Texts.{check_text};
@@ -8,7 +8,7 @@ use art_operations::well_formed::{MalformedTreeError, WellFormedTreeStats};
 use std::io;
 use std::io::Write;
 
-/// Writes what a check has found, a line.
+/// Writes what a check has found, as a line.
 pub fn write_check<W: Write>(
     output: &mut W,
     checked: &Result<WellFormedTreeStats, MalformedTreeError>,

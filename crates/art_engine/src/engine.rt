@@ -21,9 +21,9 @@ use std::io;
 use std::io::{BufReader, BufWriter, ErrorKind, Read, Write};
 use text_lines::lines::{next_line, write_out};
 
-/// Answers each line of the input on the output, by commands on a new tree, and flushes the output.
-/// Returns the status: 0 at the end of the input, 2 after a line that asks for nothing that there is,
-/// and 1 if the input can't be read, the output can't be written, or an allocation fails.
+/// Answers each line of the input on the output, by commands on a new tree, and flushes the output. Returns the status:
+/// 0 at the end of the input, 2 after a line that is no valid request, and 1 if the input can't be read, the output
+/// can't be written, or an allocation fails.
 pub fn serve<R: Read, W: Write + Drop>(
     alloc: Global,
     input: &mut BufReader<R>,
@@ -45,12 +45,11 @@ pub fn serve<R: Read, W: Write + Drop>(
     status_of(end, written)
 }
 
-/// Answers each line of the input on the output, by commands on the tree. Returns why no further line
-/// is read. An `Err` is for an input that can't be read, an output that can't be written, or want of
-/// memory for a line.
+/// Answers each line of the input on the output, by commands on the tree. Returns why no further line is read. Fails if
+/// the input can't be read, the output can't be written, or the allocation of a line fails.
 ///
-/// Replies are written out before it waits for a line. While the next line has come already they
-/// gather in the output, which has a buffer for that.
+/// Replies are written out before it waits for a line. While the next line is already available they are collected in
+/// the output, which has a buffer for that.
 pub fn answer_lines<R: Read, W: Write>(
     alloc: Global,
     tree: &mut KeptTree,

@@ -1,4 +1,4 @@
-//! The nodes of a tree, as they are written.
+//! The text of the nodes of a tree.
 ghost use Rattle.std.specs.Prelude.{IfSome, List, OnOk, Some, ℕ};
 ghost use Rattle.std.specs.Io.KnownBytes.{Appends};
 ghost use Rattle.art_model.specs.Canonical.{IsCanonical};
@@ -16,8 +16,8 @@ use art_nodes::store::NodeStore;
 use std::io::{ErrorKind, Write};
 use std::{fmt, io};
 
-/// Where a node stands, which is displayed as the beginning of its line: two spaces for each inner node above it, and
-/// the byte that it is the child under, or `*` for the root.
+/// The position of a node, displayed as the beginning of its line: two spaces for each inner node above it, and the
+/// byte under which it is a child, or `*` for the root.
 #[derive(Clone, Copy)]
 struct LineStart {
     depth: usize,
@@ -41,8 +41,8 @@ impl fmt::Display for LineStart {
 }
 
 /// Writes the nodes of a tree, a line each: the root, and after each inner node its children in the order of their
-/// bytes, each with all that stands below it. Room for what is left of the walk is taken before anything is written;
-/// where there is none, one line says so.
+/// bytes, each with all that is below it. The list of pending nodes is allocated before anything is written; if that
+/// fails, one line reports it.
 pub fn write_nodes<W: Write, const P: usize>(
     output: &mut W,
     store: &NodeStore<Vec<u8>, u32, P>,

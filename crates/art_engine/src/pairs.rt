@@ -1,4 +1,4 @@
-//! How the pairs of a tree are written.
+//! The text of the pairs of a tree.
 ghost use Rattle.std.specs.Prelude.{◌++◌, IfSome, IsSome, List, ℕ, OnOk, codes};
 ghost use Rattle.std.specs.FinMap as map;
 ghost use Rattle.std.specs.Io.KnownBytes.{Appends};
@@ -18,14 +18,14 @@ use art_operations::minmax::{maximum_unchecked, minimum_unchecked};
 use std::io;
 use std::io::{ErrorKind, Write};
 
-/// How the pairs of a tree are written: by rising keys, or by falling ones.
+/// The order in which the pairs of a tree are written: by rising keys, or by falling ones.
 #[derive(Clone, Copy)]
 pub enum Order {
     Rising,
     Falling,
 }
 
-/// Writes the pairs of a tree in one line, as a walk of the leaves finds them.
+/// Writes the pairs of a tree in one line, by an iteration over its leaves.
 pub fn write_pairs<W: Write, const P: usize>(
     output: &mut W,
     store: &NodeStore<Vec<u8>, u32, P>,
@@ -56,7 +56,7 @@ pub fn write_pairs<W: Write, const P: usize>(
     Err(io::Error::from(ErrorKind::FileTooLarge))
 }
 
-// The leaf that comes next.
+// The next leaf.
 fn next_leaf<const P: usize>(
     leaves: &mut RawIterator,
     store: &NodeStore<Vec<u8>, u32, P>,
@@ -74,7 +74,7 @@ fn next_leaf<const P: usize>(
     }
 }
 
-// Writes a pair, with a space before it where so many pairs were written.
+// Writes a pair, with a space before it if so many pairs were written.
 fn write_leaf<W: Write>(
     output: &mut W,
     written: u64,

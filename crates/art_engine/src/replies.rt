@@ -1,4 +1,4 @@
-//! What is written in reply to a command, and to a check.
+//! The texts of the replies to commands.
 ghost use Rattle.std.specs.Prelude.{◌++◌, OnOk, codes};
 ghost use Rattle.std.specs.Io.KnownBytes.{Appends};
 ghost use Rattle.art_engine.specs.Texts.{pair_text, reply_text};
@@ -8,7 +8,7 @@ use art_operations::run::Reply;
 use std::io;
 use std::io::Write;
 
-/// Writes the reply to a command, a line.
+/// Writes the reply to a command, as a line.
 pub fn write_reply<W: Write>(output: &mut W, reply: &Reply<Vec<u8>, u32>) -> io::Result<()>
     ensures { OnOk result (Appends (W.contents output.old) (W.contents output.new)
         (reply_text reply.now ++ codes "\n")) }
@@ -41,7 +41,7 @@ fn write_pair<W: Write>(output: &mut W, outcome: &str, pair: &(Vec<u8>, u32)) ->
     writeln!(output, "{outcome} {} {value}", ShownKey(key))
 }
 
-/// Writes that there was no memory, a line.
+/// Writes that an allocation failed, as a line.
 pub fn write_no_memory<W: Write>(output: &mut W) -> io::Result<()>
     ensures { OnOk result (Appends (W.contents output.old) (W.contents output.new)
         (codes "no memory\n")) }

@@ -1,4 +1,4 @@
--- The child beside a byte among rising ones, and how many there are where a byte has none.
+-- The child next to a byte in a sorted list, and the number of children where a byte has none.
 use Rattle.std.proofs.Common.{◌≡◌, ◌≢◌, ◌⊎◌, ℕ, zero, suc, ◌-◌, ◌<◌, ◌≤◌, min, cond, eqb, [], ◌∷◌, length, slice_get, Option, Some, None, IsSome, is_some, All, refl, ap, sym, ◌∙◌, inl, inr, arith}
 use Rattle.std.proofs.lemmas.Bool.{eq-eqb, ne_eqb}
 use Rattle.art_inner.specs.Beside.{IsNextTo}
@@ -14,7 +14,7 @@ use Rattle.art_parts.proofs.Comparisons.{by_order}
 same_byte : (c e : Entry) → Some c ≡ Some e → c.0 ≡ e.0
 same_byte c e is = ap (λ o. elim o [ None ↦ c.0 | Some y ↦ y.0 ]) is
 
--- the first child that is not below a byte: none stands between
+-- the first child that is not below a byte: none is between
 from_byte : (cs : Children) (b : ℕ) (e : Entry) → IsRising cs → slice_get cs (count_below cs b) ≡ Some e → (b ≤ e.0) × ((k : ℕ) → b ≤ k → k < e.0 → child_at cs k ≡ None)
 from_byte [] b e rising is = absurd cc
 from_byte (c ∷ cs) b e rising is = elim (by_order c.0 b) [

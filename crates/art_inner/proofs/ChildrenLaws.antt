@@ -60,7 +60,7 @@ length-put_child_old (c ∷ cs) b n rising there = elim (by_order c.0 b) [
   ]
 ]
 
--- what is under a byte stands in the list, and what stands in the list is under its byte
+-- what is under a byte is in the list, and what is in the list is under its byte
 pub member_of_child : (cs : Children) (b : ℕ) (n : OpaqueNodePtr) → child_at cs b ≡ Some n → Contains cs (b, n)
 member_of_child [] b n found = absurd (none_is_not (ap is_some found))
 member_of_child (c ∷ cs) b n found = elim (cases_eq c.0 b) [
@@ -81,14 +81,14 @@ child_of_member (c ∷ cs) b n rising (suc k, within, is) =
     let later = child_of_member cs b n rising.1 (k, omega arith, is) in
     at_later c cs b (λ e. omega (arith, e, later_above c.0 cs b rising.0 (ap is_some later))) ∙ later
 
--- how `remove_child` goes on at an entry
+-- how `remove_child` proceeds at an entry
 pub remove_child-here : (c : Entry) (cs : Children) (b : ℕ) → c.0 ≡ b → remove_child (c ∷ cs) b ≡ remove_child cs b
 remove_child-here c cs b e = ap (λ t. cond t (remove_child cs b) (c ∷ remove_child cs b)) (eq-eqb c.0 b e)
 
 pub first_kept : (c : Entry) (cs : Children) (b : ℕ) → c.0 ≢ b → remove_child (c ∷ cs) b ≡ c ∷ remove_child cs b
 first_kept c cs b n = ap (λ t. cond t (remove_child cs b) (c ∷ remove_child cs b)) (ne_eqb c.0 b n)
 
--- under the byte that was taken out is nothing, and the other bytes have what they had
+-- under the removed byte there is nothing, and the other bytes have what they had
 pub child_gone : (cs : Children) (b : ℕ) → child_at (remove_child cs b) b ≡ None
 child_gone [] b = refl
 child_gone (c ∷ cs) b = elim (cases_eq c.0 b) [
@@ -103,7 +103,7 @@ child_kept (c ∷ cs) b x differs = elim (cases_eq c.0 b) [
   | inr n ↦ ap (λ (t : Children). child_at t x) (first_kept c cs b n) ∙ ap (λ t. cond (eqb c.0 x) (Some c.1) t) (child_kept cs b x differs)
 ]
 
--- where there is no child under the byte, nothing is taken out
+-- where there is no child under the byte, nothing is removed
 pub remove_child-absent : (cs : Children) (b : ℕ) → child_at cs b ≡ None → remove_child cs b ≡ cs
 remove_child-absent [] b none = refl
 remove_child-absent (c ∷ cs) b none = elim (cases_eq c.0 b) [
@@ -119,7 +119,7 @@ pub remove_child-above : (cs : Children) (b : ℕ) → IsAbove b cs → remove_c
 remove_child-above [] b above = refl
 remove_child-above (c ∷ cs) b above = first_kept c cs b (λ e. omega (arith, e, above.0)) ∙ ap (λ (t : Children). c ∷ t) (remove_child-above cs b above.1)
 
--- what is left still rises
+-- what is left is still sorted
 pub IsBelow-remove_child : (x : ℕ) (cs : Children) (b : ℕ) → IsBelow x cs → IsBelow x (remove_child cs b)
 IsBelow-remove_child x [] b below = tt
 IsBelow-remove_child x (c ∷ cs) b below = elim (cases_eq c.0 b) [
@@ -134,7 +134,7 @@ IsRising-remove_child (c ∷ cs) b rising = elim (cases_eq c.0 b) [
   | inr n ↦ subst IsRising (sym (first_kept c cs b n)) (IsBelow-remove_child c.0 cs b rising.0, IsRising-remove_child cs b rising.1)
 ]
 
--- a child that is taken out makes the list one shorter
+-- removing a child makes the list one shorter
 pub length-remove_child : (cs : Children) (b : ℕ) → IsRising cs → IsSome (child_at cs b) → length cs ≡ length (remove_child cs b) + 1
 length-remove_child [] b rising there = absurd (none_is_not there)
 length-remove_child (c ∷ cs) b rising there = elim (cases_eq c.0 b) [
@@ -142,7 +142,7 @@ length-remove_child (c ∷ cs) b rising there = elim (cases_eq c.0 b) [
   | inr n ↦ omega (arith, ap length (first_kept c cs b n), length-remove_child cs b rising.1 (ap is_some (sym (at_later c cs b n)) ∙ there))
 ]
 
--- a removal goes through the parts of a list, so a last child under another byte stays the last
+-- a removal acts on each part of the list, so a last child under another byte stays the last
 pub remove_child-append : (before after : Children) (b : ℕ) → remove_child (before ++ after) b ≡ remove_child before b ++ remove_child after b
 remove_child-append [] after b = refl
 remove_child-append (c ∷ before) after b = elim (cases_eq c.0 b) [
@@ -162,7 +162,7 @@ pub rises_around : (before after : Children) (c : Entry) → IsRising (before ++
 rises_around [] after c rising = (tt, rising.0)
 rises_around (d ∷ before) after c rising = let later = rises_around before after c rising.1 in ((IsBelow-middle d.0 before after c rising.0, later.0), later.1)
 
--- a child in between is taken out
+-- a child in between is removed
 pub remove_child-between : (before after : Children) (b : ℕ) (n : OpaqueNodePtr) → IsRising (before ++ (b, n) ∷ after) → remove_child (before ++ (b, n) ∷ after) b ≡ before ++ after
 remove_child-between before after b n rising =
     let around = rises_around before after (b, n) rising in
@@ -170,7 +170,7 @@ remove_child-between before after b n rising =
     ∙ ap (λ (t : Children). t ++ remove_child ((b, n) ∷ after) b) (remove_child-above before b around.0)
     ∙ ap (λ (t : Children). before ++ t) (remove_child-here (b, n) after b refl ∙ remove_child-below after b around.1)
 
--- what stands in the list is what stood there under other bytes
+-- the entries of the list were entries before, under other bytes
 pub member_kept : (cs : Children) (b x : ℕ) (n : OpaqueNodePtr) → IsRising cs → Contains cs (x, n) → x ≢ b → Contains (remove_child cs b) (x, n)
 member_kept cs b x n rising there differs = member_of_child (remove_child cs b) x n (child_kept cs b x differs ∙ child_of_member cs x n rising there)
 
@@ -212,7 +212,7 @@ last_is_greatest whole cs d same rising =
     at k e within (inl last) = subst (λ j. (get_or whole k e).0 ≤ (get_or whole j d).0) last (same_place whole k e d within)
     at k e within (inr before) = omega (arith, rises_by_place whole k (length whole - 1) e d rising (omega (arith, before)) (omega arith))
 
--- a part by bytes rises, and has under a byte in between what the whole has
+-- a part by bytes is sorted, and has under a byte in between what the whole has
 pub IsRising-children_between : (first last : ℕ) (cs : Children) → IsRising cs → IsRising (children_between first last cs)
 IsRising-children_between first last cs rising = subst IsRising (part_between first last cs rising) (IsRising-part _ _ cs rising)
 

@@ -35,7 +35,7 @@ pub IsRising-front : (before after : Children) → IsRising (before ++ after) �
 IsRising-front [] after rising = tt
 IsRising-front (c ∷ before) after rising = (IsBelow-front c.0 before after rising.0, IsRising-front before after rising.1)
 
--- an entry that is in the range comes, and one that is not does not
+-- an entry in the range is listed, and one outside is not
 pub between_here : (first last : ℕ) (c : Entry) (cs : Children) → first ≤ c.0 → c.0 ≤ last → children_between first last (c ∷ cs) ≡ c ∷ children_between first last cs
 between_here first last c cs h k =
     ap (λ t. cond (t && leb c.0 last) (c ∷ children_between first last cs) (children_between first last cs)) (le-leb first c.0 h) ∙
@@ -58,7 +58,7 @@ none_below : (x b : ℕ) (cs : Children) → IsBelow x cs → b ≤ x → count_
 none_below x b [] below h = refl
 none_below x b (c ∷ cs) below h = counted_here c cs b (omega (arith, below.0))
 
--- the children in a range stand one after another
+-- the children in a range are consecutive
 abbrev part : ℕ → ℕ → Children → Children
 part from to cs = take (to - min from to) (drop (min from to) cs)
 

@@ -1,4 +1,4 @@
--- What a write makes of names with a place for each byte.
+-- What a write does to names with a place for each byte.
 use Rattle.std.proofs.Common.{◌≡◌, ℕ, zero, suc, ◌<◌, List, [], length, get_or, set, replicate, Some, refl, ap, ◌∙◌, arith, get_or-set_same, get_or-set_other}
 use Rattle.art_inner.specs.Inner.{put_child, remove_child}
 use Rattle.art_inner.specs.Tables.{names_by_byte}

@@ -1,4 +1,4 @@
--- Children by rising bytes are what they have under each byte; parts of them; children that are read off a function.
+-- Sorted children are determined by what they have under each byte; parts of them; children that are read off a function.
 use Rattle.std.proofs.Common.{◌≡◌, ◌≢◌, ◌⊎◌, ℕ, zero, suc, ◌+◌, ◌-◌, ◌<◌, ◌≤◌, min, max, leb, ltb, eqb, Bool, true, false, ◌&&◌, cond, [], ◌∷◌, ◌++◌, length, Option, Some, None, is_some, IsSome, All, get_or, slice_get, append_assoc, refl, sym, ap, ◌∙◌, inl, inr, arith, subst}
 use Rattle.std.proofs.lemmas.List.{length-append}
 use Rattle.std.proofs.lemmas.Bool.{le-leb, lt-leb, lt-ltb, le-ltb, cases_eq}
@@ -21,17 +21,17 @@ some_is_not n e = none_is_not (ap is_some (sym e))
 same_some : (m n : OpaqueNodePtr) → Some m ≡ Some n → m ≡ n
 same_some m n e = cc
 
--- nothing stands under a byte that is below all
+-- nothing is under a byte below all
 pub nothing_below : (x : ℕ) (cs : Children) (b : ℕ) → IsBelow x cs → b ≤ x → child_at cs b ≡ None
 nothing_below x [] b below h = refl
 nothing_below x (c ∷ cs) b below h = at_later c cs b (λ e. omega (arith, e, below.0)) ∙ nothing_below x cs b below.1 h
 
--- nothing stands under a byte that is above all
+-- nothing is under a byte above all
 pub nothing_above : (x : ℕ) (cs : Children) (b : ℕ) → IsAbove x cs → x ≤ b → child_at cs b ≡ None
 nothing_above x [] b above h = refl
 nothing_above x (c ∷ cs) b above h = at_later c cs b (λ e. omega (arith, e, above.0)) ∙ nothing_above x cs b above.1 h
 
--- two rising lists with the same under each byte are one
+-- two sorted lists with the same under each byte are equal
 pub same_children : (cs ds : Children) → IsRising cs → IsRising ds → ((b : ℕ) → child_at cs b ≡ child_at ds b) → cs ≡ ds
 same_children [] [] r s same = refl
 same_children [] (d ∷ ds) r s same = absurd (some_is_not d.1 (sym (at_here d ds d.0 refl) ∙ sym (same d.0)))
@@ -51,7 +51,7 @@ same_children (c ∷ cs) (d ∷ ds) r s same = by_first (same_children cs ds r.1
         tails b (inr (inl k)) = nothing_below c.0 cs b r.0 (omega (arith, k)) ∙ sym (nothing_below d.0 ds b s.0 (omega (arith, k, e)))
         tails b (inr (inr l)) = sym (at_later c cs b (λ k. omega (arith, l, k))) ∙ same b ∙ at_later d ds b (λ k. omega (arith, l, k, e))
 
--- how a part goes on at an entry
+-- how a part continues at an entry
 part_here : (from to : ℕ) (c : Entry) (cs : Children) → from ≤ c.0 → c.0 < to → part_of from to (c ∷ cs) ≡ c ∷ part_of from to cs
 part_here from to c cs h k =
     ap (λ t. cond (t && ltb c.0 to) (c ∷ part_of from to cs) (part_of from to cs)) (le-leb from c.0 h) ∙ ap (λ t. cond t (c ∷ part_of from to cs) (part_of from to cs)) (lt-ltb c.0 to k)
@@ -132,7 +132,7 @@ module _ (cs : Children) (rising : IsRising cs) where
   pub empty_part : (from to : ℕ) → to ≤ from → part_of from to cs ≡ []
   empty_part from to h = part_is from to [] tt (λ b l r. absurd (omega (arith, h, l, r))) (λ b n. refl)
 
-  -- nothing stands under the first byte of a part, or under the last
+  -- nothing is under the first byte of a part, or under the last
   pub skip_first : (from to : ℕ) → child_at cs from ≡ None → part_of from to cs ≡ part_of (from + 1) to cs
   skip_first from to none = part_is from to (part_of (from + 1) to cs) (IsRising-part_of (from + 1) to cs rising)
       (λ b l r. elim (by_order from b) [
@@ -149,7 +149,7 @@ module _ (cs : Children) (rising : IsRising cs) where
       ])
       (λ b n. at_outside from to cs b (elim n [ inl l ↦ inl l | inr l ↦ inr (omega (arith, l)) ]))
 
-  -- a child stands under the first byte of a part, or under the last
+  -- a child is under the first byte of a part, or under the last
   pub take_first : (from to : ℕ) (n : OpaqueNodePtr) → from < to → child_at cs from ≡ Some n → part_of from to cs ≡ (from, n) ∷ part_of (from + 1) to cs
   take_first from to n h there = part_is from to ((from, n) ∷ part_of (from + 1) to cs) (below_part from (from + 1) to cs (omega arith), IsRising-part_of (from + 1) to cs rising)
       (λ b l r. elim (by_order from b) [
@@ -201,7 +201,7 @@ module _ (cs : Children) (rising : IsRising cs) where
   pub whole_part : (to : ℕ) → IsAbove to cs → part_of 0 to cs ≡ cs
   whole_part to above = part_is 0 to cs rising (λ b l r. refl) (λ b n. elim n [ inl l ↦ absurd (omega (arith, l)) | inr l ↦ nothing_above to cs b above l ])
 
--- a list that goes on with what is under one byte
+-- a list that continues with what is under one byte
 abbrev goes_on : ℕ → Option OpaqueNodePtr → Children → Children
 goes_on b o rest = cons_option (option_map (λ name. (b, name)) o) rest
 
@@ -329,7 +329,7 @@ module _ (cs : Children) (rising : IsRising cs) where
         | inr n ↦ not_between first last (part_of from to cs) b (elim n [ inl l ↦ inl l | inr l ↦ inr (omega (arith, l)) ])
       ])
 
--- the first child of what is left is written behind those that were
+-- the first remaining child is written behind the earlier ones
 pub moved_over : (table rest next all written : Children) (b : ℕ) (n : OpaqueNodePtr) → table ++ rest ≡ all → rest ≡ (b, n) ∷ next → IsRising all → written ≡ put_child table b n →
     written ++ next ≡ all
 moved_over table rest next all written b n is step rising wrote =
@@ -337,7 +337,7 @@ moved_over table rest next all written b n is step rising wrote =
     let above = (rises_around table next (b, n) (subst IsRising (sym whole) rising)).0 in
     ap (λ (t : Children). t ++ next) (wrote ∙ put_child-above table b n above) ∙ append_assoc table ((b, n) ∷ []) next ∙ whole
 
--- the first child of what is left comes behind those that were
+-- the first remaining child comes after the earlier ones
 pub pushed_over : (table rest next all written : Children) (b : ℕ) (n : OpaqueNodePtr) → table ++ rest ≡ all → rest ≡ (b, n) ∷ next → written ≡ table ++ (b, n) ∷ [] → written ++ next ≡ all
 pushed_over table rest next all written b n is step wrote =
     ap (λ (t : Children). t ++ next) wrote ∙ append_assoc table ((b, n) ∷ []) next ∙ ap (λ (t : Children). table ++ t) (sym step) ∙ is
@@ -371,7 +371,7 @@ least_of cs c rising is = subst (λ (e : Entry). All (λ child. e.0 ≤ child.0)
 pub greatest_of : (cs : Children) (c : Entry) → IsRising cs → slice_get cs (length cs - 1) ≡ Some c → All (λ child. child.0 ≤ c.0) cs
 greatest_of cs c rising is = subst (λ (e : Entry). All (λ child. child.0 ≤ e.0) cs) (read_there cs (length cs - 1) c is) (last_is_greatest cs cs c refl rising)
 
--- what is left of an iterator rises
+-- what is left of an iterator is sorted
 pub rest_rises : (r : Rest) → IsRest r → IsRising (rest_list r)
 rest_rises (rest.Sorted lent) sound = sound.0
 rest_rises (rest.Indexed table span) sound = IsRising-part_of span.from span.to table.now sound.0

@@ -1,4 +1,4 @@
--- What a write makes of names in places with a table of the places of bytes.
+-- What a write does to names in places with a table of the places of bytes.
 use Rattle.std.proofs.Common.{◌≡◌, ◌≢◌, ◌⊎◌, ℕ, zero, suc, ◌+◌, ◌-◌, ◌<◌, ◌≤◌, cond, List, [], length, get_or, set, replicate, Some, refl, sym, ap, ◌∙◌, inl, inr, arith, get_or-set_same, get_or-set_other}
 use Rattle.std.proofs.lemmas.Bool.{cases_eq, eq-eqb, ne_eqb}
 use Rattle.art_inner.specs.Inner.{put_child, remove_child}
@@ -89,7 +89,7 @@ moved_last last to number e = ap (λ b. cond b to number) (eq-eqb number last e)
 pub moved_other : (last to number : ℕ) → number ≢ last → number_after_move last to number ≡ number
 moved_other last to number n = ap (λ b. cond b to number) (ne_eqb number last n)
 
--- the place of a byte is let go, and the last place moves there
+-- the place of a byte is freed, and the last place moves there
 module _ (slots : List ℕ) (kinds : List NodeType) (index new : List ℕ) (len b place : ℕ) (within : b < 256) (sound : IsIndex index len) (here : get_or index b 0 ≡ place) (there : place ≢ 0)
     (slots_fit : len ≤ length slots) (kinds_fit : len ≤ length kinds) (gone : get_or new b 0 ≡ 0) (others : (k : ℕ) → k ≢ b → get_or new k 0 ≡ number_after_move len place (get_or index k 0)) where
   place_fits : place ≤ len

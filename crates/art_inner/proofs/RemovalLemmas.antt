@@ -1,4 +1,4 @@
--- What a removal makes of a sorted table.
+-- What a removal does to a sorted table.
 use Rattle.std.proofs.Common.{◌≡◌, ◌≢◌, ℕ, zero, suc, ◌+◌, ◌-◌, ◌<◌, ◌≤◌, List, [], ◌∷◌, ◌++◌, length, get_or, set, take, drop, remove, Option, Some, None, is_some, refl, sym, ap, ◌∙◌, inl, inr, arith, subst, add-one}
 use Rattle.std.proofs.lemmas.List.{length-take-le, take-append-le, take_all, length-append, length-drop}
 use Rattle.std.proofs.lemmas.List.Edits.{get_or-remove_above}
@@ -17,7 +17,7 @@ found_at (c ∷ cs) b d (suc at) k within same = elim (by_order c.0 b) [
   | inr h ↦ absurd (omega (arith, k ∙ counted_here c cs b (elim h [ inl e ↦ omega arith | inr g ↦ omega arith ])))
 ]
 
--- the entry at the place is taken out
+-- the entry at the place is removed
 pub removed_at : (cs : Children) (b : ℕ) (d : Entry) (at : ℕ) → IsRising cs → at ≡ count_below cs b → at < length cs → (get_or cs at d).0 ≡ b → remove cs at ≡ remove_child cs b
 removed_at [] b d at rising k within same = absurd (omega arith)
 removed_at (c ∷ cs) b d zero rising k within same = sym (remove_child-between [] cs b c.1 (subst (λ x. IsRising ((x, c.1) ∷ cs)) same rising)) ∙ ap (λ x. remove_child ((x, c.1) ∷ cs) b) (sym same)
@@ -36,14 +36,14 @@ nothing_at cs b d at rising k other = by_value _ refl
         let found = place_of_child cs b d rising (ap is_some e) in
         absurd (other (omega (arith, found.0)) (ap (λ i. (get_or cs i d).0) k ∙ found.1))
 
--- the entries in front after one is taken out of the part that is in use
+-- the first entries after one is removed from the part in use
 pub front_without : {X : Type 0} (es new : List X) (len at : ℕ) → at < len → len ≤ length es → length new ≡ length (take len es) →
     take (length (take len es) - 1) new ≡ remove (take len es) at → take (len - 1) (new ++ drop len es) ≡ remove (take len es) at
 front_without {X} es new len at within fits same written =
     let long : length (take len es) ≡ len = length-take-le len es fits in
     take-append-le (len - 1) new (drop len es) (omega arith) ∙ ap (λ (n : ℕ). take (n - 1) new) (sym long) ∙ written
 
--- one list's items below a place, and then those of another from the place on: the next one comes to the place
+-- one list's items below a place, and then those of another from the place on: the next one moves to the place
 next_taken : {X : Type 0} (front rest : List X) (p : ℕ) (d : X) → p < length front → suc p < length rest → get_or front p d ≡ get_or rest (suc p) d →
     set (take p front ++ drop p rest) p (get_or (take p front ++ drop p rest) (suc p) d) ≡ take (suc p) front ++ drop (suc p) rest
 next_taken [] rest p d within later same = absurd (omega (arith, within))

@@ -1,4 +1,4 @@
--- What new names of leaves make of rows and of tables with a place for each byte.
+-- What renaming leaves does to rows and to tables with a place for each byte.
 use Rattle.std.proofs.Common.{◌≡◌, ℕ, zero, suc, List, [], ◌∷◌, length, take, get_or, Option, Some, None, refl, ap, ◌∙◌, arith}
 use Rattle.std.specs.Option.{option_map}
 use Rattle.std.specs.List.{cons_option}
@@ -60,7 +60,7 @@ renamed_is table kind.Node256 slot = refl
 renamed_is table kind.Leaf slot = refl
 
 module _ (table : List ℕ) where
-  -- each leaf has its new slot, and all others the one that they had
+  -- each leaf has its new slot, and all others the old one
   abbrev AreNewSlots : List NodeType → List ℕ → List ℕ → Type 0
   AreNewSlots kinds slots new = (k : ℕ) → get_or new k 0 ≡ new_slot table (get_or kinds k kind.Node4) (get_or slots k 0)
 

@@ -1,4 +1,4 @@
--- What is done to the rows of a table is done to its children.
+-- A change of a table's rows is the same change of its children.
 use Rattle.std.proofs.Common.{◌≡◌, ℕ, ◌+◌, ◌-◌, ◌<◌, ◌≤◌, suc, List, [], ◌∷◌, ◌++◌, length, get_or, set, slice_get, take, drop, remove, Some, None, IsSome, is_some, sym, ap, ◌∙◌, arith, add-one, subst}
 use Rattle.std.proofs.lemmas.List.{get_or-take, length-append, length-drop, length-take-le}
 use Rattle.std.proofs.lemmas.Option.{slice_get-get_or, slice_get_past}
@@ -27,11 +27,11 @@ pub shows_of : {N : ℕ} (t : Inside N) (cs : Children) → length t.slots ≡ N
     (t.len ≤ N) × (length t.kinds ≡ N) × IsRising (take t.len (rows t.bytes t.kinds t.slots)) → take t.len (rows t.bytes t.kinds t.slots) ≡ cs → Shows t cs
 shows_of t cs slots bytes sound shows = record { slots = slots; bytes = bytes; kinds = sound.1; fits = sound.0; shows = shows; rising = subst IsRising shows sound.2 }
 
--- as many as there were, with another part in front
+-- as many as there were, with another first part
 pub length_around : {X : Type 0} (es new : List X) (n len : ℕ) → len ≤ n → length es ≡ n → length new ≡ length (take len es) → length (new ++ drop len es) ≡ n
 length_around es new n len within long same = omega (arith, within, long, same, length-append new (drop len es), length-drop len es, length-take-le len es (omega (arith, within, long)))
 
--- they still rise with one more behind them
+-- they are still sorted with one more after them
 pub rising_behind : (cs : Children) (b : ℕ) (n : OpaqueNodePtr) → IsRising cs → IsAbove b cs → IsRising (cs ++ (b, n) ∷ [])
 rising_behind cs b n rising above = subst IsRising (put_child-above cs b n above) (IsRising-put_child cs b n rising)
 
@@ -75,7 +75,7 @@ module _ {N : ℕ} (t : Inside N) (cs : Children) (s : Shows t cs) where
     same_byte : IsSome (child_at cs b) → (get_or cs at past).0 ≡ b
     same_byte there = ap (λ (k : ℕ). (get_or cs k past).0) place ∙ (place_of_child cs b past s.rising there).1
 
-    -- the name under a byte that is there
+    -- the name under a byte that has one
     pub table_found : IsSome (child_at cs b) → Some (record { kind = get_or t.kinds at Node4; slot = get_or t.slots at 0 }) ≡ child_at cs b
     table_found there =
         ap (λ (c : Entry). Some c.1) (sym (read_at at (table_place there)))
@@ -91,7 +91,7 @@ module _ {N : ℕ} (t : Inside N) (cs : Children) (s : Shows t cs) where
         ∙ ap (λ (xs : Children). set xs at (b, n)) s.shows
         ∙ put_child_set cs b n past at place (omega (arith, within, table_length)) (same_byte there)
 
-    -- a byte that is not there comes in at its place
+    -- a byte that has none is inserted at its place
     pub table_inserted : (n : OpaqueNodePtr) (nb : List ℕ) (nk : List NodeType) (ns : List ℕ) → t.len < N → child_at cs b ≡ None →
         nb ≡ take at (take (t.len + 1) t.bytes) ++ b ∷ take (length (take (t.len + 1) t.bytes) - 1 - at) (drop at (take (t.len + 1) t.bytes)) →
         nk ≡ take at (take (t.len + 1) t.kinds) ++ n.kind ∷ take (length (take (t.len + 1) t.kinds) - 1 - at) (drop at (take (t.len + 1) t.kinds)) →
@@ -110,7 +110,7 @@ module _ {N : ℕ} (t : Inside N) (cs : Children) (s : Shows t cs) where
         ∙ ap (λ (xs : Children). take at xs ++ (b, n) ∷ drop at xs) (sym front ∙ s.shows)
         ∙ put_child_between cs b n past at place (λ within same. none_is_not (ap is_some (sym none ∙ sym (found_at cs b past at place within same))))
 
-    -- a byte that is there is taken out
+    -- a byte that has one is removed
     pub table_removed : (nb : List ℕ) (nk : List NodeType) (ns : List ℕ) → IsSome (child_at cs b) →
         length nb ≡ length (take t.len t.bytes) → take (length (take t.len t.bytes) - 1) nb ≡ remove (take t.len t.bytes) at →
         length nk ≡ length (take t.len t.kinds) → take (length (take t.len t.kinds) - 1) nk ≡ remove (take t.len t.kinds) at →

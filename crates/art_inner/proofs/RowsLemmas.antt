@@ -1,4 +1,4 @@
--- Three lists side by side go through the parts of lists, so what is done to each is done to the children.
+-- Three lists in parallel: a change of each is a change of the children.
 use Rattle.std.proofs.Common.{◌≡◌, ℕ, zero, suc, ◌+◌, ◌<◌, ◌≤◌, Bool, true, false, cond, ltb, eqb, not, List, [], ◌∷◌, ◌++◌, length, get_or, set, take, drop, remove, slice_get, Option, Some, None, is_some, ◌≢◌, refl, sym, ap, ◌∙◌, inl, inr, arith}
 use Rattle.std.specs.List.{prefix_len}
 use Rattle.std.specs.Option.{option_map}
@@ -63,7 +63,7 @@ rows-below (x ∷ bs) [] ss b e f = absurd (omega (arith, e))
 rows-below (x ∷ bs) (k ∷ ks) [] b e f = absurd (omega (arith, f))
 rows-below (x ∷ bs) (k ∷ ks) (s ∷ ss) b e f = ap (λ (n : ℕ). cond (ltb x b) (suc n) 0) (rows-below bs ks ss b (omega (arith, e)) (omega (arith, f)))
 
--- a byte that comes later is above
+-- a later byte is above
 byte_above : (x : ℕ) (cs : Children) (k : ℕ) (c : Entry) → IsBelow x cs → slice_get cs k ≡ Some c → x < c.0
 byte_above x [] k c below there = absurd (none_is_not (ap is_some (ap (λ (o : Option Entry). option_map (λ (e : Entry). e.1) o) there)))
 byte_above x (d ∷ cs) zero c below there = let is : d ≡ c = cc in omega (arith, below.0, ap (λ (e : Entry). e.0) is)
@@ -77,7 +77,7 @@ rows-get at (x ∷ bs) (k ∷ ks) [] d l t e f h = absurd (omega (arith, f))
 rows-get zero (x ∷ bs) (k ∷ ks) (s ∷ ss) d l t e f h = refl
 rows-get (suc at) (x ∷ bs) (k ∷ ks) (s ∷ ss) d l t e f h = rows-get at bs ks ss d l t (omega (arith, e)) (omega (arith, f)) (omega (arith, h))
 
--- the name under a byte that stands at a place
+-- the name under a byte that is at a place
 pub child_in_place : (cs : Children) (k b : ℕ) (c : Entry) → IsRising cs → slice_get cs k ≡ Some c → c.0 ≡ b → child_at cs b ≡ Some c.1
 child_in_place [] k b c rising there same = absurd (none_is_not (ap is_some (ap (λ (o : Option Entry). option_map (λ (e : Entry). e.1) o) there)))
 child_in_place (d ∷ cs) zero b c rising there same = let is : d ≡ c = cc in at_here d cs b (ap (λ (e : Entry). e.0) is ∙ same) ∙ ap (λ (e : Entry). Some e.1) is
@@ -105,7 +105,7 @@ pub rows-first : (n : ℕ) (bs : List ℕ) (ks : List NodeType) (ss : List ℕ) 
 rows-first n bs ks ss cs b place shows first =
     (λ i. option_map (λ (e : Entry). e.1) (slice_get (sym shows i) (first i))) ∙ first_name n bs ks ss b ∙ ap (λ (xs : Children). child_at xs b) shows
 
--- a byte that does not stand at the place where it would has no name
+-- a byte that is not at its place has no name
 pub rows-not_at : (bs : List ℕ) (ks : List NodeType) (ss : List ℕ) (at b : ℕ) → length ks ≡ length bs → length ss ≡ length bs → IsRising (rows bs ks ss) →
     at ≡ bytes_below bs b → (at < length bs → get_or bs at 0 ≢ b) → child_at (rows bs ks ss) b ≡ None
 rows-not_at bs ks ss at b e f rising place other =
@@ -113,20 +113,20 @@ rows-not_at bs ks ss at b e f rising place other =
     (λ within same. let near : at < length bs = omega (arith, within, length-rows bs ks ss e f) in
     other near (ap (λ (x : Entry). x.0) (sym (rows-read at bs ks ss 0 Leaf 0 e f near)) ∙ same))
 
--- a list is its front and its last
+-- a list is its prefix and its last
 pub last_apart : (cs : Children) (k : ℕ) (c : Entry) → slice_get cs k ≡ Some c → length cs ≡ suc k → cs ≡ take k cs ++ c ∷ []
 last_apart [] k c there long = absurd (omega (arith, long))
 last_apart (d ∷ []) zero c there long = cc
 last_apart (d ∷ e ∷ cs) zero c there long = absurd (omega (arith, long))
 last_apart (d ∷ cs) (suc k) c there long = ap (λ (t : Children). d ∷ t) (last_apart cs k c there (omega (arith, long)))
 
--- as a list's front and one item more
+-- as a list's first part and one item more
 pub take_set_end : {X : Type 0} (es : List X) (len : ℕ) (x : X) → len < length es → take (suc len) (set es len x) ≡ take len es ++ x ∷ []
 take_set_end [] len x within = absurd (omega (arith, within))
 take_set_end (e ∷ es) zero x within = refl
 take_set_end (e ∷ es) (suc len) x within = ap (λ t. e ∷ t) (take_set_end es len x (omega (arith, within)))
 
--- kind and slot are set where the byte stands
+-- kind and slot are set where the byte is
 pub rows-renamed : (at : ℕ) (bs : List ℕ) (ks : List NodeType) (ss : List ℕ) (b : ℕ) (n : OpaqueNodePtr) → length ks ≡ length bs → length ss ≡ length bs →
     at < length bs → get_or bs at 0 ≡ b → rows bs (set ks at n.kind) (set ss at n.slot) ≡ set (rows bs ks ss) at (b, n)
 rows-renamed at [] ks ss b n e f h same = absurd (omega (arith, h))
@@ -136,7 +136,7 @@ rows-renamed zero (x ∷ bs) (k ∷ ks) (s ∷ ss) b n e f h same = ap (λ (y : 
 rows-renamed (suc at) (x ∷ bs) (k ∷ ks) (s ∷ ss) b n e f h same =
     ap (λ (t : Children). (x, record { kind = k; slot = s }) ∷ t) (rows-renamed at bs ks ss b n (omega (arith, e)) (omega (arith, f)) (omega (arith, h)) same)
 
--- a byte, a kind and a slot come in between
+-- a byte, a kind and a slot are inserted in between
 pub rows-between : (at : ℕ) (bs : List ℕ) (ks : List NodeType) (ss : List ℕ) (b : ℕ) (n : OpaqueNodePtr) → length ks ≡ length bs → length ss ≡ length bs → at ≤ length bs →
     rows (take at bs ++ b ∷ drop at bs) (take at ks ++ n.kind ∷ drop at ks) (take at ss ++ n.slot ∷ drop at ss) ≡ take at (rows bs ks ss) ++ (b, n) ∷ drop at (rows bs ks ss)
 rows-between zero bs ks ss b n e f h = refl
@@ -146,7 +146,7 @@ rows-between (suc at) (x ∷ bs) (k ∷ ks) [] b n e f h = absurd (omega (arith,
 rows-between (suc at) (x ∷ bs) (k ∷ ks) (s ∷ ss) b n e f h =
     ap (λ (t : Children). (x, record { kind = k; slot = s }) ∷ t) (rows-between at bs ks ss b n (omega (arith, e)) (omega (arith, f)) (omega (arith, h)))
 
--- those at a place are taken out
+-- those at a place are removed
 pub rows-remove : (at : ℕ) (bs : List ℕ) (ks : List NodeType) (ss : List ℕ) → length ks ≡ length bs → length ss ≡ length bs →
     rows (remove bs at) (remove ks at) (remove ss at) ≡ remove (rows bs ks ss) at
 rows-remove zero [] ks ss e f = refl

@@ -1,4 +1,4 @@
--- What a write makes of a sorted table.
+-- What a write does to a sorted table.
 use Rattle.std.proofs.Common.{◌≡◌, ◌≢◌, ℕ, zero, suc, ◌+◌, ◌-◌, ◌<◌, ◌≤◌, true, cond, List, [], ◌∷◌, ◌++◌, length, get_or, set, take, drop, Some, None, IsSome, is_some, refl, sym, ap, ◌∙◌, inl, inr, arith, eqb, subst, add-one}
 use Rattle.std.proofs.lemmas.Grind.{common_steps}
 use Rattle.std.proofs.lemmas.Bool.{ne_eqb, eq-eqb, lt-ltb, le-ltb}
@@ -15,7 +15,7 @@ Entry = ℕ × OpaqueNodePtr
 abbrev pub nobody : Entry
 nobody = (0, record { kind = Leaf; slot = 0 })
 
--- how `put_child` goes on at an entry
+-- how `put_child` proceeds at an entry
 pub front : (c : Entry) (cs : Children) (b : ℕ) (n : OpaqueNodePtr) → c.0 < b → put_child (c ∷ cs) b n ≡ c ∷ put_child cs b n
 front c cs b n h = ap (λ t. cond t (c ∷ put_child cs b n) (cond (eqb c.0 b) ((b, n) ∷ cs) ((b, n) ∷ c ∷ cs))) (lt-ltb c.0 b h)
 
@@ -43,7 +43,7 @@ put_child_set (c ∷ cs) b n d (suc at) k within same = elim (by_order c.0 b) [
   | inr h ↦ absurd (omega (arith, k ∙ counted_here c cs b (elim h [ inl e ↦ omega arith | inr g ↦ omega arith ])))
 ]
 
--- no entry has the byte: the new one comes in between
+-- no entry has the byte: the new one is inserted in between
 pub put_child_between : (cs : Children) (b : ℕ) (n : OpaqueNodePtr) (d : Entry) (at : ℕ) → at ≡ count_below cs b →
     (at < length cs → (get_or cs at d).0 ≢ b) → take at cs ++ (b, n) ∷ drop at cs ≡ put_child cs b n
 put_child_between [] b n d at k other = rw k refl
@@ -56,7 +56,7 @@ put_child_between (c ∷ cs) b n d (suc at) k other = elim (by_order c.0 b) [
   | inr h ↦ absurd (omega (arith, k ∙ counted_here c cs b (elim h [ inl e ↦ omega arith | inr g ↦ omega arith ])))
 ]
 
--- the bytes still rise
+-- the bytes are still sorted
 IsBelow-lower : (x y : ℕ) (cs : Children) → x < y → IsBelow y cs → IsBelow x cs
 IsBelow-lower x y [] h below = tt
 IsBelow-lower x y (c ∷ cs) h below = (omega (arith, below.0), IsBelow-lower x y cs h below.1)
@@ -113,7 +113,7 @@ pub room_for_new : (capacity : ℕ) (cs : Children) (b : ℕ) (d : Entry) → Is
 room_for_new capacity cs b d rising (inl room) other = room
 room_for_new capacity cs b d rising (inr there) other = let found = place_of_child cs b d rising there in absurd (other found.0 found.1)
 
--- what is read behind the place that is free
+-- what is read behind the free place
 read_front : {X : Type 0} (old rest : List X) (p : ℕ) (d : X) → suc p < length old → get_or (take (suc (suc p)) old ++ rest) p d ≡ get_or old p d
 read_front [] rest p d within = absurd (omega (arith, within))
 read_front (a ∷ old) rest zero d within = refl
@@ -140,7 +140,7 @@ moved_back {X} old part at (suc p) d x before within is read =
     ∙ move_back old p (length old - 1 - suc p) (length old - 1 - p) d within count
     ∙ ap (λ (k : ℕ). take (suc k) old ++ take (length old - 1 - k) (drop k old)) (sym back)
 
--- a value comes into the place that is free
+-- a value is written to the free place
 pub put_at_place : {X : Type 0} (old : List X) (at m : ℕ) (x : X) → at < length old → set (take (suc at) old ++ take m (drop at old)) at x ≡ take at old ++ x ∷ take m (drop at old)
 put_at_place [] at m x within = absurd (omega (arith, within))
 put_at_place (a ∷ old) zero m x within = refl
@@ -160,7 +160,7 @@ front_step after [] len (suc at) m x e k = absurd (omega arith)
 front_step after (y ∷ es) zero (suc at) m x e k = absurd (omega arith)
 front_step after (y ∷ es) (suc len) (suc at) m x e k = ap (λ t. y ∷ t) (front_step after es len at m x (omega arith) (omega arith))
 
--- the entries in front after a new one is put in between
+-- the first entries after a new one is inserted in between
 pub front_after : {X : Type 0} (es new : List X) (len at : ℕ) (x : X) → at ≤ len → len < length es →
     new ≡ take at (take (len + 1) es) ++ x ∷ take (length (take (len + 1) es) - 1 - at) (drop at (take (len + 1) es)) →
     take (len + 1) (new ++ drop (len + 1) es) ≡ take at (take len es) ++ x ∷ drop at (take len es)

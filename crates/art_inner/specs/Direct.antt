@@ -5,7 +5,7 @@ use Rattle.art_parts.specs.declared.names.OpaqueNodePtr.{OpaqueNodePtr}
 use Rattle.art_inner.specs.declared.direct.PlaceKind.{PlaceKind}
 use Rattle.art_inner.specs.declared.direct.PlaceKind.TheVariants as place
 
--- the name that stands in a place
+-- the name in a place
 abbrev pub in_place : PlaceKind → ℕ → Option OpaqueNodePtr
 in_place place.Node4 slot = Some (record { kind = kind.Node4; slot = slot })
 in_place place.Node16 slot = Some (record { kind = kind.Node16; slot = slot })

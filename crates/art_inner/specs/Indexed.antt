@@ -4,7 +4,7 @@ use Rattle.art_parts.specs.declared.names.NodeType.{NodeType}
 use Rattle.art_parts.specs.declared.names.NodeType.TheVariants.{Node4}
 use Rattle.art_parts.specs.declared.names.OpaqueNodePtr.{OpaqueNodePtr}
 
--- the name in the place of a number, where places count from one on and zero is none
+-- the name in place of a number, where places count from one on and zero is none
 abbrev pub numbered : List ℕ → List NodeType → ℕ → Option OpaqueNodePtr
 numbered slots kinds zero = None
 numbered slots kinds (suc place) = Some (record { kind = slice_index_or kinds place Node4; slot = slice_index_or slots place 0 })

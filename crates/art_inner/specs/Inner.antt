@@ -1,4 +1,4 @@
--- What a contract sees of an inner node.
+-- An inner node as contracts see it.
 use Rattle.std.specs.Prelude.{ℕ, List, [], ◌∷◌, suc, Option, Some, None, IsSome, length, ◌⊎◌, ◌<◌, ◌^◌, ◌==◌, ◌&&◌, nat_le, nat_lt, if◌then◌else◌, ⊤}
 use Rattle.art_parts.specs.Headers.{Prefix}
 use Rattle.art_parts.specs.declared.names.OpaqueNodePtr.{OpaqueNodePtr}
@@ -36,7 +36,7 @@ abbrev pub child_at : Children → ℕ → Option OpaqueNodePtr
 child_at [] b = None
 child_at (c ∷ cs) b = if c.0 == b then Some c.1 else child_at cs b
 
--- the name put under a byte
+-- the children with a name set under a byte
 abbrev pub put_child : Children → ℕ → OpaqueNodePtr → Children
 put_child [] b name = (b, name) ∷ []
 put_child (c ∷ cs) b name =
@@ -49,11 +49,11 @@ abbrev pub remove_child : Children → ℕ → Children
 remove_child [] b = []
 remove_child (c ∷ cs) b = if c.0 == b then remove_child cs b else c ∷ remove_child cs b
 
--- a child may be put under the byte: there is one already, or there is room
+-- a child may be set under the byte: there is one already, or there is room
 abbrev pub HasPlace : ℕ → Children → ℕ → Type 0
 HasPlace capacity cs byte = (length cs < capacity) ⊎ IsSome (child_at cs byte)
 
--- how many children in front are under a byte below this one
+-- how many of the first children are under a byte below this one
 abbrev pub count_below : Children → ℕ → ℕ
 count_below [] b = 0
 count_below (c ∷ cs) b = if nat_lt c.0 b then suc (count_below cs b) else 0
@@ -65,6 +65,6 @@ children_between first last (c ∷ cs) =
     if nat_le first c.0 && nat_le c.0 last then c ∷ children_between first last cs
     else children_between first last cs
 
--- an array of so many bytes fits in memory: an inner node keeps this of its stored bytes, so that they can be lent to a caller that doesn't know it
+-- an array of so many bytes fits in memory: an inner node keeps this of its stored bytes, so that they can be borrowed by a caller that doesn't know it
 abbrev pub IsSize : ℕ → Type 0
 IsSize n = n < 2 ^ 63

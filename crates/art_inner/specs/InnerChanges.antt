@@ -4,7 +4,7 @@ use Rattle.art_inner.specs.Inner.{Inner, put_child, remove_child}
 use Rattle.art_parts.specs.Headers.{Prefix}
 use Rattle.art_parts.specs.declared.names.OpaqueNodePtr.{OpaqueNodePtr}
 
--- the node with a child put under a byte
+-- the node with a child set under a byte
 abbrev pub with_child : ℕ → OpaqueNodePtr → Inner → Inner
 with_child byte child node = record node { children = put_child node.children byte child }
 

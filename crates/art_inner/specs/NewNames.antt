@@ -8,6 +8,6 @@ use Rattle.art_inner.specs.InnerRenamed.{renamed_in}
 abbrev pub new_name : List ℕ → LeafPtr → LeafPtr
 new_name table name = record { slot = slice_index_or table name.slot name.slot }
 
--- the slot in a node's name, where leaves got the names that a table has
+-- the slot in a node's name, where leaves were renamed by a table
 abbrev pub new_slot : List ℕ → NodeType → ℕ → ℕ
 new_slot table kind slot = (renamed_in (new_name table) kind slot).slot

@@ -1,4 +1,4 @@
--- Children whose bytes, kinds and slots stand in three lists. No public clause cites this module.
+-- Children whose bytes, kinds and slots are in three lists. No public clause cites this module.
 use Rattle.std.specs.Prelude.{◌≡◌, length, ℕ, suc, List, [], ◌∷◌, if◌then◌else◌, nat_lt}
 use Rattle.art_inner.specs.Inner.{Children}
 use Rattle.art_parts.specs.declared.names.NodeType.{NodeType}
@@ -11,7 +11,7 @@ rows (b ∷ bytes) [] slots = []
 rows (b ∷ bytes) (k ∷ kinds) [] = []
 rows (b ∷ bytes) (k ∷ kinds) (s ∷ slots) = (b, record { kind = k; slot = s }) ∷ rows bytes kinds slots
 
--- how many bytes in front are below this one
+-- how many of the first bytes are below this one
 abbrev pub bytes_below : List ℕ → ℕ → ℕ
 bytes_below [] b = 0
 bytes_below (x ∷ bytes) b = if nat_lt x b then suc (bytes_below bytes b) else 0
@@ -20,6 +20,6 @@ bytes_below (x ∷ bytes) b = if nat_lt x b then suc (bytes_below bytes b) else 
 abbrev pub AreAligned : Rows → Type 0
 AreAligned r = (length r.kinds.now ≡ length r.bytes.now) × (length r.slots.now ≡ length r.bytes.now)
 
--- the children that lent lists stand for
+-- the children that borrowed lists stand for
 abbrev pub rows_of : Rows → Children
 rows_of r = rows r.bytes.now r.kinds.now r.slots.now

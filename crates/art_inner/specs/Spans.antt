@@ -1,4 +1,4 @@
--- Where a cursor over a table of places stands.
+-- The position of a cursor over a table of places.
 use Rattle.std.specs.Prelude.{◌≡◌, ◌≤◌, length}
 use Rattle.art_inner.specs.Inner.{Children}
 use Rattle.art_inner.specs.Tables.{part_of}

@@ -5,7 +5,7 @@ use Rattle.std.specs.List.{cons_option}
 use Rattle.art_inner.specs.Inner.{Children}
 use Rattle.art_parts.specs.declared.names.OpaqueNodePtr.{OpaqueNodePtr}
 
--- the children under the bytes from one on, up to another that is left out
+-- the children under the bytes from one on, up to another that is excluded
 abbrev pub part_of : ℕ → ℕ → Children → Children
 part_of from to [] = []
 part_of from to (c ∷ cs) =

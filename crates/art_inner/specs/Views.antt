@@ -1,4 +1,4 @@
--- The kind of an inner node, and what a contract sees of it whatever its kind.
+-- The kind of an inner node, and the node as contracts see it whatever its kind.
 use Rattle.std.specs.Prelude.{ℕ}
 use Rattle.art_inner.specs.Inner.{Inner}
 use Rattle.art_parts.specs.declared.names.NodeType.{NodeType}

@@ -9,7 +9,7 @@ use art_parts::header::{FromHeader, Header};
 use art_parts::names::{NodeType, OpaqueNodePtr};
 use std::alloc::AllocError;
 
-// Runs the same code on a node of whatever kind.
+// Runs the same code on a node of any kind.
 macro_rules! on_each_kind {
     ($any:ident, $it:expr, $node:ident => $code:expr) => {
         match $it {
@@ -83,7 +83,7 @@ impl<const P: usize> AnyInner<P> {
     ghost use Rattle.art_parts.specs.declared.names.NodeType.TheVariants.{Leaf};
     ghost use Rattle.art_parts.specs.declared.names.NodeType.TheVariants as kinds;
 
-    /// A node of this kind with no child.
+    /// Returns a node of this kind with no child.
     pub fn from_header(kind: NodeType, header: Header<P>) -> Self
         requires { kind ≢ Leaf }
         ensures kind { any_kind result ≡ kind }
@@ -111,7 +111,7 @@ impl<const P: usize> AnyInner<P> {
         }
     }
 
-    /// Puts a child under a byte, in place of the one that is there.
+    /// Sets the child under a byte. An old one is replaced.
     pub fn write_child(&mut self, byte: u8, child: OpaqueNodePtr)
         requires { HasPlace (kind_capacity (any_kind self.old)) (any_view self.old).children byte }
         ensures kind { any_kind self.new ≡ any_kind self.old }
@@ -120,7 +120,7 @@ impl<const P: usize> AnyInner<P> {
         on_each_kind!(AnyInner, self, node => node.write_child(byte, child))
     }
 
-    /// Takes out the child under a byte, and returns its name.
+    /// Removes the child under a byte, and returns its name.
     pub fn remove_child(&mut self, byte: u8) -> Option<OpaqueNodePtr>
         ensures removed { result ≡ child_at (any_view self.old).children byte }
         ensures kind { any_kind self.new ≡ any_kind self.old }
@@ -149,7 +149,7 @@ impl<const P: usize> AnyInner<P> {
         on_each_kind!(AnyInner, self, node => node.shrink())
     }
 
-    /// Puts another header in the place of the node's. Its children stay.
+    /// Replaces the header of the node. Its children stay.
     pub fn set_header(&mut self, header: Header<P>)
         ensures kind { any_kind self.new ≡ any_kind self.old }
         ensures view { any_view self.new ≡ with_header header.entry (any_view self.old) }
@@ -157,7 +157,7 @@ impl<const P: usize> AnyInner<P> {
         on_each_kind!(AnyInner, self, node => node.set_header(header))
     }
 
-    /// The node borrowed, told apart by its kind.
+    /// Borrows the node as one of its kind.
     #[inline(always)]
     pub fn as_ref(&self) -> InnerRef<'_, P>
         ensures kind { ref_kind result ≡ any_kind self.now }
@@ -192,7 +192,7 @@ impl<'a, const P: usize> InnerRef<'a, P> {
         }
     }
 
-    /// A copy of the header; `read_prefix` lends its stored bytes.
+    /// Returns a copy of the header; `read_prefix` borrows its stored bytes.
     pub fn header(&self) -> Header<P>
         ensures { result ≡ (ref_view self.now).prefix }
     {

@@ -1,5 +1,5 @@
-//! The child beside a byte: the nearest one in a table with a place for each byte, and else the
-//! first above it, or the last below it where there is none.
+//! The child next to a byte: the nearest one in a table with a place for each byte, and else the first above it, or the
+//! last below it if there is none.
 ghost use Rattle.std.specs.Prelude.{◌≡◌, ◌≢◌, ℕ, ◌+◌, ◌<◌, length, Some, None, IsSome, IfSome, IfNone};
 ghost use Rattle.art_inner.specs.Beside.{IsNextTo};
 ghost use Rattle.art_inner.specs.Inner.{child_at};
@@ -12,7 +12,7 @@ impl<'a, const P: usize> InnerRef<'a, P> {
     ghost use Rattle.art_inner.specs.Views.{ref_view};
 
     /// A child next to a byte that has none itself, with the child's own byte. It is above or below, and no other child
-    /// stands between.
+    /// is between.
     #[inline(always)]
     pub fn beside(&self, byte: u8) -> (u8, OpaqueNodePtr)
         requires some { 0 < length (ref_view self.now).children }
@@ -47,7 +47,7 @@ pub(crate) fn nearest<T: Places>(table: &T, byte: u8) -> (u8, OpaqueNodePtr)
     unreachable!()
 }
 
-// The child so far below a byte.
+// The child this far below a byte.
 #[inline(always)]
 fn child_below<T: Places>(table: &T, byte: u8, distance: u8) -> Option<(u8, OpaqueNodePtr)>
     ensures there { IfSome result (λ child.
@@ -61,7 +61,7 @@ fn child_below<T: Places>(table: &T, byte: u8, distance: u8) -> Option<(u8, Opaq
     Some((below, name))
 }
 
-// The child so far above a byte.
+// The child this far above a byte.
 #[inline(always)]
 fn child_above<T: Places>(table: &T, byte: u8, distance: u8) -> Option<(u8, OpaqueNodePtr)>
     ensures there { IfSome result (λ child.

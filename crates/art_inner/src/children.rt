@@ -12,7 +12,7 @@ use std::alloc::AllocError;
 use std::iter::FusedIterator;
 use std::marker::Model;
 
-/// The children of an inner node by rising bytes, each with its byte, seen as the list of those that have not come yet.
+/// The children of an inner node by rising bytes, each with its byte, seen as the list of those not returned yet.
 #[derive(Drop)]
 pub struct Children<'a> {
     rest: Rest<'a>,

@@ -9,7 +9,7 @@ use art_parts::names::{LeafPtr, NodeType, OpaqueNodePtr};
 use std::alloc::AllocError;
 use std::marker::Model;
 
-// The kind of the name that stands in a place. One byte says it and whether there is one.
+// The kind of the name in a place. One byte encodes it, and whether there is one.
 #[derive(Clone, Copy)]
 enum PlaceKind {
     Node4,
@@ -124,7 +124,7 @@ impl Direct {
         Some(child)
     }
 
-    // Gives the leaves among the names the names that a table has for them.
+    // Renames the leaves among the names by a table.
     pub(crate) fn rename_leaves(&mut self, table: &[usize])
         ensures { self.new ≡ children_renamed (new_name table.now) self.old }
     {

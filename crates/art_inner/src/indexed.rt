@@ -131,7 +131,7 @@ impl Indexed {
         Some(child)
     }
 
-    // Gives the leaves among the names the names that a table has for them.
+    // Renames the leaves among the names by a table.
     pub(crate) fn rename_leaves(&mut self, table: &[usize])
         ensures { self.new ≡ children_renamed (new_name table.now) self.old }
     {
@@ -171,7 +171,7 @@ fn no_places() -> [u8; 256]
 
 ghost use Rattle.art_inner.specs.Indexed.{number_after_move};
 
-// Writes another number for each that is the last one's.
+// Replaces the number of the last place by another one.
 fn renumber(index: &mut [u8], last: u8, to: u8)
     requires { last ≢ 0 }
     ensures { (k : ℕ) →

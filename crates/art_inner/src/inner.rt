@@ -28,7 +28,7 @@ pub trait InnerNode<const P: usize>: FromHeader<Header<P>> {
 
     ghost TYPE: { NodeType };
 
-    /// What a node is seen as.
+    /// The value that contracts see of a node.
     ghost view_of: { Self → Inner };
 
     fn header(&self) -> Header<P>
@@ -50,18 +50,17 @@ pub trait InnerNode<const P: usize>: FromHeader<Header<P>> {
         ensures rising { IsRising (view_of self.now).children }
         ensures bound { length (view_of self.now).children ≤ kind_capacity TYPE };
 
-    /// Puts a child under a byte, in place of the one that is there.
+    /// Sets the child under a byte. An old one is replaced.
     fn write_child(&mut self, byte: u8, child: OpaqueNodePtr)
         requires { HasPlace (kind_capacity TYPE) (view_of self.old).children byte }
         ensures { view_of self.new ≡ with_child byte child (view_of self.old) };
 
-    /// Takes out the child under a byte, and returns its name.
+    /// Removes the child under a byte, and returns its name.
     fn remove_child(&mut self, byte: u8) -> Option<OpaqueNodePtr>
         ensures removed { result ≡ child_at (view_of self.old).children byte }
         ensures rest { view_of self.new ≡ without_child byte (view_of self.old) };
 
-    /// Gives the children that are leaves the names that a table of slots has for them. It costs a step for each place of
-    /// the node.
+    /// Renames the children that are leaves by a table of slots. It costs a step for each place of the node.
     fn rename_leaves(&mut self, table: &[usize])
         ensures { view_of self.new ≡ inner_renamed (new_name table.now) (view_of self.old) };
 
@@ -182,7 +181,7 @@ impl<const P: usize> InnerNode4<P> {
         }
     }
 
-    /// Gives the node another header.
+    /// Replaces the header of the node.
     pub fn set_header(&mut self, header: Header<P>)
         ensures { self.new ≡ with_header header.entry self.old }
     {
@@ -304,7 +303,7 @@ impl<const P: usize> InnerNode16<P> {
         }
     }
 
-    /// Gives the node another header.
+    /// Replaces the header of the node.
     pub fn set_header(&mut self, header: Header<P>)
         ensures { self.new ≡ with_header header.entry self.old }
     {
@@ -426,7 +425,7 @@ impl<const P: usize> InnerNode48<P> {
         }
     }
 
-    /// Gives the node another header.
+    /// Replaces the header of the node.
     pub fn set_header(&mut self, header: Header<P>)
         ensures { self.new ≡ with_header header.entry self.old }
     {
@@ -548,7 +547,7 @@ impl<const P: usize> InnerNodeDirect<P> {
         }
     }
 
-    /// Gives the node another header.
+    /// Replaces the header of the node.
     pub fn set_header(&mut self, header: Header<P>)
         ensures { self.new ≡ with_header header.entry self.old }
     {

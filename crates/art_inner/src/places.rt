@@ -19,7 +19,7 @@ pub(crate) trait Places {
         ensures { result ≡ child_at (children_of self.now) byte };
 }
 
-// The bytes from `from` on, up to `to`, which is left out, and how many children stand under them.
+// The bytes from `from` on, up to `to`, which is excluded, and how many children are under them.
 #[derive(Clone, Copy)]
 pub(crate) struct Span {
     pub(crate) from: usize,
@@ -86,7 +86,7 @@ pub(crate) fn between_in<T: Places>(table: &T, span: Span, first: u8, last: u8) 
 
 ghost use Rattle.std.specs.Prelude.{min, max};
 
-// How many children stand under these bytes.
+// How many children are under these bytes.
 fn count_in<T: Places>(table: &T, from: usize, to: usize) -> usize
     requires rising { IsRising (T.children_of table.now) }
     requires within { to ≤ 256 }

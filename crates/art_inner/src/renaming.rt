@@ -1,11 +1,11 @@
-//! Leaves get other names, by a table of their slots.
+//! Renames leaves by a table of their slots.
 ghost use Rattle.std.specs.Prelude.{◌≡◌, ℕ, length, slice_index_or};
 ghost use Rattle.art_inner.specs.NewNames.{new_name, new_slot};
 ghost use Rattle.art_parts.specs.declared.names.NodeType.TheVariants.{Node4};
 
 use art_parts::names::{LeafPtr, NodeType};
 
-/// The name that a table has for a leaf, or the same where it has none. It costs one access.
+/// Returns the name that a table has for a leaf, or the same name if it has none. It costs one access.
 #[inline(always)]
 pub fn new_name(table: &[usize], leaf: LeafPtr) -> LeafPtr
     ensures { result ≡ new_name table.now leaf }

@@ -1,4 +1,4 @@
-//! Names under rising bytes, lent: bytes, kinds and slots in slices of their own.
+//! Names under rising bytes, borrowed: bytes, kinds and slots in slices of their own.
 ghost use Rattle.std.specs.Prelude.{◌≡◌, ◌-◌, ◌<◌, ◌≤◌, [], ◌++◌, length, take, drop, None, IfNone, IfOk, IfErr, IsSome, IsTrue, ◌↔◌, slice_get, slice_index_or, Some};
 ghost use Rattle.std.specs.List.{cons_option};
 
@@ -39,7 +39,7 @@ impl<'a> Rows<'a> {
         (self.bytes[place], name)
     }
 
-    // Those at the places from one to another, which is left out.
+    // Those at the places from one to another, which is excluded.
     pub(crate) fn part(&self, from: usize, to: usize) -> Self
         requires aligned { AreAligned self.now }
         requires order { from ≤ to }
@@ -97,7 +97,7 @@ impl<'a> Rows<'a> {
         Some(last)
     }
 
-    // How many stand under bytes below this one.
+    // How many are under bytes below this one.
     pub(super) fn count_below(&self, byte: u8) -> usize
         requires { AreAligned self.now }
         ensures { result ≡ count_below (rows_of self.now) byte }
@@ -105,7 +105,7 @@ impl<'a> Rows<'a> {
         bytes_below(self.bytes, byte as usize)
     }
 
-    // The place of a byte, or where it would come in.
+    // The place of a byte, or where it would be inserted.
     pub(crate) fn search(&self, byte: u8) -> Result<usize, usize>
         requires aligned { AreAligned self.now }
         requires rising { IsRising (rows_of self.now) }
@@ -125,7 +125,7 @@ impl<'a> Rows<'a> {
 
 ghost use Rattle.art_inner.specs.Rows.{bytes_below};
 
-// How many bytes in front are below this one.
+// How many of the first bytes are below this one.
 fn bytes_below(bytes: &[u8], byte: usize) -> usize
     ensures value { result ≡ bytes_below bytes.now byte }
     ensures bound { result ≤ length bytes.now }
@@ -140,7 +140,7 @@ fn bytes_below(bytes: &[u8], byte: usize) -> usize
     count
 }
 
-// Whether this byte stands at a place.
+// Whether this byte is at a place.
 fn is_at(bytes: &[u8], at: usize, byte: u8) -> bool
     ensures { IsTrue result ↔ ((at < length bytes.now) × (slice_index_or bytes.now at 0 ≡ byte)) }
 {

@@ -1,4 +1,4 @@
-//! Up to so many names under rising bytes.
+//! At most `N` names under rising bytes.
 ghost use Rattle.std.specs.Prelude.{◌≡◌, ◌+◌, ◌-◌, ◌<◌, ◌≤◌, [], ◌∷◌, ◌++◌, length, take, drop, remove, slice_get, ⊤};
 ghost use Rattle.std.specs.Option.{option_map};
 
@@ -80,7 +80,7 @@ impl<const N: usize> Table<N> {
         table
     }
 
-    // Puts a name behind the others.
+    // Appends a name.
     fn push(&mut self, byte: u8, child: OpaqueNodePtr)
         requires room { length self.old < N }
         requires rising { IsAbove byte self.old }
@@ -93,7 +93,7 @@ impl<const N: usize> Table<N> {
         self.len = last + 1;
     }
 
-    // The names that are there.
+    // The names in use.
     #[inline(always)]
     fn rows(&self) -> Rows<'_>
         ensures aligned { AreAligned result }
@@ -165,7 +165,7 @@ impl<const N: usize> Table<N> {
         }
     }
 
-    // Gives the leaves among the names the names that a table has for them.
+    // Renames the leaves among the names by a table.
     pub(crate) fn rename_leaves(&mut self, table: &[usize])
         ensures { self.new ≡ children_renamed (new_name table.now) self.old }
     {
@@ -175,7 +175,7 @@ impl<const N: usize> Table<N> {
     ghost use Rattle.std.specs.Prelude.{Some, None, IsSome};
     ghost use Rattle.art_inner.specs.Inner.{count_below};
 
-    // Puts a name in at its place.
+    // Inserts a name at its place.
     fn insert(&mut self, at: usize, byte: u8, child: OpaqueNodePtr)
         requires room { length self.old < N }
         requires place { at ≡ count_below self.old byte }
@@ -189,7 +189,7 @@ impl<const N: usize> Table<N> {
         self.len = len;
     }
 
-    // Takes out the name at its place.
+    // Removes the name at its place.
     #[inline(always)]
     fn take_out(&mut self, at: usize, byte: u8) -> OpaqueNodePtr
         requires place { at ≡ count_below self.old byte }
@@ -215,7 +215,7 @@ ghost use Rattle.art_inner.specs.Inner.{child_at};
 ghost use lib.Dec.{eqb};
 ghost use mathlib.Core.Bool.{not};
 
-// The name under a byte, by four compares.
+// The name under a byte, by four comparisons.
 #[inline(always)]
 pub(crate) fn get_of_four(table: &Table<4>, byte: u8) -> Option<OpaqueNodePtr>
     ensures { result ≡ child_at table.now byte }
@@ -251,7 +251,7 @@ fn place_in_four(bytes: &[u8; 4], byte: u8) -> usize
     4
 }
 
-// Puts a value at a place, and lets the last one go.
+// Inserts a value at a place, and drops the last one.
 #[inline(always)]
 fn insert_into<T: Copy>(part: &mut [T], at: usize, value: T)
     requires { at < length part.old }
@@ -266,7 +266,7 @@ fn insert_into<T: Copy>(part: &mut [T], at: usize, value: T)
     part[at] = value;
 }
 
-// Closes the gap where a value is let go: the later ones move one place to the front.
+// Closes the gap of a removed value: the later ones move one place to the front.
 #[inline(always)]
 fn remove_from<T: Copy>(part: &mut [T], at: usize)
     requires { at < length part.old }

@@ -23,12 +23,12 @@ use Rattle.art_keeping.specs.NodeWalks.{children_of, reversed_children, one_deep
 use Rattle.art_keeping.specs.declared.walk.Pending.{Pending}
 
 module _ {K V : Type 0} (s : Nodes K V) where
-  -- the leaf of a leaf's name is there
+  -- the leaf of a leaf's name is in the store
   pub leaf_is_there : (p : LeafPtr) (root : OpaqueNodePtr) → leaf_name p ≡ root → IsTreeIn s root → map.get s.leaves p ≢ None
   leaf_is_there p root is (leaf n x, h) none = let there = leaf_there s p x (ap (node_at s) (is ∙ sym h.named) ∙ h.holds) in let e = there.1 in cc
   leaf_is_there p root is (inner n head cs, h) none = leaf_name_is s p head (slots_of cs) (ap (node_at s) (is ∙ sym h.named) ∙ h.holds.0)
 
-  -- the node of an inner node's name is there
+  -- the node of an inner node's name is in the store
   pub inner_is_there : (p : InnerPtr) (root : OpaqueNodePtr) → p.kind ≢ Leaf → inner_name p ≡ root → IsTreeIn s root → map.get s.inners p ≢ None
   inner_is_there p root proper is (leaf n x, h) none = inner_name_is s p x proper (ap (node_at s) (is ∙ sym h.named) ∙ h.holds)
   inner_is_there p root proper is (inner n head cs, h) none = let there = inner_there s p head (slots_of cs) proper (ap (node_at s) (is ∙ sym h.named) ∙ h.holds.0) in let e = there.1 in cc
@@ -51,13 +51,13 @@ module _ {K V : Type 0} (s : Nodes K V) where
   trees_under depth name (inner n head cs, h) =
       subst (λ o. Each IsPendingTree (children_of depth o)) (sym (ap (node_at s) (sym h.named) ∙ h.holds.0)) (trees_held depth cs h.holds.1 (Pairwise-right ◌≢◌ (n ∷ []) (names_below cs) h.distinct))
 
-  -- a turn leaves trees
+  -- a step leaves trees
   pub trees_turned : (pending : List Pending) → Each IsPendingTree pending → Each IsPendingTree (after_turn s pending)
   trees_turned [] trees = tt
   trees_turned (next ∷ []) trees = trees_under (one_deeper next.depth) next.name trees.0
   trees_turned (first ∷ next ∷ rest) trees = (trees.0, trees_turned (next ∷ rest) trees.1)
 
-  -- and takes one
+  -- and removes one
   pub tree_taken : (pending : List Pending) (next : Pending) → Some next ≡ last_of pending → Each IsPendingTree pending → IsTreeIn s next.name
   tree_taken pending next is trees = last_each IsPendingTree pending next trees (sym is)
 

@@ -1,4 +1,4 @@
--- What is left of a walk of nodes, and the room that it needs.
+-- What is left of a traversal of nodes, and the room that it needs.
 use Rattle.std.proofs.Common.{◌≡◌, ◌≢◌, ℕ, zero, suc, ◌+◌, ◌-◌, ◌≤◌, List, [], ◌∷◌, ◌++◌, length, refl, ap, sym, ◌∙◌, subst, arith, length-append, append_assoc, Option, Some, None, inl, inr}
 use Rattle.std.specs.Option.{option_map}
 use Rattle.std.specs.FinMap as map
@@ -51,12 +51,12 @@ module _ (depth : ℕ) where
   length-reversed_children [] = refl
   length-reversed_children (slot ∷ slots) = let few = length-reversed_children slots in let all = length-append (reversed_children depth slots) (pending_child slot ∷ []) in omega arith
 
-  -- room for what stands below is room for the children
+  -- room for what is below is room for the children
   pub room_for : (pending : List Pending) (slots : Children) (under : List Pending) (capacity : ℕ) → under ≡ reversed_children depth slots →
       length (pending ++ under) ≤ capacity → length pending + length slots ≤ capacity
   room_for pending slots under capacity is room = omega (arith, room, ap length is, length-append pending under, length-reversed_children slots)
 
-  -- the last of the children to come is put on
+  -- the last of the remaining children is pushed
   pub pushed : (pending : List Pending) (slot : ℕ × OpaqueNodePtr) (old rest : Children) (all : List Pending) →
       old ≡ rest ++ slot ∷ [] → pending ++ reversed_children depth old ≡ all → (pending ++ pending_child slot ∷ []) ++ reversed_children depth rest ≡ all
   pushed pending slot old rest all is so_far =
@@ -82,7 +82,7 @@ module _ {K V : Type 0} (s : Nodes K V) where
     pub children-none : (p : InnerPtr) → p.kind ≢ Leaf → None ≡ map.get s.inners p → children_of depth (node_at s (inner_name p)) ≡ []
     children-none p proper there = ap (λ o. children_of depth (option_map (tree_node p.kind) o)) (held_in_inner s p.kind p.slot proper ∙ ap (option_map held_inner) (sym there))
 
-  -- a turn of a list with its last node
+  -- a step of a list with its last node
   after_turn-push : (pending : List Pending) (next : Pending) → after_turn s (pending ++ next ∷ []) ≡ pending ++ below s next
   after_turn-push [] next = refl
   after_turn-push (first ∷ []) next = refl
@@ -93,7 +93,7 @@ module _ {K V : Type 0} (s : Nodes K V) where
   after_turn-last old pending next is = ap (after_turn s) is ∙ after_turn-push pending next
 
   module _ (root : OpaqueNodePtr) where
-    -- there is room for what is left after so many turns, and after fewer
+    -- there is room for what is left after so many steps, and after fewer
     abbrev pub HasRoomTo : ℕ → ℕ → Type 0
     HasRoomTo turns capacity = (earlier : ℕ) → earlier ≤ turns → length (left_after s root earlier) ≤ capacity
 
@@ -102,7 +102,7 @@ module _ {K V : Type 0} (s : Nodes K V) where
     room_first capacity some zero few = some
     room_first capacity some (suc n) few = absurd (omega arith)
 
-    -- and after one turn more, with room for that
+    -- and after one more step, with room for that
     pub room_next : (turns capacity more : ℕ) → capacity ≤ more → HasRoomTo turns capacity → length (left_after s root (suc turns)) ≤ more → HasRoomTo (suc turns) more
     room_next turns capacity more grows room next earlier few = elim (cases_order earlier (suc turns)) [
       | inl e ↦ subst (λ n. length (left_after s root n) ≤ more) (sym e) next

@@ -36,7 +36,7 @@ AsksForCommand Nodes = ⊥
 AsksForCommand Check = ⊥
 AsksForCommand request = ⊤
 
--- the tree is as before, or after a run of the one command that is asked for
+-- the tree is unchanged, or after a run of the one command that is asked for
 abbrev pub IsAnswered : (Key × ℕ → Key × ℕ → Type 0) → Request → KeptTree → KeptTree → Type 0
 IsAnswered IsClone request old new =
     (state_of new ≡ state_of old) ⊎

@@ -1,4 +1,4 @@
--- What is seen of the tree that the program keeps.
+-- The tree that the program keeps, as contracts see it.
 use Rattle.std.specs.Prelude.{ℕ}
 use Rattle.art_operations.specs.Runs.{Shown, on, from_side}
 use Rattle.art_operations.specs.declared.run.Side.{Side}
@@ -14,6 +14,6 @@ state_of kept = on First kept.first kept.second kept.root
 abbrev pub IsKept : KeptTree → Type 0
 IsKept kept = HasCanonicalTree kept.first kept.root
 
--- the stores as they stood before, of which the one that then has the tree is now the first
+-- the stores as they were before, where the one that then has the tree is now the first
 abbrev pub state_before : Side → KeptTree → Shown Key ℕ
 state_before side kept = from_side side kept.first kept.second kept.root

@@ -1,4 +1,4 @@
--- A walk of the nodes below a root, each before its children: what is left of it is a list of nodes, of which the last comes next.
+-- A traversal of the nodes below a root, each before its children: what is left of it is a list of nodes, of which the last comes next.
 use Rattle.std.specs.Prelude.{◌≤◌, ◌+◌, ◌-◌, ◌^◌, ℕ, zero, suc, min, List, [], ◌∷◌, ◌++◌, length, Option, Some, None}
 use Rattle.art_inner.specs.Inner.{Children}
 use Rattle.art_nodes.specs.Nodes.{Nodes}
@@ -7,7 +7,7 @@ use Rattle.art_model.specs.Layouts.{Node, leaf_node, inner_node}
 use Rattle.art_model.specs.Stores.{node_at}
 use Rattle.art_keeping.specs.declared.walk.Pending.{Pending}
 
--- the root: no node stands above it, and no byte leads to it
+-- the root: no node is above it, and no byte leads to it
 abbrev pub pending_root : OpaqueNodePtr → Pending
 pending_root name = record { depth = 0; byte = None; name = name }
 
@@ -27,17 +27,17 @@ children_of depth (Some (leaf_node x)) = []
 children_of depth (Some (inner_node h slots)) = reversed_children depth slots
 
 module _ {K V : Type 0} (s : Nodes K V) where
-  -- what stands right below a node, from the last to the first
+  -- what is right below a node, from the last to the first
   abbrev pub below : Pending → List Pending
   below next = children_of (one_deeper next.depth) (node_at s next.name)
 
-  -- what is left after a turn: children in the place of the node that came
+  -- what is left after a step: children in place of the visited node
   abbrev pub after_turn : List Pending → List Pending
   after_turn [] = []
   after_turn (next ∷ []) = below next
   after_turn (first ∷ next ∷ rest) = first ∷ after_turn (next ∷ rest)
 
-  -- what is left of the walk after so many turns
+  -- what is left of the traversal after so many steps
   abbrev pub left_after : OpaqueNodePtr → ℕ → List Pending
   left_after root zero = pending_root root ∷ []
   left_after root (suc turns) = after_turn (left_after root turns)

@@ -6,8 +6,8 @@ use art_lines::line::Request;
 use art_operations::run::Command;
 use std::alloc::{AllocError, Global};
 
-/// The command that a request asks for, where it asks for one. It fails only if the allocation of its
-/// key fails, and never for a request that asks to see the tree.
+/// Returns the command that a request asks for, if it asks for one. Fails only if the allocation of its key fails, and
+/// never for a request that asks to see the tree.
 pub fn command_of(
     alloc: Global,
     request: Request<'_>,

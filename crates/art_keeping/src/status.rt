@@ -11,8 +11,8 @@ pub enum Ending {
     BadLine,
 }
 
-/// The exit status that an end of reading, and the last writing, come to: 0 at the end of the input, 2 after a line that
-/// asks for nothing that there is, and 1 where reading or writing failed.
+/// Returns the exit status for an end of reading and the last write: 0 at the end of the input, 2 after a line that is
+/// no valid request, and 1 if reading or writing failed.
 pub fn status_of(end: io::Result<Ending>, written: io::Result<()>) -> u8
     ensures input { IsOkAnd end (λ why. why ≡ Input) → IsOk written → result ≡ 0 }
     ensures bad_line { IsOkAnd end (λ why. why ≡ BadLine) → IsOk written → result ≡ 2 }

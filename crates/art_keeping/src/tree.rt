@@ -1,4 +1,4 @@
-//! The tree that the lines so far have left, and the stores that it lives in.
+//! The tree that the lines so far have left, and its stores.
 ghost use Rattle.std.specs.Prelude.{◌≡◌, ◌∷◌, [], None, IfOk, IfErr, IfSome, IsOkAnd, OnErr};
 ghost use Rattle.art_parts.specs.LeafClones.{IsPairClone};
 ghost use Rattle.art_model.specs.Faults.{out_of_memory};
@@ -29,7 +29,7 @@ pub struct KeptTree {
 impl KeptTree {
     ghost use Rattle.art_keeping.specs.KeptTrees.{IsKept, state_of, state_before};
 
-    /// No tree.
+    /// Returns no tree.
     pub fn new(alloc: Global) -> Self
         ensures kept { IsKept result }
         ensures root { (state_of result).root ≡ None }
@@ -41,7 +41,7 @@ impl KeptTree {
         }
     }
 
-    /// The store that the tree lives in, and its root.
+    /// Returns the store of the tree, and its root.
     pub fn tree(&self) -> (&NodeStore<Vec<u8>, u32, PREFIX_LEN>, Option<OpaqueNodePtr>)
         requires { IsKept self.now }
         ensures store { result.0.now ≡ (state_of self.now).first }
@@ -64,8 +64,7 @@ impl KeptTree {
         WellFormedChecker::check(&self.first, self.root, 0)
     }
 
-    /// Carries one more command out, by a run of it alone, and returns the reply. An `Err` leaves the
-    /// tree as it is.
+    /// Carries a further command out, by a run of it alone, and returns the reply. If it fails the tree is unchanged.
     pub fn answer(
         &mut self,
         command: Command<Vec<u8>, u32>,

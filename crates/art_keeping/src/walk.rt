@@ -1,5 +1,5 @@
-//! The nodes of a tree from its root on, each before all that stands below it. What is left of such a walk stands in a
-//! list, so that no depth ends it.
+//! A traversal of the nodes of a tree, each before all that is below it. Its pending nodes are in a list, so that no
+//! depth of the tree ends it.
 ghost use Rattle.std.specs.Prelude.{◌≡◌, ◌≤◌, ◌+◌, ◌++◌, [], length, IfOk};
 ghost use Rattle.std.specs.Vec.{vec_capacity};
 ghost use Rattle.art_model.specs.Pairs.{last_of};
@@ -9,8 +9,8 @@ use art_nodes::node::{Children, NodePtr, OpaqueNodePtr};
 use art_nodes::store::NodeStore;
 use std::alloc::AllocError;
 
-/// A node that is still to come, with all that stands below it: how many inner nodes stand above it, and the byte that
-/// it is the child under, which a root has not.
+/// A pending node, with all that is below it: how many inner nodes are above it, and the byte under which it is a
+/// child, which a root has not.
 #[derive(Clone, Copy)]
 pub struct Pending {
     pub depth: usize,
@@ -19,7 +19,7 @@ pub struct Pending {
 }
 
 impl Pending {
-    /// The root, of which all is still to come.
+    /// Returns the root, all of which is pending.
     pub fn root(name: OpaqueNodePtr) -> Self
         ensures { result ≡ pending_root name }
     {
@@ -31,7 +31,7 @@ impl Pending {
     }
 }
 
-/// Makes the walk of the nodes below a root once, and returns an empty list with room for another one.
+/// Traverses the nodes below a root once, and returns an empty list with room for another traversal.
 pub fn reserve_walk<const P: usize>(
     store: &NodeStore<Vec<u8>, u32, P>,
     root: OpaqueNodePtr,
@@ -51,7 +51,7 @@ pub fn reserve_walk<const P: usize>(
     Err(AllocError)
 }
 
-/// Takes the node that comes next, and puts its children in its place.
+/// Removes the next node from the list, and pushes its children.
 pub fn turn<const P: usize>(
     pending: &mut Vec<Pending>,
     store: &NodeStore<Vec<u8>, u32, P>,
@@ -79,7 +79,7 @@ fn count_children<const P: usize>(store: &NodeStore<Vec<u8>, u32, P>, parent: Pe
     }
 }
 
-// Puts the children of a node on, the last one first, so that the first one comes next.
+// Pushes the children of a node, the last one first, so that the first one comes next.
 fn push_below<const P: usize>(
     pending: &mut Vec<Pending>,
     store: &NodeStore<Vec<u8>, u32, P>,
@@ -98,7 +98,7 @@ fn push_below<const P: usize>(
     push_children(pending, node.iter(), parent.depth.saturating_add(1));
 }
 
-// Puts children on, the last one first.
+// Pushes children, the last one first.
 fn push_children(pending: &mut Vec<Pending>, children: Children<'_>, depth: usize)
     requires { length pending.old.items + length children ≤ vec_capacity pending.old }
     ensures items { pending.new.items ≡ pending.old.items ++ reversed_children depth children.entry }

@@ -16,7 +16,7 @@ use Rattle.std.proofs.lemmas.Fmt.{IsAscii-decimal, decimal_digit, decimal_nonemp
 own : IsNumeralModel (AllDigits 10) (digits_value 10)
 own = record { to = λ ds h. h; from = λ ds h. h; same = λ ds h. refl }
 
--- a number has a digit, no plus in front, and but for 0 no zero in front
+-- a number has a digit, no leading plus, and no leading zero except for 0
 pub decimal_begins : (bs : List ℕ) (n : ℕ) → n < 2 ^ 32 → bs ≡ decimal n → 0 < length bs
 decimal_begins bs n small is = subst (λ xs. 0 < length xs) (sym is) (decimal_nonempty n (omega arith))
 
@@ -31,7 +31,7 @@ decimal_unpadded bs (suc n) small is first = absurd (omega (arith, ap (λ xs. ge
 pub decimal_is_utf8 : (bs : List ℕ) (n : ℕ) → n < 2 ^ 32 → bs ≡ decimal n → IsUtf8 bs
 decimal_is_utf8 bs n small is = subst IsUtf8 (sym is) (IsUtf8-from_ascii (decimal n) (IsAscii-decimal n (omega arith)))
 
--- what parsing gives for bytes with no plus and no zero in front
+-- what parsing gives for bytes with no leading plus and no leading zero
 pub parsed : {E : Type 0} (bs : List ℕ) (r : Result ℕ E) → ParsesUnsigned 32 10 bs r → get_or bs 0 0 ≢ 43 → (get_or bs 0 0 ≡ 48 → length bs ≡ 1) → IfSome (result_ok r) (λ n. bs ≡ decimal n)
 parsed {E} bs (Ok n) h plain unpadded =
     let r : Result ℕ E = Ok n in

@@ -1,4 +1,4 @@
--- Lines that ask for nothing: what stands after their first word is wrong.
+-- Lines that are no valid requests: what is after their first word is wrong.
 use Rattle.std.proofs.Common.{◌≡◌, ◌≢◌, ℕ, ◌<◌, ◌^◌, List, ◌∷◌, ◌++◌, drop, get_or, ap, sym, ◌∙◌, subst, arith, codes}
 use Rattle.std.proofs.Math.Logic.{∥∥₁_elim}
 use Rattle.std.specs.Fmt.{decimal}
@@ -26,7 +26,7 @@ IsNoPair words = (key : List ℕ) (value : ℕ) → IsKeyWord key → value < 2 
 no_pair : (key : KeyWord) (value : ℕ) (words : List ℕ) → words ≡ key.word.now ++ 32 ∷ decimal value → value < 2 ^ 32 → IsNoPair words → ⊥
 no_pair key value words is small none = ∥∥₁_elim key.is_key (λ x y. absurd x) (λ k. none key.word.now value k small is)
 
--- of another request the first letter tells, or one behind it
+-- another request is distinguished by the first letter, or by one after it
 
 pub no_insert : (line words : List ℕ) → line ≡ codes "insert " ++ words → IsNoPair words → AsksNothing line
 no_insert line words is none (Insert key value) small same = no_pair key value words (ap (drop 7) (sym is ∙ same)) small none
@@ -50,11 +50,11 @@ no_find line word is none (Find key) small same = no_key key word (ap (drop 5) (
 no_find line word is none First small same = omega (arith, ap (at 2) (sym is ∙ same))
 no_find line word is none request small same = omega (arith, ap (at 0) (sym is ∙ same))
 
--- the line does not begin so
+-- the line does not start so
 abbrev BeginsOtherwise : List ℕ → List ℕ → Type 0
 BeginsOtherwise line front = (rest : List ℕ) → line ≢ front ++ rest
 
--- a line that is no word alone, and begins with none of the other words, asks for nothing
+-- a line that is not just a word, and starts with none of the other words, is no valid request
 pub no_request : (line : List ℕ) →
     (line ≢ codes "first") × (line ≢ codes "last") × (line ≢ codes "clone") × (line ≢ codes "walk") × (line ≢ codes "back") × (line ≢ codes "nodes") × (line ≢ codes "check") →
     BeginsOtherwise line (codes "insert ") → BeginsOtherwise line (codes "prefix ") → BeginsOtherwise line (codes "delete ") → BeginsOtherwise line (codes "longest ") →

@@ -8,8 +8,8 @@ use std::alloc::{AllocError, Global};
 use std::str;
 use text_lines::words::{split_word, strip};
 
-/// A key as a line writes it: `-` for the empty one, or its bytes in decimal joined by dots.
-/// It is judged, and not copied yet.
+/// A key as a line writes it: `-` for the empty one, or its bytes in decimal joined by dots. It is checked, and not
+/// copied yet.
 #[derive(Clone, Copy)]
 pub struct KeyWord<'a> {
     pub word: &'a [u8],
@@ -34,7 +34,7 @@ pub enum Request<'a> {
 }
 
 impl<'a> KeyWord<'a> {
-    /// The word as a key, or None where it writes none.
+    /// Returns the word as a key, or `None` if it writes none.
     pub fn parse(word: &'a [u8]) -> Option<Self>
         ensures word { IfSome result (λ key. key.word.now ≡ word.now) }
         ensures none { IfNone result (¬ IsKeyWord word.now) }
@@ -46,7 +46,7 @@ impl<'a> KeyWord<'a> {
         }
     }
 
-    /// The key itself.
+    /// Returns the key itself. Fails if its allocation fails.
     pub fn copy(self, alloc: Global) -> Result<Vec<u8>, AllocError>
         ensures { IfOk result (λ key. self.entry.word.now ≡ key_word key.items) }
     {
@@ -61,7 +61,7 @@ impl<'a> Request<'a> {
     ghost use Rattle.art_lines.specs.CommandLines.{line_of, HasSmallValue};
     ghost use Rattle.art_lines.specs.declared.line.Request.{Request};
 
-    /// What a line without its line feed asks for, or None where there is nothing that it asks for.
+    /// Returns what a line without its line feed asks for, or `None` if it is no valid request.
     pub fn parse(line: &'a [u8]) -> Option<Self>
         ensures line { IfSome result (λ request. line.now ≡ line_of request) }
         ensures small { IfSome result HasSmallValue }

@@ -1,4 +1,4 @@
--- Lemmas of each change of a tree in a store, and what it leaves.
+-- Lemmas about each change of a tree in a store, and what it leaves.
 pub mod Changes
 pub mod Kept
 pub mod Regrown

@@ -1,4 +1,4 @@
--- Lemmas of keys: their order, and what two of them share.
+-- Lemmas about keys: their order, and what two of them share.
 pub mod Keys
 pub mod KeyLaws
 pub mod Fronts

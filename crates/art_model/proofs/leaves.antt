@@ -1,4 +1,4 @@
--- Lemmas of leaves in their order, and the links between them.
+-- Lemmas about leaves in their order, and the links between them.
 pub mod Links
 pub mod Segments
 pub mod OtherNames

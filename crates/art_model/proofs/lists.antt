@@ -1,4 +1,4 @@
--- Lemmas of lists, of whatever elements.
+-- Lemmas about lists of any elements.
 pub mod Lists
 pub mod Pairwises
 pub mod Filters

@@ -1,4 +1,4 @@
--- Lemmas of maps as sorted lists of pairs.
+-- Lemmas about maps as sorted lists of pairs.
 pub mod MapLaws
 pub mod Between
 pub mod PutOver

@@ -1,4 +1,4 @@
--- Lemmas of places in a tree, and the ways to them.
+-- Lemmas about places in a tree, and the paths to them.
 pub mod Paths
 pub mod Places
 pub mod PlaceLaws

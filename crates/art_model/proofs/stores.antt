@@ -1,4 +1,4 @@
--- Lemmas of what a store has, and the canonical roots in it.
+-- Lemmas about what a store has, and the canonical roots in it.
 pub mod Shown
 pub mod Names
 pub mod Stores

@@ -1,4 +1,4 @@
--- What a name stands for, said of a plain tree by cases, with the names of its nodes and those of its leaves.
+-- What a name stands for, by cases on a plain tree, with the names of its nodes and those of its leaves.
 use Rattle.std.specs.Prelude.{◌≡◌, ◌≢◌, ℕ, List, [], ◌∷◌, ◌++◌, Option, Some}
 use Rattle.std.specs.List.{AllByRecursion as Each}
 use Rattle.art_model.specs.Trees.{Tree, leaf, inner, Subtrees, child, no_child}

@@ -2,7 +2,7 @@
 use Rattle.std.specs.Prelude.{ℕ, if◌then◌else◌, List, [], ◌∷◌}
 use Rattle.art_model.specs.Pairs.{is_conflict, put, overwrite, remove_key, without_first, without_last}
 
--- what can be done to a map of such pairs
+-- the changes of a map of such pairs
 pub data Change (A : Type 0) : Type 0 where
   put_pair : A → Change A
   overwrite_with : A → Change A

@@ -8,7 +8,7 @@ use Rattle.art_model.specs.Trees.{Tree, leaf, inner, Subtrees, child, no_child}
 abbrev pub KeepBytes : {K : Type 0} → (K → List ℕ) → (K → K → Type 0) → Type 0
 KeepBytes {K} bytes is_clone = (x y : K) → is_clone x y → bytes y ≡ bytes x
 
--- each pair of the second list is a clone of the one in its place in the first
+-- each pair of the second list is a clone of the one at its position in the first
 abbrev pub AreClones : {K V : Type 0} → (K → K → Type 0) → (V → V → Type 0) → List (K × V) → List (K × V) → Type 0
 AreClones is_key_clone is_value_clone = AllZip (IsPairClone is_key_clone is_value_clone)
 

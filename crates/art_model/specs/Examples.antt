@@ -1,4 +1,4 @@
--- Small maps and their trees, to be compared with what the definitions compute. Where values don't matter a pair is its key alone.
+-- Small maps and their trees, to be compared with what the definitions compute. Where values don't matter a pair is just its key.
 use Rattle.std.specs.Prelude.{ℕ, zero, suc, ◌+◌, if◌then◌else◌, ◌==◌, List, [], ◌∷◌, ◌++◌, Option, Some, None}
 use Rattle.art_parts.specs.declared.names.NodeType.{NodeType}
 use Rattle.art_parts.specs.declared.names.NodeType.TheVariants.{Node4, Leaf}
@@ -11,7 +11,7 @@ use Rattle.art_model.specs.Layouts.{Node, leaf_node, inner_node, Links}
 abbrev pub Key : Type 0
 Key = List ℕ
 
--- a tree whose leaves have keys alone
+-- a tree whose leaves have only keys
 abbrev pub KeyTree : Type 0
 KeyTree = Tree (Unit {0}) Key
 
@@ -55,7 +55,7 @@ abbrev pub zero_keys : ℕ → List Key
 zero_keys zero = []
 zero_keys (suc n) = (zeros n ++ 255 ∷ []) ∷ zero_keys n
 
--- their tree: so many nodes one below the other, each under the byte 0 and beside a leaf under 255
+-- their tree: so many nodes one below the other, each under the byte 0 and with a leaf under 255 as its sibling
 abbrev pub zero_tree : ℕ → List ℕ → KeyTree
 zero_tree zero place = leaf tt (place ++ 255 ∷ [])
 zero_tree (suc n) place = over_two 0 [] 0 (zero_tree n (place ++ 0 ∷ [])) 255 (leaf tt (place ++ 255 ∷ []))

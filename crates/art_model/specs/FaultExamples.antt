@@ -38,7 +38,7 @@ node4_over slot len stored children = (
 abbrev pub looped : Nodes Key ℕ
 looped = store_of [] (node4_over 0 0 [] ((5, node4 0) ∷ []) ∷ [])
 
--- one leaf under two bytes of a Node4
+-- a leaf under two bytes of a Node4
 abbrev pub shared : Nodes Key ℕ
 shared =
     store_of (leaf_between 0 None (1 ∷ []) None ∷ []) (node4_over 0 0 [] ((1, leaf_at 0) ∷ (2, leaf_at 0) ∷ []) ∷ [])

@@ -1,4 +1,4 @@
--- What may be wrong with a store and a root, and when it is true of them.
+-- The faults of a store and a root, and when each is true of them.
 use Rattle.std.specs.Prelude.{◌≡◌, ◌≢◌, ℕ, ◌+◌, ◌<◌, ◌⊎◌, List, [], ◌∷◌, ◌++◌, length, take, Some, None, ⊤}
 use Rattle.std.specs.Cmp.Lexicographic.{slice_cmp}
 use Rattle.std.specs.Ordering.{nat_cmp}
@@ -15,7 +15,7 @@ use Rattle.art_model.specs.Layouts.{leaf_node, inner_node, Links, AreDistinct, l
 use Rattle.art_model.specs.Stores.{node_at, links_at}
 use Rattle.art_model.specs.Trails.{bottom_of, way_of, IsDescent, HasPrefix, IsReached}
 
--- a fault with all that it says; a place is a prefix as read
+-- a fault with its details; a place is a prefix as read
 pub data Fault : Type 0 where
   -- the name, where it was first met, and where later
   loop_found : OpaqueNodePtr → List ℕ → List ℕ → Fault
@@ -49,29 +49,29 @@ module _ {K V : Type 0} (bytes : K × V → List ℕ) (P : ℕ) (s : Nodes K V) 
   abbrev pub ReachesLeaf : List ℕ → OpaqueNodePtr → K × V → Type 0
   ReachesLeaf place name x = Reaches place name × (node_at s name ≡ Some (leaf_node x))
 
-  -- the leaf names this sibling, which is to come before it or after it
+  -- the leaf names this sibling, which must be before it or after it
   abbrev pub HasSibling : OpaqueNodePtr → Ordering → OpaqueNodePtr → Type 0
   HasSibling leaf order sibling =
       (links : Links OpaqueNodePtr) × (links_at s leaf ≡ Some links) ×
       (((order ≡ Less) × (links.previous ≡ Some sibling)) ⊎ ((order ≡ Greater) × (links.next ≡ Some sibling)))
 
-  -- two different ways end at the name
+  -- two different paths end at the name
   abbrev pub IsLoop : OpaqueNodePtr → List ℕ → List ℕ → Type 0
   IsLoop name first later =
       (one : Reaches first name) × (other : Reaches later name) × (way_of one.steps ≢ way_of other.steps)
 
-  -- the inner node at the place has so many children, fewer than its kind may have; more than its kind has room for it never has
+  -- the inner node at the place has so many children, fewer than its kind allows; it never has more than its kind has room for
   abbrev pub HasWrongCount : List ℕ → NodeType → ℕ → Type 0
   HasWrongCount place kind n =
       (name : OpaqueNodePtr) × (h : NodeHeader) × (slots : List (ℕ × OpaqueNodePtr)) ×
       ReachesInner place name h slots × (h.kind ≡ kind) × (length slots ≡ n) × (n < kind_least kind)
 
-  -- the leaf at the place has this key, which does not begin with the place
+  -- the leaf at the place has this key, which does not start with the place
   abbrev pub HasForeignKey : List ℕ → List ℕ → Type 0
   HasForeignKey place key =
       (name : OpaqueNodePtr) × (x : K × V) × ReachesLeaf place name x × (bytes x ≡ key) × (IsFront place key → ⊥)
 
-  -- a leaf names a sibling whose key is not where it should be
+  -- a leaf names a sibling whose key is in the wrong order
   abbrev pub HasWrongOrder : List ℕ → List ℕ → Ordering → Ordering → Type 0
   HasWrongOrder sibling_key leaf_key expected actual =
       (place : List ℕ) × (name sibling : OpaqueNodePtr) × (x y : K × V) × ReachesLeaf place name x ×
@@ -89,14 +89,14 @@ module _ {K V : Type 0} (bytes : K × V → List ℕ) (P : ℕ) (s : Nodes K V) 
       (expected ≡ record { previous = last_of before; next = first_of after }) ×
       (links_at s name ≡ Some actual) × (actual ≢ expected)
 
-  -- the name leads nowhere: it is met at the place, or as a sibling of the leaf there
+  -- no node is under the name: it is met at the place, or as a sibling of the leaf there
   abbrev pub IsDead : List ℕ → OpaqueNodePtr → Type 0
   IsDead place name =
       (node_at s name ≡ None) ×
       (Reaches place name ⊎ ((leaf : OpaqueNodePtr) × (x : K × V) × (order : Ordering) ×
       ReachesLeaf place leaf x × HasSibling leaf order name))
 
-  -- a descent that ends at no leaf whose key has so many bytes: at a dead name, at a node without children, at a name that it met before, or at a leaf with a shorter key
+  -- a descent that ends at no leaf whose key has so many bytes: at a dead name, at a node without children, at a name met before, or at a leaf with a shorter key
   abbrev pub EndsBadly : OpaqueNodePtr → List OpaqueNodePtr → ℕ → Type 0
   EndsBadly name ns needed =
       (node_at s (bottom_of name ns) ≡ None)
@@ -104,13 +104,13 @@ module _ {K V : Type 0} (bytes : K × V → List ℕ) (P : ℕ) (s : Nodes K V) 
       ⊎ ((AreDistinct (name ∷ ns) → ⊥)
       ⊎ ((x : K × V) × (node_at s (bottom_of name ns) ≡ Some (leaf_node x)) × (length (bytes x) < needed))))
 
-  -- the prefix of the inner node at the place is longer than what can be stored, and can't be read from a leaf
+  -- the prefix of the inner node at the place is longer than its stored bytes, and can't be read from a leaf
   abbrev pub IsUnreadable : List ℕ → OpaqueNodePtr → Type 0
   IsUnreadable place name =
       (h : NodeHeader) × (slots : List (ℕ × OpaqueNodePtr)) × ReachesInner place name h slots × (P < h.length_of)
       × ((ns : List OpaqueNodePtr) × IsDescent (node_at s) name ns × EndsBadly name ns (length place + h.length_of))
 
-  -- the inner node at the place has a prefix longer than what can be stored, and stores other bytes than its least leaf has there
+  -- the inner node at the place has a prefix longer than its stored bytes, and these are not those of its least leaf
   abbrev pub StoresOthers : List ℕ → List ℕ → List ℕ → Type 0
   StoresOthers place stored actual =
       (name : OpaqueNodePtr) × (h : NodeHeader) × (slots : List (ℕ × OpaqueNodePtr)) ×
@@ -118,7 +118,7 @@ module _ {K V : Type 0} (bytes : K × V → List ℕ) (P : ℕ) (s : Nodes K V) 
       × ((part : List ℕ) × HasPrefix (node_at s) bytes P (length place) name part × (h.stored ≡ stored) ×
       (take (length stored) part ≡ actual) × (actual ≢ stored))
 
-  -- The fault is there. Want of memory says nothing of the tree, and with a root no length is wrong.
+  -- The fault is true. Out of memory reports nothing of the tree, and with a root no length is wrong.
   abbrev pub IsTrueOf : Fault → Type 0
   IsTrueOf (loop_found name first later) = IsLoop name first later
   IsTrueOf (wrong_children_count place kind n) = HasWrongCount place kind n

@@ -1,4 +1,4 @@
--- What a call did to the nodes under names, between the store before it and the store after it.
+-- What a call did to the nodes under names, from the store before it to the store after it.
 use Rattle.std.specs.Prelude.{◌≡◌, ℕ, ◌≤◌, List, [], ◌∷◌, length, Option, Some, None}
 use Rattle.std.specs.List.{AllByRecursion as Each}
 use Rattle.art_nodes.specs.Nodes.{Nodes}
@@ -25,13 +25,13 @@ TouchesAtMost most_placed most_freed most_changed old new =
     (placed freed changed : List OpaqueNodePtr) × Footprint old new placed freed changed ×
     (length placed ≤ most_placed) × (length freed ≤ most_freed) × (length changed ≤ most_changed)
 
--- one name is placed, these and no others are freed, and at most so many are changed
+-- one name is placed, exactly these are freed, and at most so many are changed
 abbrev pub PlacesOneFor : {K V : Type 0} → List OpaqueNodePtr → ℕ → Nodes K V → Nodes K V → Type 0
 PlacesOneFor freed most_changed old new =
     (placed : OpaqueNodePtr) × (changed : List OpaqueNodePtr) ×
     Footprint old new (placed ∷ []) freed changed × (length changed ≤ most_changed)
 
--- The tree has a subtree with the pairs whose keys are related to this one, and no others; a leaf was placed for its nodes, which are freed, and at most three others are changed.
+-- The tree has a subtree with exactly the pairs whose keys are related to this one; a leaf was placed for its nodes, which are freed, and at most three others are changed.
 pub record TouchesRelated {K V : Type 0} (bytes : K × V → List ℕ) (key : List ℕ) (s t : Nodes K V)
     (tree : Option (Tree OpaqueNodePtr (K × V))) : Type 0 where
   pub path : List (Frame OpaqueNodePtr (K × V))

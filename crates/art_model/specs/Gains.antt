@@ -1,4 +1,4 @@
--- What a store gains or loses as a whole: a tree under names that nothing else has. No public clause cites this module.
+-- What a store gains or loses as a whole: a tree under names of its own. No public clause cites this module.
 use Rattle.std.specs.Prelude.{◌≡◌, List, [], ◌∷◌, None}
 use Rattle.std.specs.Prelude.{map as list_map}
 use Rattle.std.specs.FinMap as map
@@ -15,13 +15,13 @@ use Rattle.art_model.specs.Writes.{as_inner}
 abbrev pub as_leaf : OpaqueNodePtr → LeafPtr
 as_leaf name = record { slot = name.slot }
 
--- the map but for what stands under these names
+-- the map without these names
 abbrev pub without : {N X : Type 0} {R : N → N → Ordering} → map.FinMap R X → List N → map.FinMap R X
 without m [] = m
 without m (n ∷ ns) = without (map.remove m n) ns
 
 module _ {K V : Type 0} where
-  -- the second store has the first one's nodes but for those of the tree
+  -- the second store has the first one's nodes without those of the tree
   pub record Loses (old new : Nodes K V) (tree : Tree OpaqueNodePtr (K × V)) : Type 0 where
     pub leaves : new.leaves ≡ without old.leaves (list_map as_leaf (leaf_names tree))
     pub inners : new.inners ≡ without old.inners (list_map as_inner (inner_names tree))

@@ -1,4 +1,4 @@
--- The height of a tree is the number of inner nodes on its longest way down; it can be read off a store within a number of steps.
+-- The height of a tree is the number of inner nodes on its longest descent; it can be read off a store within a number of steps.
 use Rattle.std.specs.Prelude.{ℕ, zero, suc, max, List, [], ◌∷◌, Option, Some, None}
 use Rattle.art_model.specs.Layouts.{Node, leaf_node, inner_node}
 use Rattle.art_model.specs.Trees.{Tree, leaf, inner, Subtrees, child, no_child}
@@ -26,7 +26,7 @@ module _ {N A : Type 0} where
   height_above f (Some (leaf_node x)) = 0
   height_above f (Some (inner_node h slots)) = suc (highest f slots)
 
-  -- the height below a name, where at most so many inner nodes stand on a way down
+  -- the height below a name, where the inner nodes on a descent are bounded
   unfoldable pub height : (N → Option (Node N A)) → ℕ → N → ℕ
   height at zero name = 0
   height at (suc steps) name = height_above (height at steps) (at name)

@@ -1,4 +1,4 @@
--- What a change in place keeps: the names of the nodes that stay, and every node beside the tree.
+-- What a change in place keeps: the names of the nodes that stay, and every node outside the tree.
 use Rattle.std.specs.Prelude.{◌≡◌, ℕ, List, [], Option, Some, None}
 use Rattle.art_nodes.specs.Nodes.{Nodes}
 use Rattle.art_parts.specs.declared.names.NodeType.{NodeType}

@@ -1,9 +1,9 @@
--- Keys are lists of bytes: what a prefix of one is (called a front, since nodes have prefixes too), which are related, and their order.
+-- Keys are lists of bytes: which are prefixes of one another (`front`s in the names here, since nodes have prefixes too) or related, and their order.
 use Rattle.std.specs.Prelude.{◌≡◌, ℕ, Bool, true, false, if◌then◌else◌, ◌==◌, ◌&&◌, ◌||◌, List, [], ◌∷◌, ◌++◌}
 use Rattle.std.specs.Cmp.Lexicographic.{slice_cmp}
 use Rattle.std.specs.Ordering.{nat_cmp, is_lt}
 
--- the whole is the front and then a rest, which may be empty
+-- the whole is the prefix and then a rest, which may be empty
 abbrev pub IsFront : List ℕ → List ℕ → Type 0
 IsFront front whole = (rest : List ℕ) × (whole ≡ front ++ rest)
 

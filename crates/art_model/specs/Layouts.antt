@@ -14,7 +14,7 @@ pub record Links (N : Type 0) : Type 0 where
   pub previous : Option N
   pub next : Option N
 
--- no name stands twice in the list
+-- no name occurs twice in the list
 abbrev pub AreDistinct : {N : Type 0} → List N → Type 0
 AreDistinct = Pairwise (λ n k. n ≢ k)
 
@@ -100,12 +100,12 @@ module _ {N A : Type 0} where
   StandsFor at root tree layout = IsLayout at root layout × (unmarked layout ≡ tree)
 
 module _ {N : Type 0} where
-  -- the first name, or this where there is none
+  -- the first name, or this one if there is none
   abbrev pub first_or : List N → Option N → Option N
   first_or [] o = o
   first_or (n ∷ ns) o = Some n
 
-  -- the last name, or this where there is none
+  -- the last name, or this one if there is none
   abbrev pub last_or : List N → Option N → Option N
   last_or [] o = o
   last_or (n ∷ ns) o = last_or ns (Some n)

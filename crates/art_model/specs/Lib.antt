@@ -24,14 +24,14 @@ pub mod Canonical
 pub mod StoreLaws
 pub mod Roots
 pub mod Lookups
--- what changes a store, and what a change keeps, touches and takes of a promise
+-- what changes a store, and what a change keeps and touches and takes from a promise
 pub mod Writes
 pub mod Gains
 pub mod Kept
 pub mod Apart
 pub mod Footprints
 pub mod Promises
--- what may be wrong with a store
+-- the faults of a store
 pub mod Trails
 pub mod Faults
 -- examples

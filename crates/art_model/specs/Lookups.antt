@@ -1,4 +1,4 @@
--- What a look-up finds, and the nodes on its way.
+-- What a lookup finds, and the nodes on its path.
 use Rattle.std.specs.Prelude.{◌≡◌, ℕ, List, [], ◌∷◌, Option, Some, None}
 use Rattle.std.specs.FinMap as map
 use Rattle.std.specs.Option.{option_map}
@@ -43,7 +43,7 @@ abbrev pub FindsLast : {A : Type 0} → Tree OpaqueNodePtr A → List A → Opti
 FindsLast tree pairs None = pairs ≡ []
 FindsLast {A} tree pairs (Some name) = (x : A) × (last_of pairs ≡ Some x) × HasLeaf tree (leaf_name name) x
 
--- the pair of the leaf that a look-up names, if it names one
+-- the pair of the leaf that a lookup names, if it names one
 abbrev pub pair_under : {K V : Type 0} → Nodes K V → Option LeafPtr → Option (K × V)
 pair_under s None = None
 pair_under s (Some name) = option_map pair_of (map.get s.leaves name)

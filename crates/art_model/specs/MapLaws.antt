@@ -1,4 +1,4 @@
--- What holds of maps, whatever their pairs: what changes leave, what is found afterwards, and what replies tell.
+-- Laws of maps, whatever their pairs: what changes leave, what is found afterwards, and what replies report.
 use Rattle.std.specs.Prelude.{◌≡◌, ◌≢◌, ℕ, zero, suc, ◌+◌, ◌≤◌, true, false, if◌then◌else◌, not, List, [], ◌∷◌, length, map, Option, Some, None}
 use Rattle.std.specs.Bool.{Decides}
 use Rattle.std.specs.List.{AllByRecursion as Each, cons_option}
@@ -6,7 +6,7 @@ use Rattle.art_model.specs.Keys.{are_related, are_same}
 use Rattle.art_model.specs.Pairs.{last_of, without_last, IsMap, with_key, has_key, related_to, is_conflict, match_of, stored_for, put, put_reply, overwrite, overwrite_reply, remove_key, remove_reply, of_key}
 use Rattle.art_model.specs.Changes.{Change, after}
 
--- the reply tells which pairs went: none, this one, or this many
+-- the reply reports which pairs were removed: none, this one, or this many
 abbrev pub Tells : {A : Type 0} → Option A × ℕ → List A → Type 0
 Tells (None, zero) gone = gone ≡ []
 Tells (Some x, zero) gone = gone ≡ x ∷ []
@@ -66,7 +66,7 @@ module _ {A : Type 0} (bytes : A → List ℕ) where
       (key : List ℕ) (pairs : List A) → IsMap bytes pairs → with_key bytes key pairs ≡
       cons_option (remove_reply bytes key pairs) []
 
-  -- the pairs with the key go
+  -- the pairs with the key are removed
   abbrev pub RemovalCounts : Type 0
   RemovalCounts =
       (key : List ℕ) (pairs : List A) →
@@ -87,7 +87,7 @@ module _ {K : Type 0} (V : Type 0) (bytes : K → List ℕ) where
       with_key (of_key bytes) key (put (of_key bytes) new pairs) ≡
       (if are_same key (bytes new.0) then stored_for (of_key bytes) new pairs ∷ [] else with_key (of_key bytes) key pairs)
 
-  -- after an overwrite of a map it is so too, but nothing is found under a related key
+  -- the same after an overwrite of a map, but nothing is found under a related key
   abbrev pub OverwriteIsFound : Type 0
   OverwriteIsFound = (key : List ℕ) (new : K × V) (pairs : List (K × V)) → IsMap (of_key bytes) pairs →
       with_key (of_key bytes) key (overwrite (of_key bytes) new pairs)
@@ -108,13 +108,13 @@ module _ {K : Type 0} (V : Type 0) (bytes : K → List ℕ) where
       (new old : K × V) (pairs : List (K × V)) → with_key (of_key bytes) (bytes new.0) pairs ≡ old ∷ [] →
       stored_for (of_key bytes) new pairs ≡ (old.0, new.1)
 
-  -- where none is the new pair comes as it is
+  -- where none is the new pair is stored as it is
   abbrev pub NewKeyComes : Type 0
   NewKeyComes =
       (new : K × V) (pairs : List (K × V)) → with_key (of_key bytes) (bytes new.0) pairs ≡ [] →
       stored_for (of_key bytes) new pairs ≡ new
 
-  -- so a put of an equal key leaves all keys of a map as they are, each in its place
+  -- so a put of an equal key leaves all keys of a map, in their order
   abbrev pub PutKeepsKeys : Type 0
   PutKeepsKeys =
       (new : K × V) (pairs : List (K × V)) → IsMap (of_key bytes) pairs →
@@ -127,26 +127,26 @@ module _ {K : Type 0} (V : Type 0) (bytes : K → List ℕ) where
       (overwrite (of_key bytes) new pairs ≡ put (of_key bytes) new pairs) ×
       (overwrite_reply (of_key bytes) new pairs ≡ (put_reply (of_key bytes) new pairs, 0))
 
-  -- ---- what replies tell
+  -- ---- what replies report
 
-  -- the reply of a put is the key that was handed in, with the value that was found under it
+  -- the reply of a put is the key that was passed, with the value that was found under it
   abbrev pub PutTells : Type 0
   PutTells = (new : K × V) (pairs : List (K × V)) → IsMap (of_key bytes) pairs →
       map (λ old. (new.0, old.1)) (with_key (of_key bytes) (bytes new.0) pairs) ≡
       cons_option (put_reply (of_key bytes) new pairs) []
 
-  -- where no equal key is stored the reply of an overwrite tells which pairs went
+  -- where no equal key is stored the reply of an overwrite reports which pairs were removed
   abbrev pub OverwriteTells : Type 0
   OverwriteTells = (new : K × V) (pairs : List (K × V)) → has_key (of_key bytes) (bytes new.0) pairs ≡ false →
       Tells (overwrite_reply (of_key bytes) new pairs) (related_to (of_key bytes) (bytes new.0) pairs)
 
-  -- one pair comes, and those with its key go
+  -- one pair is added, and those with its key are removed
   abbrev pub PutCounts : Type 0
   PutCounts =
       (new : K × V) (pairs : List (K × V)) →
       length (put (of_key bytes) new pairs) + length (with_key (of_key bytes) (bytes new.0) pairs) ≡ length pairs + 1
 
-  -- one pair comes, and of a map those with related keys go
+  -- one pair is added, and those of a map with related keys are removed
   abbrev pub OverwriteCounts : Type 0
   OverwriteCounts = (new : K × V) (pairs : List (K × V)) → IsMap (of_key bytes) pairs →
       length (overwrite (of_key bytes) new pairs) + length (related_to (of_key bytes) (bytes new.0) pairs) ≡

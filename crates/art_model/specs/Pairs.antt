@@ -4,7 +4,7 @@ use Rattle.std.specs.List.{AllByRecursion as Each, list_any}
 use Rattle.std.specs.Option.{option_map}
 use Rattle.art_model.specs.Keys.{is_before, is_front, are_related, are_same, Precedes}
 
--- each element stands in the relation to each one after it
+-- each element is related to each one after it
 abbrev pub Pairwise : {X : Type 0} → (X → X → Type 0) → List X → Type 0
 Pairwise R [] = ⊤
 Pairwise R (x ∷ xs) = Each (R x) xs × Pairwise R xs
@@ -31,7 +31,7 @@ without_last [] = []
 without_last (x ∷ []) = []
 without_last (x ∷ y ∷ xs) = x ∷ without_last (y ∷ xs)
 
--- what is returned of pairs that went: none, the only one, or how many
+-- what is returned of removed pairs: none, the only one, or how many
 abbrev pub only_or_count : {X : Type 0} → List X → Option X × ℕ
 only_or_count [] = (None, 0)
 only_or_count (x ∷ []) = (Some x, 0)
@@ -54,7 +54,7 @@ module _ {A : Type 0} (bytes : A → List ℕ) where
   abbrev pub related_to : List ℕ → List A → List A
   related_to key pairs = filter (λ x. are_related key (bytes x)) pairs
 
-  -- whether a key is related to this one and unequal: such a key can't be put
+  -- whether a key is related to this one and unequal: then this key conflicts, and can't be put
   abbrev pub is_conflict : List ℕ → List A → Bool
   is_conflict key pairs = list_any (λ x. are_related key (bytes x) && not (are_same key (bytes x))) pairs
 
@@ -62,28 +62,28 @@ module _ {A : Type 0} (bytes : A → List ℕ) where
   abbrev pub match_of : List ℕ → List A → List A
   match_of query pairs = filter (λ x. is_front (bytes x) query) pairs
 
-  -- the pairs that stay when those with this key go
+  -- the pairs without those with this key
   abbrev pub remove_key : List ℕ → List A → List A
   remove_key key pairs = filter (λ x. not (are_same key (bytes x))) pairs
 
-  -- the pairs that stay when those with related keys go
+  -- the pairs without those with related keys
   abbrev pub remove_related : List ℕ → List A → List A
   remove_related key pairs = filter (λ x. not (are_related key (bytes x))) pairs
 
-  -- a pair comes before the first one whose key is after its own
+  -- a pair is inserted before the first one whose key is after its own
   abbrev pub add_in_order : A → List A → List A
   add_in_order new [] = new ∷ []
   add_in_order new (x ∷ xs) = if is_before (bytes new) (bytes x) then new ∷ x ∷ xs else x ∷ add_in_order new xs
 
-  -- a pair takes the place of the one with an equal key, or its own place in the order
+  -- a pair replaces the one with an equal key, or is inserted in order
   abbrev pub replace_key : A → List A → List A
   replace_key new pairs = add_in_order new (remove_key (bytes new) pairs)
 
-  -- a pair takes the place of all those with related keys
+  -- a pair replaces all those with related keys
   abbrev pub replace_related : A → List A → List A
   replace_related new pairs = add_in_order new (remove_related (bytes new) pairs)
 
-  -- what a removal by key returns: the pair that went, if there was one
+  -- what a removal by key returns: the removed pair, if there was one
   abbrev pub remove_reply : List ℕ → List A → Option A
   remove_reply key pairs = first_of (with_key key pairs)
 
@@ -92,15 +92,15 @@ module _ {K V : Type 0} (bytes : K × V → List ℕ) where
   abbrev pub stored_for : K × V → List (K × V) → K × V
   stored_for new pairs = elim (first_of (with_key bytes (bytes new) pairs)) [ None ↦ new | Some old ↦ (old.0, new.1) ]
 
-  -- where an equal key is stored its value is replaced, and the key stays; else the pair takes its own place in the order
+  -- where an equal key is stored its value is replaced, and the key stays; else the pair is inserted in order
   abbrev pub put : K × V → List (K × V) → List (K × V)
   put new pairs = replace_key bytes (stored_for new pairs) pairs
 
-  -- what a put returns where an equal key is stored: the key that was handed in, with the old value
+  -- what a put returns where an equal key is stored: the key that was passed, with the old value
   abbrev pub put_reply : K × V → List (K × V) → Option (K × V)
   put_reply new pairs = option_map (λ old. (new.0, old.1)) (first_of (with_key bytes (bytes new) pairs))
 
-  -- where an equal key is stored this is a put; else the pair takes the place of all those with related keys
+  -- where an equal key is stored this is a put; else the pair replaces all those with related keys
   abbrev pub overwrite : K × V → List (K × V) → List (K × V)
   overwrite new pairs = if has_key bytes (bytes new) pairs then put new pairs else replace_related bytes new pairs
 

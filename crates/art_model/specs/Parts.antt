@@ -1,4 +1,4 @@
--- Parts of a map: the pairs whose keys begin with a prefix, and those between two bounds.
+-- Parts of a map: the pairs whose keys start with a prefix, and those between two bounds.
 use Rattle.std.specs.Prelude.{ℕ, zero, suc, Bool, true, not, ◌&&◌, if◌then◌else◌, List, [], ◌∷◌, filter, map}
 use Rattle.std.specs.declared.ops.Bound.{Bound}
 use Rattle.std.specs.declared.ops.Bound.TheVariants.{Included, Excluded, Unbounded}
@@ -23,7 +23,7 @@ abbrev pub is_between : Bound (List ℕ) → Bound (List ℕ) → List ℕ → B
 is_between from to key = is_from from key && is_up_to to key
 
 module _ {A : Type 0} (bytes : A → List ℕ) where
-  -- the pairs whose keys begin with this prefix
+  -- the pairs whose keys start with this prefix
   abbrev pub below : List ℕ → List A → List A
   below prefix pairs = filter (λ x. is_front prefix (bytes x)) pairs
 
@@ -31,7 +31,7 @@ module _ {A : Type 0} (bytes : A → List ℕ) where
   abbrev pub not_below : List ℕ → List A → List A
   not_below prefix pairs = filter (λ x. not (is_front prefix (bytes x))) pairs
 
-  -- the pairs without the first so many of those whose keys begin with this prefix
+  -- the pairs without the first so many of those whose keys start with this prefix
   abbrev pub without_below : List ℕ → ℕ → List A → List A
   without_below prefix zero pairs = pairs
   without_below prefix (suc n) [] = []

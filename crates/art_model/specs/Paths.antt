@@ -1,4 +1,4 @@
--- The path to a node: the inner nodes above it, the innermost first, each with a hole where the way goes down.
+-- The path to a node: the inner nodes above it, the innermost first, each with a hole where the path descends.
 use Rattle.std.specs.Prelude.{◌≡◌, ℕ, ◌+◌, ◌≤◌, List, [], ◌∷◌, ◌++◌, length, Option, Some, ⊤}
 use Rattle.art_model.specs.Trees.{Tree, inner, Subtrees, child, NodeHeader, canonical_header}
 use Rattle.art_model.specs.Radix.{pairs_below, bytes_of, join, BytesRise, AreRadix}

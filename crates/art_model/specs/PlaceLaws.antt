@@ -1,4 +1,4 @@
--- What holds of the places in a radix tree, and of the end nodes of keys.
+-- Laws of the places in a radix tree, and of the end nodes of keys.
 use Rattle.std.specs.Prelude.{◌≡◌, ℕ, true, List, [], ◌++◌, length}
 use Rattle.std.specs.List.{AllByRecursion as Each}
 use Rattle.art_model.specs.Keys.{IsFront, is_before}
@@ -25,7 +25,7 @@ module _ (N A : Type 0) where
       (h ≡ canonical_header P part (length (bytes_of cs))) ×
       Each (λ x. IsFront (place ++ part) (bytes x)) (pairs_below cs)
 
-  -- places rise from node to node, so no two nodes have the same
+  -- places increase from node to node, so no two nodes have the same
   abbrev pub PlacesRise : Type 0
   PlacesRise =
       (bytes : A → List ℕ) (P : ℕ) (tree : Tree N A) → IsRadix bytes P [] tree →

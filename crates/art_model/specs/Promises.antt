@@ -1,4 +1,4 @@
--- What becomes of a store's promise when nodes are placed. What an operation places is written as a promise too.
+-- A store's promise after nodes are placed. What an operation places is written as a promise too.
 use Rattle.std.specs.Prelude.{◌≡◌, ℕ, zero, suc, Bool, true, if◌then◌else◌, Option, Some, None}
 use Rattle.art_nodes.specs.Nodes.{Promise, covers, no_promise, take_leaf, take_inner}
 use Rattle.art_parts.specs.declared.names.NodeType.{NodeType}
@@ -34,6 +34,6 @@ module _ {N A : Type 0} where
     children_taken no_child promise = promise
     children_taken (child b t cs) promise = children_taken cs (tree_taken t promise)
 
--- nothing is promised after that was not promised before
+-- only what was promised before is promised afterwards
 abbrev pub IsLessened : Promise → Promise → Type 0
 IsLessened before after = is_covered after before ≡ true

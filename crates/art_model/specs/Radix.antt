@@ -1,4 +1,4 @@
--- The tree of a map seen from inside: what holds at each node.
+-- The tree of a map by what holds at each node.
 use Rattle.std.specs.Prelude.{◌≡◌, ℕ, ◌<◌, ◌≤◌, List, [], ◌∷◌, ◌++◌, length, ⊤}
 use Rattle.art_model.specs.Keys.{IsFront}
 use Rattle.art_model.specs.Pairs.{Pairwise}
@@ -15,7 +15,7 @@ module _ {N A : Type 0} where
     pairs_below no_child = []
     pairs_below (child b t cs) = pairs_of t ++ pairs_below cs
 
-  -- the plain tree: its marks are gone
+  -- the plain tree, without its marks
   abbrev mutual
     pub unmarked : Tree N A → Tree (Unit {0}) A
     unmarked (leaf n x) = leaf tt x
@@ -25,7 +25,7 @@ module _ {N A : Type 0} where
     all_unmarked no_child = no_child
     all_unmarked (child b t cs) = child b (unmarked t) (all_unmarked cs)
 
-  -- the bytes that children stand under
+  -- the bytes of children
   abbrev pub bytes_of : Subtrees N A → List ℕ
   bytes_of no_child = []
   bytes_of (child b t cs) = b ∷ bytes_of cs
@@ -50,7 +50,7 @@ abbrev pub BytesRise : List ℕ → Type 0
 BytesRise = Pairwise (λ b c. b < c)
 
 module _ {N A : Type 0} (bytes : A → List ℕ) (P : ℕ) where
-  -- The tree may stand at a place, the bytes that lead to it. A leaf's key begins with the leaf's place; an inner node has two or more children under rising bytes,
+  -- The tree may be at a place, the bytes that lead to it. A leaf's key starts with the leaf's place; an inner node has two or more children under rising bytes,
   -- and the header of its prefix and their number.
   abbrev mutual
     pub IsRadix : List ℕ → Tree N A → Type 0

@@ -1,4 +1,4 @@
--- What a call asks and says of a canonical root: of the pairs it is canonical for, and of the layout that says where their tree is.
+-- Preconditions and results of calls on a canonical root: the pairs it is canonical for, and the layout that says where their tree is.
 use Rattle.std.specs.Prelude.{◌≡◌, ℕ, List, [], Option, Some, None}
 use Rattle.art_nodes.specs.Nodes.{Nodes}
 use Rattle.art_parts.specs.declared.names.OpaqueNodePtr.{OpaqueNodePtr}

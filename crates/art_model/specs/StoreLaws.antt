@@ -1,4 +1,4 @@
--- What holds of names that stand for trees, of canonical roots and of footprints.
+-- Laws of names that stand for trees, of canonical roots and of footprints.
 use Rattle.std.specs.Prelude.{◌≡◌, ℕ, List, [], Option, None}
 use Rattle.art_nodes.specs.Nodes.{Nodes}
 use Rattle.art_parts.specs.declared.names.OpaqueNodePtr.{OpaqueNodePtr}

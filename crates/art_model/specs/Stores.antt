@@ -1,4 +1,4 @@
--- A store as functions of a name: what is held under it, and of that what a tree sees and how leaves are linked.
+-- A store as functions of a name: what is held under it, what a tree sees of that, and how leaves are linked.
 use Rattle.std.specs.Prelude.{◌≢◌, ℕ, Option, Some, None}
 use Rattle.std.specs.Option.{option_map, option_and_then}
 use Rattle.std.specs.FinMap as map

@@ -1,4 +1,4 @@
--- Ways down a store that may hold anything: loops, shared nodes, names that lead nowhere. All is said of finite lists of steps, so that a loop does no harm.
+-- Paths down a store that may hold anything: loops, shared nodes, names without a node. All is stated of finite lists of steps, so that a loop does no harm.
 use Rattle.std.specs.Prelude.{◌≡◌, ℕ, ◌+◌, ◌<◌, ◌≤◌, ◌⊎◌, List, [], ◌∷◌, ◌++◌, length, take, drop, Option, Some, ⊤}
 use Rattle.art_inner.specs.Inner.{child_at}
 use Rattle.art_parts.specs.declared.names.OpaqueNodePtr.{OpaqueNodePtr}
@@ -10,7 +10,7 @@ abbrev pub end_of : OpaqueNodePtr → List (ℕ × OpaqueNodePtr) → OpaqueNode
 end_of name [] = name
 end_of name (step ∷ steps) = end_of step.1 steps
 
--- the way of a trail is the bytes of its steps
+-- the path of a trail: the bytes of its steps
 abbrev pub way_of : List (ℕ × OpaqueNodePtr) → List ℕ
 way_of [] = []
 way_of (step ∷ steps) = step.0 ∷ way_of steps
@@ -21,18 +21,18 @@ bottom_of name [] = name
 bottom_of name (n ∷ ns) = bottom_of n ns
 
 module _ {A : Type 0} (at : OpaqueNodePtr → Option (Node OpaqueNodePtr A)) where
-  -- the node is there, and has this name under this byte
+  -- the node is in the store, and has this name under this byte
   abbrev pub HasChild : OpaqueNodePtr → ℕ × OpaqueNodePtr → Type 0
   HasChild name step =
       (h : NodeHeader) × (slots : List (ℕ × OpaqueNodePtr)) × (at name ≡ Some (inner_node h slots)) ×
       (child_at slots step.0 ≡ Some step.1)
 
-  -- a trail: each step is to a child of the node before, which is there
+  -- a trail: each step is to a child of the node before, which is in the store
   abbrev pub IsTrail : OpaqueNodePtr → List (ℕ × OpaqueNodePtr) → Type 0
   IsTrail name [] = ⊤
   IsTrail name (step ∷ steps) = HasChild name step × IsTrail step.1 steps
 
-  -- the node is there, and this is its least child
+  -- the node is in the store, and this is its least child
   abbrev pub HasLeast : OpaqueNodePtr → OpaqueNodePtr → Type 0
   HasLeast name least =
       (h : NodeHeader) × (b : ℕ) × (others : List (ℕ × OpaqueNodePtr)) ×
@@ -48,14 +48,14 @@ module _ {A : Type 0} (at : OpaqueNodePtr → Option (Node OpaqueNodePtr A)) whe
   DescendsTo name x = (ns : List OpaqueNodePtr) × IsDescent name ns × (at (bottom_of name ns) ≡ Some (leaf_node x))
 
   module _ (bytes : A → List ℕ) (P : ℕ) where
-    -- The prefix of a node with this header, after so many bytes: what is stored, where P bytes can hold it whole, and else so many bytes of the key of the leaf at the end of a descent.
+    -- The prefix of a node with this header, after so many bytes: the stored bytes, if they are all, and else so many bytes of the key of the leaf at the end of a descent.
     abbrev pub IsPrefix : ℕ → OpaqueNodePtr → NodeHeader → List ℕ → Type 0
     IsPrefix d name h part =
         ((h.length_of ≤ P) × (part ≡ h.stored))
         ⊎ ((P < h.length_of) × ((x : A) × DescendsTo name x × (d + h.length_of ≤ length (bytes x)) ×
         (part ≡ take h.length_of (drop d (bytes x)))))
 
-    -- the node is there, and has this prefix after so many bytes
+    -- the node is in the store, and has this prefix after so many bytes
     abbrev pub HasPrefix : ℕ → OpaqueNodePtr → List ℕ → Type 0
     HasPrefix d name part =
         (h : NodeHeader) × (slots : List (ℕ × OpaqueNodePtr)) × (at name ≡ Some (inner_node h slots)) ×

@@ -1,4 +1,4 @@
--- What holds of the tree of a map, whatever its keys.
+-- Laws of the tree of a map, whatever its keys.
 use Rattle.std.specs.Prelude.{◌≡◌, ℕ, suc, ◌≤◌, List, [], ◌∷◌, length, drop, Some}
 use Rattle.std.specs.List.{AllByRecursion as Each}
 use Rattle.art_model.specs.Keys.{IsFront}
@@ -19,7 +19,7 @@ module _ {A : Type 0} (bytes : A → List ℕ) where
       Each (λ y. IsFront part (drop d (bytes y))) (x ∷ pairs) → IsFront part (shared_part bytes d (x ∷ pairs))
 
   module _ (P : ℕ) where
-    -- two or more pairs of a map, whose keys begin with a place, have an inner node there, over the trees of their groups
+    -- two or more pairs of a map, whose keys start with a place, have an inner node there, over the trees of their groups
     abbrev pub IsBuiltByGrouping : Type 0
     IsBuiltByGrouping =
         (place : List ℕ) (x y : A) (rest : List A) → IsMap bytes (x ∷ y ∷ rest) →

@@ -10,8 +10,8 @@ pub record NodeHeader : Type 0 where
   pub length_of : ℕ
   pub stored : List ℕ
 
--- A tree is a leaf with a pair, or an inner node with a header and children under bytes. N is the type of the mark that
--- each node bears: `Unit` in a plain tree, a name in a layout.
+-- A tree is a leaf with a pair, or an inner node with a header and children under bytes. N is the type of the mark of
+-- each node: `Unit` in a plain tree, a name in a layout.
 mutual
   pub data Tree (N A : Type 0) : Type 0 where
     leaf : N → A → Tree N A
@@ -34,18 +34,18 @@ abbrev pub canonical_header : ℕ → List ℕ → ℕ → NodeHeader
 canonical_header P part n = record { kind = kind_of n; length_of = length part; stored = take P part }
 
 module _ {A : Type 0} where
-  -- a pair joins the first group where that has its byte, and is else a group of its own in front
+  -- a pair is added to the first group if that has its byte, and else is a group of its own before the others
   abbrev pub add_to_groups : ℕ → A → List (ℕ × List A) → List (ℕ × List A)
   add_to_groups b x [] = (b, x ∷ []) ∷ []
   add_to_groups b x ((c, group) ∷ others) =
       if b == c then (b, x ∷ group) ∷ others else (b, x ∷ []) ∷ (c, group) ∷ others
 
-  -- neighbours with the same byte are one group, under that byte
+  -- adjacent pairs with the same byte are one group, under that byte
   abbrev pub groups : (A → ℕ) → List A → List (ℕ × List A)
   groups byte [] = []
   groups byte (x ∷ xs) = add_to_groups (byte x) x (groups byte xs)
 
-  -- a child in front, where there is a tree for it
+  -- a child before others, if there is a tree for it
   abbrev pub add_child : ℕ → Option (Tree (Unit {0}) A) → Subtrees (Unit {0}) A → Subtrees (Unit {0}) A
   add_child b None others = others
   add_child b (Some t) others = child b t others
@@ -73,13 +73,13 @@ module _ {A : Type 0} (bytes : A → List ℕ) where
       let gs = groups (byte_at (d + length part)) pairs in
       Some (inner tt (canonical_header P part (length gs)) (children_of (build (d + length part + 1)) gs))
 
-  -- No pair has no tree, one pair its leaf, more an inner node. The first number bounds the turns.
+  -- No pair has no tree, one pair its leaf, more an inner node. The first number bounds the recursion.
   abbrev pub tree_within : ℕ → ℕ → ℕ → List A → Option (Tree (Unit {0}) A)
   tree_within zero P d pairs = None
   tree_within (suc turns) P d [] = None
   tree_within (suc turns) P d (x ∷ []) = Some (leaf tt x)
   tree_within (suc turns) P d (x ∷ y ∷ rest) = node_of (tree_within turns P) P d (x ∷ y ∷ rest)
 
-  -- The tree of a map whose keys agree up to depth d. Each group is smaller than the whole, so the number of pairs bounds the turns.
+  -- The tree of a map whose keys agree up to depth d. Each group is smaller than the whole, so the number of pairs bounds the recursion.
   abbrev pub tree_of : List A → ℕ → ℕ → Option (Tree (Unit {0}) A)
   tree_of pairs P d = tree_within (length pairs) P d pairs

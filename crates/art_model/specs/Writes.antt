@@ -1,4 +1,4 @@
--- What writes make of a store's maps: a leaf comes between two others or goes, and a parent has another node in its hole.
+-- What writes do to a store's maps: a leaf is linked between two others or unlinked, and a parent has another node in its hole.
 use Rattle.std.specs.Prelude.{◌≡◌, ◌≢◌, ℕ, List, [], ◌∷◌, Option, Some, None}
 use Rattle.std.specs.FinMap as map
 use Rattle.art_inner.specs.Inner.{Inner}
@@ -16,7 +16,7 @@ abbrev pub Leaves : Type 0 → Type 0 → Type 0
 Leaves K V = map.FinMap leaf_cmp (LeafNode K V)
 
 module _ {K V : Type 0} where
-  -- the leaf of the name, where there is a name, is there
+  -- the leaf of the name, if there is a name, is in the store
   abbrev pub IsThere : Leaves K V → Option LeafPtr → Type 0
   IsThere leaves name = (p : LeafPtr) → name ≡ Some p → map.get leaves p ≢ None
 
@@ -38,11 +38,11 @@ module _ {K V : Type 0} where
   with_links_around leaves before after next previous =
       change_some (change_some leaves before (with_next next)) after (with_previous previous)
 
-  -- a new leaf, which the leaves beside it know
+  -- a new leaf, linked with its neighbours
   unfoldable pub with_leaf : Leaves K V → LeafPtr → LeafNode K V → Leaves K V
   with_leaf leaves name leaf = with_links_around (map.insert leaves name leaf) leaf.previous leaf.next (Some name) (Some name)
 
-  -- a leaf is gone, and the leaves beside it know one another
+  -- a leaf is removed, and its neighbours are linked
   unfoldable pub without_leaf : Leaves K V → LeafPtr → LeafNode K V → Leaves K V
   without_leaf leaves name leaf = map.remove (with_links_around leaves leaf.previous leaf.next leaf.next leaf.previous) name
 
@@ -54,7 +54,7 @@ Inners = map.FinMap inner_cmp Inner
 abbrev pub as_inner : OpaqueNodePtr → InnerPtr
 as_inner name = record { kind = name.kind; slot = name.slot }
 
--- the innermost node of a path and the byte of its hole, where the path has a node
+-- the innermost node of a path and the byte of its hole, if the path has a node
 abbrev pub parent_of : {A : Type 0} → List (Frame OpaqueNodePtr A) → Option (InnerPtr × ℕ)
 parent_of [] = None
 parent_of (f ∷ fs) = Some (as_inner f.mark, f.byte)

@@ -2,7 +2,7 @@
 
 ghost use Rattle.art_model.specs.PlaceLaws.{PlacesAreReadOff, PrefixesAreReadOff, PlacesRise, HasEndNode, HasOneEnd};
 
-/// The place and the whole prefix of a node can be read off the least key below it, however few bytes are stored.
+/// The place and the whole prefix of a node are determined by the least key below it, however few bytes are stored.
 pub fn places_are_read_off<N, A>()
     ensures place { PlacesAreReadOff N A }
     ensures prefix { PrefixesAreReadOff N A }

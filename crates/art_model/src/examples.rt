@@ -1,4 +1,4 @@
-//! What the definitions give for small maps.
+//! The definitions computed for small maps.
 
 ghost use Rattle.std.specs.Prelude.{◌≡◌, [], ◌∷◌, take, Some, None, true, false};
 ghost use Rattle.std.specs.declared.cmp.Ordering.TheVariants.{Equal, Greater};
@@ -68,7 +68,7 @@ pub fn overwrites_of_a_small_map()
     ensures two_gone { overwrite_reply bytes_of_pair (1 ∷ [], 8) three_pairs ≡ (None, 2) }
 {}
 
-/// Keys with a tag that their bytes don't show: a stored key stays, and the reply has the one that was handed in.
+/// Keys with a tag that their bytes don't contain: a stored key stays, and the reply has the one that was passed.
 pub fn puts_of_equal_keys()
     ensures put { put bytes_of_tagged ((1 ∷ 2 ∷ [], 2), 20) tagged_pair ≡
         ((1 ∷ 2 ∷ [], 1), 20) ∷ [] }
@@ -113,8 +113,8 @@ pub fn a_tree_with_its_names()
         (Node4, [], node4 0) ∷ (Node4, take 5 interact, node4 1) ∷ [] }
 {}
 
-/// Faults that small stores have: a dead name, loops, too few children, a misplaced key, false links and
-/// prefixes that can't be read or are stored wrongly. At most two bytes of a prefix are stored.
+/// Faults of small stores: a dead name, loops, too few children, a misplaced key, false links, and prefixes that can't
+/// be read or are stored wrongly. At most two bytes of a prefix are stored.
 pub fn faults_of_small_stores()
     ensures dead_root { IsTrueOf bytes_of_pair 2 looped (leaf_at 0) (dead_name [] (leaf_at 0)) }
     ensures dead_sibling { IsTrueOf bytes_of_pair 2 linked_to_nothing (leaf_at 0)
@@ -138,9 +138,9 @@ pub fn faults_of_small_stores()
         (stored_prefix_mismatch [] (1 ∷ 2 ∷ []) (1 ∷ 1 ∷ [])) }
 {}
 
-/// Two insertions of a key that leave a tree of the new pairs and touch no more than an insertion may, but give
-/// a stored node another name: the one a leaf, the other an inner node. Neither changes the tree in place; the one
-/// that gives none does.
+/// Two insertions of a key that leave a tree of the new pairs and touch no more than an insertion may, but rename a
+/// stored node: one a leaf, the other an inner node. Neither changes the tree in place; a third one that renames none
+/// does.
 pub fn stored_nodes_with_new_names()
     ensures all_names_stay { ChangesInPlace bytes_of_pair two_keys (three_keys 1 0)
         (Some tree_of_two) (Some (tree_of_three 1 0)) }

@@ -1,8 +1,8 @@
-//! What a sorted prefix-free map is, what the radix tree of its pairs is, and what it means that a name
-//! stands for that tree in a store.
+//! What a sorted prefix-free map is, what the radix tree of its pairs is, and when a name stands for that tree in a
+//! store.
 //!
-//! The definitions stand in `specs/`. The functions of this crate do nothing: each has a law of the
-//! definitions as its contract.
+//! The definitions are in `specs/`. The functions of this crate do nothing: each has a law of the definitions as its
+//! contract.
 #![tactic(auto)]
 
 pub mod clones;

@@ -1,9 +1,9 @@
-//! Maps: what is found in them, what changes leave, and what replies tell.
+//! Maps: what is found in them, what changes leave, and what replies report.
 
 ghost use Rattle.std.specs.Prelude.{ℕ, List};
 ghost use Rattle.art_model.specs.MapLaws.{KeysAreOnce, MatchesAreOne, MapsAreWhatIsFound, KeysAreDecided, ConflictsAreDecided, MapsStayMaps, PutIsFound, OverwriteIsFound, RemovedIsGone, FirstIsRemovedByKey, LastIsRemovedByKey, PutIsUndone, StoredKeyStays, NewKeyComes, PutKeepsKeys, OverwriteOfKeyIsPut, PutTells, OverwriteTells, RemovalTells, PutCounts, OverwriteCounts, RemovalCounts};
 
-/// A map has each key once, and what is found under keys decides it.
+/// A map has each key once, and is determined by what is found under keys.
 pub fn a_map_is_what_is_found<A>()
     ensures keys { (bytes : A → List ℕ) → KeysAreOnce bytes }
     ensures matches { (bytes : A → List ℕ) → MatchesAreOne bytes }
@@ -16,7 +16,7 @@ pub fn tests_of_pairs_are_right<A>()
     ensures conflicts { (bytes : A → List ℕ) → ConflictsAreDecided bytes }
 {}
 
-/// Every list of changes leaves a map where it finds one.
+/// Every list of changes leaves a map if it starts with one.
 pub fn changes_leave_a_map<K, V>()
     ensures { (bytes : K → List ℕ) → MapsStayMaps V bytes }
 {}
@@ -36,18 +36,18 @@ pub fn a_stored_key_stays<K, V>()
     ensures overwrite { (bytes : K → List ℕ) → OverwriteOfKeyIsPut V bytes }
 {}
 
-/// The first and the last pair go as their keys do.
+/// Removing the first or the last pair is removing its key.
 pub fn ends_are_removed_by_key<A>()
     ensures first { (bytes : A → List ℕ) → FirstIsRemovedByKey bytes }
     ensures last { (bytes : A → List ℕ) → LastIsRemovedByKey bytes }
 {}
 
-/// To put a pair whose key is related to none, and then to remove the key, leaves the same pairs.
+/// A put of a pair whose key is related to none, followed by the removal of the key, leaves the same pairs.
 pub fn a_put_is_undone_by_a_removal<K, V>()
     ensures { (bytes : K → List ℕ) → PutIsUndone V bytes }
 {}
 
-/// A reply tells which pairs went, or which value.
+/// A reply reports which pairs were removed, or which value was replaced.
 pub fn replies_tell_what_went<K, V>()
     ensures put { (bytes : K → List ℕ) → PutTells V bytes }
     ensures overwrite { (bytes : K → List ℕ) → OverwriteTells V bytes }

@@ -1,4 +1,4 @@
-//! Keys: what the tests decide, and the order.
+//! Keys: what the tests decide, and their order.
 
 ghost use Rattle.art_model.specs.KeyLaws.{FrontsAreDecided, RelationIsDecided, SamenessIsDecided, OrderIsDecided, OrderIsStrict, OrderIsTransitive, OrderIsTotal, CommonFrontIsLongest};
 

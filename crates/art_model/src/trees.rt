@@ -9,7 +9,7 @@ pub fn the_shared_part_is_the_longest<A>()
     ensures longest { (bytes : A → List ℕ) → PartIsLongest bytes }
 {}
 
-/// The tree of a map is built of the trees of its groups, with no bound on the turns.
+/// The tree of a map is built from the trees of its groups, whatever the bound of the recursion.
 pub fn a_tree_is_built_by_grouping<A>()
     ensures { (bytes : A → List ℕ) (P : ℕ) → IsBuiltByGrouping bytes P }
 {}

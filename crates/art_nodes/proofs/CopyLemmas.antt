@@ -1,4 +1,4 @@
--- Slots with clones of other slots' values, and what the maps that they stand for have then.
+-- Slots with clones of other slots' values, and the maps that they stand for.
 use Rattle.std.proofs.Common.{◌≡◌, ℕ, zero, suc, List, [], ◌∷◌, get_or, Option, Some, None, is_some, refl, ap}
 use Rattle.std.proofs.lemmas.List.Elements.{same_from_all_zip}
 use Rattle.std.specs.FinMap.{FinMap}

@@ -1,4 +1,4 @@
--- The leaves of a row move to other slots, and each node names them by these.
+-- The leaves of a row move to other slots, and each node names them by their new names.
 use Rattle.std.proofs.Common.{◌≡◌, ◌≢◌, ◌⊎◌, ℕ, ◌+◌, ◌<◌, ◌≤◌, List, [], ◌∷◌, length, get_or, set, Option, Some, None, IsSome, IsSomeAnd, is_some, refl, sym, ap, ◌∙◌, inl, inr, arith, subst, get_or-set_same, get_or-set_other}
 use Rattle.std.proofs.lemmas.Bool.{cases_eq}
 use Rattle.std.specs.FinMap as map
@@ -52,13 +52,13 @@ one_some e = cc
 same_leaf : (p q : LeafPtr) → p.slot ≡ q.slot → p ≡ q
 same_leaf p q e = λ i. record { slot = e i }
 
--- no name stands twice in the row
+-- no name occurs twice in the row
 abbrev AreApart : List LeafPtr → Type 0
 AreApart [] = Unit {0}
 AreApart (name ∷ row) = (IsIn name row → ⊥) × AreApart row
 
 module _ {K V : Type 0} (leaves : map.FinMap leaf_cmp (LeafNode K V)) where
-  -- the leaf before one of the row stands in the row, or is the one before the row
+  -- the leaf before one of the row is in the row, or is the one before the row
   previous_in : (first : LeafPtr) (row : List LeafPtr) → IsRow leaves (Some first) row → (name : LeafPtr) → IsIn name row →
       (beside : LeafPtr) × IsIn beside (first ∷ row) × IsSomeAnd (map.get leaves name) (λ leaf. leaf.previous ≡ Some beside)
   previous_in first [] is name i = absurd i
@@ -72,7 +72,7 @@ module _ {K V : Type 0} (leaves : map.FinMap leaf_cmp (LeafNode K V)) where
       let later = previous_in head row is.1 name i in
       (later.0, inr later.1, later.2)
 
-  -- in a row no name stands twice: the leaf before it would stand twice too, up to the first
+  -- in a row no name occurs twice: the leaf before it would occur twice too, up to the first
   row_apart : (before : Option LeafPtr) (row : List LeafPtr) → IsRow leaves before row → ((beside : LeafPtr) → before ≡ Some beside → IsIn beside row → ⊥) → AreApart row
   row_apart before [] is none = tt
   row_apart before (name ∷ row) is none = (again, row_apart (Some name) row is.1 (λ beside e i. again (subst (λ n. IsIn n row) (sym (one_some e)) i)))
@@ -85,13 +85,13 @@ module _ {K V : Type 0} (leaves : map.FinMap leaf_cmp (LeafNode K V)) where
       again : IsIn name row → ⊥
       again i = let (beside, among, previous) = previous_in name row is.1 name i in none beside (two_previous (map.get leaves name) beside is.0 previous) among
 
-  -- each leaf of a row is there
+  -- each leaf of a row is in the store
   row_there : (before : Option LeafPtr) (row : List LeafPtr) → IsRow leaves before row → (name : LeafPtr) → IsIn name row → IsSome (map.get leaves name)
   row_there before [] is name i = absurd i
   row_there before (head ∷ row) is name (inl e) = subst (λ n. IsSome (map.get leaves n)) e (is_there _ (map.get leaves head) is.0)
   row_there before (head ∷ row) is name (inr i) = row_there (Some head) row is.1 name i
 
--- Those of the row before its rest have moved, and the leaf that comes next is the first of the rest.
+-- Those of the row before its rest have moved, and the next leaf is the first of the rest.
 pub record AreMoving {K V : Type 0} (start from to : Slab (LeafNode K V)) (table : List ℕ) (row : List LeafPtr) (next : Option LeafPtr) : Type 0 where
   pub rest : List LeafPtr
   pub before : Option LeafPtr
@@ -228,7 +228,7 @@ module _ {K V : Type 0} (start from left to more : Slab (LeafNode K V)) (table :
           (subst (λ n. (other : LeafPtr) → IsIn other (n ∷ rest) → get from other.slot ≡ get start other.slot) same there)
           (subst (λ n. AreMoved table row (n ∷ rest) start to) same moved)
 
--- the next leaf is there
+-- the next leaf is in the store
 pub next_there : {K V : Type 0} (start from to : Slab (LeafNode K V)) (table : List ℕ) (row : List LeafPtr) (name : LeafPtr) → AreMoving start from to table row (Some name) →
     IsSome (get from name.slot) × IsSome (get start name.slot)
 next_there {K} {V} start from to table row name moving = by_rest moving.rest moving.is_row moving.first moving.there

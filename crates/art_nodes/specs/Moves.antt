@@ -6,11 +6,11 @@ use Rattle.art_nodes.specs.Renamed.{IsIn}
 use Rattle.art_parts.specs.declared.leaf.LeafNode.{LeafNode}
 use Rattle.art_parts.specs.declared.names.LeafPtr.{LeafPtr}
 
--- the name is of the row, and not of the rest of it
+-- the name is in the row, and not in the rest of it
 abbrev pub IsBefore : List LeafPtr → List LeafPtr → LeafPtr → Type 0
 IsBefore row rest name = IsIn name row × (IsIn name rest → ⊥)
 
--- Those of the row before its rest have moved: each to a slot of its own, which a table has for its old one.
+-- Those of the row before its rest have moved: each to a new slot of its own, which a table maps its old one to.
 pub record AreMoved {K V : Type 0} (table : List ℕ) (row rest : List LeafPtr) (from to : Slab (LeafNode K V)) : Type 0 where
   pub leaves : (name : LeafPtr) → IsBefore row rest name → get to (new_name table name).slot ≡ get from name.slot
   pub distinct : (name other : LeafPtr) → IsBefore row rest name → IsBefore row rest other → new_name table name ≡ new_name table other → name ≡ other

@@ -1,4 +1,4 @@
--- Leaves that got other names, and the nodes that name them by these.
+-- Leaves that were renamed, and the nodes that name them.
 use Rattle.std.specs.Prelude.{◌≡◌, ◌⊎◌, List, [], ◌∷◌, Option, Some, None, IsSomeAnd, ⊤}
 use Rattle.std.specs.Option.{option_map}
 use Rattle.std.specs.FinMap as map
@@ -9,7 +9,7 @@ use Rattle.art_parts.specs.declared.names.InnerPtr.{InnerPtr}
 use Rattle.art_parts.specs.declared.names.LeafPtr.{LeafPtr}
 use Rattle.art_parts.specs.declared.leaf.LeafNode.{LeafNode}
 
--- the element stands in the list
+-- the element is in the list
 abbrev pub IsIn : {X : Type 0} → X → List X → Type 0
 IsIn x [] = ⊥
 IsIn x (y ∷ ys) = (y ≡ x) ⊎ IsIn x ys
@@ -20,17 +20,17 @@ first_of_row [] = None
 first_of_row (name ∷ row) = Some name
 
 module _ {K V : Type 0} where
-  -- these leaves stand in a row: each names the one before it and the one after it
+  -- these leaves are a row: each names the one before it and the one after it
   abbrev pub IsRow : map.FinMap leaf_cmp (LeafNode K V) → Option LeafPtr → List LeafPtr → Type 0
   IsRow leaves before [] = ⊤
   IsRow leaves before (name ∷ row) =
       IsSomeAnd (map.get leaves name) (λ leaf. (leaf.previous ≡ before) × (leaf.next ≡ first_of_row row)) × IsRow leaves (Some name) row
 
-  -- a leaf whose neighbours got other names
+  -- a leaf whose neighbours were renamed
   abbrev pub leaf_renamed : (LeafPtr → LeafPtr) → LeafNode K V → LeafNode K V
   leaf_renamed rename leaf = record leaf { previous = option_map rename leaf.previous; next = option_map rename leaf.next }
 
--- The leaves of the row got other names, each its own, and all nodes name them by these. No other leaf is left.
+-- The leaves of the row were renamed, each to a name of its own, and all nodes name them by the new names. No other leaf is left.
 pub record AreRenamed {K V : Type 0} (rename : LeafPtr → LeafPtr) (row : List LeafPtr) (s t : Nodes K V) : Type 0 where
   pub leaves : (name : LeafPtr) → IsIn name row → map.get t.leaves (rename name) ≡ option_map (leaf_renamed rename) (map.get s.leaves name)
   pub inners : (name : InnerPtr) → map.get t.inners name ≡ option_map (inner_renamed rename) (map.get s.inners name)

@@ -1,4 +1,4 @@
--- What a caller's proof may need that no clause says: of canonical roots, of trees that stand apart, of walks and folds, of what stays while nodes go, and of maps.
+-- Lemmas for callers' proofs that no clause states: about canonical roots, disjoint trees, iterations and folds, what stays while nodes are removed, and maps.
 use Rattle.std.specs.Prelude.{◌≡◌, ℕ, List, length, false}
 use Rattle.std.specs.List.{AllByRecursion as Each}
 use Rattle.art_keys.specs.FixedLaws.{fixed_no_prefixes}
@@ -15,7 +15,7 @@ pub use Rattle.art_writing.proofs.Elsewhere.{placement_elsewhere, tree_stays}
 pub use Rattle.art_map.proofs.CallerLaws.{map_laws, value_here, value_elsewhere, value_gone, value_left}
 pub use Rattle.art_map.proofs.RetainLaws.{retained_known}
 
--- keys whose bytes are of one length are never in conflict
+-- keys whose bytes have one length never conflict
 pub same_length_free : {K V : Type 0} (bytes : K → List ℕ) (n : ℕ) (key : K) (pairs : List (K × V)) → length (bytes key) ≡ n → Each (λ x. length (bytes x.0) ≡ n) pairs →
     is_conflict (of_key bytes) (bytes key) pairs ≡ false
 same_length_free {K} {V} bytes n =

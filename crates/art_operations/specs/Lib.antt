@@ -10,14 +10,14 @@ pub use Rattle.art_model.specs.Layouts
 pub use Rattle.art_model.specs.Stores
 pub use Rattle.art_model.specs.Canonical
 pub use Rattle.art_model.specs.Roots
--- look-ups and walks
+-- lookups and iterations
 pub use Rattle.art_model.specs.Lookups
 pub use Rattle.art_reading.specs.Matching
 pub use Rattle.art_reading.specs.PathSteps
 pub use Rattle.art_reading.specs.Stored
 pub use Rattle.art_reading.specs.Descents
 pub use Rattle.art_reading.specs.Iterators
--- what every change keeps, touches and takes of a promise
+-- what every change keeps and touches, and what it takes from a promise
 pub use Rattle.art_model.specs.Kept
 pub use Rattle.art_model.specs.Apart
 pub use Rattle.art_model.specs.Footprints
@@ -32,7 +32,7 @@ pub use Rattle.art_writing.specs.Overwritten
 -- deletion
 pub use Rattle.art_writing.specs.Deleted
 pub use Rattle.art_writing.specs.Subtrees
--- visitors, and what may be wrong with a store
+-- visitors, and faults of a store
 pub use Rattle.art_checking.specs.Folds
 pub use Rattle.art_model.specs.Faults
 pub use Rattle.art_checking.specs.Checks
@@ -45,7 +45,7 @@ pub use Rattle.art_map.specs.MapCalls
 pub use Rattle.art_map.specs.MapRetain
 pub use Rattle.art_map.specs.SetKeys
 pub use Rattle.art_map.specs.SetAlgebra
--- keys that are never in conflict, and maps and sets of them
+-- keys that never conflict, and their maps and sets
 pub use Rattle.art_keys.specs.Prefixes
 pub use Rattle.art_keys.specs.Decoded
 pub use Rattle.art_keys.specs.Ended

@@ -1,4 +1,4 @@
-//! An ordered map of keys that are never in conflict.
+//! An ordered map of keys that never conflict.
 pub use art_keyed::map::{
     Matches, MatchesOf, Nested, PairRefused, TreeEntry, TreeEntryOf, TreeMap,
     keys_are_never_in_conflict,

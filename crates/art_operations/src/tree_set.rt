@@ -1,2 +1,2 @@
-//! An ordered set of keys that are never in conflict.
+//! An ordered set of keys that never conflict.
 pub use art_keyed::set::{KeyRefused, TreeSet};

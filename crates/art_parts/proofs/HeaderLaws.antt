@@ -1,4 +1,4 @@
--- What the calls of a header make of the header of a whole prefix, for callers.
+-- What the calls of a header do to the header of a whole prefix, for callers.
 use Rattle.std.proofs.Common.{◌≡◌, ℕ, ◌+◌, ◌-◌, ◌≤◌, min, List, [], ◌++◌, length, take, drop, inl, inr, sym, ap, ◌∙◌, arith}
 use Rattle.std.proofs.lemmas.List.{drop-take, drop-drop, length-append, length-drop, length-take, take-append-le, take-take, take_all, take_min, append-nil}
 use Rattle.art_parts.specs.Headers.{Prefix, header_of}
@@ -19,7 +19,7 @@ stored_of_header P whole header is = ap (λ (h : Prefix). h.stored) is
 stored_part : (P : ℕ) (whole : List ℕ) → take (min (length whole) P) whole ≡ take P whole
 stored_part P whole = let turned : min (length whole) P ≡ min P (length whole) = omega arith in ap (λ (n : ℕ). take n whole) turned ∙ take_min P whole
 
--- a new header, of bytes that begin as its prefix does
+-- a new header, of bytes that start as its prefix does
 pub new_header : (P : ℕ) (whole bytes : List ℕ) (header : Prefix) → take (min (length whole) P) bytes ≡ take (min (length whole) P) whole →
     header ≡ record { len = length whole; stored = take (min (length whole) P) bytes } → header ≡ header_of P whole
 new_header P whole bytes header begins is =
@@ -62,7 +62,7 @@ take-append P xs ys = elim (by_order (length xs) P) [
     whole : length xs ≤ P → take P (xs ++ ys) ≡ take P xs ++ take (P - length xs) ys
     whole fits = take-append_over P xs ys fits ∙ ap (λ (t : List ℕ). t ++ take (P - length xs) ys) (sym (take_all P xs fits))
 
--- bytes that begin as the appended prefix does are as good as it
+-- bytes that start as the appended prefix does are as good as it
 same_part : (k P : ℕ) (more bytes : List ℕ) → k ≤ P → take (min (length more) P) bytes ≡ take (min (length more) P) more → take k (take (length more) bytes) ≡ take k more
 same_part k P more bytes within begins =
     take_of_take k (length more) bytes
@@ -86,7 +86,7 @@ extended_header P whole more bytes old new was begins len stored =
     ∙ sym (take-append P whole more)
     )
 
--- an emptied header, and the bytes that it answers, which begin as its prefix did
+-- an emptied header, and the bytes that it returns, which start as its prefix does
 pub cleared_header : (P : ℕ) (header : Prefix) → header ≡ record { len = 0; stored = [] } → header ≡ header_of P []
 cleared_header P header is = header_by_parts P [] header (ap (λ (h : Prefix). h.len) is) (ap (λ (h : Prefix). h.stored) is ∙ sym (take_all P [] (omega arith)))
 

@@ -6,7 +6,7 @@ use Rattle.std.proofs.Math.Seq.{take-append-add}
 use Rattle.art_parts.proofs.Comparisons.{by_order}
 use borrow.Rule.Slice.PartMut.{put_mid}
 
--- a prefix that is stored whole, without its bytes in front
+-- a prefix that is stored whole, without its first bytes
 pub trimmed : (P n len : ℕ) (bytes : List ℕ) → n ≤ len → len ≤ P → take (min (len - n) P) (take (length bytes - n) (drop n bytes)) ≡ drop n (take (min len P) bytes)
 trimmed P n len bytes within whole =
     let rest : min (len - n) P ≡ len - n = omega arith in
@@ -34,7 +34,7 @@ fewer P bytes k from to e zeros =
     let left : P - from - k ≡ P - to = omega arith in
     ap (λ (n : ℕ). drop n bytes) (sym e) ∙ sym (drop-drop k from bytes) ∙ ap (drop k) zeros ∙ drop-replicate k (P - from) 0 ∙ ap (λ (n : ℕ). replicate n 0) left
 
--- the bytes in front after as many more as fit are written behind those that are stored
+-- the first bytes after as many more as fit are written behind those that are stored
 module _ (P len n start end : ℕ) (bytes more new : List ℕ) (from : start ≡ min len P) (to : end ≡ min (len + n) P) (long : length bytes ≡ P)
     (given : min n P ≤ length more) (is : new ≡ take (end - start) more) where
   count : length new ≡ end - start
@@ -49,7 +49,7 @@ module _ (P len n start end : ℕ) (bytes more new : List ℕ) (from : start ≡
       ∙ sym (take-append_over P (take start bytes) (take n more) (omega (arith, front)))
       ∙ ap (λ (k : ℕ). take P (take k bytes ++ take n more)) from
 
-  -- behind them stand zeros
+  -- behind them are zeros
   pub zeros_after : drop (min len P) bytes ≡ replicate (P - min len P) 0 → drop (min (len + n) P) (put_mid start (end - start) bytes new) ≡ replicate (P - min (len + n) P) 0
   zeros_after zeros =
       drop-put_mid start (end - start) bytes new (min (len + n) P) (omega arith) (omega arith) count

@@ -1,4 +1,4 @@
--- What a contract sees of a header.
+-- A header as contracts see it.
 use Rattle.std.specs.Prelude.{ℕ, List, length, take}
 
 -- how long a prefix is, and the bytes that are stored of it

@@ -43,7 +43,7 @@ next_smaller kind.Node48 = Some kind.Node16
 next_smaller kind.Node256 = Some kind.Node48
 next_smaller kind.Leaf = None
 
--- the kind with room for more children; the largest is its own
+-- the kind with room for more children; the largest is mapped to itself
 abbrev pub larger_kind : NodeType → NodeType
 larger_kind kind.Node4 = kind.Node16
 larger_kind kind.Node16 = kind.Node48
@@ -51,7 +51,7 @@ larger_kind kind.Node48 = kind.Node256
 larger_kind kind.Node256 = kind.Node256
 larger_kind kind.Leaf = kind.Leaf
 
--- the kind with room for fewer children; the smallest is its own
+-- the kind with room for fewer children; the smallest is mapped to itself
 abbrev pub smaller_kind : NodeType → NodeType
 smaller_kind kind.Node4 = kind.Node4
 smaller_kind kind.Node16 = kind.Node4

@@ -20,7 +20,7 @@ leaf_name p = record { kind = Leaf; slot = p.slot }
 abbrev pub inner_name : InnerPtr → OpaqueNodePtr
 inner_name p = record { kind = p.kind; slot = p.slot }
 
--- the name that is told apart
+-- the name, with whether it is a leaf's
 abbrev pub name_in : NodePtr → OpaqueNodePtr
 name_in (split.Leaf p) = leaf_name p
 name_in (split.Inner p) = inner_name p
@@ -46,7 +46,7 @@ inner_cmp = then_cmp (on (λ p. kind_index p.kind) nat_cmp) (on (λ p. p.slot) n
 abbrev pub name_cmp : OpaqueNodePtr → OpaqueNodePtr → Ordering
 name_cmp = then_cmp (on (λ p. kind_index p.kind) nat_cmp) (on (λ p. p.slot) nat_cmp)
 
--- the order of names that are told apart: leaves come first
+-- the order of names by whether they are leaves': leaves come first
 abbrev pub split_cmp : NodePtr → NodePtr → Ordering
 split_cmp (split.Leaf p) (split.Leaf q) = leaf_cmp p q
 split_cmp (split.Leaf p) (split.Inner q) = Less

@@ -30,7 +30,7 @@ impl<const P: usize> Model for Header<P> {
 }
 
 impl<const P: usize> Header<P> {
-    /// Returns a prefix of this length, whose stored bytes are the first of these.
+    /// Returns the header of a prefix of this length, whose stored bytes are the first of these.
     pub fn new(bytes: &[u8], len: usize) -> Self
         requires { min len P ≤ length bytes.now }
         ensures { result ≡ record { len = len; stored = take (min len P) bytes.now } }
@@ -69,8 +69,8 @@ impl<const P: usize> Header<P> {
         *self = Header::new(&bytes[n..], self.len - n);
     }
 
-    /// Drops the first `n` bytes of a prefix. What is stored then is read from the bytes of a key that
-    /// has the prefix at a depth.
+    /// Drops the first `n` bytes of a prefix. What is stored then is read from the bytes of a key that has the prefix
+    /// at a depth.
     pub fn ltrim_by_with_leaf(&mut self, n: usize, depth: usize, leaf_bytes: &[u8])
         requires within { n ≤ self.old.len }
         requires given { depth + self.old.len ≤ length leaf_bytes.now }
@@ -108,10 +108,10 @@ impl<const P: usize> Header<P> {
     }
 }
 
-/// What is made of a header. It is no part of `InnerNode`, since a trait with a constant parameter can't
-/// have such a call.
+/// A value made from a header. It is no part of `InnerNode`, since a trait with a constant parameter can't have such a
+/// call.
 pub trait FromHeader<H>: Drop {
-    /// How what is made begins.
+    /// The relation between a header and the value made from it.
     ghost starts: { H → Self → Type 0 };
 
     fn from_header(header: H) -> Self

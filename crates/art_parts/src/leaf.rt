@@ -6,7 +6,7 @@ use crate::bytes::AsBytes;
 use crate::names::OptionalLeafPtr;
 use std::alloc::AllocError;
 
-/// A leaf: a pair, and the names of the leaves beside it in the order of keys.
+/// A leaf: a pair, and the names of its neighbours in key order.
 #[derive(Debug, Drop)]
 pub struct LeafNode<K, V> {
     pub key: K,
@@ -32,7 +32,7 @@ impl<K: Clone, V: Clone> Clone for LeafNode<K, V> {
 }
 
 impl<K, V> LeafNode<K, V> {
-    /// A leaf that names no leaves beside it.
+    /// Returns a leaf with no neighbours.
     pub fn with_no_siblings(key: K, value: V) -> Self
         ensures { result ≡ record { key = key; value = value; previous = None; next = None } }
     {
@@ -62,7 +62,7 @@ impl<K, V> LeafNode<K, V> {
 }
 
 impl<K: AsBytes, V> LeafNode<K, V> {
-    /// Whether these are the bytes of the whole key.
+    /// Returns whether these are the bytes of the whole key.
     #[inline(always)]
     pub fn matches_full_key(&self, bytes: &[u8]) -> bool
         ensures { IsTrue result ↔ (K.bytes self.now.key ≡ bytes.now) }
@@ -72,7 +72,7 @@ impl<K: AsBytes, V> LeafNode<K, V> {
 }
 
 impl<K: Clone, V: Clone> LeafNode<K, V> {
-    /// A leaf of clones of the key and the value, with no siblings.
+    /// Returns a leaf of clones of the key and the value, with no siblings. Fails if an allocation fails.
     pub fn clone_without_siblings(&self) -> Result<Self, AllocError>
         ensures leaf { IfOk result (λ leaf. IsLeafClone K.is_clone V.is_clone self.now leaf) }
         ensures succeeds { K.is_infallible self.now.key → V.is_infallible self.now.value →

@@ -1,4 +1,4 @@
-//! What the nodes of a radix tree are made of.
+//! The parts of the nodes of a radix tree.
 #![tactic(auto)]
 
 pub mod bytes;

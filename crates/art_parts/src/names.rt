@@ -90,7 +90,7 @@ impl fmt::Display for NodeType {
     }
 }
 
-/// The name of a leaf: the slot that it stands in. It may be the name of no leaf.
+/// The name of a leaf: the number of its slot. It may be the name of no leaf.
 #[derive(Clone, Copy, PartialEq, Eq, PartialOrd, Ord, Hash, Debug)]
 pub struct LeafPtr {
     pub slot: usize,
@@ -99,7 +99,7 @@ pub struct LeafPtr {
 /// The name of a leaf, where there is one.
 pub type OptionalLeafPtr = Option<LeafPtr>;
 
-/// The name of an inner node: its kind and the slot that it stands in. It may be the name of no node.
+/// The name of an inner node: its kind and the number of its slot. It may be the name of no node.
 #[derive(Clone, Copy, PartialEq, Eq, PartialOrd, Ord, Hash, Debug)]
 pub struct InnerPtr {
     pub kind: NodeType,
@@ -113,7 +113,7 @@ pub struct OpaqueNodePtr {
     pub slot: usize,
 }
 
-/// The name of a node, told apart by whether it is a leaf's.
+/// The name of a node, by whether it is a leaf's.
 #[derive(Clone, Copy, PartialEq, Eq, PartialOrd, Ord, Hash, Debug)]
 pub enum NodePtr {
     Leaf(LeafPtr),
@@ -121,14 +121,14 @@ pub enum NodePtr {
 }
 
 impl LeafPtr {
-    /// The name of the leaf in this slot. No store is asked whether there is one.
+    /// Returns the name of the leaf in this slot, whether there is one or not.
     pub fn from_slot(slot: usize) -> Self
         ensures { result.slot ≡ slot }
     {
         LeafPtr { slot }
     }
 
-    /// The name as one of any node.
+    /// Returns it as the name of a node.
     #[inline(always)]
     pub fn to_opaque(self) -> OpaqueNodePtr
         ensures { result ≡ leaf_name self }
@@ -143,7 +143,7 @@ impl LeafPtr {
 impl InnerPtr {
     ghost use Rattle.art_parts.specs.declared.names.NodeType.TheVariants.{Leaf};
 
-    /// The name of the inner node of this kind in this slot, or `None` for the kind of leaves.
+    /// Returns the name of the inner node of this kind in this slot, or `None` for the kind of leaves.
     pub fn from_parts(kind: NodeType, slot: usize) -> Option<Self>
         ensures inner { IsSome result ↔ (kind ≢ Leaf) }
         ensures parts { IfSome result (λ name. name ≡ record { kind = kind; slot = slot }) }
@@ -154,7 +154,7 @@ impl InnerPtr {
         }
     }
 
-    /// The name as one of any node.
+    /// Returns it as the name of a node.
     #[inline(always)]
     pub fn to_opaque(self) -> OpaqueNodePtr
         ensures { result ≡ inner_name self }
@@ -170,7 +170,7 @@ impl OpaqueNodePtr {
     ghost use Rattle.art_parts.specs.Names.{name_in, IsProper};
     ghost use Rattle.art_parts.specs.declared.names.NodeType.TheVariants.{Leaf};
 
-    /// The name of the node of this kind in this slot. No store is asked whether there is one.
+    /// Returns the name of the node of this kind in this slot, whether there is one or not.
     pub fn from_parts(kind: NodeType, slot: usize) -> Self
         ensures { result ≡ record { kind = kind; slot = slot } }
     {
@@ -185,7 +185,7 @@ impl OpaqueNodePtr {
         self.kind
     }
 
-    /// The slot in which the node stands, among those of its kind.
+    /// Returns the slot of the node, among those of its kind.
     #[inline(always)]
     pub fn slot(self) -> usize
         ensures { result ≡ self.slot }
@@ -193,7 +193,7 @@ impl OpaqueNodePtr {
         self.slot
     }
 
-    /// The name as a leaf's, or `None` where it is an inner node's.
+    /// Returns the name as a leaf's, or `None` if it is an inner node's.
     #[inline(always)]
     pub fn as_leaf(self) -> Option<LeafPtr>
         ensures leaf { IsSome result ↔ (self.kind ≡ Leaf) }
@@ -205,7 +205,7 @@ impl OpaqueNodePtr {
         }
     }
 
-    /// The name as an inner node's, or `None` where it is a leaf's.
+    /// Returns the name as an inner node's, or `None` if it is a leaf's.
     #[inline(always)]
     pub fn as_inner(self) -> Option<InnerPtr>
         ensures inner { IsSome result ↔ (self.kind ≢ Leaf) }
@@ -217,7 +217,7 @@ impl OpaqueNodePtr {
         }
     }
 
-    /// Tells apart whether this is the name of a leaf or of an inner node.
+    /// Returns the name as one of `NodePtr`, by whether it is a leaf's.
     #[inline(always)]
     pub fn split(self) -> NodePtr
         ensures name { name_in result ≡ self }
@@ -233,8 +233,8 @@ impl OpaqueNodePtr {
     }
 }
 
-/// Names are in the order of their kinds, and those of one kind in that of their slots. The kinds are in the order
-/// of their room, and the kind of leaves is the last; but among names that are told apart leaves come first.
+/// Names are ordered by their kinds, and those of one kind by their slots. The kinds are ordered by their room, and the
+/// kind of leaves is the last; but in the order of `NodePtr` leaves come first.
 pub fn names_are_in_order()
     ensures kinds { (a b : NodeType) → ⟦<NodeType as Ord>⟧.cmp a b ≡ kind_cmp a b }
     ensures leaves { (a b : LeafPtr) → ⟦<LeafPtr as Ord>⟧.cmp a b ≡ leaf_cmp a b }

@@ -1,4 +1,4 @@
--- the way down along an edge, with its path
+-- the descent along an edge, with its path
 use Rattle.std.proofs.Common.{◌≡◌, ℕ, ◌-◌, ◌<◌, List, length, slice_get, refl, ap, sym, ◌∙◌}
 use Rattle.std.specs.FinMap as map
 use Rattle.art_inner.specs.Inner.{Inner}
@@ -41,7 +41,7 @@ module _ {K V : Type 0} {s : Nodes K V} {tree : Tree OpaqueNodePtr (K × V)} whe
         let (name_is, (x, pair_is, whole)) = last_leaf is d d.along.0 in
         (record { name_is = name_is; pair = x; pair_is = pair_is; has = record { path = d.path; whole = whole } }, d.along.1)
 
-    -- at an inner node it goes on below the child at the end
+    -- at an inner node it continues below the child at the end
     pub steps : (end : End) {p : InnerPtr} {shown : Inner} (d : IsAtEdge (IsAlong end path) s tree name) → IsShown d.node p shown → (r : ℕ × OpaqueNodePtr) → IsEndChild end shown.children r →
         IsAtEdge (IsAlong end (step_down path p r.0)) s tree r.1 × (height (node_at s) (map.len s.inners) r.1 < height (node_at s) (map.len s.inners) name)
     steps First {p} d at r e =

@@ -1,4 +1,4 @@
--- the way down to the keys that begin with a prefix
+-- the descent to the keys that start with a prefix
 use Rattle.std.proofs.Common.{◌≡◌, ◌≢◌, ℕ, ◌+◌, ◌<◌, ◌≤◌, List, [], ◌∷◌, ◌++◌, length, get_or, drop, refl, ap, sym, ◌∙◌, arith, subst, Some, None, Bool, true, false, eqb}
 use Rattle.std.specs.List.{AllByRecursion as Each, starts_with}
 use Rattle.std.proofs.lemmas.Bool.{false≢true}
@@ -31,7 +31,7 @@ use Rattle.art_reading.specs.Readings.{left_on_way, levels}
 use Rattle.art_reading.proofs.Descents.{IsDescent, start, front, front_len, child_there, each_under, down}
 use Rattle.art_reading.proofs.Left.{child_left}
 
--- a key that goes on after a front with another byte than the prefix has there does not begin with the prefix
+-- a key that continues after a part of the prefix with another byte than the prefix does not start with the prefix
 other_byte : (prefix front x : List ℕ) (c : ℕ) → length front < length prefix → c ≢ get_or prefix (length front) 0 → IsFront (front ++ c ∷ []) x → is_front prefix x ≡ false
 other_byte prefix front x c within other leads = go (is_front prefix x) refl
   where
@@ -41,13 +41,13 @@ other_byte prefix front x c within other leads = go (is_front prefix x) refl
         let (r, is) = front_from prefix x e in
         absurd (other (sym (byte_after front x c leads) ∙ ap (λ z. get_or z (length front) 0) is ∙ get_or_append_left prefix r 0 (length front) within))
 
--- whether a prefix is a front of a key is told by as many bytes of the key as the prefix has
+-- as many bytes of a key as the prefix has determine whether the prefix is one of the key
 pub front_within : (prefix front r : List ℕ) → length prefix ≤ length front → is_front prefix (front ++ r) ≡ is_front prefix front
 front_within [] front r h = refl
 front_within (a ∷ prefix) [] r h = absurd (omega arith)
 front_within (a ∷ prefix) (b ∷ front) r h = rw (front_within prefix front r (omega arith)) refl
 
--- what `starts_with` says
+-- what `starts_with` returns
 pub starts_front : (x prefix : List ℕ) (t : Bool) → t ≡ starts_with eqb x prefix → is_front prefix x ≡ t
 starts_front x prefix true e = let r = (starts_is Decides-eqb x prefix true e).0 refl in ap (is_front prefix) r ∙ front_is prefix (drop (length prefix) x)
 starts_front x prefix false e = go (is_front prefix x) refl
@@ -56,7 +56,7 @@ starts_front x prefix false e = go (is_front prefix x) refl
     go false i = refl
     go true i = let f = front_from prefix x i in absurd (false≢true ((starts_is Decides-eqb x prefix false e).1 f.0 f.1))
 
--- A way down to a node of a tree between pairs that do not begin with the prefix, by a path.
+-- A descent to a node of a tree between pairs that do not start with the prefix, by a path.
 pub record IsWayBelow {A : Type 0} (bytes : A → List ℕ) (P : ℕ) (prefix : List ℕ) (tree : Tree OpaqueNodePtr A) (path : TreePath) (name : OpaqueNodePtr) (depth : ℕ) : Type 0 where
   pub descent : IsDescent bytes P (IsNotBelow bytes prefix) (IsNotBelow bytes prefix) tree name depth
   pub path_is : path ≡ path_of descent.at.path
@@ -71,7 +71,7 @@ module _ {A : Type 0} {bytes : A → List ℕ} {P : ℕ} (prefix : List ℕ) {tr
   abbrev d : IsDescent bytes P (IsNotBelow bytes prefix) (IsNotBelow bytes prefix) tree name depth
   d = way.descent
 
-  -- at a leaf the way ends
+  -- at a leaf the path ends
   pub at_leaf : (n : OpaqueNodePtr) (x : A) → d.at.node ≡ leaf n x → EndsBelow bytes prefix tree (Some (record { path = path; name = name }))
   at_leaf n x is = (
     record {
@@ -114,7 +114,7 @@ module _ {A : Type 0} {bytes : A → List ℕ} {P : ℕ} (prefix : List ℕ) {tr
           ap (λ t. below bytes prefix (pairs_of t)) (sym d.at.whole) ∙ ap (below bytes prefix) (pairs_of-plug d.at.path d.at.node)
           ∙ simp (filter-append, filter_none test (pairs_before d.at.path) d.at.before, filter_none test (pairs_of d.at.node) middle, filter_none test (pairs_after d.at.path) d.at.after) refl
 
-      -- the way goes on below the child
+      -- the path continues below the child
       pub goes_down : {to : OpaqueNodePtr} → child_at shown.children (get_or prefix (depth + len) 0) ≡ Some to →
           (next : IsWayBelow bytes P prefix tree (step_down path p (get_or prefix (depth + len) 0)) to (depth + len + 1))
           × (left_on_way bytes prefix depth d.at.node ≤ left_on_way bytes prefix (depth + len + 1) next.descent.at.node + 1)
@@ -128,7 +128,7 @@ module _ {A : Type 0} {bytes : A → List ℕ} {P : ℕ} (prefix : List ℕ) {tr
           × (left_on_way bytes prefix depth d.at.node ≤ left_on_way bytes prefix (depth + n + 1) next.descent.at.node + 1)) (sym len_is)
           (record { descent = down d at b there low high; path_is = ap (λ z. step_down z p b) way.path_is }, child_left d prefix at b (ap (λ n. get_or prefix (depth + n) 0) len_is) there low high)
 
--- Such a descent, and what it has read: the nodes above that are on the way of the prefix, and at most one for each level.
+-- Such a descent, and what it has read: the nodes above that are on the path of the prefix, and at most one for each level.
 pub record IsReadBelow {K V : Type 0} (bytes : K × V → List ℕ) (P : ℕ) (s : Nodes K V) (root : OpaqueNodePtr) (prefix : List ℕ) (tree : Tree OpaqueNodePtr (K × V)) (path : TreePath)
     (name : OpaqueNodePtr) (depth number : ℕ) : Type 0 where
   pub way : IsWayBelow bytes P prefix tree path name depth

@@ -1,4 +1,4 @@
--- the way down to a node beside a key
+-- the descent to a node next to a key
 use Rattle.std.proofs.Common.{◌≡◌, ◌≢◌, ℕ, suc, ◌+◌, ◌*◌, ◌<◌, ◌≤◌, ◌⊎◌, List, [], ◌∷◌, ◌++◌, length, take, drop, get_or, refl, ap, sym, ◌∙◌, arith, subst, length-append, append_assoc, Option, Some, None, Bool, IsTrue, ◌↔◌, inl, inr}
 use Rattle.std.specs.List.{AllByRecursion as Each, starts_with}
 use Rattle.std.specs.Ordering.{is_lt}
@@ -44,14 +44,14 @@ slots_long : {N A : Type 0} (cs : Subtrees N A) → length (slots_of cs) ≡ len
 slots_long no_child = refl
 slots_long (child b t cs) = ap suc (slots_long cs)
 
--- A node of the tree at a place that is a front of the key.
+-- A node of the tree at a place that is a prefix of the key.
 pub record IsOnKey {A : Type 0} (bytes : A → List ℕ) (P : ℕ) (key : List ℕ) (tree : Tree OpaqueNodePtr A) (name : OpaqueNodePtr) (depth : ℕ) : Type 0 where
   pub descent : IsDescent bytes P (λ x. Precedes (bytes x) key) (λ x. Precedes key (bytes x)) tree name depth
   pub leads : IsPath bytes P descent.place descent.at.path
   pub on_way : IsFront descent.place key
 
 module _ {A : Type 0} {bytes : A → List ℕ} {P : ℕ} {key : List ℕ} {tree : Tree OpaqueNodePtr A} {name : OpaqueNodePtr} {depth : ℕ} where
-  -- where the key does not begin with the place, all keys below are on the side of the place
+  -- where the key does not start with the place, all keys below are on the side of the place
   off_place : (d : IsDescent bytes P (λ x. Precedes (bytes x) key) (λ x. Precedes key (bytes x)) tree name depth) → (IsFront d.place key → ⊥) → StandsBeside bytes key tree name
   off_place d off = record {
     at = d.at;
@@ -94,7 +94,7 @@ module _ {A : Type 0} {bytes : A → List ℕ} {P : ℕ} {key : List ℕ} {tree 
                 (λ c i x (r, e). ap (is_before key) (e ∙ append_assoc (front o.descent at) (c ∷ []) r) ∙ ap is_lt (ended_right (front o.descent at) key r c long));
           }
 
-      -- the key parts from the node's prefix
+      -- the key differs from the node's prefix
       pub beside_off : (IsFront (front o.descent at) key → ⊥) → StandsBeside bytes key tree name
       beside_off off =
           let w = front o.descent at in
@@ -120,7 +120,7 @@ module _ {A : Type 0} {bytes : A → List ℕ} {P : ℕ} {key : List ℕ} {tree 
         above_key : (c : ℕ) → get_or key (depth + len) 0 < c → (x : A) → IsFront (front o.descent at ++ c ∷ []) (bytes x) → Precedes key (bytes x)
         above_key c more x f = parts bytes (front o.descent at) (get_or key (depth + len) 0) c key (bytes x) key_byte f more
 
-        -- the key goes on below a child
+        -- the key continues below a child
         pub onto_child : {to : OpaqueNodePtr} → child_at shown.children (get_or key (depth + len) 0) ≡ Some to →
             (next : IsOnKey bytes P key tree to (depth + len + 1)) × (left_on_way bytes key depth o.descent.at.node ≤ left_on_way bytes key (depth + len + 1) next.descent.at.node + 1)
         onto_child {to} there =
@@ -178,7 +178,7 @@ module _ {A : Type 0} {bytes : A → List ℕ} {P : ℕ} {key : List ℕ} {tree 
           ∙ subst (λ n. prefix_of bytes n (inner (inner_name p) (header_at p.kind shown) at.children) ≡ (shown_radix o.descent at).0) o.descent.depth_is
           (prefix_is bytes P (inner_name p) (header_at p.kind shown) at.children o.descent.place (shown_radix o.descent at))
 
-      -- they are the same where the key goes on
+      -- they are the same where the key continues
       pub same_goes : {part : List ℕ} (n : ℕ) → part ≡ take n (drop depth key) → part ≡ prefix_of bytes depth o.descent.at.node → IsFront (front o.descent at) key
       same_goes {part} n part_is same =
           let (r, e) = o.on_way in
@@ -203,7 +203,7 @@ module _ {K V : Type 0} {s : Nodes K V} {bytes : K × V → List ℕ} {P : ℕ} 
   abbrev pub on_key_start : IsOnKey bytes P key layout root 0
   on_key_start = record { descent = start by; leads = refl; on_way = (key, refl) }
 
-  -- a node on the way is on the key's way
+  -- a node on the path is on the key's path
   abbrev pub at_on : {name other : OpaqueNodePtr} {depth : ℕ} (o : IsOnKey bytes P key layout name depth) → other ≡ name → IsAt bytes P key layout (path_of o.descent.at.path) other depth
   at_on o is = record {
     frames = o.descent.at.path;
@@ -269,7 +269,7 @@ module _ {K V : Type 0} {s : Nodes K V} {bytes : K × V → List ℕ} {P : ℕ} 
           let told = whole_front part own.0 same_len t (sym (front_within part own.0 r (omega arith)) ∙ ap (is_front part) (sym is) ∙ starts_front rest part t test) in
           (λ on. sym (told.0 on) ∙ sym whole_is, λ same. told.1 (sym whole_is ∙ sym same))
 
--- A node on the key's way, and what was read before: the nodes above, twice as many as levels at most beside those for the guide leaf.
+-- A node on the key's path, and what was read before: the nodes above, at most twice as many as levels without those for the guide leaf.
 pub record IsReadOnKey {K V : Type 0} (bytes : K × V → List ℕ) (P : ℕ) (s : Nodes K V) (root : OpaqueNodePtr) (key : List ℕ) (tree : Tree OpaqueNodePtr (K × V)) (name : OpaqueNodePtr)
     (depth : ℕ) (guide : Option LeafPtr) (number : ℕ) : Type 0 where
   pub on_key : IsOnKey bytes P key tree name depth

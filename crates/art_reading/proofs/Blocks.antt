@@ -7,7 +7,7 @@ use Rattle.std.proofs.lemmas.Simd.{mask_l-mod}
 use lib.Lanes.{mask_l, zip2}
 use Rattle.art_model.specs.Keys.{IsFront}
 
--- bytes that are the same in front, and then a block more
+-- bytes that are the same at first, and then a further block
 pub joined : (at n : ℕ) (a b : List ℕ) → take at a ≡ take at b → take n (drop at a) ≡ take n (drop at b) → take (at + n) a ≡ take (at + n) b
 joined at n a b front block = take-add at n a ∙ ap₂ (λ x y. x ++ y) front block ∙ sym (take-add at n b)
 
@@ -49,14 +49,14 @@ lanes (x ∷ xs) (y ∷ ys) = let l = lanes xs ys in omega (arith, l)
 mask : (xs ys : List ℕ) → length xs ≤ 64 → mask_l (zip2 differ xs ys) % 2 ^ 64 ≡ mask_l (zip2 differ xs ys)
 mask xs ys l = let m = lanes xs ys in mask_l-mod (zip2 differ xs ys) 64 (omega (arith, m))
 
--- no bit is set for lanes that differ just where all are the same
+-- no bit is set for different lanes exactly if all are the same
 pub unset_same : (xs ys : List ℕ) → length xs ≡ length ys → length xs ≤ 64 → IsTrue (eqb (mask_l (zip2 differ xs ys) % 2 ^ 64) 0) ↔ (xs ≡ ys)
 unset_same xs ys e l = (
   λ told. same xs ys e (sym (mask xs ys l) ∙ eqb-true (mask_l (zip2 differ xs ys) % 2 ^ 64) 0 told),
   λ is. eq-eqb (mask_l (zip2 differ xs ys) % 2 ^ 64) 0 (mask xs ys l ∙ ap (λ z. mask_l (zip2 differ xs z)) (sym is) ∙ none_differ xs),
 )
 
--- what begins with all bytes of a front
+-- what starts with all bytes of a prefix
 pub front_taken : {r : Bool} (front bytes : List ℕ) → IsTrue r ↔ (take (length front) front ≡ take (length front) bytes) → IsTrue r ↔ IsFront front bytes
 front_taken {r} front bytes test =
     let n = length front in

@@ -96,7 +96,7 @@ module _ {N A : Type 0} (at : N → Option (Node N A)) where
 
 module _ {K V : Type 0} {s : Nodes K V} {bytes : K × V → List ℕ} {P : ℕ} {root : OpaqueNodePtr} {pairs : List (K × V)} {layout : Tree OpaqueNodePtr (K × V)}
     (by : IsCanonicalTree bytes P s root pairs layout) where
-  -- a leaf at an end of those that pass is there
+  -- a leaf at an end of those that pass is in the store
   pub first_there : (test : K × V → Bool) (o : Option LeafPtr) → option_map leaf_name o ≡ first_of (leaves_where test layout) → IfSome o (λ p. IsSome (map.get s.leaves p))
   first_there test None e = tt
   first_there test (Some p) e = there_in s (leaf_names layout) None None p by.linked (where_in test layout (leaf_name p) (first_of_in (leaves_where test layout) (leaf_name p) (sym e)))

@@ -1,4 +1,4 @@
--- the leaves beside a cut
+-- the leaves next to a cut
 use Rattle.std.proofs.Common.{◌≡◌, ℕ, List, [], ◌∷◌, ◌++◌, ap, sym, ◌∙◌, subst, append_assoc, append-nil, Option, Some, None, Bool, true, false, not}
 use Rattle.std.specs.List.{AllByRecursion as Each}
 use Rattle.std.specs.Option.{option_map}
@@ -49,7 +49,7 @@ module _ {X : Type 0} (k : X) where
   last_after (x ∷ []) (y ∷ ys) e = e
   last_after (x ∷ z ∷ xs) ys e = last_after (z ∷ xs) ys e
 
--- on which side of a cut a key stands that is before or after the key of the cut
+-- on which side of a cut a key is that is before or after the key of the cut
 module _ (cut : Cut) (key other : List ℕ) where
   lower_side : Precedes other key → is_before_cut cut key other ≡ true
   lower_side h = go cut

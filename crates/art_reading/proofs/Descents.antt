@@ -1,4 +1,4 @@
--- ways down to a part of a tree: a node, between pairs of which something holds
+-- descents to a part of a tree: a node, between pairs of which something holds
 use Rattle.std.proofs.Common.{◌≡◌, ◌≢◌, ℕ, ◌+◌, ◌<◌, ◌≤◌, List, [], ◌∷◌, ◌++◌, length, refl, ap, sym, ◌∙◌, arith, subst, length-append, Some, None, inr}
 use Rattle.std.specs.List.{AllByRecursion as Each}
 use Rattle.art_inner.specs.Inner.{Inner, child_at}
@@ -42,7 +42,7 @@ module _ {K V : Type 0} {s : Nodes K V} {bytes : K × V → List ℕ} {P : ℕ} 
     depth_is = refl;
   }
 
-  -- the node stands under its name
+  -- the node is under its name
   pub stands_there : {name : OpaqueNodePtr} (at : StandsBetween Lower Upper layout name) → IsThere s at.node name
   stands_there at = record { named = at.named; holds = (path_holds (node_at s) at.path at.node (subst (Holds (node_at s)) (sym at.whole) by.stands.0.holds)).1 }
 
@@ -65,7 +65,7 @@ module _ {A : Type 0} {bytes : A → List ℕ} {P : ℕ} {Lower Upper : A → Ty
   pub child_there : (c : ℕ) → IsIn c (bytes_of at.children) → child_at shown.children c ≡ None → ⊥
   child_there c i none = each_in (λ b. b ≢ c) c (bytes_of at.children) (no_child_under at.children c (ap (λ cs. child_at cs c) (sym at.slots) ∙ none)) i refl
 
-  -- what holds of all pairs that begin with the bytes of a child holds of all pairs below the node
+  -- what holds of all pairs that start with the bytes of a child holds of all pairs below the node
   pub each_under : (Q : A → Type 0) → ((c : ℕ) → IsIn c (bytes_of at.children) → (x : A) → IsFront (front ++ c ∷ []) (bytes x) → Q x) → Each Q (pairs_of d.at.node)
   each_under Q h =
       subst (λ t. Each Q (pairs_of t)) (sym at.is)

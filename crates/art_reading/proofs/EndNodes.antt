@@ -1,4 +1,4 @@
--- the way down with a key to its end node
+-- the descent with a key to its end node
 use Rattle.std.proofs.Common.{◌≡◌, ◌≢◌, ℕ, ◌+◌, ◌-◌, ◌<◌, ◌≤◌, List, [], ◌∷◌, ◌++◌, length, drop, get_or, refl, ap, sym, ◌∙◌, arith, subst, append_assoc, append-nil, length-append, length-drop, Option, Some, None, Ok, Err, true, false, Bool, leb}
 use Rattle.std.specs.List.{AllByRecursion as Each}
 use Rattle.std.specs.FinMap as map
@@ -99,7 +99,7 @@ module _ {K V : Type 0} {s : Nodes K V} {bytes : K × V → List ℕ} {P : ℕ} 
     holds : Holds (node_at s) d.node
     holds = (path_holds (node_at s) d.frames d.node (subst (Holds (node_at s)) (sym d.whole) by.stands.0.holds)).1
 
-    -- the key is as long as its way
+    -- the key is as long as its path
     pub inside : depth ≤ length key
     inside =
         let l = ap length d.on_way.1 in
@@ -113,7 +113,7 @@ module _ {K V : Type 0} {s : Nodes K V} {bytes : K × V → List ℕ} {P : ℕ} 
     mismatch_used : {m : ExplicitMismatch} → IsMismatch bytes P key d.node depth m → depth + m.matched_bytes ≤ length key
     mismatch_used c = mismatch_inside bytes P key d.node inside c
 
-    -- the names on the way are there
+    -- the names on the path are in use
     node_there : IsThere s d.node name
     node_there = record { named = d.named; holds = holds }
 
@@ -153,11 +153,11 @@ module _ {K V : Type 0} {s : Nodes K V} {bytes : K × V → List ℕ} {P : ℕ} 
     deep : depth_of d.frames ≡ depth
     deep = depth_is bytes P d.frames d.place d.leads ∙ d.depth_is
 
-    -- where no longer place is a front of the key this is the end node
+    -- where no longer place is a prefix of the key this is the end node
     ends : Each (λ other. IsFront other.0 key → length other.0 ≤ length d.place) (places bytes (length d.place) d.node) → IsEndNode bytes layout key d.frames d.node
     ends longest = subst (λ t. IsEndNode bytes t key d.frames d.node) d.whole (ends_at bytes P key d.frames d.place d.node d.leads d.radix d.on_way longest)
 
-    -- and the key comes to it
+    -- and the key leads to it
     comes_to : (used : ℕ) (kind : Option InsertKind) → Each (λ other. IsFront other.0 key → length other.0 ≤ length d.place)
         (places bytes (length d.place) d.node) → ComesTo bytes P key d.node depth used kind →
         HasEndNode bytes P layout key (record { path = path; name = name; insert_kind = kind; key_bytes_used = used })
@@ -185,7 +185,7 @@ module _ {K V : Type 0} {s : Nodes K V} {bytes : K × V → List ℕ} {P : ℕ} 
           subst (λ t. Each (λ other. IsFront other.0 key → length other.0 ≤ length d.place) (places bytes (length d.place) t)) (sym at_leaf)
           ((λ g. rw (place_is bytes P (leaf (leaf_name p) (pair_of shown)) d.place radix) (omega arith)), tt)
 
-      -- it is the last node on the way
+      -- it is the last node on the path
       left_leaf_is : left_on_way bytes key depth d.node ≡ 1
       left_leaf_is = subst (λ n. left_on_way bytes key n d.node ≡ 1) d.depth_is (subst (λ t. left_on_way bytes key (length d.place) t ≡ 1) (sym at_leaf)
           (left_leaf bytes P key d.place d.on_way (leaf_name p) (pair_of shown) (subst (IsRadix bytes P d.place) at_leaf d.radix)))
@@ -250,12 +250,12 @@ module _ {K V : Type 0} {s : Nodes K V} {bytes : K × V → List ℕ} {P : ℕ} 
                 (λ b. deeper d.place radix.0 b (header_at p.kind shown).length_of len) radix.4 aside,
           )
 
-      -- the node is the last one on the way where that goes below no child
+      -- the node is the last one on the path where that continues below no child
       left_aside_is : AreAside front key at.children → left_on_way bytes key depth d.node ≡ 1
       left_aside_is aside = subst (λ n. left_on_way bytes key n d.node ≡ 1) d.depth_is (subst (λ t. left_on_way bytes key (length d.place) t ≡ 1) (sym at.is)
           (left_aside bytes P key d.place d.on_way (inner_name p) (header_at p.kind shown) at.children radix aside))
 
-      -- all pairs below go on after the key
+      -- all pairs below continue after the key
       short_conflict : IsFront key front → is_conflict bytes key pairs ≡ true
       short_conflict short = below ∙ go at.children radix.2 radix.4
         where
@@ -268,7 +268,7 @@ module _ {K V : Type 0} {s : Nodes K V} {bytes : K × V → List ℕ} {P : ℕ} 
               let long : length key < length (bytes x) = let l = ap length short.1 in let k = ap length way.1 in omega (arith, simp length-append at l, simp length-append at k) in
               rw e (first_conflict bytes key x (xs ++ pairs_below cs) (front_related key (bytes x) goes) (λ same. let l = ap length same in omega arith))
 
-      -- so the node gives way
+      -- so the node is replaced
       short_end : (used : ℕ) → IsFront (drop depth key) radix.0 → used ≡ used_in_prefix key depth radix.0 →
           IsEndFor bytes P key pairs layout (record { path = path; name = name; insert_kind = None; key_bytes_used = used })
       short_end used (r, e) is =
@@ -318,7 +318,7 @@ module _ {K V : Type 0} {s : Nodes K V} {bytes : K × V → List ℕ} {P : ℕ} 
               (λ x f. unrelated_after front (get_or key (length front) 0) b key (bytes x) next f (λ e. others.0 (sym e))) (pairs_of t) (radix_way bytes P t (front ++ b ∷ []) h.0))
               (unrelated cs h.1 others.1)
 
-          -- no child goes on with the key
+          -- no child continues with the key
           ends_after_prefix : None ≡ child_at shown.children (get_or key (depth + match.matched_bytes) 0) →
               IsStepFrom bytes P key pairs layout path name depth d (End (Some (IntoExisting p)) (depth + match.matched_bytes))
           ends_after_prefix none =
@@ -334,7 +334,7 @@ module _ {K V : Type 0} {s : Nodes K V} {bytes : K × V → List ℕ} {P : ℕ} 
                 left_aside_is aside,
               )
 
-          -- a child goes on with the key
+          -- a child continues with the key
           goes_on : {to : OpaqueNodePtr} → Some to ≡ child_at shown.children (get_or key (depth + match.matched_bytes) 0) →
               (at : IsAt bytes P key layout (step_down path p (get_or key (depth + match.matched_bytes) 0)) to (depth + match.matched_bytes + 1))
               × (left_on_way bytes key depth d.node ≡ left_on_way bytes key (depth + match.matched_bytes + 1) at.node + 1)
@@ -397,7 +397,7 @@ module _ {K V : Type 0} {s : Nodes K V} {bytes : K × V → List ℕ} {P : ℕ} 
                 (ends_with_prefix short, left_aside_is (aside_end front key at.children (let k = used in omega arith)))
             by_length false e = by_child (leb-false (length key) (depth + match.matched_bytes) e) (child_at shown.children (get_or key (depth + match.matched_bytes) 0)) refl
 
-      -- the prefix and the key part, or the key ends
+      -- the prefix and the key differ, or the key ends
       module _ {m : ExplicitMismatch} (c : IsMismatch bytes P key d.node depth m) where
         shared_is : m.matched_bytes ≡ shared_len radix.0 (drop depth key)
         shared_is = c.matched ∙ ap (λ l. shared_len l (drop depth key)) whole_prefix
@@ -482,7 +482,7 @@ module _ {K V : Type 0} {s : Nodes K V} {bytes : K × V → List ℕ} {P : ℕ} 
       depth + m.matched_bytes ≤ length key
   mismatch_fits compared = let (pairs, layout, by) = canonical in let d = at pairs layout by in mismatch_used by d (compared pairs layout by d)
 
--- the part of the tree at a node, and the key, which is as long as the way to it
+-- the part of the tree at a node, and the key, which is as long as the path to it
 module _ {K V : Type 0} {s : Nodes K V} {bytes : K × V → List ℕ} {P : ℕ} {key : List ℕ} {name : OpaqueNodePtr} {depth : ℕ}
     (found : (root : OpaqueNodePtr) × (path : TreePath) × IsCanonicalRoot bytes P s root × ForTree bytes P s root (λ pairs layout. IsAt bytes P key layout path name depth)) where
   pub part_at : (node : Tree OpaqueNodePtr (K × V)) × IsPlaced bytes P s name depth node

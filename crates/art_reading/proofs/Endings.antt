@@ -1,4 +1,4 @@
--- Keys that are a text and its end byte, as they are looked for.
+-- Keys that are a text and its end byte, as they are looked up.
 use Rattle.std.proofs.Common.{◌≡◌, ◌≢◌, ℕ, ◌+◌, ◌-◌, ◌<◌, ◌≤◌, ◌↔◌, ◌⊎◌, inl, inr, min, List, [], ◌∷◌, ◌++◌, length, take, drop, get_or, length-append, length-drop, refl, ap, ap₂, sym, subst, ◌∙◌, arith, Option, Some, None, Bool, true, false, cond, eqb, eqb-true, eq-eqb, nat_eq, append-nil, IsTrue, is_ok}
 use Rattle.std.specs.Option.{option_map}
 use Rattle.std.proofs.lemmas.Bool.{le-ltb, lt-ltb, cases_lt, false≢true}
@@ -56,7 +56,7 @@ module _ (behavior : PrefixMatchBehavior) (node : Inner) (key : List ℕ) (depth
     same_outcome : is_ok (prefix_match behavior node.prefix (drop depth key)) ≡ is_ok (prefix_match behavior node.prefix rest)
     same_outcome = ap (λ r. is_ok (prefix_match behavior node.prefix r)) has.is ∙ match_more node.prefix rest has.last stored within behavior
 
-    -- the prefix parts from the rest of the key
+    -- the prefix differs from the rest of the key
     pub none_parted : false ≡ is_ok (prefix_match behavior node.prefix rest) → None ≡ child_below behavior node key depth
     none_parted off = rw (same_outcome ∙ sym off) refl
 
@@ -123,7 +123,7 @@ none_dropped xs n short = go (drop n xs) (length-drop n xs)
     go (x ∷ l) e = absurd (omega arith)
 
 module _ (key text : List ℕ) (end n : ℕ) (r : Bool) where
-  -- after the end of the text the lengths tell
+  -- after the end of the text the lengths decide
   after_same : n ≡ length text + 1 → IsTrue r ↔ (length key ≡ length text + 1) → length text < length key → IsTrue r ↔ (drop n key ≡ drop n (text ++ end ∷ []))
   after_same is test long = (
     λ t. let e = test.0 t in none_dropped key n (omega arith) ∙ sym (none_after_end text end n is),
@@ -136,7 +136,7 @@ module _ (key text : List ℕ) (end n : ℕ) (r : Bool) where
     λ (s, f). test.1 (let l = ap length (sym f ∙ none_after_end text end n is) in let k = length-drop n key in let j = length-append (drop n key) s in omega arith),
   )
 
--- what is asked for after the end of the text is told by the lengths
+-- what is asked for after the end of the text is determined by the lengths
 pub after_end : (asked : Asked) (behavior : PrefixMatchBehavior) (depth from : ℕ) (key text : List ℕ) (end : ℕ) → (behavior ≡ Pessimistic → from ≡ min depth (length key)) → (behavior ≡ Optimistic → from ≡ 0) →
     length text < from → from ≤ length key → IsTrue (nat_eq (length key) (length text + 1)) ↔ IsAskedFor asked behavior depth key (text ++ end ∷ [])
 after_end Same behavior depth from key text end compared passed_over beyond within =

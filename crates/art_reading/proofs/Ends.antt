@@ -1,4 +1,4 @@
--- what the comparison at the last leaf tells
+-- what the comparison at the last leaf decides
 use Rattle.std.proofs.Common.{◌≡◌, ℕ, ◌+◌, ◌≤◌, ◌↔◌, min, List, [], ◌∷◌, ◌++◌, length, drop, refl, subst, ap, sym, ◌∙◌, arith, append_assoc, length-append, Option, Some, None, Bool, true, false, IsTrue}
 use Rattle.std.proofs.lemmas.Bool.{false≢true}
 use Rattle.std.proofs.lemmas.List.{append_cancel_left}
@@ -115,7 +115,7 @@ module _ {K V : Type 0} {bytes : K × V → List ℕ} {P : ℕ} {start : PrefixM
         go true e = absurd (false≢true (sym f ∙ test.1 (rest_front shared (front_from (bytes (pair_of last.node.now)) key e))))
         go false e = rw e refl
 
-  -- what the comparison that is asked for tells
+  -- what the comparison that is asked for decides
   module _ {r : Bool} (asked : Asked) (test : IsTrue r ↔ IsAskedFor asked last.behavior last.depth (bytes (pair_of last.node.now)) key) where
     pub found : r ≡ true → IsOnlyLeaf (asked_of asked bytes key pairs) layout last
     found t = go asked test
@@ -143,20 +143,20 @@ pub none_asked : {A : Type 0} (asked : Asked) (bytes : A → List ℕ) (key : Li
 none_asked Same bytes key pairs nothing = sym (with_key-match_of bytes key pairs) ∙ ap (with_key bytes key) nothing
 none_asked Front bytes key pairs nothing = nothing
 
--- wherever a way ends, the nodes on it were counted
+-- wherever a path ends, the nodes on it were counted
 least : {K V : Type 0} (bytes : K × V → List ℕ) (P : ℕ) (start : PrefixMatchBehavior) (key : List ℕ) (pairs : List (K × V)) (layout : Tree OpaqueNodePtr (K × V)) (before after : ℕ)
     (end : Option (LastLeaf K V)) → WalkEnds bytes P start key pairs layout before after end → before + length (nodes_on_way bytes key layout) ≤ after
 least bytes P start key pairs layout before after None ends = ends.1
 least bytes P start key pairs layout before after (Some last) ends = ends.at_least
 
--- where each prefix is compared whole, just these were
+-- where each prefix is compared whole, exactly these were
 just : {K V : Type 0} (bytes : K × V → List ℕ) (P : ℕ) (start : PrefixMatchBehavior) (key : List ℕ) (pairs : List (K × V)) (layout : Tree OpaqueNodePtr (K × V)) (before after : ℕ)
     (end : Option (LastLeaf K V)) → WalkEnds bytes P start key pairs layout before after end → ComparesAll P start layout → before + length (nodes_on_way bytes key layout) ≡ after
 just bytes P start key pairs layout before after None ends all = ends.2 all
 just bytes P start key pairs layout before after (Some last) ends all = ends.exactly (ends.compared (ends.compares all))
 
 module _ {K V : Type 0} {bytes : K × V → List ℕ} {P : ℕ} {s : Nodes K V} {root : OpaqueNodePtr} {start : PrefixMatchBehavior} {key : List ℕ} {before after : ℕ} where
-  -- what is counted on a way that ends so
+  -- what is counted on a path that ends so
   pub counts : (end : Option (LastLeaf K V)) → ForTree bytes P s root (λ pairs layout. WalkEnds bytes P start key pairs layout before after end) → {IsFound : Type 0} →
       ForTree bytes P s root (λ pairs layout. IsFound → before + length (nodes_on_way bytes key layout) ≡ after) → after ≤ before + length key + 1 →
       CountsVisitsFrom start bytes P s root key before after IsFound

@@ -1,4 +1,4 @@
--- the way down to a leaf that a key leads by, and what such a leaf is to a node on the key's way
+-- the descent to a leaf by a key's bytes, and how such a leaf relates to a node on the key's path
 use Rattle.std.proofs.Common.{◌≡◌, ◌≢◌, ℕ, ◌+◌, ◌<◌, ◌≤◌, List, [], ◌∷◌, ◌++◌, length, get_or, filter, refl, ap, sym, ◌∙◌, arith, subst, length-append, append-nil, Some, None, true, false, Bool, cond, inl, inr}
 use Rattle.std.specs.Bool.{⊤}
 use Rattle.std.specs.List.{AllByRecursion as Each}
@@ -41,7 +41,7 @@ use Rattle.art_reading.specs.PartEnds.{StandsBetween}
 use Rattle.art_reading.specs.declared.path.TreePath.{TreePath}
 use Rattle.art_reading.proofs.Parts.{node_full, node_holds}
 
--- where a node's place is a front of the key, it is one of the other key too
+-- where a node's place is a prefix of the key, it is one of the other key too
 abbrev pub GoesToo : {N : Type 0} → List ℕ → List ℕ → (List ℕ × N) → Type 0
 GoesToo key y p = IsFront p.0 key → IsFront p.0 y
 
@@ -53,12 +53,12 @@ module _ {N A : Type 0} (bytes : A → List ℕ) (P : ℕ) (key y : List ℕ) wh
       Each-append (GoesToo key y) (places bytes d t) (places_below bytes d (join cs ds)) (Each-left (GoesToo key y) (places bytes d t) (places_below bytes d cs) h)
       (joined cs ds d (Each-right (GoesToo key y) (places bytes d t) (places_below bytes d cs) h) k)
 
-  -- no node below children beside the key's way is on it
+  -- no node below the other children is on the key's path
   pub aside : (front : List ℕ) (d : ℕ) (cs : Subtrees N A) → d ≡ length front + 1 → AreRadix bytes P front cs → AreAside front key cs → Each (GoesToo key y) (places_below bytes d cs)
   aside front d cs deep h off =
       Each-weaker (IsOff (λ (p : List ℕ × N). p.0) key) (GoesToo key y) (λ p o g. absurd (o g)) (places_below bytes d cs) (aside_places bytes P front key d cs deep h off)
 
-  -- from the only child below which the key's way may go on to its parent
+  -- from the only child below which the key's path may continue to its parent
   pub over : (depth : ℕ) (f : Frame N A) (outer part : List ℕ) (t : Tree N A) → place_of bytes depth (fill f t) ≡ outer → depth + f.header.length_of + 1 ≡ length (outer ++ part) + 1 →
       AreRadix bytes P (outer ++ part) f.left → AreRadix bytes P (outer ++ part) f.right → AreAside (outer ++ part) key f.left → AreAside (outer ++ part) key f.right →
       IsFront outer y → Each (GoesToo key y) (places bytes (depth + f.header.length_of + 1) t) → Each (GoesToo key y) (places bytes depth (fill f t))
@@ -69,7 +69,7 @@ module _ {N A : Type 0} (bytes : A → List ℕ) (P : ℕ) (key y : List ℕ) wh
             (Each-append (GoesToo key y) (places bytes d t) (places_below bytes d f.right) own (aside (outer ++ part) d f.right deep r high)),
       )
 
-  -- from a node on the key's way to the whole tree
+  -- from a node on the key's path to the whole tree
   pub around : (fs : List (Frame N A)) (place : List ℕ) (t : Tree N A) → IsPath bytes P place fs → IsRadix bytes P place t → IsFront place key → IsFront place y →
       Each (GoesToo key y) (places bytes (length place) t) → Each (GoesToo key y) (places bytes 0 (plug fs t))
   around [] place t e h k goes q = subst (λ w. Each (GoesToo key y) (places bytes (length w) t)) e q
@@ -91,7 +91,7 @@ module _ {N A : Type 0} (bytes : A → List ℕ) (P : ℕ) (key y : List ℕ) wh
       (over (length outer) f outer part t (place_is bytes P (fill f t) outer node) deep hl hr (aside_others front key f.left low) (aside_others front key f.right high)
       (front_cut outer part y (front_cut front (f.byte ∷ []) y goes')) (subst (λ z. Each (GoesToo key y) (places bytes z t)) long q))
 
--- A node to which the key's bytes lead by their places: what begins with the node's place goes along the key's way, if it does so below the node.
+-- A node to which the key's bytes lead by their places: a key that starts with the node's place follows the key's path, if it does so below the node.
 pub record IsByPlaces {A : Type 0} (bytes : A → List ℕ) (P : ℕ) (key : List ℕ) (tree : Tree OpaqueNodePtr A) (name : OpaqueNodePtr) (depth : ℕ) : Type 0 where
   pub path : List (Frame OpaqueNodePtr A)
   pub node : Tree OpaqueNodePtr A
@@ -103,7 +103,7 @@ pub record IsByPlaces {A : Type 0} (bytes : A → List ℕ) (P : ℕ) (key : Lis
   pub along : (y : List ℕ) → IsFront place y → Each (GoesToo key y) (places bytes depth node) → Each (GoesToo key y) (places bytes 0 tree)
 
 module _ {A : Type 0} {bytes : A → List ℕ} {P : ℕ} {key : List ℕ} {tree : Tree OpaqueNodePtr A} {name : OpaqueNodePtr} {depth : ℕ} where
-  -- it begins at a node on the key's way
+  -- it begins at a node on the key's path
   pub by_places : {path : TreePath} → IsAt bytes P key tree path name depth → IsByPlaces bytes P key tree name depth
   by_places d = record {
     path = d.frames;
@@ -118,7 +118,7 @@ module _ {A : Type 0} {bytes : A → List ℕ} {P : ℕ} {key : List ℕ} {tree 
   }
 
   module _ (d : IsByPlaces bytes P key tree name depth) where
-    -- the key's way does not go on below
+    -- the key's path does not continue below
     ends : ((y : List ℕ) → IsFront d.place y → Each (GoesToo key y) (places bytes depth d.node)) → AllGuide bytes key tree name
     ends own = record {
       path = d.path;
@@ -176,7 +176,7 @@ module _ {A : Type 0} {bytes : A → List ℕ} {P : ℕ} {key : List ℕ} {tree 
           let b = get_or key (length front) 0 in
           ends_aside (aside_others front key at.children (no_child_under at.children b (ap (λ cs. child_at cs b) (sym at.slots) ∙ ap (child_at shown.children) same_byte ∙ none)))
 
-      -- the way goes on below the child
+      -- the path continues below the child
       pub goes_below : {to : OpaqueNodePtr} → child_at shown.children (get_or key (depth + len) 0) ≡ Some to → IsByPlaces bytes P key tree to (depth + len + 1)
       goes_below {to} there =
           let b = get_or key (length front) 0 in
@@ -229,7 +229,7 @@ stands path node whole named = record { path = path; node = node; whole = whole;
 
 module _ {K V : Type 0} {s : Nodes K V} {bytes : K × V → List ℕ} {P : ℕ} {root : OpaqueNodePtr} {pairs : List (K × V)} {layout : Tree OpaqueNodePtr (K × V)}
     (by : IsCanonicalTree bytes P s root pairs layout) {key : List ℕ} where
-  -- a node to which the key's bytes lead by their places stands under its name
+  -- a node to which the key's bytes lead by their places is under its name
   pub by_there : {name : OpaqueNodePtr} {depth : ℕ} (d : IsByPlaces bytes P key layout name depth) → IsThere s d.node name
   by_there d = record { named = d.named; holds = node_holds by (stands d.path d.node d.whole d.named) }
 
@@ -237,7 +237,7 @@ module _ {K V : Type 0} {s : Nodes K V} {bytes : K × V → List ℕ} {P : ℕ} 
   pub guides_full : {name : OpaqueNodePtr} (a : AllGuide bytes key layout name) → IsFullTree s name a.node
   guides_full a = node_full by (stands a.path a.node a.whole a.named)
 
-  -- and its first leaf is one to be led by
+  -- and its first leaf can guide
   pub first_guides : {name : OpaqueNodePtr} (a : AllGuide bytes key layout name) {q : LeafPtr} → HasFirstLeaf a.node (leaf_name q) → IsGuide bytes key layout q
   first_guides a {q} first = record {
     pair = first.pair;
@@ -249,7 +249,7 @@ module _ {K V : Type 0} {s : Nodes K V} {bytes : K × V → List ℕ} {P : ℕ} 
   }
 
   module _ {q : LeafPtr} (g : IsGuide bytes key layout q) where
-    -- the leaf is there
+    -- the leaf is in the store
     pub guide_not_gone : None ≡ map.get s.leaves q → ⊥
     guide_not_gone gone = let (node, there, its) = leaf_found bytes P by g.has in absurd cc
 
@@ -269,7 +269,7 @@ module _ {K V : Type 0} {s : Nodes K V} {bytes : K × V → List ℕ} {P : ℕ} 
           let is : place_of bytes (depth_of d.frames) d.node ≡ d.place = ap (λ n. place_of bytes n d.node) (depth_is bytes P d.frames d.place d.leads) ∙ place_is bytes P d.node d.place d.radix in
           subst (λ z. IsFront z key → IsFront z (bytes g.pair)) is own d.on_way
 
-      -- so it has what all pairs below a node on the key's way have
+      -- so it has what all pairs below a node on the key's path have
       pub guide_is : {l : LeafNode K V} → Some l ≡ map.get s.leaves q → (Q : K × V → Type 0) → Each Q (pairs_of d.node) → Q (pair_of l)
       guide_is {l} read Q all =
           let (node, there, its) = leaf_found bytes P by g.has in

@@ -1,4 +1,4 @@
--- The ends of a segment, and what is left when one of them was handed out.
+-- The ends of a segment, and what is left when one of them was returned.
 use Rattle.std.proofs.Common.{◌≡◌, ◌≢◌, List, [], ◌∷◌, Option, Some, None, IsSome, is_some, eqb, true, false, refl, ap, sym, ◌∙◌, subst, inl, inr}
 use Rattle.std.specs.Option.{option_map, option_and_then}
 use Rattle.std.specs.FinMap as map
@@ -23,7 +23,7 @@ use Rattle.art_reading.specs.Iterators.{GoesOn, IsIteratorOf, TakesEnd, WalksWho
 use Rattle.art_reading.specs.Descents.{of_two}
 
 module _ {K V : Type 0} where
-  -- a leaf with links is there, and names these leaves
+  -- a leaf with links is in the store, and names these leaves
   pub linked_leaf : (o : Option (LeafNode K V)) (l : Links OpaqueNodePtr) → option_and_then links_of (option_map held_leaf o) ≡ Some l →
       (leaf : LeafNode K V) × (o ≡ Some leaf) × (option_map leaf_name leaf.previous ≡ l.previous) × (option_map leaf_name leaf.next ≡ l.next)
   linked_leaf None l e = absurd cc
@@ -48,7 +48,7 @@ pub other_slot : (p q : LeafPtr) → eqb p.slot q.slot ≡ false → p ≢ q
 other_slot p q e same = true≢false (sym (eq-eqb p.slot q.slot (ap (λ z. z.slot) same)) ∙ e)
 
 module _ {N : Type 0} where
-  -- a list with an element in front has a last one
+  -- a list with a first element has a last one
   last_or-some : (xs : List N) (x : N) → (q : N) × (last_or xs (Some x) ≡ Some q)
   last_or-some [] x = (x, refl)
   last_or-some (y ∷ ys) x = last_or-some ys y
@@ -66,7 +66,7 @@ module _ {K V : Type 0} {s : Nodes K V} where
   empty_iterator = record { ends = refl; segment = empty_segment }
 
 module _ {K V : Type 0} where
-  -- what is left of a walk stands in every store in which its links are as they were
+  -- what is left of an iteration is in every store in which its links are unchanged
   pub goes_on : GoesOn K V
   goes_on s t iterator names is same = record { ends = is.ends; segment = segment-frame (links_at t) names (each_from (λ n. links_at t n ≡ links_at s n) names same) is.segment }
 
@@ -74,12 +74,12 @@ module _ {K V : Type 0} where
   pub walks_whole : WalksWhole K V
   walks_whole bytes P s root pairs layout first last is begins ends = record { ends = (begins.name_is, ends.name_is); segment = tree_segment layout is.stands.0.distinct is.linked }
 
--- nothing is no value that is there
+-- nothing is no value
 gone : {A : Type 0} {o : Option A} → None ≡ o → IsSome o → ⊥
 gone none there = true≢false (sym there ∙ ap is_some (sym none))
 
 module _ {K V : Type 0} (s : Nodes K V) where
-  -- a leaf that is linked is there
+  -- a leaf that is linked is in the store
   pub there_in : (names : List OpaqueNodePtr) (before after : Option OpaqueNodePtr) (p : LeafPtr) → AreLinked (links_at s) before names after → IsIn (leaf_name p) names → IsSome (map.get s.leaves p)
   there_in [] before after p linked i = absurd i
   there_in (x ∷ xs) before after p linked (inl e) =
@@ -90,7 +90,7 @@ module _ {K V : Type 0} (s : Nodes K V) where
   there_in (x ∷ xs) before after p linked (inr i) = there_in xs (Some x) after p linked.1 i
 
   module _ {iterator : Option (LeafPtr × LeafPtr)} (names : List OpaqueNodePtr) (p : LeafPtr) (is : IsIteratorOf s iterator names) where
-    -- the first leaf that is left is there
+    -- the first leaf that is left is in the store
     pub end_there : Some (leaf_name p) ≡ first_of names → IsSome (map.get s.leaves p)
     end_there e = there_in names is.segment.before is.segment.after p is.segment.linked (front names e)
       where
@@ -113,7 +113,7 @@ module _ {K V : Type 0} (s : Nodes K V) (a b : LeafPtr) where
       let first : x ≡ leaf_name b = let g : leaf_name a ≡ leaf_name b = ap leaf_name same in cc in
       absurd (each_in (λ k. x ≢ k) (leaf_name b) (y ∷ ys) is.segment.distinct.0 (last_of_in (y ∷ ys) (leaf_name b) f) first)
 
-  -- the leaf at an end, and the one beside it
+  -- the leaf at an end, and the one next to it
   pub record HasNext (end : End) (names : List OpaqueNodePtr) : Type 0 where
     pub leaf : LeafNode K V
     pub there : map.get s.leaves (of_two end (a, b)) ≡ Some leaf
@@ -165,7 +165,7 @@ module _ {K V : Type 0} (s : Nodes K V) (a b : LeafPtr) where
         );
       }
 
-  -- the only leaf is taken from either end
+  -- the only leaf is removed from either end
   takes_one : (end : End) (names : List OpaqueNodePtr) → a ≡ b → IsIteratorOf s (Some (a, b)) names → TakesEnd end s names (Some (of_two end (a, b))) None
   takes_one First names same is = subst (λ z. TakesEnd First s z (Some a) None) (sym (one_left names same is)) (refl, empty_iterator)
   takes_one Last names same is = subst (λ z. TakesEnd Last s z (Some b) None) (sym (one_left names same is)) (ap (λ z. Some (leaf_name z)) (sym same), empty_iterator)
@@ -175,7 +175,7 @@ module _ {K V : Type 0} (s : Nodes K V) (a b : LeafPtr) where
     pub only_taken : eqb a.slot b.slot ≡ true → TakesEnd end s names (Some p) None
     only_taken one = subst (λ z. TakesEnd end s names (Some z) None) (sym at) (takes_one end names (same_slot a b one) is)
 
-    -- it is there
+    -- it is in the store
     pub no_end_gone : None ≡ map.get s.leaves p → ⊥
     no_end_gone none = go end at
       where

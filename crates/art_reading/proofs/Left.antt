@@ -1,4 +1,4 @@
--- how many nodes on the key's way there are from a node on
+-- how many nodes on the key's path there are from a node on
 use Rattle.std.proofs.Common.{◌≡◌, ◌≢◌, ℕ, ◌+◌, ◌<◌, ◌≤◌, List, [], ◌∷◌, ◌++◌, length, get_or, refl, ap, sym, ◌∙◌, arith, subst, length-append, Some, None}
 use Rattle.art_inner.specs.Inner.{Inner, child_at}
 use Rattle.art_parts.specs.Names.{inner_name}
@@ -37,7 +37,7 @@ module _ {A : Type 0} (bytes : A → List ℕ) (P : ℕ) (key place : List ℕ) 
     left_below : left_on_way bytes key (length place) (inner name h cs) ≡ 1 + count_on_way key (places_below bytes (length place + h.length_of + 1) cs)
     left_below = own_counts (inner name h cs) name (places_below bytes (length place + h.length_of + 1) cs) radix
 
-    -- it is the last one where the way goes below no child
+    -- it is the last one where the path continues below no child
     pub left_aside : AreAside front key cs → left_on_way bytes key (length place) (inner name h cs) ≡ 1
     left_aside aside =
         let none = ap length (none_match (λ node. node.0) key (places_below bytes (length place + h.length_of + 1) cs)
@@ -55,7 +55,7 @@ module _ {A : Type 0} (bytes : A → List ℕ) (P : ℕ) (key place : List ℕ) 
         let all = left_below in
         omega arith
 
--- what a descent by the key's bytes leaves to be read, whether its node is on the key's way or not
+-- what a descent by the key's bytes leaves to be read, whether its node is on the key's path or not
 module _ {A : Type 0} {bytes : A → List ℕ} {P : ℕ} {Lower Upper : A → Type 0} {tree : Tree OpaqueNodePtr A} {name : OpaqueNodePtr} {depth : ℕ}
     (d : IsDescent bytes P Lower Upper tree name depth) (key : List ℕ) where
   -- at a leaf
@@ -70,7 +70,7 @@ module _ {A : Type 0} {bytes : A → List ℕ} {P : ℕ} {Lower Upper : A → Ty
     below_left = subst (λ t. left_on_way bytes key depth t ≤ 1 + count_on_way key (places_below bytes (depth + shown.prefix.len + 1) at.children)) (sym at.is)
         (count_most key (place_of bytes depth (inner (inner_name p) (header_at p.kind shown) at.children), inner_name p) (places_below bytes (depth + shown.prefix.len + 1) at.children))
 
-    -- where the way goes below no child
+    -- where the path continues below no child
     pub aside_left : AreAside (front_of d at) key at.children → left_on_way bytes key depth d.at.node ≤ 1
     aside_left aside =
         let none = ap length (none_match (λ node. node.0) key (places_below bytes (depth + shown.prefix.len + 1) at.children)
@@ -78,7 +78,7 @@ module _ {A : Type 0} {bytes : A → List ℕ} {P : ℕ} {Lower Upper : A → Ty
         let all = below_left in
         omega arith
 
-    -- where the key does not go on with the prefix
+    -- where the key does not continue with the prefix
     pub off_left : (IsFront (front_of d at) key → ⊥) → left_on_way bytes key depth d.at.node ≤ 1
     off_left off = aside_left (aside_off (front_of d at) key at.children off)
 

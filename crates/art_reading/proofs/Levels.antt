@@ -1,4 +1,4 @@
--- how many levels stand below the nodes on a way down, and what its steps cost
+-- how many levels are below the nodes on a descent, and what its steps cost
 use Rattle.std.proofs.Common.{◌≡◌, ◌≢◌, ℕ, ◌+◌, ◌-◌, ◌*◌, ◌<◌, ◌≤◌, List, [], ◌∷◌, length, get_or, refl, ap, sym, ◌∙◌, arith, subst, Option, Some, None, Result, Ok, Err, true, false, Bool, leb}
 use Rattle.std.specs.FinMap as map
 use Rattle.std.proofs.lemmas.Bool.{leb-true, leb-false}
@@ -85,7 +85,7 @@ pub whole_part : {N A : Type 0} (P : ℕ) (fs : List (Frame N A)) (t : Tree N A)
 whole_part P [] t whole = whole
 whole_part P (f ∷ fs) t whole = whole_child P f.left f.byte t f.right (whole_part P fs (fill f t) whole).1
 
--- a node on the key's way stores its whole prefix then
+-- a node on the key's path stores its whole prefix then
 pub stored_at : {K V : Type 0} {s : Nodes K V} {bytes : K × V → List ℕ} {P : ℕ} {root : OpaqueNodePtr} {pairs : List (K × V)} {layout : Tree OpaqueNodePtr (K × V)}
     (by : IsCanonicalTree bytes P s root pairs layout) {key : List ℕ} {path : TreePath} {p : InnerPtr} {depth : ℕ} (d : IsAt bytes P key layout path (inner_name p) depth) →
     p.kind ≢ Leaf → {shown : Inner} → Some shown ≡ map.get s.inners p → IsWholeStored P layout → shown.prefix.len ≤ P
@@ -134,7 +134,7 @@ guide_most s root None = omega arith
 guide_most s root (Some name) = omega arith
 
 module _ {K V : Type 0} (bytes : K × V → List ℕ) (P : ℕ) (s : Nodes K V) (root : OpaqueNodePtr) (key : List ℕ) (path : TreePath) (name : OpaqueNodePtr) (depth : ℕ) where
-  -- A node on the key's way, those above which were read, in so many readings.
+  -- A node on the key's path, those above which were read, in so many readings.
   pub record IsReached (layout : Tree OpaqueNodePtr (K × V)) (number : ℕ) : Type 0 where
     pub at : IsAt bytes P key layout path name depth
     pub at_least : length (nodes_on_way bytes key layout) ≤ number + left_on_way bytes key depth at.node

@@ -69,11 +69,11 @@ module _ {K V : Type 0} {s : Nodes K V} {bytes : K × V → List ℕ} {P : ℕ} 
     at_leaf Q all = (Each-right Q (pairs_before has.path) (x ∷ []) (Each-left Q (pairs_before has.path ++ x ∷ []) (pairs_after has.path) (subst (Each Q) around all))).0
 
   module _ (end : ℕ) (ended : AreEnded bytes end pairs) (query : List ℕ) where
-    -- no text is a front of the query
+    -- no text is a prefix of the query
     pub none_found : EndsWalk bytes query pairs layout None → texts_in_front bytes query pairs ≡ []
     none_found off = filter_none (λ x. is_front (text_of bytes x) query) pairs (Each-weaker (λ x. IsFront (text_of bytes x) query → ⊥) (λ x. is_front (text_of bytes x) query ≡ false) (λ x o. not_front (text_of bytes x) query o) pairs off)
 
-    -- the text of the leaf is one, and goes on with each other
+    -- the text of the leaf is one, and continues with each other
     pub last_found : {name : LeafPtr} (c : IsCovering bytes query pairs layout name) → IsFront (text_of bytes c.pair) query → FindsLast layout (texts_in_front bytes query pairs) (Some name)
     last_found {name} c on = (c.pair, last, c.has)
       where
@@ -113,7 +113,7 @@ module _ {K V : Type 0} {s : Nodes K V} {bytes : K × V → List ℕ} {P : ℕ} 
             ∙ ap last_of (append-nil (filter test (pairs_before c.has.path) ++ c.pair ∷ []))
             ∙ last_snoc (filter test (pairs_before c.has.path)) c.pair
 
-    -- the leaf's text parts from the query: what they share serves as well
+    -- the leaf's text differs from the query: what they share serves as well
     module _ {name : LeafPtr} (c : IsCovering bytes query pairs layout name) where
       pub shared_is : take (length (common_front (text_of bytes c.pair) query)) query ≡ common_front (text_of bytes c.pair) query
       shared_is =
@@ -129,7 +129,7 @@ module _ {K V : Type 0} {s : Nodes K V} {bytes : K × V → List ℕ} {P : ℕ} 
           (λ f. (common_front_is_longest (text_of bytes c.pair) query).2 (text_of bytes x) (cover f) f)
           (λ f. front_trans (text_of bytes x) (common_front (text_of bytes c.pair) query) query f (common_front_right (text_of bytes c.pair) query))) pairs c.covers)
 
-      -- it begins the leaf's key
+      -- it is a prefix of the leaf's key
       begins : IsFront (common_front (text_of bytes c.pair) query) (bytes c.pair)
       begins =
           let e = at_leaf c.has (λ x. IsEndedBy end (bytes x)) ended in
@@ -172,7 +172,7 @@ module _ {K V : Type 0} {s : Nodes K V} {bytes : K × V → List ℕ} {P : ℕ} 
         FindsLast layout (texts_in_front bytes query pairs) (Some name)
     found_whole c all = last_found end ended query c (shared_whole (text_of bytes c.pair) query (omega arith))
 
-    -- the second way, along what is shared
+    -- the second descent, along what is shared
     pub found_again : {name : LeafPtr} (c : IsCovering bytes query pairs layout name) (n : ℕ) → n ≡ length (common_front (text_of bytes c.pair) query) →
         (result : Option LeafPtr) → EndsWalk bytes (take n query) pairs layout result → FindsLast layout (texts_in_front bytes query pairs) result
     found_again c n count result ends =

@@ -1,4 +1,4 @@
--- the way down with a key: what a look-up keeps at each node
+-- the descent with a key: what a lookup keeps at each node
 use Rattle.std.proofs.Common.{◌≡◌, ℕ, ◌+◌, ◌<◌, ◌≤◌, suc, zero, List, [], ◌∷◌, ◌++◌, length, take, drop, get_or, refl, ap, ap₂, sym, ◌∙◌, arith, subst, append_assoc, length-append, Some, None, Bool, true, false, cond}
 use Rattle.std.proofs.lemmas.List.{length-take, take-append-drop}
 use Rattle.art_inner.specs.Inner.{Inner, child_at}
@@ -27,7 +27,7 @@ use Rattle.art_reading.specs.Matching.{shared_len}
 use Rattle.art_reading.specs.PathSteps.{step_down, path_of}
 use Rattle.art_reading.specs.Stored.{ComparesAll, IsWholeStored, AreWholeStored}
 
--- how many of these nodes are on the key's way
+-- how many of these nodes are on the key's path
 abbrev pub count_on_way : {N : Type 0} → List ℕ → List (List ℕ × N) → ℕ
 count_on_way key nodes = length (match_of (λ node. node.0) key nodes)
 
@@ -36,7 +36,7 @@ pub whole_child : {N A : Type 0} (P : ℕ) (cs : Subtrees N A) (b : ℕ) (t : Tr
 whole_child P no_child b t ds whole = whole.0
 whole_child P (child c u cs) b t ds whole = whole_child P cs b t ds whole.1
 
--- A node of the tree below which all pairs are that match the key. The nodes above it were counted, and all of them are on the key's way if it is, as where each prefix is compared whole.
+-- A node of the tree below which all pairs are that match the key. The nodes above it were counted, and all of them are on the key's path if it is, as where each prefix is compared whole.
 pub record IsOnWay {A : Type 0} (bytes : A → List ℕ) (P : ℕ) (start : PrefixMatchBehavior) (key : List ℕ) (tree : Tree OpaqueNodePtr A) (way : TreePath) (name : OpaqueNodePtr)
     (depth : ℕ) (behavior : PrefixMatchBehavior) (before now : ℕ) : Type 0 where
   pub path : List (Frame OpaqueNodePtr A)
@@ -53,7 +53,7 @@ pub record IsOnWay {A : Type 0} (bytes : A → List ℕ) (P : ℕ) (start : Pref
   pub exactly : IsFront place key → before + count_on_way key (places bytes 0 tree) ≡ now + count_on_way key (places bytes depth node)
   pub compares : ComparesAll P start tree → ComparesAll P behavior node
 
--- the first of some nodes counts at most once, and exactly once where its place is a front of the key
+-- the first of some nodes counts at most once, and exactly once where its place is a prefix of the key
 module _ {N : Type 0} (key : List ℕ) (node : List ℕ × N) (nodes : List (List ℕ × N)) where
   pub count_most : count_on_way key (node ∷ nodes) ≤ 1 + count_on_way key nodes
   count_most = go (is_front node.0 key)
@@ -97,7 +97,7 @@ module _ {A : Type 0} {bytes : A → List ℕ} {P : ℕ} {start : PrefixMatchBeh
         let m = count_front key (take depth (bytes x), n) [] (subst (λ z. IsFront z key) (sym leaf_place) front) in
         omega arith
 
-  -- at an inner node that the store shows
+  -- at an inner node that the store has
   module _ {p : InnerPtr} {shown : Inner} (at : IsShown d.node p shown) where
     pub radix : IsRadix bytes P d.place (inner (inner_name p) (header_at p.kind shown) at.children)
     radix = subst (IsRadix bytes P d.place) at.is d.radix
@@ -139,7 +139,7 @@ module _ {A : Type 0} {bytes : A → List ℕ} {P : ℕ} {start : PrefixMatchBeh
         (places_below bytes (depth + shown.prefix.len + 1) at.children) (subst (λ z. IsFront z key) (sym own) front) in
         omega arith
 
-    -- no pair matches, and no node further down is on the key's way
+    -- no pair matches, and no node further down is on the key's path
     abbrev pub IsEnd : Type 0
     IsEnd =
         (match_of bytes key (pairs_of tree) ≡ []) × (before + count_on_way key (places bytes 0 tree) ≤ now + 1)
@@ -175,7 +175,7 @@ module _ {A : Type 0} {bytes : A → List ℕ} {P : ℕ} {start : PrefixMatchBeh
             let all = whole_shared shown.prefix.stored (drop depth key) whole in
             omega arith
 
-    -- no child goes on with the key
+    -- no child continues with the key
     pub ends_childless : child_at shown.children (get_or key (depth + shown.prefix.len) 0) ≡ None → IsEnd
     ends_childless none =
         let b = get_or key (length front) 0 in
@@ -201,7 +201,7 @@ module _ {A : Type 0} {bytes : A → List ℕ} {P : ℕ} {start : PrefixMatchBeh
     whole_len : shown.prefix.len ≤ P → shown.prefix.len ≤ length shown.prefix.stored
     whole_len few = let l = len_is in let t = ap length stored_is in let k = length-take P radix.0 in omega arith
 
-    -- a child goes on with the key
+    -- a child continues with the key
     pub goes_on : {to : OpaqueNodePtr} {after : PrefixMatchBehavior} → depth + shown.prefix.len < length key →
         child_at shown.children (get_or key (depth + shown.prefix.len) 0) ≡ Some to → (after ≡ Pessimistic → IsFront front key) →
         (behavior ≡ Pessimistic → shown.prefix.len ≤ length shown.prefix.stored → after ≡ Pessimistic) →

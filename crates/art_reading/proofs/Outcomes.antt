@@ -1,4 +1,4 @@
--- what the comparison of a prefix tells
+-- what the comparison of a prefix decides
 use Rattle.std.proofs.Common.{◌≡◌, ℕ, ◌<◌, ◌≤◌, ◌⊎◌, inl, inr, List, length, refl, ap, sym, Ok, Err, Bool, true, ltb, arith, false, not, IsTrue, ◌↔◌}
 use Rattle.std.proofs.lemmas.Bool.{le-ltb, lt-ltb, cases_lt, false≢true}
 use Rattle.art_parts.specs.Headers.{Prefix}
@@ -59,7 +59,7 @@ module _ (prefix : Prefix) (rest : List ℕ) where
       go (inl h) = inl (refl, h)
       go (inr h) = let k = rw (le-ltb (shared_len prefix.stored rest) (length prefix.stored) h) at e in inr (by_length_err prefix.len rest (ltb (length prefix.stored) prefix.len) m k)
 
-  -- who is pessimistic after a match was so before, and all bytes of the prefix are stored and the same
+  -- a behavior that is pessimistic after a match was so before, and all bytes of the prefix are stored and the same
   abbrev pub AllCompared : PrefixMatchBehavior → Type 0
   AllCompared behavior = (behavior ≡ Pessimistic) × (length prefix.stored ≤ shared_len prefix.stored rest) × (prefix.len ≤ length prefix.stored)
 
@@ -74,7 +74,7 @@ module _ (prefix : Prefix) (rest : List ℕ) where
       go (inr h) (inl stored) l =
           let k = rw (le-ltb (shared_len prefix.stored rest) (length prefix.stored) h, le-ltb (length rest) prefix.len l, lt-ltb (length prefix.stored) prefix.len stored) at after in absurd cc
 
-  -- who is pessimistic before a match with a prefix that is stored whole stays so
+  -- a behavior that is pessimistic before a match with a prefix that is stored whole stays so
   pub ok_sure : (behavior : PrefixMatchBehavior) (m : AttemptOptimisticPrefixMatch) → prefix_match behavior prefix rest ≡ Ok m →
       behavior ≡ Pessimistic → prefix.len ≤ length prefix.stored → behavior_after behavior prefix rest ≡ Pessimistic
   ok_sure Optimistic m e was stored = absurd cc
@@ -86,7 +86,7 @@ module _ (prefix : Prefix) (rest : List ℕ) where
           rw (le-ltb (shared_len prefix.stored rest) (length prefix.stored) h, le-ltb (length rest) prefix.len l, le-ltb (length prefix.stored) prefix.len stored) refl
 
 module _ (stored rest : List ℕ) where
-  -- whether the rest begins with what is stored says whether it parts from it
+  -- the rest starts with the stored bytes exactly if it does not differ from them
   pub begins_parts : (r : Bool) → IsTrue r ↔ IsFront stored rest → not r ≡ parts_from rest stored
   begins_parts true test =
       let whole = whole_shared stored rest (test.0 refl) in

@@ -1,4 +1,4 @@
--- the parent that a path ends with
+-- the parent at the end of a path
 use Rattle.std.proofs.Common.{◌≡◌, ◌≢◌, ℕ, ◌∷◌, List, [], refl, ap, sym, ◌∙◌, subst, inl, inr, Some}
 use Rattle.art_parts.specs.declared.names.NodeType.TheVariants.{Leaf}
 use Rattle.art_parts.specs.declared.names.InnerPtr.{InnerPtr}
@@ -23,7 +23,7 @@ last_step-step_down (ChildOfRoot parent b) node byte = refl
 last_step-step_down (Normal parent b grandparent c) node byte = refl
 
 module _ {K V : Type 0} (s : Nodes K V) (way : TreePath) (node : InnerPtr) (byte : ℕ) where
-  -- the node from which a path of a tree comes down is an inner one
+  -- the node from which a path of a tree descends is an inner one
   frames_proper : (fs : List (Frame OpaqueNodePtr (K × V))) (t : Tree OpaqueNodePtr (K × V)) → Holds (node_at s) (plug fs t) →
       step_down way node byte ≡ path_of fs → node.kind ≢ Leaf
   frames_proper [] t held is = let e = sym (last_step-step_down way node byte) ∙ ap last_step is in absurd cc

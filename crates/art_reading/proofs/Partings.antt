@@ -1,4 +1,4 @@
--- keys that part at a byte, and keys that are related
+-- keys that differ at a byte, and keys that are related
 use Rattle.std.proofs.Common.{◌≡◌, ◌≢◌, ℕ, ◌<◌, ◌≤◌, List, [], ◌∷◌, ◌++◌, length, refl, ap, sym, ◌∙◌, subst, arith, append_assoc, append-nil, length-append, Bool, true, false, ◌||◌, ◌&&◌, not, ◌⊎◌, inl, inr}
 use Rattle.std.specs.List.{AllByRecursion as Each}
 use Rattle.std.proofs.lemmas.Bool.{cases_order}
@@ -9,7 +9,7 @@ use Rattle.art_model.proofs.keys.Keys.{related_sym, front_related, front_same, n
 use Rattle.art_model.proofs.keys.Fronts.{ArePart, front_right, part_where, shared_whole}
 use Rattle.art_reading.specs.Matching.{shared_len}
 
--- keys that go on after a front with different bytes are not related
+-- keys that continue after a prefix with different bytes are not related
 pub unrelated_after : (front : List ℕ) (x y : ℕ) (a b : List ℕ) → IsFront (front ++ x ∷ []) a → IsFront (front ++ y ∷ []) b → x ≢ y → are_related a b ≡ false
 unrelated_after front x y a b f g differ = go (cases_order x y)
   where
@@ -41,7 +41,7 @@ pub some_equal : (a b : List ℕ) → (length a ≤ shared_len a b) ⊎ (length 
 some_equal a b (inl h) same = whole_same a b (shared_whole a b h) same
 some_equal a b (inr h) same = whole_same a b (shared_whole a b (omega arith)) same
 
--- what the comparison of lengths with what is shared tells, where the second key was read as `c`
+-- what the comparison of lengths with what is shared decides, where the second key was read as `c`
 module _ (a b c : List ℕ) (n : ℕ) (shared : n ≡ shared_len a c) (same : c ≡ b) where
   pub less_than_both : n < length a → n < length c → (are_related a b ≡ false) × (n ≡ shared_len a b)
   less_than_both h k = subst (λ l. (are_related a l ≡ false) × (n ≡ shared_len a l)) same (parted_unrelated (part_where a c (omega arith) (omega arith)), shared)

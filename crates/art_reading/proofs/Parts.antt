@@ -1,4 +1,4 @@
--- walks over the leaves of a part of a tree
+-- iterations over the leaves of a part of a tree
 use Rattle.std.proofs.Common.{◌≡◌, ℕ, List, [], ◌++◌, refl, ap, sym, ◌∙◌, subst, Some, None, IsSome, true, false}
 use Rattle.std.specs.List.{AllByRecursion as Each}
 use Rattle.std.specs.FinMap as map
@@ -31,7 +31,7 @@ use Rattle.art_reading.specs.Iterators.{IsIteratorOf}
 use Rattle.art_reading.specs.PartEnds.{HasAllBelow, StandsBetween}
 use Rattle.art_reading.proofs.Iterators.{empty_iterator}
 
--- a leaf of a tree that stands in a store is there
+-- a leaf of a tree in a store is in the store
 module _ {K V : Type 0} (s : Nodes K V) {tree : Tree OpaqueNodePtr (K × V)} (holds : Holds (node_at s) tree) {p : LeafPtr} where
   leaf_in : {x : K × V} → HasLeaf tree (leaf_name p) x → (shown : LeafNode K V) × (map.get s.leaves p ≡ Some shown) × (pair_of shown ≡ x)
   leaf_in {x} has = views.leaf_there s p x (path_holds (node_at s) has.path (leaf (leaf_name p) x) (subst (Holds (node_at s)) (sym has.whole) holds)).1
@@ -81,7 +81,7 @@ module _ {K V : Type 0} {s : Nodes K V} {bytes : K × V → List ℕ} {P : ℕ} 
         let split = subst (IsSegment (links_at s)) (ap leaf_names (sym at.whole) ∙ leaf_names-plug at.path at.node) all in
         segment_rest (leaves_before at.path) (leaf_names at.node) (segment_front (leaves_before at.path ++ leaf_names at.node) (leaves_after at.path) split)
 
-    -- its first leaf is there
+    -- its first leaf is in the store
     module _ {p : LeafPtr} (first : HasFirstLeaf at.node (leaf_name p)) where
       pub first_not_gone : None ≡ map.get s.leaves p → ⊥
       first_not_gone gone = least_not_gone s node_holds first gone
@@ -91,7 +91,7 @@ module _ {K V : Type 0} {s : Nodes K V} {bytes : K × V → List ℕ} {P : ℕ} 
       first_is Q all shown read = least_is s node_holds first Q all shown read
 
   module _ (prefix : List ℕ) where
-    -- no key begins with the prefix
+    -- no key starts with the prefix
     pub none_begins : below bytes prefix (pairs_of layout) ≡ [] → IsIteratorOf s None (leaves_where (λ x. is_front prefix (bytes x)) layout)
     none_begins none = subst (IsIteratorOf s None) (sym (where_none (λ x. is_front prefix (bytes x)) layout (none_passes (λ x. is_front prefix (bytes x)) (pairs_of layout) none))) empty_iterator
 

@@ -33,7 +33,7 @@ use Rattle.art_reading.specs.Matching.{shared_len}
 use Rattle.art_reading.specs.EndNodes.{IsCompared, IsLeafForPrefix}
 use Rattle.art_reading.specs.PartEnds.{IsPlaced}
 
--- what the comparison of a prefix says, where that is the whole prefix of the node
+-- what the comparison of a prefix returns, if it is the whole prefix of the node
 module _ {A : Type 0} (bytes : A → List ℕ) (P : ℕ) (key : List ℕ) (node : Tree OpaqueNodePtr A) (depth : ℕ) (leaf_ptr : Option LeafPtr) {prefix rest : List ℕ} where
   compared : (r : Result PrefixMatch ExplicitMismatch) → prefix ≡ prefix_of bytes depth node → rest ≡ drop depth key → IsLeafForPrefix P (prefix_of bytes depth node) node leaf_ptr →
       IfOk r (λ m. m.matched_bytes ≡ length prefix) → IfOk r (λ m. IsFront prefix rest) → IfErr r (λ m. m.matched_bytes ≡ shared_len prefix rest) →
@@ -79,7 +79,7 @@ module _ {K V : Type 0} {s : Nodes K V} {bytes : K × V → List ℕ} {P : ℕ} 
     stored_is : shown.prefix.len ≤ P → shown.prefix.stored ≡ prefix_of bytes depth node
     stored_is short = ap (λ h. h.stored) radix.1 ∙ take_all P radix.0 (let l = ap (λ h. h.length_of) radix.1 in omega arith) ∙ sym whole_prefix
 
-    -- what the comparison with a prefix that is stored whole says
+    -- what the comparison with a prefix that is stored whole returns
     pub matches_stored : {header : Prefix} {len : ℕ} {stored rest : List ℕ} (key : List ℕ) (r : Result PrefixMatch ExplicitMismatch) →
         header ≡ shown.prefix → len ≡ header.len → len ≤ P → stored ≡ header.stored → rest ≡ drop depth key →
         IfOk r (λ m. m.matched_bytes ≡ length stored) → IfOk r (λ m. IsFront stored rest) → IfErr r (λ m. m.matched_bytes ≡ shared_len stored rest) →
@@ -120,7 +120,7 @@ module _ {K V : Type 0} {s : Nodes K V} {bytes : K × V → List ℕ} {P : ℕ} 
           ap (λ n. drop n (bytes (pair_of l))) (sym part.depth_is) ∙ after_front part.place (bytes (pair_of l)) (radix.0 ++ r) (e ∙ append_assoc part.place radix.0 r) in
           ap (take shown.prefix.len) rest ∙ take_at radix.0 r shown.prefix.len (sym (ap (λ h. h.length_of) radix.1)) ∙ sym whole_prefix
 
-      -- what the comparison with a prefix that is read from the leaf says
+      -- what the comparison with a prefix that is read from the leaf returns
       module _ {header : Prefix} {len : ℕ} {text prefix rest : List ℕ} (key : List ℕ) (header_is : header ≡ shown.prefix) (long_is : len ≡ header.len)
           (text_is : text ≡ bytes (pair_of l)) (read : prefix ≡ take (depth + len - depth) (drop depth text)) (rest_is : rest ≡ drop depth key) where
         whole_read : prefix ≡ prefix_of bytes depth node

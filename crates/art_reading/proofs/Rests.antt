@@ -1,4 +1,4 @@
--- what a comparison of the ends of two slices says
+-- what a comparison of the ends of two slices returns
 use Rattle.std.proofs.Common.{◌≡◌, ◌≢◌, ◌∙◌, ℕ, ◌-◌, ◌≤◌, ◌↔◌, List, length, take, drop, length-drop, Bool, IsTrue, ap, subst, sym, arith}
 use Rattle.std.proofs.lemmas.List.{take_rest}
 use Rattle.art_model.specs.Keys.{IsFront}
@@ -19,7 +19,7 @@ rests_same {i} {n} {r} a b e test =
     let x = rest_is a e in
     let y = rest_is b e in (λ t. sym x ∙ test.0 t ∙ y, λ h. test.1 (x ∙ h ∙ sym y))
 
--- whether one begins with the other
+-- whether one starts with the other
 pub rest_front : {i n : ℕ} {r : Bool} (a b : List ℕ) → i ≡ n → IsTrue r ↔ IsFront (from_on i a) (from_on i b) → IsTrue r ↔ IsFront (drop n a) (drop n b)
 rest_front {i} {n} {r} a b e test =
     subst (λ z. IsTrue r ↔ IsFront z (drop n b)) (rest_is a e) (subst (λ z. IsTrue r ↔ IsFront (from_on i a) z) (rest_is b e) test)

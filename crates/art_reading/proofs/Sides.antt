@@ -1,4 +1,4 @@
--- the side of a key on which others are that begin alike
+-- on which side of a key others are that start alike
 use Rattle.std.proofs.Common.{◌≡◌, ℕ, ◌<◌, ◌≤◌, ◌⊎◌, List, [], ◌∷◌, ◌++◌, length, refl, ap, sym, ◌∙◌, arith, length-append, append-nil, Bool, IsTrue, ◌↔◌, inl, inr}
 use Rattle.std.specs.Cmp.Lexicographic.{slice_cmp}
 use Rattle.std.specs.Ordering.{nat_cmp, ordering_then}
@@ -26,7 +26,7 @@ decided_right a k w v s h = go (cases_order k a)
 longer : (a k : ℕ) (w key : List ℕ) → (IsFront (a ∷ w) (k ∷ key) → ⊥) → a ≡ k → IsFront w key → ⊥
 longer a k w key off e (r, f) = off (r, ap (λ z. z ∷ key) (sym e) ∙ ap (λ z. a ∷ z) f)
 
--- what begins with bytes that the key does not begin with is on the side of these bytes
+-- what starts with bytes that the key does not start with is on the side of these bytes
 pub apart_left : (w r key : List ℕ) → (IsFront w key → ⊥) → slice_cmp nat_cmp (w ++ r) key ≡ slice_cmp nat_cmp w key
 apart_left [] r key off = absurd (off (key, refl))
 apart_left (a ∷ w) r [] off = refl
@@ -37,7 +37,7 @@ apart_right [] r key off = absurd (off (key, refl))
 apart_right (a ∷ w) r [] off = refl
 apart_right (a ∷ w) r (k ∷ key) off = decided_right a k (w ++ r) w key (λ e. apart_right w r key (longer a k w key off e))
 
--- what goes on after bytes that are no fewer than the key's is on one side
+-- what continues after bytes that are no fewer than the key's is on one side
 pub ended_left : (w key r : List ℕ) (c : ℕ) → length key ≤ length w → slice_cmp nat_cmp (w ++ c ∷ r) key ≡ slice_cmp nat_cmp (w ++ 0 ∷ []) key
 ended_left [] [] r c h = refl
 ended_left [] (k ∷ key) r c h = absurd (omega arith)
@@ -50,7 +50,7 @@ ended_right [] (k ∷ key) r c h = absurd (omega arith)
 ended_right (a ∷ w) [] r c h = refl
 ended_right (a ∷ w) (k ∷ key) r c h = ap (ordering_then (nat_cmp k a)) (ended_right w key r c (omega arith))
 
--- a front of a list of the same length is the list
+-- a prefix of a list of the same length is the list
 pub whole_front : (a b : List ℕ) → length a ≡ length b → (t : Bool) → is_front a b ≡ t → IsTrue t ↔ (b ≡ a)
 whole_front a b same t e = (λ yes'. whole (front_from a b (e ∙ yes')), λ is. sym e ∙ ap (is_front a) (is ∙ sym (append-nil a)) ∙ front_is a [])
   where

@@ -76,13 +76,13 @@ module _ {E : Type 0} (p q : E → Bool) where
     fall_from : Pairwise (λ a b. q b ≡ true → q a ≡ true) (filter p xs)
     fall_from = Pairwise-filter (λ a b. q b ≡ true → q a ≡ true) p xs fall
 
-    -- the part stands in the list
+    -- the part is in the list
     pub span_in : filter (λ e. not (p e)) xs ++ (filter (λ e. p e && q e) xs ++ filter (λ e. not (q e)) (filter p xs)) ≡ xs
     span_in =
         ap (λ ys. filter (λ e. not (p e)) xs ++ (ys ++ filter (λ e. not (q e)) (filter p xs))) (filter_both xs)
         ∙ ap (λ ys. filter (λ e. not (p e)) xs ++ ys) (to_split q (filter p xs) fall_from) ∙ from_split p xs rise
 
-    -- it begins with the first element of which the first test holds, if the second one does
+    -- it starts with the first element of which the first test holds, if the second one does
     pub span_off : (x : E) (rest : List E) → filter p xs ≡ x ∷ rest → q x ≡ false → filter (λ e. p e && q e) xs ≡ []
     span_off x rest e off = filter_both xs ∙ ap (filter q) e ∙ none_to q x rest (subst (Pairwise (λ a b. q b ≡ true → q a ≡ true)) e fall_from) off
 

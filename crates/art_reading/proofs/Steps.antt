@@ -1,4 +1,4 @@
--- the steps of a way down, in the shape that its code shows
+-- the steps of a descent, in the shape of its code
 use Rattle.std.proofs.Common.{◌≡◌, ◌≢◌, ℕ, ◌+◌, ◌<◌, ◌≤◌, ◌⊎◌, inl, inr, List, [], length, drop, get_or, refl, ap, sym, ◌∙◌, arith, subst, length-drop, Option, Some, None, Result, Ok, Err}
 use Rattle.std.proofs.lemmas.Bool.{le-ltb, lt-ltb, cases_lt}
 use Rattle.std.specs.FinMap as map
@@ -65,7 +65,7 @@ module _ {K V : Type 0} {s : Nodes K V} {bytes : K × V → List ℕ} {P : ℕ} 
 
   module _ {start : PrefixMatchBehavior} {key : List ℕ} {way : TreePath} {name : OpaqueNodePtr} {depth : ℕ} {behavior : PrefixMatchBehavior} {before now : ℕ}
       (d : IsOnWay bytes P start key layout way name depth behavior before now) where
-    -- the node stands under its name
+    -- the node is under its name
     pub node_there : IsThere s d.node name
     node_there = record { named = d.named; holds = (path_holds (node_at s) d.path d.node (subst (Holds (node_at s)) (sym d.whole) by.stands.0.holds)).1 }
 
@@ -73,7 +73,7 @@ module _ {K V : Type 0} {s : Nodes K V} {bytes : K × V → List ℕ} {P : ℕ} 
     pub shown_here : (node : Ref) → ref_kind node ≡ name.kind → Some (ref_view node) ≡ map.get s.inners (as_inner name) → IsShown d.node (as_inner name) (ref_view node)
     shown_here node kind there = shown_met node_there (ref_proper node kind) refl there
 
-  -- at a leaf the way ends
+  -- at a leaf the path ends
   pub last_leaf : {start : PrefixMatchBehavior} {key : List ℕ} {name : OpaqueNodePtr} {before now after : ℕ} (last : LastLeaf K V) →
       IsOnWay bytes P start key layout last.path name last.depth last.behavior before now → leaf_name last.name ≡ name →
       Some last.node.now ≡ map.get s.leaves last.name → last.depth ≤ length key → after ≡ now + 1 → IsLastLeaf bytes P start key pairs layout before after last

@@ -1,4 +1,4 @@
--- The way down along a query, with the longest text so far.
+-- The descent along a query, with the longest text so far.
 use Rattle.std.proofs.Common.{◌≡◌, ◌≢◌, ℕ, ◌+◌, ◌<◌, ◌≤◌, ◌⊎◌, List, [], ◌∷◌, ◌++◌, length, length-append, append_assoc, get_or, refl, ap, sym, ◌∙◌, subst, arith, append-nil, Option, Some, None, inl, inr}
 use Rattle.std.specs.Bool.{⊤}
 use Rattle.std.specs.List.{AllByRecursion as Each}
@@ -38,26 +38,26 @@ use Rattle.art_model.specs.Texts.{AreEnded, IsEndedBy, text_of}
 use Rattle.art_reading.specs.TextWays.{EndsWalk, IsCovering, IsLeafOr}
 use Rattle.art_model.proofs.keys.Texts.{ended_text, front_in_text, front_of_fronts, front_short, goes_within, mark_ends}
 
--- a text was found that goes on with this one
+-- a text was found that continues with this one
 abbrev pub Covered : Option (List ℕ) → List ℕ → Type 0
 Covered None t = ⊥
 Covered (Some f) t = IsFront t f
 
--- the text that was found is a front of the query
+-- the text that was found is a prefix of the query
 abbrev pub IsOnTrack : Option (List ℕ) → List ℕ → Type 0
 IsOnTrack None query = ⊤
 IsOnTrack (Some f) query = IsFront f query
 
 module _ {A : Type 0} (bytes : A → List ℕ) (end : ℕ) (query : List ℕ) where
-  -- if the text of the pair is a front of the query, one was found that goes on with it
+  -- if the text of the pair is a prefix of the query, one was found that continues with it
   abbrev pub IsCovered : Option (List ℕ) → A → Type 0
   IsCovered found x = (t : List ℕ) → bytes x ≡ t ++ end ∷ [] → IsFront t query → Covered found t
 
-  -- if the query begins the key of the pair, what was found is a front of the query
+  -- if the query is a prefix of the key of the pair, what was found is a prefix of the query
   abbrev pub IsAlong : Option (List ℕ) → A → Type 0
   IsAlong found x = IsFront query (bytes x) → IsOnTrack found query
 
-  -- A pair beside the way.
+  -- A pair outside the path.
   pub record IsAside (found : Option (List ℕ)) (x : A) : Type 0 where
     pub covered : IsCovered found x
     pub off : IsFront query (bytes x) → ⊥
@@ -79,7 +79,7 @@ module _ {A : Type 0} (bytes : A → List ℕ) (end : ℕ) (query : List ℕ) wh
     IsFound (Some best) (Some f) = IsBest best f
 
 module _ {A : Type 0} (bytes : A → List ℕ) (end : ℕ) (query : List ℕ) (tree : Tree OpaqueNodePtr A) where
-  -- what leads to a place leads on
+  -- what leads to a place leads further
   pub leads_on : (place further : List ℕ) → IsFront place further → (best : Option LeafPtr) (found : Option (List ℕ)) → IsFound bytes end query tree place best found → IsFound bytes end query tree further best found
   leads_on place further on None None is = tt
   leads_on place further on None (Some f) is = is
@@ -93,14 +93,14 @@ module _ {A : Type 0} (bytes : A → List ℕ) (end : ℕ) (query : List ℕ) (t
     short = is.short;
   }
 
-  -- a key that begins with the place, and with the query
+  -- a key that starts with the place, and with the query
   pub along_place : (place : List ℕ) (best : Option LeafPtr) (found : Option (List ℕ)) → IsFound bytes end query tree place best found → (x : A) → IsFront place (bytes x) → IsAlong bytes end query found x
   along_place place None None is x at begins = tt
   along_place place None (Some f) is x at begins = absurd is
   along_place place (Some best) None is x at begins = absurd is
   along_place place (Some best) (Some f) is x at begins = front_of_fronts f query (bytes x) (front_trans f place (bytes x) is.leads at) begins is.short
 
-  -- the way ends, and all pairs are covered
+  -- the path ends, and all pairs are covered
   pub finish : (place : List ℕ) (best : Option LeafPtr) (found : Option (List ℕ)) → IsFound bytes end query tree place best found → (xs : List A) → AreEnded bytes end xs →
       Each (IsCovered bytes end query found) xs → Each (IsAlong bytes end query found) xs → EndsWalk bytes query xs tree best
   finish place None None is xs ended covered along =
@@ -121,13 +121,13 @@ module _ {A : Type 0} (bytes : A → List ℕ) (end : ℕ) (query : List ℕ) (t
         short = subst (λ z. length z ≤ length query) (sym own) is.short;
       }
 
--- The way down to a node, between pairs beside it, with the longest text so far.
+-- The descent to a node, between pairs outside it, with the longest text so far.
 pub record IsNestedWay {A : Type 0} (bytes : A → List ℕ) (P end : ℕ) (query : List ℕ) (tree : Tree OpaqueNodePtr A) (name : OpaqueNodePtr) (depth : ℕ) (best : Option LeafPtr) : Type 0 where
   pub found : Option (List ℕ)
   pub descent : IsDescent bytes P (IsAside bytes end query found) (IsAside bytes end query found) tree name depth
   pub is_found : IsFound bytes end query tree descent.place best found
 
--- What was found at a node with this whole front, and children under these bytes.
+-- What was found at a node with this whole prefix, and children under these bytes.
 pub record IsBetter {A : Type 0} (bytes : A → List ℕ) (end : ℕ) (query : List ℕ) (tree : Tree OpaqueNodePtr A) (w cs : List ℕ) (before : Option (List ℕ)) (after : Option LeafPtr) : Type 0 where
   pub found : Option (List ℕ)
   pub is_found : IsFound bytes end query tree w after found
@@ -139,7 +139,7 @@ each_top [] = tt
 each_top (x ∷ xs) = (tt, each_top xs)
 
 module _ {A : Type 0} (bytes : A → List ℕ) (P : ℕ) (w : List ℕ) (end : ℕ) where
-  -- what goes on after a text and its mark is a leaf
+  -- what continues after a text and its mark is a leaf
   no_inner : (n : OpaqueNodePtr) (h : NodeHeader) (cs : Subtrees OpaqueNodePtr A) → IsRadix bytes P (w ++ end ∷ []) (inner n h cs) → AreEnded bytes end (pairs_below cs) → ⊥
   no_inner n h no_child radix ended = let two = radix.2 in omega arith
   no_inner n h (child b t cs) radix ended =
@@ -152,7 +152,7 @@ module _ {A : Type 0} (bytes : A → List ℕ) (P : ℕ) (w : List ℕ) (end : �
       let long = ap length (sym e.is ∙ leads.1) in
       omega (arith, simp length-append at long)
 
--- the leaf of a child that stands under the mark
+-- the leaf of a child that is under the mark
 pub record IsMarked {A : Type 0} (bytes : A → List ℕ) (end : ℕ) (tree : Tree OpaqueNodePtr A) (w : List ℕ) (best : LeafPtr) : Type 0 where
   pub x : A
   pub has : HasLeaf tree (leaf_name best) x
@@ -218,14 +218,14 @@ module _ {K V : Type 0} {s : Nodes K V} {bytes : K × V → List ℕ} {P : ℕ} 
             (subst (λ t. Each Q (pairs_of t)) (sym is) (own, tt)))
             (Each-weaker (IsAside bytes end query way.found) Q aside (pairs_after at.path) at.after))
 
-        -- whose text is no front of the query
+        -- whose text is no prefix of the query
         pub other_leaf : (IsFront (text_of bytes x) query → ⊥) → EndsWalk bytes query (pairs_of layout) layout best
         other_leaf off =
             finish bytes end query layout way.descent.place best way.found way.is_found (pairs_of layout) ended
             (all (IsCovered bytes end query way.found) (λ y a. a.covered) (λ t e f. absurd (off (subst (λ z. IsFront z query) (sym (ap without_last e ∙ ended_text t end)) f))))
             (all (IsAlong bytes end query way.found) (λ y a b. absurd (a.off b)) (along_place bytes end query layout way.descent.place best way.found way.is_found x leads_leaf))
 
-        -- whose text is a front of the query
+        -- whose text is a prefix of the query
         pub own_leaf : IsFront (text_of bytes x) query → EndsWalk bytes query (pairs_of layout) layout (Some n)
         own_leaf on =
             let has : HasLeaf layout (leaf_name n) x = record { path = way.descent.at.path; whole = ap (plug way.descent.at.path) (sym is) ∙ way.descent.at.whole } in
@@ -314,7 +314,7 @@ module _ {K V : Type 0} {s : Nodes K V} {bytes : K × V → List ℕ} {P : ℕ} 
             covered_on (Some b) (Some f) i t c = front_trans t f whole c (front_trans f way.descent.place whole i.leads place_whole)
         better short (Some to) there (inr (proper, is)) = absurd (not_inner whole (child_of end there).0 (child_of end there).1 proper)
 
-        -- the way ends here: what was found, and that no text of a pair below goes on with the query
+        -- the path ends here: what was found, and that no text of a pair below continues with the query
         module _ (after : Option LeafPtr) (found : Option (List ℕ)) (is_found : IsFound bytes end query layout whole after found) (outer : (t : List ℕ) → Covered way.found t → Covered found t) where
           pub ends : ((c : ℕ) → IsIn c (bytes_of at.children) → (x : K × V) → IsFront (whole ++ c ∷ []) (bytes x) → IsCovered bytes end query found x) → EndsWalk bytes query (pairs_of layout) layout after
           ends covered =
@@ -352,7 +352,7 @@ module _ {K V : Type 0} {s : Nodes K V} {bytes : K × V → List ℕ} {P : ℕ} 
               go (inl (same, mark)) = subst (Covered b.found) (sym same) (b.here c i mark)
               go (inr g) = absurd (off (front_trans (whole ++ c ∷ []) t query g f))
 
-          -- no text goes on with the query
+          -- no text continues with the query
           pub ends_here : ((c : ℕ) → IsIn c (bytes_of at.children) → IsFront (whole ++ c ∷ []) query → ⊥) → EndsWalk bytes query (pairs_of layout) layout after
           ends_here off = ends after b.found b.is_found b.outer (λ c i x leads. covered_off c i (off c i) x leads)
 
@@ -368,7 +368,7 @@ module _ {K V : Type 0} {s : Nodes K V} {bytes : K × V → List ℕ} {P : ℕ} 
             pub ends_gap : child_at shown.children (get_or query (length whole) 0) ≡ None → EndsWalk bytes query (pairs_of layout) layout after
             ends_gap none = ends_here (λ c i f. child_there way.descent at c i (ap (child_at shown.children) (next_byte c f) ∙ none))
 
-            -- the way goes on below that child
+            -- the path continues below that child
             pub goes_on : {to : OpaqueNodePtr} → child_at shown.children (get_or query (length whole) 0) ≡ Some to → IsNestedWay bytes P end query layout to (depth + shown.prefix.len + 1) after
             goes_on {to} there =
                 let now = down turned at (get_or query (length whole) 0) there

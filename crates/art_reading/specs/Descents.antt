@@ -1,4 +1,4 @@
--- Where the ways down end, with a key and along an edge.
+-- Where the descents end, with a key and along an edge.
 use Rattle.std.specs.Prelude.{◌≡◌, ℕ, ◌+◌, ◌-◌, ◌≤◌, List, [], ◌∷◌, length, slice_get, Option, Some, None}
 use Rattle.art_parts.specs.Names.{leaf_name}
 use Rattle.art_nodes.specs.Nodes.{Nodes}
@@ -38,14 +38,14 @@ module _ {K V : Type 0} (bytes : K × V → List ℕ) (P : ℕ) (start : PrefixM
     pub at_least : before + length (nodes_on_way bytes key layout) ≤ after
     pub exactly : IsFront place key → before + length (nodes_on_way bytes key layout) ≡ after
 
-  -- the way ends at a leaf, or where no key can match
+  -- the path ends at a leaf, or where no key can match
   abbrev pub WalkEnds : Option (LastLeaf K V) → Type 0
   WalkEnds None =
       (match_of bytes key pairs ≡ []) × (before + length (nodes_on_way bytes key layout) ≤ after)
       × (ComparesAll P start layout → before + length (nodes_on_way bytes key layout) ≡ after)
   WalkEnds (Some last) = IsLastLeaf last
 
--- what a way down counts that begins with this behavior: at least the nodes on the key's way, exactly these where a leaf is
+-- what a descent counts that starts with this behavior: at least the nodes on the key's path, exactly these where a leaf is
 -- found or each prefix is compared whole, and at most one more than the key has bytes
 pub record CountsVisitsFrom (start : PrefixMatchBehavior) {K V : Type 0} (bytes : K × V → List ℕ) (P : ℕ) (s : Nodes K V) (root : OpaqueNodePtr)
     (key : List ℕ) (before after : ℕ) (IsFound : Type 0) : Type 0 where
@@ -56,7 +56,7 @@ pub record CountsVisitsFrom (start : PrefixMatchBehavior) {K V : Type 0} (bytes 
       ComparesAll P start layout → before + length (nodes_on_way bytes key layout) ≡ after)
   pub at_most : after ≤ before + length key + 1
 
--- what a look-up counts: at least the nodes on the key's way, exactly these where a leaf is found or each prefix is stored whole, and at most one more than the key has bytes
+-- what a lookup counts: at least the nodes on the key's path, exactly these where a leaf is found or each prefix is stored whole, and at most one more than the key has bytes
 abbrev pub CountsVisits : {K V : Type 0} → (K × V → List ℕ) → ℕ → Nodes K V → OpaqueNodePtr → List ℕ → ℕ → ℕ → Type 0 → Type 0
 CountsVisits bytes P s root key before after IsFound = CountsVisitsFrom Pessimistic bytes P s root key before after IsFound
 

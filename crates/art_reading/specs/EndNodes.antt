@@ -1,4 +1,4 @@
--- What a key comes to at its end node, and the way down to there.
+-- What is to be done with a key at its end node, and the descent to it.
 use Rattle.std.specs.Prelude.{◌≡◌, ◌≢◌, ℕ, ◌+◌, ◌-◌, ◌<◌, ◌≤◌, if◌then◌else◌, ◌==◌, true, false, List, length, drop, get_or, slice_get, Option, Some, None, is_none, Result, Ok, Err}
 use Rattle.art_inner.specs.Inner.{child_at}
 use Rattle.art_parts.specs.Names.{leaf_name, inner_name}
@@ -25,18 +25,18 @@ use Rattle.art_reading.specs.Matching.{shared_len}
 use Rattle.art_reading.specs.PathSteps.{path_of, step_down}
 use Rattle.art_reading.specs.Readings.{left_on_way}
 
--- a key and a leaf's key part after so many bytes, each with a byte of its own
+-- a key and a leaf's key differ after so many bytes, each with a byte of its own
 abbrev pub PartAfter : ℕ → List ℕ → List ℕ → Type 0
 PartAfter shared key other = (are_related key other ≡ false) × (shared ≡ shared_len key other)
 
--- what is to be done at a leaf: the keys part, or are the same; nothing where they are related and unequal
+-- what is to be done at a leaf: the keys differ, or are the same; nothing where they are related and unequal
 abbrev pub IsKindFor : List ℕ → LeafPtr → List ℕ → Option InsertKind → Type 0
 IsKindFor key name other None = (are_related key other ≡ true) × (key ≢ other)
 IsKindFor key name other (Some (Exact p)) = (p ≡ name) × (other ≡ key)
 IsKindFor key name other (Some (SplitLeaf p shared)) = (p ≡ name) × PartAfter shared key other
 IsKindFor key name other (Some kind) = ⊥
 
--- the least leaf below a node, exactly where the node's prefix is longer than what can be stored of it
+-- the least leaf below a node, exactly if the node's prefix is longer than its stored bytes
 abbrev pub IsLeafForPrefix : {A : Type 0} → ℕ → List ℕ → Tree OpaqueNodePtr A → Option LeafPtr → Type 0
 IsLeafForPrefix P prefix node None = length prefix ≤ P
 IsLeafForPrefix P prefix node (Some name) = (P < length prefix) × HasFirstLeaf node (leaf_name name)
@@ -47,7 +47,7 @@ abbrev pub used_in_prefix : List ℕ → ℕ → List ℕ → ℕ
 used_in_prefix key depth prefix = if length key == depth + length prefix then length key - 1 else depth
 
 module _ {A : Type 0} (bytes : A → List ℕ) (key : List ℕ) (depth : ℕ) where
-  -- all keys of the node give way to the key: it is a leaf whose key is related to the key and unequal,
+  -- all keys of the node are replaced by the key: it is a leaf whose key is related to the key and unequal,
   -- or an inner node in whose prefix, or with it, the key ends
   abbrev pub IsOverwrittenWith : ℕ → Tree OpaqueNodePtr A → Type 0
   IsOverwrittenWith used (leaf n pair) =
@@ -58,7 +58,7 @@ module _ {A : Type 0} (bytes : A → List ℕ) (key : List ℕ) (depth : ℕ) wh
 
 module _ {A : Type 0} (bytes : A → List ℕ) (P : ℕ) (key : List ℕ) (node : Tree OpaqueNodePtr A) (depth : ℕ) where
   -- the node's prefix and the rest of the key are the same up to a byte of the prefix,
-  -- which the key parts from or ends before
+  -- at which the key differs or ends
   pub record IsMismatch (mismatch : ExplicitMismatch) : Type 0 where
     pub matched : mismatch.matched_bytes ≡ shared_len (prefix_of bytes depth node) (drop depth key)
     pub byte : slice_get (prefix_of bytes depth node) mismatch.matched_bytes ≡ Some mismatch.prefix_byte
@@ -81,14 +81,14 @@ module _ {A : Type 0} (bytes : A → List ℕ) (P : ℕ) (key : List ℕ) (node 
       (header : NodeHeader) × (children : Subtrees OpaqueNodePtr A) ×
       (node ≡ inner (inner_name p) header children) × AreSuch children
 
-  -- the key goes on after the node's prefix, to whose end so many bytes lead
+  -- the key continues after the node's prefix, to whose end so many bytes lead
   abbrev pub GoesOnAfter : ℕ → Type 0
   GoesOnAfter used =
       IsFront (prefix_of bytes depth node) (drop depth key) ×
       (used ≡ depth + length (prefix_of bytes depth node)) × (used < length key)
 
-  -- what the node is for each kind: the key's own leaf; a leaf whose key parts from the key; an inner node
-  -- with no child for the byte after its prefix; one from whose prefix the key parts at a byte
+  -- what the node is for each kind: the key's own leaf; a leaf whose key differs from the key; an inner node
+  -- with no child for the byte after its prefix; one whose prefix the key differs from at a byte
   abbrev pub IsKindOf : ℕ → InsertKind → Type 0
   IsKindOf used (Exact p) = (used ≡ depth) × IsLeafWith p (λ other. other ≡ key)
   IsKindOf used (SplitLeaf p shared) = (used ≡ depth) × IsLeafWith p (PartAfter shared key)
@@ -97,13 +97,13 @@ module _ {A : Type 0} (bytes : A → List ℕ) (P : ℕ) (key : List ℕ) (node 
   IsKindOf used (MismatchPrefix mismatch p) = (used ≡ depth) ×
       IsInnerWith p (λ children. IsMismatch mismatch × (depth + mismatch.matched_bytes < length key))
 
-  -- what the key comes to at the node: a kind that the node is of, or none where all its keys give way
+  -- what is to be done at the node: a kind that the node is of, or none where all its keys are replaced
   abbrev pub ComesTo : ℕ → Option InsertKind → Type 0
   ComesTo used (Some kind) = IsKindOf used kind
   ComesTo used None = IsOverwrittenWith bytes key depth used node
 
 module _ {A : Type 0} (bytes : A → List ℕ) (P : ℕ) where
-  -- The key's end node, with the parent and the grandparent of that and the bytes that lead down.
+  -- The key's end node, with its parent and grandparent and the bytes that lead down.
   pub record HasEndNode (layout : Tree OpaqueNodePtr A) (key : List ℕ) (end : EndNode) : Type 0 where
     pub path : List (Frame OpaqueNodePtr A)
     pub node : Tree OpaqueNodePtr A
@@ -112,7 +112,7 @@ module _ {A : Type 0} (bytes : A → List ℕ) (P : ℕ) where
     pub name_is : end.name ≡ name_of node
     pub kind_is : ComesTo bytes P key node (depth_of path) end.key_bytes_used end.insert_kind
 
-  -- the key's end node, which has no kind exactly where a stored key is related to the key and unequal
+  -- the key's end node, which has no kind exactly if an unequal stored key is related to the key
   abbrev pub IsEndFor : List ℕ → List A → Tree OpaqueNodePtr A → EndNode → Type 0
   IsEndFor key pairs layout end =
       (is_conflict bytes key pairs ≡ is_none end.insert_kind) × HasEndNode layout key end
@@ -130,7 +130,7 @@ module _ {A : Type 0} (bytes : A → List ℕ) (P : ℕ) where
     pub depth_is : length place ≡ depth
     pub path_is : path ≡ path_of frames
 
-  -- a step from such a node ends there, at the key's end node and the last one on its way, or comes to the next one on it
+  -- a step from such a node ends there, at the key's end node and the last one on its path, or leads to the next one on it
   abbrev pub IsStepFrom : (key : List ℕ) → List A → (layout : Tree OpaqueNodePtr A) → (path : TreePath) →
       (name : OpaqueNodePtr) → (depth : ℕ) → IsAt key layout path name depth → SearchStep → Type 0
   IsStepFrom key pairs layout path name depth at (End kind used) =

@@ -1,4 +1,4 @@
--- Guide leaves of a key: the whole prefix of each node on the key's way can be read from one of them.
+-- Guide leaves of a key: the whole prefix of each node on the key's path can be read from one of them.
 use Rattle.std.specs.Prelude.{◌≡◌, ℕ, List, Option, Some, None, ⊤}
 use Rattle.std.specs.List.{AllByRecursion as Each}
 use Rattle.art_parts.specs.Names.{leaf_name}
@@ -13,11 +13,11 @@ use Rattle.art_model.specs.Radix.{pairs_of}
 use Rattle.art_model.specs.Trees.{Tree}
 
 module _ {A : Type 0} (bytes : A → List ℕ) (key : List ℕ) (layout : Tree OpaqueNodePtr A) where
-  -- another key that starts with the place of each node on the key's way
+  -- another key that starts with the place of each node on the key's path
   abbrev pub GoesAlong : List ℕ → Type 0
   GoesAlong other = Each (λ node. IsFront node.0 key → IsFront node.0 other) (places bytes 0 layout)
 
-  -- A leaf of the tree whose key starts with the place of each node on the key's way.
+  -- A leaf of the tree whose key starts with the place of each node on the key's path.
   pub record IsGuide (name : LeafPtr) : Type 0 where
     pub pair : A
     pub has : HasLeaf layout (leaf_name name) pair

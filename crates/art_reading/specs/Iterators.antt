@@ -16,7 +16,7 @@ use Rattle.art_model.specs.Trees.{Tree}
 use Rattle.art_reading.specs.declared.descent.End.{End}
 use Rattle.art_reading.specs.declared.descent.End.TheVariants.{First, Last}
 
--- the list goes from the first to the last of these leaves, and is empty where there are none
+-- the list is from the first to the last of these leaves, and is empty where there are none
 abbrev pub HasEnds : Option (LeafPtr × LeafPtr) → List OpaqueNodePtr → Type 0
 HasEnds None names = names ≡ []
 HasEnds (Some ends) names = (first_of names ≡ Some (leaf_name ends.0)) × (last_of names ≡ Some (leaf_name ends.1))
@@ -27,7 +27,7 @@ pub record IsIteratorOf {K V : Type 0} (s : Nodes K V) (iterator : Option (LeafP
   pub ends : HasEnds iterator names
   pub segment : IsSegment (links_at s) names
 
--- the leaf at an end of these is taken, and the iterator stands for the others
+-- the leaf at an end of these is removed, and the iterator stands for the others
 abbrev pub TakesEnd : {K V : Type 0} → End → Nodes K V → List OpaqueNodePtr → Option LeafPtr → Option (LeafPtr × LeafPtr) → Type 0
 TakesEnd First s names leaf left = (option_map leaf_name leaf ≡ first_of names) × IsIteratorOf s left (without_first names)
 TakesEnd Last s names leaf left = (option_map leaf_name leaf ≡ last_of names) × IsIteratorOf s left (without_last names)
@@ -35,7 +35,7 @@ TakesEnd Last s names leaf left = (option_map leaf_name leaf ≡ last_of names) 
 -- ---- laws
 
 module _ (K V : Type 0) where
-  -- an iterator stands for the same leaves in every store in which they have the links that they had
+  -- an iterator stands for the same leaves in every store in which they have the same links
   abbrev pub GoesOn : Type 0
   GoesOn =
       (s t : Nodes K V) (iterator : Option (LeafPtr × LeafPtr)) (names : List OpaqueNodePtr) →

@@ -1,4 +1,4 @@
--- what look-ups and walks speak of
+-- the definitions that lookups and iterations cite
 pub use Rattle.art_model.specs.Pairs
 pub use Rattle.art_model.specs.Trees
 pub use Rattle.art_model.specs.Roots

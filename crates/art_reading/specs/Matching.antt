@@ -1,4 +1,4 @@
--- How a look-up compares the prefix of an inner node, and the key of a leaf, with its query.
+-- How a lookup compares the prefix of an inner node, and the key of a leaf, with its query.
 use Rattle.std.specs.Prelude.{◌≡◌, ℕ, min, ◌||◌, nat_lt, if◌then◌else◌, length, slice_get, drop, Bool, true, List, ◌++◌, ◌≤◌, None, Result, Ok, Err, ◌+◌, ◌&&◌, is_ok, get_or, Option}
 use Rattle.art_parts.specs.Headers.{Prefix}
 use Rattle.std.specs.Option.{option_map}
@@ -10,17 +10,17 @@ use Rattle.art_reading.specs.declared.matching.PrefixMatchBehavior.TheVariants.{
 use Rattle.art_reading.specs.declared.path.AttemptOptimisticPrefixMatch.{AttemptOptimisticPrefixMatch}
 use Rattle.art_reading.specs.declared.path.PessimisticMismatch.{PessimisticMismatch}
 
--- The bytes and at most one more are the rest of a key.
+-- The bytes and at most one further are the rest of a key.
 pub record HasRest (rest bytes : List ℕ) : Type 0 where
   pub last : List ℕ
   pub is : rest ≡ bytes ++ last
   pub few : length last ≤ 1
 
--- the length of the longest prefix that two keys have in common
+-- the length of the longest common prefix of two keys
 abbrev pub shared_len : List ℕ → List ℕ → ℕ
 shared_len a b = length (common_front a b)
 
--- a prefix of this length matches where the rest of the query is no shorter; the `Bool` says whether bytes of it are passed over
+-- a prefix of this length matches where the rest of the query is no shorter; the `Bool` says whether bytes of it are skipped
 abbrev pub match_by_length : ℕ → List ℕ → Bool → Result AttemptOptimisticPrefixMatch PessimisticMismatch
 match_by_length len rest implicit =
     if nat_lt (length rest) len then
@@ -28,7 +28,7 @@ match_by_length len rest implicit =
     else
     Ok (record { matched_bytes = len; any_implicit_bytes = implicit })
 
--- whether the rest of the query parts from the bytes that are stored of a prefix
+-- whether the rest of the query differs from the stored bytes of a prefix
 abbrev pub parts_from : List ℕ → List ℕ → Bool
 parts_from rest stored = nat_lt (shared_len stored rest) (length stored)
 
@@ -45,7 +45,7 @@ prefix_match Pessimistic prefix rest =
     else
     match_by_length prefix.len rest (nat_lt (length prefix.stored) prefix.len)
 
--- the behavior after the comparison: optimistic once bytes were passed over, or the query ended before the prefix
+-- the behavior after the comparison: optimistic once bytes were skipped, or the query ended before the prefix
 abbrev pub behavior_after : PrefixMatchBehavior → Prefix → List ℕ → PrefixMatchBehavior
 behavior_after Optimistic prefix rest = Optimistic
 behavior_after Pessimistic prefix rest =
@@ -61,7 +61,7 @@ child_below behavior node key depth =
     option_map (λ child. (place, child)) (child_at node.children (get_or key place 0))
     else None
 
--- how many bytes at the beginning of a leaf's key and of the query are not compared: none once bytes were passed over
+-- how many of the first bytes of a leaf's key and of the query are not compared: none once bytes were skipped
 abbrev pub compared_from : PrefixMatchBehavior → ℕ → List ℕ → List ℕ → ℕ
 compared_from Optimistic depth leaf query = 0
 compared_from Pessimistic depth leaf query = min depth (min (length leaf) (length query))

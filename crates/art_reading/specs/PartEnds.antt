@@ -1,4 +1,4 @@
--- Where the ways down to parts of a tree end.
+-- Where the descents to parts of a tree end.
 use Rattle.std.specs.Prelude.{◌≡◌, ℕ, Bool, false, not, List, [], length, Option, Some, None}
 use Rattle.std.specs.Option.{option_map}
 use Rattle.std.specs.List.{AllByRecursion as Each}
@@ -31,23 +31,23 @@ module _ {A : Type 0} (Lower Upper : A → Type 0) (layout : Tree OpaqueNodePtr 
     pub before : Each Lower (pairs_before path)
     pub after : Each Upper (pairs_after path)
 
--- the key of the pair does not begin with the prefix
+-- the key of the pair does not start with the prefix
 abbrev pub IsNotBelow : {A : Type 0} → (A → List ℕ) → List ℕ → A → Type 0
 IsNotBelow bytes prefix x = is_front prefix (bytes x) ≡ false
 
 module _ {A : Type 0} (bytes : A → List ℕ) (prefix : List ℕ) (layout : Tree OpaqueNodePtr A) where
-  -- A node below which all keys are that begin with the prefix: all or none of its own do.
+  -- A node below which all keys are that start with the prefix: all or none of its own do.
   pub record HasAllBelow (name : OpaqueNodePtr) : Type 0 where
     pub at : StandsBetween (IsNotBelow bytes prefix) (IsNotBelow bytes prefix) layout name
     pub begin : Bool
     pub alike : Each (λ x. is_front prefix (bytes x) ≡ begin) (pairs_of at.node)
 
-  -- the way ends at such a node, by the path to it; or no key begins with the prefix
+  -- the path ends at such a node; or no key starts with the prefix
   abbrev pub EndsBelow : Option LastNode → Type 0
   EndsBelow None = below bytes prefix (pairs_of layout) ≡ []
   EndsBelow (Some end) = (all : HasAllBelow end.name) × (end.path ≡ path_of all.at.path)
 
--- A node of the tree beside a key: the pairs before the node are before the key, those after the node after it, and all of its own on one side.
+-- A node of the tree next to a key: the pairs before the node are before the key, those after the node after it, and all of its own on one side.
 pub record StandsBeside {A : Type 0} (bytes : A → List ℕ) (key : List ℕ) (layout : Tree OpaqueNodePtr A) (name : OpaqueNodePtr) : Type 0 where
   pub at : StandsBetween (λ x. Precedes (bytes x) key) (λ x. Precedes key (bytes x)) layout name
   pub is_lower : Bool

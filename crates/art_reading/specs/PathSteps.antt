@@ -1,4 +1,4 @@
--- Paths of code: one step down and up, the last steps of a path of the model, the parent that a path ends with, and the root.
+-- Paths of code: one step down and up, the last steps of a path of the model, the parent at the end of a path, and the root.
 use Rattle.std.specs.Prelude.{ℕ, List, [], ◌∷◌, Option, Some, None}
 use Rattle.art_parts.specs.declared.names.NodeType.{NodeType}
 use Rattle.art_parts.specs.declared.names.NodeType.TheVariants as kinds
@@ -16,13 +16,13 @@ step_down Root node byte = ChildOfRoot node byte
 step_down (ChildOfRoot parent b) node byte = Normal node byte parent b
 step_down (Normal parent b grandparent c) node byte = Normal node byte parent b
 
--- the path with a parent and a grandparent of these kinds, where one of the kind of leaves is not there
+-- the path with a parent and a grandparent of these kinds, where the kind of leaves means none
 abbrev pub path_with : NodeType → NodeType → InnerPtr → ℕ → InnerPtr → ℕ → TreePath
 path_with kinds.Leaf above parent byte grandparent b = Root
 path_with kind kinds.Leaf parent byte grandparent b = ChildOfRoot parent byte
 path_with kind above parent byte grandparent b = Normal parent byte grandparent b
 
--- the path that the last steps of a way make
+-- the path that these last steps make
 abbrev pub path_after : LastSteps → TreePath
 path_after steps =
     path_with steps.parent_kind steps.grandparent_kind

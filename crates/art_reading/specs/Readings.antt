@@ -20,17 +20,17 @@ use Rattle.art_reading.specs.declared.path.ExplicitMismatch.{ExplicitMismatch}
 use Rattle.art_reading.specs.declared.path.PrefixMatch.{PrefixMatch}
 use Rattle.art_reading.specs.Stored.{IsWholeStored}
 
--- The counter rises by the number of readings, as far as a `usize` goes; of that number this holds.
+-- The counter increases by the number of readings, as far as a `usize` goes; this holds of that number.
 pub record CountsReadings (before after : ℕ) (IsNumber : ℕ → Type 0) : Type 0 where
   pub number : ℕ
   pub counted : after ≡ before + min number (2 ^ 64 - 1 - before)
   pub is_number : IsNumber number
 
--- how many nodes are on the key's way from a node on, to which so many bytes lead
+-- how many nodes are on the key's path from a node on, to which so many bytes lead
 abbrev pub left_on_way : {N A : Type 0} → (A → List ℕ) → List ℕ → ℕ → Tree N A → ℕ
 left_on_way bytes key depth node = length (match_of (λ other. other.0) key (places bytes depth node))
 
--- The search for a key's end node reads each node on the key's way, just these where each prefix is stored whole,
+-- The search for a key's end node reads each node on the key's path, exactly these where each prefix is stored whole,
 -- and at most three nodes for each level of the tree.
 pub record ReadsToEnd {A : Type 0} (bytes : A → List ℕ) (P : ℕ) (key : List ℕ) (layout : Tree OpaqueNodePtr A) (number : ℕ) : Type 0 where
   pub at_least : length (nodes_on_way bytes key layout) ≤ number
@@ -42,7 +42,7 @@ abbrev pub CountsToEnd : {K V : Type 0} → (K × V → List ℕ) → ℕ → No
 CountsToEnd bytes P s root key before after =
     CountsReadings before after (λ number. ForTree bytes P s root (λ pairs layout. ReadsToEnd bytes P key layout number))
 
--- how many nodes are on the way of a bound's key
+-- how many nodes are on the path of a bound's key
 abbrev pub nodes_to : {A : Type 0} → (A → List ℕ) → Bound (List ℕ) → Tree OpaqueNodePtr A → ℕ
 nodes_to bytes (Included key) layout = length (nodes_on_way bytes key layout)
 nodes_to bytes (Excluded key) layout = length (nodes_on_way bytes key layout)
@@ -81,14 +81,14 @@ module _ {K V : Type 0} (s : Nodes K V) (root : OpaqueNodePtr) where
   guide_cost (Some name) = levels s root + 1
 
   module _ (name : OpaqueNodePtr) (guide next : Option LeafPtr) where
-    -- how many readings a step takes at most, beside those that find the guide leaf: two for each level that it descends,
+    -- how many readings a step takes at most, without those that find the guide leaf: two for each level that it descends,
     -- and at the end two and those of the descent to the least leaf
     abbrev pub IsStepCost : SearchStep → ℕ → Type 0
     IsStepCost (End kind used) number = number + guide_cost guide ≤ levels s name + 2 + guide_cost next
     IsStepCost (Down node byte child below) number =
         number + 2 * levels s child + guide_cost guide ≤ 2 * levels s name + guide_cost next
 
-    -- how many a comparison of a prefix takes at most, beside those: one of the guide leaf, and where the key parts from the
+    -- how many a comparison of a prefix takes at most, without those: one of the guide leaf, and where the key differs from the
     -- prefix those of the descent to the least leaf
     abbrev pub IsPrefixCost : Result PrefixMatch ExplicitMismatch → ℕ → Type 0
     IsPrefixCost (Ok match) number = number + guide_cost guide ≤ 1 + guide_cost next

@@ -1,4 +1,4 @@
--- Trees of which each prefix is stored whole, and ways down that compare each whole.
+-- Trees of which each prefix is stored whole, and descents that compare each whole.
 use Rattle.std.specs.Prelude.{◌≡◌, ℕ, ◌≤◌, ⊤}
 use Rattle.art_model.specs.Trees.{Tree, leaf, inner, Subtrees, no_child, child}
 use Rattle.art_reading.specs.declared.matching.PrefixMatchBehavior.{PrefixMatchBehavior}
@@ -15,6 +15,6 @@ module _ {N A : Type 0} (P : ℕ) where
     AreWholeStored no_child = ⊤
     AreWholeStored (child b t cs) = IsWholeStored t × AreWholeStored cs
 
-  -- who goes down the tree so compares each prefix whole
+  -- such a descent of the tree compares each prefix whole
   abbrev pub ComparesAll : PrefixMatchBehavior → Tree N A → Type 0
   ComparesAll behavior tree = (behavior ≡ Pessimistic) × IsWholeStored tree

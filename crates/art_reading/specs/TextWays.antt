@@ -1,4 +1,4 @@
--- Where a way down ends that looks for the longest text in front of a query.
+-- Where a descent ends that looks for the longest text that is a prefix of a query.
 use Rattle.std.specs.Prelude.{◌≡◌, ◌≢◌, ◌≤◌, ◌⊎◌, ℕ, List, length, Option, Some, None}
 use Rattle.std.specs.List.{AllByRecursion as Each}
 use Rattle.art_parts.specs.Names.{leaf_name}

@@ -1,5 +1,5 @@
-//! The ways down a tree: with a key to the leaf that may have it, with a prefix to the node below which its keys are,
-//! and to the leaf at an end. Each reads one inner node for each level.
+//! Descents of a tree: with a key to the leaf that may have it, with a prefix to the node below which its keys are, and
+//! to the leaf at an end. Each reads one inner node for each level.
 ghost use Rattle.std.specs.Prelude.{◌≡◌, ◌+◌, ◌-◌, ◌<◌, ◌≤◌, ◌^◌, length, min, IsSome};
 ghost use Rattle.art_inner.specs.Views.{ref_view};
 ghost use Rattle.art_parts.specs.declared.names.OpaqueNodePtr.{OpaqueNodePtr};
@@ -34,7 +34,7 @@ impl Model for Visits {
 }
 
 impl Visits {
-    /// Returns a counter that stands at 0.
+    /// Returns a counter with value 0.
     pub fn new() -> Self
         ensures { result ≡ 0 }
     {
@@ -48,7 +48,7 @@ impl Visits {
         self.count
     }
 
-    // Counts so many more readings. The counter stops at the greatest number that it can hold.
+    // Counts so many further readings. The counter stops at the greatest number that it can hold.
     #[inline(always)]
     pub(crate) fn add(&mut self, more: Visits)
         ensures { self.new ≡ self.old + min more (2 ^ 64 - 1 - self.old) }
@@ -64,7 +64,7 @@ impl Visits {
         self.add(Visits { count: 1 });
     }
 
-    // Counts the reading of a node, where there is room for it.
+    // Counts the reading of a node, if the counter has room for it.
     fn add_one(&mut self)
         requires { self.old + 1 < 2 ^ 64 }
         ensures { self.new ≡ self.old + 1 }
@@ -73,7 +73,7 @@ impl Visits {
     }
 }
 
-/// The leaf that a way down ends at, and how its key is to be compared there.
+/// The leaf at which a descent ends, and how its key is to be compared there.
 #[derive(Clone, Copy)]
 pub struct LastLeaf<'a, K, V> {
     /// The nodes right above the leaf.
@@ -85,11 +85,11 @@ pub struct LastLeaf<'a, K, V> {
     pub behavior: PrefixMatchBehavior,
 }
 
-/// Goes down with a key to the leaf that is asked for, or to `None` where no stored key is as asked.
+/// Descends with a key to the leaf that is asked for, or to `None` if there is none.
 ///
-/// The way begins with `start`: with `Pessimistic` it compares the bytes of prefixes as far as they are
-/// stored, with `Optimistic` only their lengths, and the whole key at the leaf. Where the leaf is there
-/// both read the same nodes; where it is not an optimistic way may read more.
+/// The descent starts with the behavior `start`: `Pessimistic` compares the stored bytes of prefixes, `Optimistic` only
+/// their lengths, and then the whole key at the leaf. If the leaf exists both read the same nodes; if not, an
+/// optimistic descent may read more.
 #[inline(always)]
 pub fn walk_to_key<'a, Q: KeyQuery, K: AsBytes + Drop, V: Drop, const PREFIX_LEN: usize>(
     store: &'a NodeStore<K, V, PREFIX_LEN>,
@@ -114,7 +114,7 @@ pub fn walk_to_key<'a, Q: KeyQuery, K: AsBytes + Drop, V: Drop, const PREFIX_LEN
     }
 }
 
-// Goes down with a key to the only leaf whose key can be a prefix of it, and counts each node that it reads.
+// Descends with a key to the only leaf whose key can be a prefix of it, and counts each node that it reads.
 #[inline(always)]
 fn walk<'a, Q: KeyQuery, K: AsBytes + Drop, V: Drop, const PREFIX_LEN: usize>(
     store: &'a NodeStore<K, V, PREFIX_LEN>,
@@ -136,7 +136,7 @@ fn walk<'a, Q: KeyQuery, K: AsBytes + Drop, V: Drop, const PREFIX_LEN: usize>(
     let mut behavior = start;
     'down: loop {
         visits.add_one();
-        // Inner nodes come first, so that the kinds of name and node are one question in machine code.
+        // Inner nodes come first, so that the kinds of name and node are one test in machine code.
         let inner = InnerPtr {
             kind: name.kind,
             slot: name.slot,
@@ -186,7 +186,7 @@ impl End {
     }
 }
 
-/// Goes down to the leaf at an end of the tree that a name stands for, and returns the path to it too.
+/// Descends to the leaf at an end of the tree rooted at a name, and returns the path to it too.
 #[inline(always)]
 pub fn walk_to_end<K: AsBytes + Drop, V: Drop, const PREFIX_LEN: usize>(
     store: &NodeStore<K, V, PREFIX_LEN>,
@@ -245,7 +245,7 @@ fn child_at_end<const PREFIX_LEN: usize>(
     }
 }
 
-/// The node that a way down ends at.
+/// The node at which a descent ends.
 #[derive(Clone, Copy)]
 pub struct LastNode {
     /// The nodes right above the node.
@@ -253,9 +253,8 @@ pub struct LastNode {
     pub name: OpaqueNodePtr,
 }
 
-/// Goes down to the node below which all keys are that begin with a prefix, or to `None` only where no
-/// key does. All keys below the node begin so, or none does: the bytes of prefixes of nodes are passed
-/// over, and not compared.
+/// Descends to the node below which all keys with a prefix are, or to `None` only if no key has it. Either all keys
+/// below the node have the prefix, or none has: the prefixes of nodes are skipped, and not compared.
 #[inline(always)]
 pub fn walk_below<K: AsBytes + Drop, V: Drop, const PREFIX_LEN: usize>(
     store: &NodeStore<K, V, PREFIX_LEN>,

@@ -1,4 +1,4 @@
-//! The descent with a key to its end node: the node with the longest place that is a prefix of it.
+//! The descent with a key to its end node: the node with the longest place that is a prefix of the key.
 ghost use Rattle.std.specs.Prelude.{◌≡◌, ◌≢◌, ◌+◌, ◌-◌, ◌<◌, ◌≤◌, ◌^◌, get_or, length, Some, None, slice_get, IfOk, IfErr};
 ghost use Rattle.std.specs.FinMap as map;
 ghost use Rattle.art_parts.specs.Names.{inner_name};
@@ -27,28 +27,28 @@ use art_nodes::node::{
 };
 use art_nodes::store::NodeStore;
 
-/// The end node of a key, and what the key comes to there.
+/// The end node of a key, and what is to be done there.
 #[derive(Clone, Copy)]
 pub struct EndNode {
     /// The nodes right above the end node.
     pub path: TreePath,
     pub name: OpaqueNodePtr,
-    /// What is to be done there; `None` where a stored key is related to the key and unequal.
+    /// What is to be done there; `None` if an unequal stored key is related to the key (one is a prefix of the other).
     pub insert_kind: Option<InsertKind>,
-    /// The length of the end node's place; for `IntoExisting` with the node's prefix added. Where the
-    /// key ends with the prefix, one less than the key's length, if that is not 0.
+    /// The length of the end node's place; for `IntoExisting` with the node's prefix added. If the key ends with the
+    /// prefix, one less than the key's length, if that is not 0.
     pub key_bytes_used: usize,
 }
 
 /// What is to be done at the end node of a key.
 #[derive(Clone, Copy, PartialEq, Eq, Debug)]
 pub enum InsertKind {
-    /// The key parts from the prefix of an inner node, which gets a new parent.
+    /// The key differs from the prefix of an inner node, which gets a new parent.
     MismatchPrefix {
         mismatch: ExplicitMismatch,
         mismatched_inner_node_ptr: InnerPtr,
     },
-    /// The key parts from a leaf's key, and the leaf gets a new parent.
+    /// The key differs from a leaf's key, and the leaf gets a new parent.
     SplitLeaf {
         leaf_node_ptr: LeafPtr,
         /// The length of the longest prefix that both keys have.
@@ -58,7 +58,7 @@ pub enum InsertKind {
     Exact {
         leaf_node_ptr: LeafPtr,
     },
-    /// An inner node gets a child more.
+    /// An inner node gets a further child.
     IntoExisting {
         inner_node_ptr: InnerPtr,
     },
@@ -66,9 +66,8 @@ pub enum InsertKind {
 
 /// Descends with a key to its end node in the tree of a canonical root.
 ///
-/// A prefix that is longer than what its node stores of it is read from a leaf: all such prefixes from
-/// the same one, which takes one more descent. Where the key parts from such a prefix, another descent
-/// finds the least leaf below.
+/// A prefix that its node does not store whole is read from a leaf: all such prefixes from the same one, which takes a
+/// further descent. Where the key differs from such a prefix, another descent finds the least leaf below.
 #[inline(always)]
 pub fn walk_to_end_node<K: AsBytes + Drop, V: Drop, const PREFIX_LEN: usize>(
     store: &NodeStore<K, V, PREFIX_LEN>,
@@ -82,9 +81,9 @@ pub fn walk_to_end_node<K: AsBytes + Drop, V: Drop, const PREFIX_LEN: usize>(
     walk_to_end_node_visiting(store, root, key_bytes, &mut Visits::new())
 }
 
-/// Does what `walk_to_end_node` does, and counts each reading of a node: at least the nodes on the key's
-/// way, just these where each prefix is stored whole, and at most three for each level of the tree, the
-/// leaves being one. A full counter stays full.
+/// Does what `walk_to_end_node` does, and counts each reading of a node: at least the nodes whose place is a prefix of
+/// the key, exactly these if each prefix is stored whole, and at most three for each level of the tree, the leaves
+/// being one. A full counter stays full.
 #[inline(always)]
 pub fn walk_to_end_node_visiting<K: AsBytes + Drop, V: Drop, const PREFIX_LEN: usize>(
     store: &NodeStore<K, V, PREFIX_LEN>,
@@ -129,7 +128,7 @@ pub fn walk_to_end_node_visiting<K: AsBytes + Drop, V: Drop, const PREFIX_LEN: u
     }
 }
 
-// Where a step of a descent with a key comes to.
+// Where a step of a descent with a key leads.
 #[derive(Clone, Copy)]
 enum SearchStep {
     /// The node is the key's end node, with what is to be done there.
@@ -137,7 +136,7 @@ enum SearchStep {
         insert_kind: Option<InsertKind>,
         key_bytes_used: usize,
     },
-    /// The key goes on with a child.
+    /// The key continues with a child.
     Down {
         inner: InnerPtr,
         /// The byte under which the node has the child.
@@ -229,7 +228,7 @@ fn step_at_inner<K: AsBytes + Drop, V: Drop, const PREFIX_LEN: usize>(
     }
 }
 
-// The end at an inner node from whose prefix the key parts, or in whose prefix it ends.
+// The end at an inner node whose prefix the key differs from or ends in.
 #[inline(always)]
 fn end_in_prefix(
     key_bytes: &[u8],
@@ -363,9 +362,9 @@ fn match_full_prefix<K: AsBytes + Drop, V: Drop, const PREFIX_LEN: usize>(
     result
 }
 
-// The same of a prefix that is not stored whole, with the number of readings. It is read from the guide
-// leaf, which is found where there is none yet. This is a call, so that the loops into which
-// `match_full_prefix` is inlined stay small.
+// The same for a prefix that is not stored whole, with the number of readings. It is read from the guide leaf, which is
+// searched for if there is none yet. This is a call, so that the loops into which `match_full_prefix` is inlined stay
+// small.
 #[inline(never)]
 fn match_long_prefix<K: AsBytes + Drop, V: Drop, const PREFIX_LEN: usize>(
     store: &NodeStore<K, V, PREFIX_LEN>,

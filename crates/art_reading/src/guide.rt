@@ -13,11 +13,11 @@ use crate::minmax::first_below_visiting;
 use art_nodes::node::{AsBytes, LeafPtr, NodePtr, OpaqueNodePtr, OptionalLeafPtr};
 use art_nodes::store::NodeStore;
 
-/// Returns a leaf whose key starts with the place of each node on the key's way: the known one, or
-/// where there is none yet, one below this node, which is on that way.
+/// Returns a leaf whose key starts with the place of each node on the key's path: the known one, or if there is none
+/// yet, one below this node, which is on that path.
 ///
-/// A descent finds it, which compares no prefix. The leaf serves for the whole way, so that a search
-/// descends so once.
+/// A descent finds it, without comparing a prefix. The leaf serves for the whole path, so that a search makes this
+/// descent once.
 #[inline(always)]
 pub(crate) fn guide_from<K: AsBytes + Drop, V: Drop, const PREFIX_LEN: usize>(
     store: &NodeStore<K, V, PREFIX_LEN>,
@@ -48,8 +48,8 @@ pub(crate) fn guide_from<K: AsBytes + Drop, V: Drop, const PREFIX_LEN: usize>(
     }
 }
 
-// Such a leaf, below a node on the key's way, and how many nodes were read. This is a call, so that the
-// loops into which `guide_from` is inlined stay small.
+// Such a leaf, below a node on the key's path, and how many nodes were read. This is a call, so that the loops into
+// which `guide_from` is inlined stay small.
 #[inline(never)]
 fn find_guide<K: AsBytes + Drop, V: Drop, const PREFIX_LEN: usize>(
     store: &NodeStore<K, V, PREFIX_LEN>,
@@ -72,8 +72,8 @@ fn find_guide<K: AsBytes + Drop, V: Drop, const PREFIX_LEN: usize>(
     (leaf, visits)
 }
 
-// Descends from a node on the key's way by the key's bytes, whatever the bytes of the prefixes are, to
-// a node below which no further node is on the way.
+// Descends from a node on the key's path by the key's bytes, whatever the bytes of the prefixes are, to a node below
+// which no further node is on the path.
 #[inline(always)]
 fn walk_by_places<K: AsBytes + Drop, V: Drop, const PREFIX_LEN: usize>(
     store: &NodeStore<K, V, PREFIX_LEN>,

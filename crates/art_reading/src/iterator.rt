@@ -1,4 +1,4 @@
-//! The walk of leaves, from either end of a part of the list that they are linked in.
+//! Iteration over leaves, from either end of a part of their linked list.
 ghost use Rattle.std.specs.Prelude.{◌≡◌, ◌≢◌, List, None, Some, IsSome, IfSome};
 ghost use Rattle.std.specs.FinMap as map;
 ghost use Rattle.std.specs.Option.{option_map};
@@ -12,11 +12,10 @@ use art_nodes::node::{AsBytes, LeafNode, LeafPtr, OptionalLeafPtr};
 use art_nodes::store::NodeStore;
 use std::marker::Model;
 
-/// A walk of leaves that are linked, from a first to a last one, each of which comes once, from either
-/// end.
+/// An iterator over linked leaves, from a first to a last one. It returns each of them once, from either end.
 ///
-/// It holds names alone, so that the store can change between its calls: leaves that came may be
-/// freed, and the others have to be there with their links.
+/// It holds only names, so that the store can change between its calls: returned leaves may be freed, and the others
+/// must stay in the store with their links.
 #[derive(Clone, Copy, PartialEq, Eq, Debug)]
 pub struct RawIterator {
     // The first and the last leaf that are left.
@@ -35,7 +34,7 @@ impl Model for RawIterator {
 }
 
 impl RawIterator {
-    /// Returns a walk of the leaves from `start` to `end`, which are linked one to the next.
+    /// Returns an iterator over the leaves from `start` to `end`, which are linked one to the next.
     pub fn new<K: AsBytes + Drop, V: Drop, const PREFIX_LEN: usize>(
         _store: &NodeStore<K, V, PREFIX_LEN>,
         start: LeafPtr,
@@ -50,15 +49,15 @@ impl RawIterator {
         }
     }
 
-    /// Returns a walk of no leaf.
+    /// Returns an iterator over no leaves.
     pub fn empty() -> Self
         ensures { result ≡ None }
     {
         RawIterator { ends: None }
     }
 
-    /// Returns the name of the first leaf that is left, or `None`. Its link is read before, so that the
-    /// leaf may be freed at once.
+    /// Returns the name of the first leaf that is left, or `None`. Its link is read before, so that the leaf may be
+    /// freed at once.
     pub fn next<K: AsBytes + Drop, V: Drop, const PREFIX_LEN: usize>(
         &mut self,
         store: &NodeStore<K, V, PREFIX_LEN>,
@@ -74,8 +73,8 @@ impl RawIterator {
         Some(taken)
     }
 
-    /// Returns the name of the last leaf that is left, or `None`. Its link is read before, so that the
-    /// leaf may be freed at once.
+    /// Returns the name of the last leaf that is left, or `None`. Its link is read before, so that the leaf may be
+    /// freed at once.
     pub fn next_back<K: AsBytes + Drop, V: Drop, const PREFIX_LEN: usize>(
         &mut self,
         store: &NodeStore<K, V, PREFIX_LEN>,
@@ -91,8 +90,7 @@ impl RawIterator {
         Some(taken)
     }
 
-    /// Returns the name of the first leaf that is left, as `next` does, and the leaf itself, which is read
-    /// once.
+    /// Returns the name of the first leaf that is left, as `next` does, and the leaf itself, which is read once.
     #[inline(always)]
     pub fn next_leaf<'s, K: AsBytes + Drop, V: Drop, const PREFIX_LEN: usize>(
         &mut self,
@@ -109,8 +107,7 @@ impl RawIterator {
         self.take_end(store, End::First)
     }
 
-    /// Returns the name of the last leaf that is left, as `next_back` does, and the leaf itself, which is
-    /// read once.
+    /// Returns the name of the last leaf that is left, as `next_back` does, and the leaf itself, which is read once.
     #[inline(always)]
     pub fn next_back_leaf<'s, K: AsBytes + Drop, V: Drop, const PREFIX_LEN: usize>(
         &mut self,
@@ -127,7 +124,7 @@ impl RawIterator {
         self.take_end(store, End::Last)
     }
 
-    // Takes the leaf at an end of those that are left, and reads it once.
+    // Removes the leaf at an end from those that are left, and reads it once.
     #[inline(always)]
     fn take_end<'s, K: AsBytes + Drop, V: Drop, const PREFIX_LEN: usize>(
         &mut self,
@@ -158,8 +155,8 @@ impl RawIterator {
     }
 }
 
-// The leaf that one is linked to, from this end. If that stands in the slot beside, its name is computed
-// from the one's own, so that a processor which foresees this reads it before the link has come.
+// The leaf that another one is linked to, from this end. If it is in the next slot, its name is computed from the
+// other's, so that a processor which predicts this reads it before the link has arrived.
 #[inline(always)]
 fn foreseen(end: End, taken: LeafPtr, linked: LeafPtr) -> LeafPtr
     requires { linked ≢ taken }
@@ -177,13 +174,13 @@ fn foreseen(end: End, taken: LeafPtr, linked: LeafPtr) -> LeafPtr
     }
 }
 
-/// An iterator stands for the same leaves in every store in which they have the links that they had. So a
-/// leaf that came may be freed before the next call, and what is not left of the walk may change.
+/// An iterator stands for the same leaves in every store in which they have the same links. So a returned leaf may be
+/// freed before the next call, and leaves that are not left of the iteration may change.
 pub fn a_walk_goes_on<K, V>()
     ensures { GoesOn K V }
 {}
 
-/// From the first leaf of a canonical root to its last one a walk has all of its leaves, in order.
+/// From the first leaf of a canonical root to the last one an iterator returns all of its leaves, in order.
 pub fn a_tree_is_walked_whole<K, V>()
     ensures { WalksWhole K V }
 {}

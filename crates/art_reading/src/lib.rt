@@ -1,4 +1,4 @@
-//! What reads a radix tree in a store, and changes nothing.
+//! Operations that read a radix tree in a store and change nothing.
 #![tactic(auto)]
 
 pub mod descent;

@@ -19,17 +19,17 @@ use art_nodes::node::{AsBytes, LeafNode, OpaqueNodePtr, OptionalLeafPtr};
 use art_nodes::store::NodeStore;
 pub use texts::{longest_text_unchecked, longest_text_visiting};
 
-/// By default a look-up has compared all bytes so far, and no node has been read.
+/// By default a lookup has compared all bytes so far, and no node has been read.
 pub fn look_ups_start_by_default()
     ensures behavior { (behavior : PrefixMatchBehavior) →
         ⟦<PrefixMatchBehavior as Default>⟧.is_default behavior → behavior ≡ Pessimistic }
     ensures visits { (visits : Visits) → ⟦<Visits as Default>⟧.is_default visits → visits ≡ 0 }
 {}
 
-/// Returns the leaf of a key, or `None` where no stored key is equal to it.
+/// Returns the leaf of a key, or `None` if no stored key is equal to it.
 ///
-/// Its cost is a way down: at most one node more than the key has bytes. Where the bytes of a prefix
-/// are not all stored it passes over the others, and compares the whole key at the leaf.
+/// It is a single descent: it reads at most one more node than the key has bytes. If the bytes of a prefix are not all
+/// stored it skips the others, and compares the whole key at the leaf.
 #[inline(always)]
 pub fn search_unchecked<K: AsBytes + Drop, V: Drop, const PREFIX_LEN: usize>(
     store: &NodeStore<K, V, PREFIX_LEN>,
@@ -68,9 +68,9 @@ pub fn search_visiting<K: AsBytes + Drop, V: Drop, const PREFIX_LEN: usize>(
     find_leaf(store, root, key_bytes, Asked::Same, visits)
 }
 
-/// Returns the leaf whose key is a prefix of these bytes or equal to them, or `None` where there is none.
+/// Returns the leaf whose key is a prefix of these bytes or equal to them, or `None` if there is none.
 ///
-/// It goes the way of `search_unchecked`, at the same cost.
+/// It descends as `search_unchecked` does, at the same cost.
 #[inline(always)]
 pub fn prefix_search_unchecked<K: AsBytes + Drop, V: Drop, const PREFIX_LEN: usize>(
     store: &NodeStore<K, V, PREFIX_LEN>,
@@ -108,8 +108,8 @@ pub fn prefix_search_visiting<K: AsBytes + Drop, V: Drop, const PREFIX_LEN: usiz
     find_leaf(store, root, key_bytes, Asked::Front, visits)
 }
 
-/// Returns the leaf of the key that is asked for, or `None` where no stored key is as asked. It goes the
-/// way of `search_unchecked`, at the same cost, and a caller need not read the leaf once more.
+/// Returns the leaf of the key that is asked for, or `None` if there is none. It descends as `search_unchecked` does,
+/// at the same cost, and a caller need not read the leaf once more.
 #[inline(always)]
 pub fn find_unchecked<'a, Q: KeyQuery, K: AsBytes + Drop, V: Drop, const PREFIX_LEN: usize>(
     store: &'a NodeStore<K, V, PREFIX_LEN>,
@@ -128,8 +128,8 @@ pub fn find_unchecked<'a, Q: KeyQuery, K: AsBytes + Drop, V: Drop, const PREFIX_
     Some(last.node)
 }
 
-/// Returns the leaf of the key that is looked for, or `None` where no stored key is equal to it: what
-/// `search_unchecked` returns of its bytes, at the same cost.
+/// Returns the leaf of the key, or `None` if no stored key is equal to it: what `search_unchecked` returns for its
+/// bytes, at the same cost.
 #[inline(always)]
 pub fn search_for<Q: KeyQuery, K: AsBytes + Drop, V: Drop, const PREFIX_LEN: usize>(
     store: &NodeStore<K, V, PREFIX_LEN>,
@@ -147,7 +147,7 @@ pub fn search_for<Q: KeyQuery, K: AsBytes + Drop, V: Drop, const PREFIX_LEN: usi
     find_leaf(store, root, query, Asked::Same, &mut Visits::new())
 }
 
-// The leaf that is asked for, or `None` where no stored key is as asked; each reading of a node is counted.
+// The leaf that is asked for, or `None` if there is none; each reading of a node is counted.
 #[inline(always)]
 fn find_leaf<Q: KeyQuery, K: AsBytes + Drop, V: Drop, const PREFIX_LEN: usize>(
     store: &NodeStore<K, V, PREFIX_LEN>,

@@ -1,4 +1,4 @@
-//! How the bytes of keys and prefixes are compared on a way down.
+//! The comparison of keys and prefixes on a descent.
 ghost use Rattle.std.specs.Prelude.{◌≡◌, ◌+◌, ◌<◌, ◌≤◌, ◌↔◌, length, take, drop, is_ok, false, IfSome, IsSome, IsTrue};
 ghost use Rattle.art_model.specs.Keys.{IsFront};
 ghost use Rattle.art_reading.specs.Matching.{shared_len};
@@ -9,25 +9,25 @@ use crate::query::KeyQuery;
 use art_nodes::node::{AsBytes, InnerNode, InnerRef, LeafNode, OpaqueNodePtr};
 use std::simd::prelude::*;
 
-/// What a look-up asks of a stored key.
+/// What a lookup requires of a stored key.
 #[derive(Clone, Copy)]
 pub enum Asked {
-    /// To be the same as the query.
+    /// It is equal to the query.
     Same,
-    /// To be a prefix of the query, or the same.
+    /// It is a prefix of the query, or equal to it.
     Front,
 }
 
-/// How a look-up compares the bytes of prefixes on its way down.
+/// How a lookup compares the bytes of prefixes on its descent.
 ///
-/// A node stores the bytes of its prefix only up to a limit. A look-up passes over the others, and
-/// compares the whole key at the leaf instead.
+/// A node stores the bytes of its prefix only up to a limit. A lookup skips the others, and compares the whole key at
+/// the leaf instead.
 #[derive(Clone, Copy, PartialEq, Eq, Debug, Default)]
 pub enum PrefixMatchBehavior {
     /// All bytes so far were compared, so the rest of the key is left to compare.
     #[default]
     Pessimistic,
-    /// Bytes were passed over: from now on lengths alone are compared, and at the leaf the whole key.
+    /// Bytes were skipped: from now on only lengths are compared, and at the leaf the whole key.
     Optimistic,
 }
 
@@ -35,9 +35,9 @@ impl PrefixMatchBehavior {
     ghost use Rattle.art_reading.specs.Matching.{LeafKeyIsPrefix, MatchesLeafKey, behavior_after, child_below, parts_from, prefix_match};
     ghost use Rattle.art_inner.specs.Views.{ref_view};
 
-    /// Compares the prefix of an inner node with the rest of the key, from the node's depth on. Returns
-    /// the prefix's length where the key goes on with it, as far as its bytes were compared, and else
-    /// where the two part. Once bytes were passed over the behavior is `Optimistic`.
+    /// Compares the prefix of an inner node with the rest of the key, from the node's depth on. Returns the prefix's
+    /// length if the key continues with it, as far as its bytes were compared, and else where the two differ. Once
+    /// bytes were skipped the behavior is `Optimistic`.
     pub fn match_prefix<N: InnerNode<P>, const P: usize>(
         &mut self,
         node: &N,
@@ -68,8 +68,8 @@ impl PrefixMatchBehavior {
         })
     }
 
-    // Whether the rest of the key goes on with a prefix of this length, as far as it is compared with
-    // the bytes that are stored.
+    // Whether the rest of the key continues with a prefix of this length, as far as it is compared with the stored
+    // bytes.
     #[inline(always)]
     fn goes_on(&mut self, prefix_len: usize, stored: &[u8], rest_of_key: &[u8]) -> bool
         ensures outcome { result ≡ is_ok (prefix_match self.old
@@ -88,7 +88,7 @@ impl PrefixMatchBehavior {
         is_within
     }
 
-    // Whether the rest of the key is found to part from the stored bytes of a prefix.
+    // Whether the rest of the key differs from the stored bytes of a prefix.
     #[inline(always)]
     fn parts_from(self, stored: &[u8], rest_of_key: &[u8]) -> bool
         ensures compared { self ≡ Pessimistic → result ≡ parts_from rest_of_key.now stored.now }
@@ -100,8 +100,7 @@ impl PrefixMatchBehavior {
         }
     }
 
-    // Where the key leads below an inner node: the place of its byte after the prefix, and the child
-    // under that byte.
+    // Where the key leads below an inner node: the place of its byte after the prefix, and the child under that byte.
     #[inline(always)]
     fn step<Q: KeyQuery, N: InnerNode<P>, const P: usize>(
         &mut self,
@@ -130,7 +129,7 @@ impl PrefixMatchBehavior {
         Some((place, child))
     }
 
-    // Whether the rest of the key goes on with the prefix of a node, as far as it is compared. An empty
+    // Whether the rest of the key continues with the prefix of a node, as far as it is compared. An empty
     // prefix is not compared.
     #[inline(always)]
     fn passes<N: InnerNode<P>, const P: usize>(&mut self, node: &N, rest: &[u8]) -> bool
@@ -144,8 +143,7 @@ impl PrefixMatchBehavior {
         prefix_len == 0 || self.goes_on(prefix_len, node.read_prefix(), rest)
     }
 
-    // The same as `step` at a node of any kind. All that a look-up reads of a node stands behind one
-    // question for the kind.
+    // The same as `step` at a node of any kind. All that a lookup reads of a node is behind one test of the kind.
     #[inline(always)]
     pub(crate) fn step_at<Q: KeyQuery, const P: usize>(
         &mut self,
@@ -169,7 +167,7 @@ impl PrefixMatchBehavior {
         }
     }
 
-    /// Returns whether the key is the leaf's, as far as it is left to compare from a depth on.
+    /// Returns whether the key is the leaf's, as far as it is still to be compared from a depth on.
     #[inline(always)]
     pub fn matches_leaf_key<K: AsBytes, V>(
         self,
@@ -187,8 +185,7 @@ impl PrefixMatchBehavior {
         are_equal(&leaf_bytes[from..], &key_bytes[from..])
     }
 
-    /// Returns whether the leaf's key is a prefix of the key, as far as they are left to compare from a
-    /// depth on.
+    /// Returns whether the leaf's key is a prefix of the key, as far as they are still to be compared from a depth on.
     #[inline(always)]
     pub fn leaf_key_is_prefix<K: AsBytes, V>(
         self,
@@ -205,7 +202,7 @@ impl PrefixMatchBehavior {
 
     ghost use Rattle.art_reading.specs.Descents.{IsAskedFor};
 
-    // Whether the leaf's key is asked for, as far as it is left to compare from a depth on.
+    // Whether the leaf's key is asked for, as far as it is still to be compared from a depth on.
     #[inline(always)]
     pub(crate) fn finds<K: AsBytes, V>(
         self,
@@ -238,7 +235,7 @@ impl PrefixMatchBehavior {
     }
 }
 
-/// Returns the length of the longest prefix that both have.
+/// Returns the length of the longest common prefix.
 pub fn shared_len(a: &[u8], b: &[u8]) -> usize
     ensures { result ≡ shared_len a.now b.now }
 {
@@ -251,7 +248,7 @@ pub fn shared_len(a: &[u8], b: &[u8]) -> usize
     end
 }
 
-// How many bytes at the beginning are seen to be the same by comparing eight at a time.
+// How many of the first bytes are seen to be the same by comparing eight at a time.
 #[inline(always)]
 fn same_blocks(a: &[u8], b: &[u8], end: usize) -> usize
     requires in_a { end ≤ length a.now }
@@ -296,7 +293,7 @@ pub(crate) fn are_equal(a: &[u8], b: &[u8]) -> bool
     a.len() == b.len() && have_same_front(a, b, a.len())
 }
 
-/// Returns whether the bytes begin with others.
+/// Returns whether the bytes start with others.
 #[inline(always)]
 pub fn begins_with(bytes: &[u8], front: &[u8]) -> bool
     ensures { IsTrue result ↔ IsFront front.now bytes.now }
@@ -304,8 +301,8 @@ pub fn begins_with(bytes: &[u8], front: &[u8]) -> bool
     front.len() <= bytes.len() && have_same_front(front, bytes, front.len())
 }
 
-// Whether this many bytes at the beginning are the same. It is inlined into its callers, where a call
-// of a comparison of slices costs more than the comparison itself.
+// Whether the first so many bytes are the same. It is inlined into its callers, where a call of a comparison of slices
+// costs more than the comparison itself.
 #[inline(always)]
 fn have_same_front(a: &[u8], b: &[u8], len: usize) -> bool
     requires in_a { len ≤ length a.now }

@@ -11,7 +11,7 @@ use crate::descent::{End, Visits, walk_to_end, walk_to_end_visiting};
 use art_nodes::node::{AsBytes, LeafPtr, NodePtr, OpaqueNodePtr};
 use art_nodes::store::NodeStore;
 
-/// Returns the first leaf of the tree that a name stands for. It reads one inner node for each level.
+/// Returns the first leaf of the tree rooted at a name. It reads one inner node for each level.
 #[inline(always)]
 pub fn minimum_unchecked<K: AsBytes + Drop, V: Drop, const PREFIX_LEN: usize>(
     store: &NodeStore<K, V, PREFIX_LEN>,
@@ -27,7 +27,7 @@ pub fn minimum_unchecked<K: AsBytes + Drop, V: Drop, const PREFIX_LEN: usize>(
     }
 }
 
-/// Returns the last leaf of the tree that a name stands for. It reads one inner node for each level.
+/// Returns the last leaf of the tree rooted at a name. It reads one inner node for each level.
 #[inline(always)]
 pub fn maximum_unchecked<K: AsBytes + Drop, V: Drop, const PREFIX_LEN: usize>(
     store: &NodeStore<K, V, PREFIX_LEN>,
@@ -43,7 +43,7 @@ pub fn maximum_unchecked<K: AsBytes + Drop, V: Drop, const PREFIX_LEN: usize>(
     }
 }
 
-// The first leaf, by a walk. This is a call, so that those into which `minimum_unchecked` is inlined stay small.
+// The first leaf, by a descent. This is a call, so that those into which `minimum_unchecked` is inlined stay small.
 #[inline(never)]
 fn first_below<K: AsBytes + Drop, V: Drop, const P: usize>(
     store: &NodeStore<K, V, P>,
@@ -72,7 +72,7 @@ pub(crate) fn first_below_visiting<K: AsBytes + Drop, V: Drop, const P: usize>(
     (leaf, visits)
 }
 
-// The same of the last leaf.
+// The same for the last leaf.
 #[inline(never)]
 fn last_below<K: AsBytes + Drop, V: Drop, const P: usize>(
     store: &NodeStore<K, V, P>,

@@ -1,5 +1,5 @@
-//! Ways down a tree: the nodes right above a node, prefixes that go on with a key, and prefixes that
-//! part from it.
+//! Paths down a tree: the nodes right above a node; prefixes that a key continues with, and prefixes that it differs
+//! from.
 ghost use Rattle.std.specs.Prelude.{◌≡◌, ◌≢◌};
 ghost use Rattle.art_reading.specs.PathSteps.{last_step, up};
 
@@ -27,8 +27,7 @@ pub enum TreePath {
     },
 }
 
-/// Returns the parent at the end of a path, with the byte under which it has the node; `None` where the
-/// node is the root.
+/// Returns the parent at the end of a path, with the byte under which it has the node; `None` if the node is the root.
 #[inline(always)]
 pub fn last_step(path: TreePath) -> Option<(InnerPtr, u8)>
     ensures { result ≡ last_step path }
@@ -47,7 +46,7 @@ pub fn last_step(path: TreePath) -> Option<(InnerPtr, u8)>
     }
 }
 
-/// Returns the path one step further up: that of the parent at the end of a path.
+/// Returns the path one step up: that of the parent at the end of a path.
 pub fn up(path: TreePath) -> TreePath
     ensures { result ≡ up path }
 {
@@ -67,8 +66,7 @@ pub fn up(path: TreePath) -> TreePath
 impl TreePath {
     ghost use Rattle.art_reading.specs.PathSteps.{step_down};
 
-    /// Returns the path one step further down: from this path's node to the child that it has under a
-    /// byte.
+    /// Returns the path one step down: from this path's node to the child that it has under a byte.
     #[inline(always)]
     pub fn step_down(self, node: InnerPtr, byte: u8) -> TreePath
         ensures { result ≡ step_down self node byte }
@@ -88,8 +86,8 @@ impl TreePath {
     }
 }
 
-// The last steps of a way down, in plain fields: a loop keeps them in registers, and a caller that does
-// not ask for the path keeps none of them. A parent or grandparent whose kind is `Leaf` is not there.
+// The last steps of a descent, in plain fields: a loop keeps them in registers, and a caller that does not ask for the
+// path keeps none of them. A parent or grandparent of kind `Leaf` means none.
 #[derive(Clone, Copy)]
 pub(crate) struct LastSteps {
     parent_kind: NodeType,
@@ -120,7 +118,7 @@ impl LastSteps {
         }
     }
 
-    // Goes one step further down, to the child that a node has under a byte.
+    // Descends one step, to the child that a node has under a byte.
     #[inline(always)]
     pub(crate) fn step_down(&mut self, node: InnerPtr, byte: u8)
         requires { node.kind ≢ Leaf }
@@ -163,39 +161,39 @@ impl LastSteps {
     }
 }
 
-/// A prefix, compared whole, that the key goes on with.
+/// A prefix, compared whole, that the key continues with.
 #[derive(Clone, Copy, PartialEq, Eq, Debug)]
 pub struct PrefixMatch {
     /// The length of the prefix.
     pub matched_bytes: usize,
 }
 
-/// A prefix, compared whole, that the key parts from or ends in.
+/// A prefix, compared whole, that the key differs from or ends in.
 #[derive(Clone, Copy, PartialEq, Eq, Debug)]
 pub struct ExplicitMismatch {
-    /// How many bytes are the same before the two part.
+    /// How many bytes are the same before the two differ.
     pub matched_bytes: usize,
     /// The byte of the prefix after these.
     pub prefix_byte: u8,
-    /// The least leaf below the node, where the prefix is longer than what the node stores of it.
+    /// The least leaf below the node, if the node does not store the prefix whole.
     pub leaf_ptr: OptionalLeafPtr,
 }
 
-/// A prefix that the key goes on with, as far as its bytes were compared.
+/// A prefix that the key continues with, as far as its bytes were compared.
 #[derive(Clone, Copy, PartialEq, Eq, Debug)]
 pub struct AttemptOptimisticPrefixMatch {
     /// The length of the prefix.
     pub matched_bytes: usize,
-    /// Whether bytes of the prefix were passed over without a comparison.
+    /// Whether bytes of the prefix were skipped without a comparison.
     pub any_implicit_bytes: bool,
 }
 
-/// A prefix that the key doesn't go on with.
+/// A prefix that the key doesn't continue with.
 #[derive(Clone, Copy, PartialEq, Eq, Debug)]
 pub struct PessimisticMismatch {
-    /// How many of the stored bytes are the same before the two part; once bytes were passed over, the
-    /// length of the rest of the key.
+    /// How many of the stored bytes are the same before the two differ; once bytes were skipped, the length of the rest
+    /// of the key.
     pub matched_bytes: usize,
-    /// The stored byte after these, or `None` where there is none: the key ends before the prefix does.
+    /// The stored byte after these, or `None` if there is none: the key ends before the prefix does.
     pub prefix_byte: Option<u8>,
 }

@@ -1,4 +1,4 @@
-//! Keys that are looked for: one slice of bytes, or a text and the byte that ends it.
+//! Keys to look up: one slice of bytes, or a text and its end byte.
 ghost use Rattle.std.specs.Prelude.{◌≡◌, ◌+◌, ◌<◌, ◌≤◌, ◌^◌, ◌↔◌, [], ◌∷◌, ◌++◌, min, length, drop, get_or, IsTrue};
 ghost use Rattle.art_model.specs.Keys.{IsFront};
 ghost use Rattle.art_reading.specs.Descents.{IsAskedFor};
@@ -8,14 +8,14 @@ ghost use Rattle.art_reading.specs.declared.matching.PrefixMatchBehavior.TheVari
 use crate::matching::{Asked, PrefixMatchBehavior, are_equal, begins_with};
 use art_nodes::node::{AsBytes, LeafNode};
 
-/// The bytes of a key that is looked for.
+/// The bytes of a key to look up.
 pub trait KeyQuery: Copy {
     ghost use Rattle.std.specs.Prelude.{List, ℕ};
 
     /// The bytes.
     ghost key: { Self → List ℕ };
 
-    /// Does nothing, but its contract says that the bytes can be counted.
+    /// Does nothing; its contract states that the number of bytes is a `usize`.
     fn fits(&self)
         ensures { length (key self.now) + 1 < 2 ^ 64 };
 
@@ -28,12 +28,12 @@ pub trait KeyQuery: Copy {
         requires { place < length (key self.now) }
         ensures { result ≡ get_or (key self.now) place 0 };
 
-    /// Returns the bytes from a place on, of which the last one may be left out.
+    /// Returns the bytes from a place on, possibly without the last one.
     fn rest(&self, place: usize) -> &[u8]
         requires { place < length (key self.now) }
         ensures { HasRest (drop place (key self.now)) result.now };
 
-    /// Returns whether a leaf's key is asked for, as far as it is left to compare from a depth on.
+    /// Returns whether a leaf's key is asked for, as far as it is still to be compared from a depth on.
     fn finds<K: AsBytes, V>(
         &self,
         behavior: PrefixMatchBehavior,
@@ -77,7 +77,7 @@ impl KeyQuery for &[u8] {
     }
 }
 
-/// The key of a text: its bytes, and then the byte that ends each text. No such key is made.
+/// The key of a text: its bytes, and then the byte that ends each text. The key itself is not built.
 #[derive(Clone, Copy)]
 pub struct EndedQuery<'q> {
     pub text: &'q [u8],
@@ -128,7 +128,7 @@ fn byte_at(text: &[u8], end: u8, place: usize) -> u8
     if place < text.len() { text[place] } else { end }
 }
 
-// Whether the key of a leaf is that of a text, or a prefix of it, as far as it is left to compare.
+// Whether the key of a leaf is that of a text, or a prefix of it, as far as it is still to be compared.
 #[inline(always)]
 fn finds_ended(
     text: &[u8],

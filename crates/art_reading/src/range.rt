@@ -1,4 +1,4 @@
-//! Parts of a tree: the leaves whose keys begin with a prefix, and those between two bounds.
+//! Parts of a tree: the leaves whose keys start with a prefix, and those between two bounds.
 ghost use Rattle.std.specs.Prelude.{◌≡◌, ◌≢◌, ◌+◌, ◌*◌, ◌≤◌, ◌↔◌, length, Some, IsSome, IfSome, IsTrue};
 ghost use Rattle.std.specs.FinMap as map;
 ghost use Rattle.std.specs.Option.{option_map};
@@ -28,10 +28,10 @@ use art_nodes::node::{AsBytes, InnerPtr, InnerRef, NodePtr, OpaqueNodePtr, Optio
 use art_nodes::store::NodeStore;
 use std::ops::Bound;
 
-/// Returns a walk of the leaves whose keys begin with a prefix, in order.
+/// Returns an iterator over the leaves whose keys start with a prefix, in order.
 ///
-/// It takes no memory. It goes down to the node below which these leaves are, by at most one inner
-/// node for each byte of the prefix, then to the first and the last of them, and reads one key.
+/// It allocates nothing. It descends to the node below which these leaves are, by at most one inner node for each byte
+/// of the prefix, then to the first and the last of them, and reads one key.
 pub fn prefix_unchecked<K: AsBytes + Drop, V: Drop, const PREFIX_LEN: usize>(
     store: &NodeStore<K, V, PREFIX_LEN>,
     root: OpaqueNodePtr,
@@ -45,9 +45,8 @@ pub fn prefix_unchecked<K: AsBytes + Drop, V: Drop, const PREFIX_LEN: usize>(
     prefix_visiting(store, root, prefix, &mut Visits::new())
 }
 
-/// Returns what `prefix_unchecked` does, and counts each reading of a node: at least the nodes whose
-/// place is a prefix of these bytes, and at most two for each level of the tree, the leaves being one.
-/// A full counter stays full.
+/// Returns what `prefix_unchecked` does, and counts each reading of a node: at least the nodes whose place is a prefix
+/// of these bytes, and at most two for each level of the tree, the leaves being one. A full counter stays full.
 #[inline(always)]
 pub fn prefix_visiting<K: AsBytes + Drop, V: Drop, const PREFIX_LEN: usize>(
     store: &NodeStore<K, V, PREFIX_LEN>,
@@ -77,11 +76,10 @@ pub fn prefix_visiting<K: AsBytes + Drop, V: Drop, const PREFIX_LEN: usize>(
     RawIterator::new(store, first, last)
 }
 
-/// Returns a walk of the leaves whose keys are between two bounds, in order: of none where the
-/// first bound is after the second.
+/// Returns an iterator over the leaves whose keys are between two bounds, in order: over none if the first bound is
+/// after the second.
 ///
-/// It takes no memory, and costs what `first_from_unchecked` and `last_up_to_unchecked` do
-/// together.
+/// It allocates nothing, and costs at most what `first_from_unchecked` and `last_up_to_unchecked` do together.
 pub fn range_unchecked<K: AsBytes + Drop, V: Drop, const PREFIX_LEN: usize>(
     store: &NodeStore<K, V, PREFIX_LEN>,
     root: OpaqueNodePtr,
@@ -97,8 +95,8 @@ pub fn range_unchecked<K: AsBytes + Drop, V: Drop, const PREFIX_LEN: usize>(
     range_visiting(store, root, from, to, &mut Visits::new())
 }
 
-/// Returns what `range_unchecked` does, and counts each reading of a node: those of
-/// `first_from_visiting` and of `last_up_to_visiting`, and one more of the first leaf.
+/// Returns what `range_unchecked` does, and counts each reading of a node: at least the nodes whose place is a prefix
+/// of the first bound's key, and at most twice the most that `first_from_visiting` counts, and one.
 #[inline(always)]
 pub fn range_visiting<K: AsBytes + Drop, V: Drop, const PREFIX_LEN: usize>(
     store: &NodeStore<K, V, PREFIX_LEN>,
@@ -131,11 +129,11 @@ pub fn range_visiting<K: AsBytes + Drop, V: Drop, const PREFIX_LEN: usize>(
     RawIterator::new(store, first, last)
 }
 
-/// Returns the first leaf whose key is after a bound, or at it where that is included.
+/// Returns the first leaf whose key is after a bound, or at it if that is included.
 ///
-/// It allocates nothing. It descends by the bytes of the bound, and from where this ends to the first
-/// and the last leaf below. Prefixes that are not stored whole are all read from the same leaf, which
-/// takes one more descent. `first_from_visiting` counts what it reads.
+/// It allocates nothing. It descends by the bytes of the bound, and from where this ends to the first and the last leaf
+/// below. Prefixes that are not stored whole are all read from the same leaf, which takes a further descent.
+/// `first_from_visiting` counts what it reads.
 pub fn first_from_unchecked<K: AsBytes + Drop, V: Drop, const PREFIX_LEN: usize>(
     store: &NodeStore<K, V, PREFIX_LEN>,
     root: OpaqueNodePtr,
@@ -150,9 +148,9 @@ pub fn first_from_unchecked<K: AsBytes + Drop, V: Drop, const PREFIX_LEN: usize>
     first_from_visiting(store, root, from, &mut Visits::new())
 }
 
-/// Returns what `first_from_unchecked` does, and counts each reading of a node: at least the nodes
-/// whose place is a prefix of the bound's key, and at most three for each level of the tree, the
-/// leaves being one, and two. A full counter stays full.
+/// Returns what `first_from_unchecked` does, and counts each reading of a node: at least the nodes whose place is a
+/// prefix of the bound's key, and at most three for each level of the tree, the leaves being one, and two. A full
+/// counter stays full.
 #[inline(always)]
 pub fn first_from_visiting<K: AsBytes + Drop, V: Drop, const PREFIX_LEN: usize>(
     store: &NodeStore<K, V, PREFIX_LEN>,
@@ -179,8 +177,8 @@ pub fn first_from_visiting<K: AsBytes + Drop, V: Drop, const PREFIX_LEN: usize>(
     }
 }
 
-/// Returns the last leaf whose key is before a bound, or at it where that is included. It costs
-/// what `first_from_unchecked` does.
+/// Returns the last leaf whose key is before a bound, or at it if that is included. It costs what
+/// `first_from_unchecked` does.
 pub fn last_up_to_unchecked<K: AsBytes + Drop, V: Drop, const PREFIX_LEN: usize>(
     store: &NodeStore<K, V, PREFIX_LEN>,
     root: OpaqueNodePtr,
@@ -222,7 +220,7 @@ pub fn last_up_to_visiting<K: AsBytes + Drop, V: Drop, const PREFIX_LEN: usize>(
     }
 }
 
-// Returns whether a key is before an upper bound, or at it where that is included.
+// Returns whether a key is before an upper bound, or at it if that is included.
 fn ends_after(to: Bound<&[u8]>, key_bytes: &[u8]) -> bool
     ensures { result ≡ is_up_to (bound_map (λ b. b.now) to.entry) key_bytes.now }
 {
@@ -287,8 +285,8 @@ fn leaf_at_cut<K: AsBytes + Drop, V: Drop, const PREFIX_LEN: usize>(
     end.of((leaf.next, Some(last)))
 }
 
-// Returns a node beside a key: what stands before the node is before the key, what stands after it
-// is after the key, and all keys below it are on one side.
+// Returns a node next to a key: what is before the node is before the key, what is after it is after the key, and all
+// keys below it are on one side.
 #[inline(always)]
 fn walk_beside<K: AsBytes + Drop, V: Drop, const PREFIX_LEN: usize>(
     store: &NodeStore<K, V, PREFIX_LEN>,
@@ -335,8 +333,8 @@ fn walk_beside<K: AsBytes + Drop, V: Drop, const PREFIX_LEN: usize>(
     }
 }
 
-// Returns whether the whole prefix of a node on the key's way is this one, of the same length. A prefix
-// that is not stored whole is read from the guide leaf.
+// Returns whether the whole prefix of a node on the key's path is this one, of the same length. A prefix that is not
+// stored whole is read from the guide leaf.
 #[inline(always)]
 fn has_prefix<K: AsBytes + Drop, V: Drop, const PREFIX_LEN: usize>(
     store: &NodeStore<K, V, PREFIX_LEN>,

@@ -1,4 +1,4 @@
--- a chain goes on by one step, and so does a run
+-- a chain is extended by one step, and so is a run
 use Rattle.std.proofs.Common.{◌≡◌, ℕ, List, [], ◌∷◌, ◌++◌, subst, refl}
 use Rattle.art_running.specs.Made.{MakesStep}
 use Rattle.art_running.specs.Steps.{State, Step, IsSound}
@@ -18,7 +18,7 @@ module _ {K V : Type 0} {bytes : K → List ℕ} {P : ℕ} {IsClone : K × V →
   pub run_none : {from : Shown K V} (old : State K V) → shown_state old ≡ from → IsSound bytes P old → IsRun bytes P IsClone from [] [] from
   run_none old shows sound = record { start = old; end = old; starts = shows; ends = shows; start_sound = sound; end_sound = sound; steps = refl }
 
-  -- a run, and a step more
+  -- a run, and a further step
   pub run_more : {from mid to : Shown K V} {cs : List (Command K V)} {rs : List (Reply K V)} {c : Command K V} {r : Reply K V} →
       IsRun bytes P IsClone from cs rs mid → MakesStep bytes P IsClone mid c r to → IsRun bytes P IsClone from (cs ++ c ∷ []) (rs ++ r ∷ []) to
   run_more {from} {mid} {to} {cs} {rs} {c} {r} run step =

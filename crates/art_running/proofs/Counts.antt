@@ -84,13 +84,13 @@ module _ {K V N : Type 0} (bytes : K → List ℕ) (P : ℕ) where
   counted t radix kind = ap (λ (o : Option (Tree (Unit {0}) (K × V))). elim o as (λ _. ℕ) [ None ↦ 0 | Some tree ↦ count_of kind tree ]) (rebuild_root (of_key bytes) P t radix) ∙ count-unmarked kind t
 
   module _ (old new : Tree N (K × V)) (was : IsRadix (of_key bytes) P [] old) (is : IsRadix (of_key bytes) P [] new) where
-    -- one node of a kind comes, and perhaps one of another goes
+    -- one node of a kind is added, and perhaps one of another is removed
     pub gains : (a : NodeType) (goes : NodeType → ℕ) → a ≢ Leaf → goes a ≡ 0 → ((k : NodeType) → count_of k new + goes k ≡ count_of k old + one k a) →
         more_of (inner_count bytes P (pairs_of old)) (inner_count bytes P (pairs_of new)) ≡ Some a
     gains a goes proper off h =
         more_some a goes (inner_count bytes P (pairs_of old)) (inner_count bytes P (pairs_of new)) proper off
         (λ k. ap (λ z. z + goes k) (counted new is k) ∙ h k ∙ sym (ap (λ z. z + one k a) (counted old was k)))
 
-    -- none comes
+    -- none is added
     pub loses : ((k : NodeType) → count_of k new ≤ count_of k old) → more_of (inner_count bytes P (pairs_of old)) (inner_count bytes P (pairs_of new)) ≡ None
     loses h = more_none (inner_count bytes P (pairs_of old)) (inner_count bytes P (pairs_of new)) (λ k. let x = counted new is k in let y = counted old was k in let z = h k in omega arith)

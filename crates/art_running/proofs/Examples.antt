@@ -1,4 +1,4 @@
--- what commands answer, need and leave, on small maps
+-- what commands return, need and leave, on small maps
 use Rattle.std.proofs.Common.{◌≡◌, ℕ, List, [], ◌∷◌, Option, Some, None, refl, true, false}
 use Rattle.std.specs.Global.{Vec}
 use Rattle.std.specs.Box.{boxed_slice_items}
@@ -39,7 +39,7 @@ replaces = (refl, refl, refl)
 no_memory : Answers bytes is_clone (one ∷ []) (Insert (2 ∷ 3 ∷ []) 20) (NoMemory (Some two_three)) (one ∷ [])
 no_memory = (refl, refl, refl)
 
--- a stored key is never refused for want of memory
+-- an insertion of a stored key never runs out of memory
 never_refused : (pair : Option (Key × ℕ)) (new : List (Key × ℕ)) → Answers bytes is_clone (one ∷ []) (Insert (1 ∷ []) 11) (NoMemory pair) new → ⊥
 never_refused pair new h = true≢false h.0
 
@@ -98,7 +98,7 @@ fifth_comes = refl
 fifth_goes : needs {V = ℕ} bytes 16 DeleteMax (pairs_after_command bytes (Insert (5 ∷ []) 0) four) ≡ record { leaves = 0; inner = Some Node4 }
 fifth_goes = refl
 
--- a fourth child needs a leaf alone, and the deletion of any of four nothing
+-- a fourth child needs only a leaf, and the deletion of any of four nothing
 fourth_comes : needs {V = ℕ} bytes 16 (Insert (4 ∷ []) 0) (at 1 ∷ at 2 ∷ at 3 ∷ []) ≡ record { leaves = 1; inner = None }
 fourth_comes = refl
 

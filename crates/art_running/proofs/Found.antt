@@ -1,4 +1,4 @@
--- Which pair a command takes out.
+-- Which pair a command removes.
 use Rattle.std.proofs.Common.{◌≡◌, ℕ, List, [], ◌∷◌, ap, sym, subst, Option, Some}
 use Rattle.std.specs.Global.{Vec}
 use Rattle.art_running.specs.Made.{IsDeletionAt}
@@ -16,7 +16,7 @@ use Rattle.art_writing.specs.declared.delete.DeletePoint.{DeletePoint}
 use Rattle.art_writing.proofs.KeysFound.{point_some, removed_key}
 
 module _ {K V : Type 0} (bytes : K → List ℕ) where
-  -- the command takes out the pair that is found so, where one is, whatever a clone is
+  -- the command removes the pair that is found so, if any, whatever a clone is
   abbrev pub TakesOut : Command K V → (List (K × V) → Option (K × V)) → Type 0
   TakesOut c found = (pairs : List (K × V)) (x : K × V) → IsMap (of_key bytes) pairs → found pairs ≡ Some x →
       Answers bytes (λ _ _. Unit {0}) pairs c (Deleted (Some x)) (remove_key (of_key bytes) (bytes x.0) pairs)

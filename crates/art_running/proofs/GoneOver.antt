@@ -1,4 +1,4 @@
--- The steps of a clone: to the other store, or refused.
+-- The steps of a clone: to the other store, or a failure.
 use Rattle.std.proofs.Common.{◌≡◌, ℕ, List, [], refl, ap, sym, ◌∙◌, subst, Option, Some, None}
 use Rattle.art_parts.specs.LeafClones.{IsPairClone}
 use Rattle.art_nodes.specs.Nodes.{Nodes}
@@ -20,7 +20,7 @@ use Rattle.art_running.specs.declared.run.Side.{Side}
 use Rattle.art_running.specs.declared.run.Side.TheVariants.{First, Second}
 use Rattle.art_running.proofs.Moves.{Layout, in_store, nothing, own_pairs}
 
--- What a clone that was made leaves: the clone in the other store, and no tree in its source.
+-- What a successful clone leaves: the clone in the other store, and no tree in its source.
 pub record HasGone {K V : Type 0} (bytes : K → List ℕ) (P : ℕ) (is_key_clone : K → K → Type 0) (is_value_clone : V → V → Type 0) (s t z w : Nodes K V)
     (layout : Layout K V) (after : OpaqueNodePtr) : Type 0 where
   pub canonical : (copies : List (K × V)) × AreClones is_key_clone is_value_clone (pairs_of layout) copies × IsCanonical (of_key bytes) P w (Some after) copies
@@ -59,7 +59,7 @@ module _ {K V : Type 0} (bytes : K → List ℕ) (P : ℕ) (is_key_clone : K →
           },
         )
 
-    -- or there is no memory for it
+    -- or an allocation fails
     pub uncloned_step : (z w : Nodes K V) → SameNodes z w → IsLessened z.promise w.promise →
         (new : State K V) × (shown_state new ≡ from_side side s w (Some root)) × Step bytes P (IsPairClone is_key_clone is_value_clone) (in_store side s z (Some layout)) Clone (NoMemory None) new
     uncloned_step z w same lessened = (

@@ -40,7 +40,7 @@ module _ {K V : Type 0} where
       go First Second t w e = let side = ap (λ q. q.side) e in absurd cc
       go Second First t w e = let side = ap (λ q. q.side) e in absurd cc
 
-  -- a store with the same nodes is the same to a tree
+  -- a tree sees no difference in a store with the same nodes
   pub nothing : {side : Side} {s t : Nodes K V} (z : Nodes K V) (tree : Option (Layout K V)) → SameNodes s t → NothingChanged (in_store side s z tree) (in_store side t z tree)
   nothing z tree same = record { side = refl; tree = refl; nodes = same; other = refl }
 
@@ -98,7 +98,7 @@ module _ {K V : Type 0} (bytes : K → List ℕ) (P : ℕ) where
   has_tree s (Some name) pairs (layout, by) = record { tree = Some layout; shows = ap Some by.stands.0.named; pairs_are = (tree_radix by).1; is_root = by; sound = own_pairs by }
 
 module _ {K V : Type 0} (bytes : K → List ℕ) (P : ℕ) (IsClone : K × V → K × V → Type 0) where
-  -- what a step from a tree in a store, on either side, comes to
+  -- what a step from a tree in a store, on either side, leads to
   abbrev pub StepFrom : Side → Nodes K V → Nodes K V → Nodes K V → Option (Layout K V) → Command K V → Reply K V → Option OpaqueNodePtr → Type 0
   StepFrom side s t z tree c r after = (new : Option (Layout K V)) × (option_map name_of new ≡ after) × Step bytes P IsClone (in_store side s z tree) c r (in_store side t z new)
 
@@ -158,7 +158,7 @@ module _ {K V : Type 0} {IsClone : K × V → K × V → Type 0} (bytes : K → 
   -- ---- commands that only read, and deletions that find nothing: the tree stays
 
   module _ (side : Side) {s : Nodes K V} {c : Command K V} (z : Nodes K V) where
-    -- what is asked of the tree of a root is answered by a step
+    -- what is required of the tree of a root is the reply of a step
     pub asked : {r : Reply K V} {name : OpaqueNodePtr} → ((layout : Layout K V) → IsCanonicalTree (of_key bytes) P s name (pairs_of layout) layout →
         IsSound bytes P (in_store side s z (Some layout)) → Step bytes P IsClone (in_store side s z (Some layout)) c r (in_store side s z (Some layout))) →
         MakesStep bytes P IsClone (from_side side s z (Some name)) c r (from_side side s z (Some name))

@@ -99,7 +99,7 @@ module _ {K V : Type 0} (bytes : K → List ℕ) (P : ℕ) (k : K) (v : V) {fs :
         let longer : length (pairs_of (plug fs u)) ≡ length (pairs_of (plug fs t)) + n = omega (arith, simp length-append at a, simp length-append at b) in
         ap length (sym all_replaced.1) ∙ longer
 
-    -- a pair more is a new one
+    -- a further pair is a new one
     comes_new : length (pairs_of u) ≡ length (pairs_of t) + 1 → first_of (with_key (of_key bytes) (bytes x.0) (pairs_of (plug fs t))) ≡ None
     comes_new e = none_by_length (of_key bytes) x (pairs_of (plug fs t)) (longer_whole 1 e)
 
@@ -123,7 +123,7 @@ module _ {K V : Type 0} (bytes : K → List ℕ) (P : ℕ) (k : K) (v : V) {fs :
           (sym (ap (λ ps. more_of (inner_count bytes P (pairs_of (plug fs t))) (inner_count bytes P ps)) (sym all.1) ∙
           loses bytes P (plug fs t) (plug fs u) was all.0 (λ kind. fewer_in_hole fs t u kind (h kind))))
 
-  -- the same where the pair is the new one and comes to the others
+  -- the same where the pair is the new one and is added to the others
   module _ (u : Tree OpaqueNodePtr (K × V)) (radix : IsRadix (of_key bytes) P place u)
       (its : pairs_of u ≡ replace_key (of_key bytes) (k, v) (pairs_of t)) (longer : length (pairs_of u) ≡ length (pairs_of t) + 1) where
     is_new : put (of_key bytes) (k, v) (pairs_of (plug fs t)) ≡ replace_key (of_key bytes) (k, v) (pairs_of (plug fs t))
@@ -149,7 +149,7 @@ module _ {K V : Type 0} (bytes : K → List ℕ) (P : ℕ) (k : K) (v : V) {fs :
   abbrev Branch : Promise
   Branch = record { leaves = 1; inner = Some Node4 }
 
-  -- a branch over the tree and a new leaf, which part after the place
+  -- a branch over the tree and a new leaf, which differ after the place
   branch_needs : (u : Tree OpaqueNodePtr (K × V)) (old : List ℕ) (part : ArePart old hole.front.0) →
       IsRadix (of_key bytes) P ((place ++ part.front) ++ part.x ∷ []) u → pairs_of u ≡ pairs_of t →
       ((kind : NodeType) → count_of kind u ≡ count_of kind t) → Branch ≡ needs bytes P (Insert k v) (pairs_of (plug fs t))
@@ -171,7 +171,7 @@ module _ {K V : Type 0} (bytes : K → List ℕ) (P : ℕ) (k : K) (v : V) {fs :
       more kind true e = omega arith
       more kind false e = omega arith
 
-  -- a leaf in the place of one with its key
+  -- a leaf in place of one with its key
   same_needs : (pair : K × V) → t ≡ leaf (name_of t) pair → bytes pair.0 ≡ bytes k → ◌≡◌ {A = Promise} (record { leaves = 0; inner = None }) (needs bytes P (Insert k v) (pairs_of (plug fs t)))
   same_needs pair is same =
       let equal : are_same (bytes k) (bytes pair.0) ≡ true = ap (are_same (bytes k)) same ∙ front_same (bytes k) in
@@ -202,7 +202,7 @@ module _ {K V : Type 0} (bytes : K → List ℕ) (P : ℕ) (k : K) (v : V) {fs :
     rest_here : drop (length place) (bytes k) ≡ hole.front.0
     rest_here = after_front place (bytes k) hole.front.0 hole.front.1
 
-    -- a prefix that the key parts from is split
+    -- a prefix from which the key differs is split
     prefix_needs : (m : ℕ) (byte : ℕ) → m ≡ shared_len (prefix_of (of_key bytes) (length place) t) (drop (length place) (bytes k)) →
         slice_get (prefix_of (of_key bytes) (length place) t) m ≡ Some byte → length place + m < length (bytes k) → Branch ≡ needs bytes P (Insert k v) (pairs_of (plug fs t))
     prefix_needs m byte shared at short =
@@ -215,7 +215,7 @@ module _ {K V : Type 0} (bytes : K → List ℕ) (P : ℕ) (k : K) (v : V) {fs :
         (trimmed (of_key bytes) P place part.front part.r part.x (name_of t) header cs radix_here.2 radix_here.3 (subst (λ z. AreRadix (of_key bytes) P (place ++ z) cs) part.a_is radix_here.4))
         (ap pairs_of (sym is)) (λ kind. ap (λ h. one kind h + inner_count_below kind cs) (sym (ap (λ h. h.kind) radix_here.1)) ∙ ap (count_of kind) (sym is))
 
-    -- a node takes the leaf as its child under a byte that has none
+    -- a node gets the leaf as its child under a byte that has none
     module _ (b : ℕ) (none : child_at (slots_of cs) b ≡ None) (front : IsFront ((place ++ radix_here.0) ++ b ∷ []) (bytes k)) where
       split : IsSplit cs b
       split = split_at cs b radix_here.3 none
@@ -321,7 +321,7 @@ module _ {K V : Type 0} (bytes : K → List ℕ) (P : ℕ) (k : K) (v : V) {fs :
 abbrev placed_of : ParentChange → Promise
 placed_of change = elim change as (λ _. Promise) [ shrinks kind ↦ record { leaves = 0; inner = Some kind } | _ ↦ record { leaves = 0; inner = None } ]
 
--- what becomes of the parent says which inner node comes
+-- what becomes of the parent determines which inner node is placed
 change_places : (kind : NodeType) (n : ℕ) (more : Option NodeType) → kind ≡ kind_of (suc n) → 1 ≤ n → (n ≡ 1 → None ≡ more) →
     (2 ≤ n → kind_of n ≡ kind_of (suc n) → None ≡ more) → (2 ≤ n → kind_of n ≢ kind_of (suc n) → Some (kind_of n) ≡ more) →
     placed_of (change_of kind (suc n)) ≡ record { leaves = 0; inner = more }
@@ -450,7 +450,7 @@ module _ {K V : Type 0} (bytes : K → List ℕ) (P : ℕ) (x : K × V) (n : Opa
       let two : 2 ≤ suc left_over = subst (λ z. 2 ≤ z) one_more own.2 in
       ap placed_of change ∙ change_places f.mark.kind left_over More kind (omega arith) (compress_places place path own) (keep_places place path own) (shrink_places place path own)
 
--- a deletion needs the inner node that comes
+-- a deletion needs the inner node that is placed
 deletion_needs : {K V : Type 0} (IsClone : K × V → K × V → Type 0) (bytes : K → List ℕ) (P : ℕ) (pairs : List (K × V)) (x : K × V) (c : Command K V) →
     Answers bytes IsClone pairs c (Deleted (Some x)) (remove_key (of_key bytes) (bytes x.0) pairs) →
     ◌≡◌ {A = Promise} (record { leaves = 0; inner = more_of (inner_count bytes P pairs) (inner_count bytes P (remove_key (of_key bytes) (bytes x.0) pairs)) }) (needs bytes P c pairs)

@@ -55,7 +55,7 @@ module _ {K V : Type 0} (bytes : K → List ℕ) (P : ℕ) {s t : Nodes K V} (z 
       },
     )
 
-  -- or there is no memory for it
+  -- or an allocation fails
   module _ {k : K} {v : V} {pair : K × V} {root : Option OpaqueNodePtr} (empty : root ≡ None) (same : t ≡ s) (handed : pair ≡ (k, v)) (none : 0 < s.promise.leaves → ⊥) where
     pub unplanted_step : {IsClone : K × V → K × V → Type 0} {side : Side} → StepFrom bytes P IsClone side s t z None (Insert k v) (NoMemory (Some pair)) root
     unplanted_step = (

@@ -59,7 +59,7 @@ placed_leaf kind count (inr (off, two)) = rw (ne_eqb count 1 (λ e. omega arith)
     inner_places Node256 off = refl
 
 module _ {K V : Type 0} (bytes : K → List ℕ) (P : ℕ) {s : Nodes K V} {root : OpaqueNodePtr} {layout : Layout K V} (by : IsCanonicalTree (of_key bytes) P s root (pairs_of layout) layout) where
-  -- no inner node comes where a leaf takes the place of a node
+  -- no inner node is placed where a leaf replaces a node
   none_comes : (fs : List (Frame OpaqueNodePtr (K × V))) (place : List ℕ) (node : Layout K V) (x : K × V) → plug fs node ≡ layout →
       IsHole (of_key bytes) P fs place node (bytes x.0) → Each (λ y. are_related (bytes x.0) (bytes y.0) ≡ true) (pairs_of node) → Each (λ y. bytes y.0 ≢ bytes x.0) (pairs_of node) →
       more_of (inner_count bytes P (pairs_of layout)) (inner_count bytes P (overwrite (of_key bytes) x (pairs_of layout))) ≡ None
@@ -80,7 +80,7 @@ module _ {K V : Type 0} (bytes : K → List ℕ) (P : ℕ) {s : Nodes K V} {root
       ∙ subst (λ l. more_of (inner_count bytes P (pairs_of l)) (inner_count bytes P (F (pairs_of l))) ≡ None) whole
       (subst (λ ps. more_of (inner_count bytes P (pairs_of (plug fs node))) (inner_count bytes P ps) ≡ None) all none)
 
-  -- What a point to overwrite says of the pairs.
+  -- What a point to overwrite states of the pairs.
   pub record Overwrites (k : K) (v : V) (kind : NodeType) : Type 0 where
     pub one : IsOne kind (length (related_to (of_key bytes) (bytes k) (pairs_of layout)))
     pub none : more_of (inner_count bytes P (pairs_of layout)) (inner_count bytes P (overwrite (of_key bytes) (k, v) (pairs_of layout))) ≡ None

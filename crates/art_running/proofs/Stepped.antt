@@ -57,7 +57,7 @@ module _ {K V : Type 0} {s t : Nodes K V} where
   deletion_touches (shrinks kind) h = touches_more 1 2 3 2 2 4 (omega arith) (omega arith) (omega arith) h
   deletion_touches is_compressed h = touches_more 0 2 4 2 2 4 (omega arith) (omega arith) (omega arith) h
 
--- the pair of a leaf alone is the pair
+-- the pair of a leaf with no siblings is the pair
 pub pairs_back : {K V : Type 0} (reply : Option (K × V)) → option_map pair_of (option_map unlinked_leaf reply) ≡ reply
 pairs_back None = refl
 pairs_back (Some x) = refl
@@ -83,7 +83,7 @@ pub record HasDeleted {K V : Type 0} (bytes : K → List ℕ) (P : ℕ) (s t : N
   pub touches : TouchesFor (parent_change s point.path) s t
   pub promise : t.promise ≡ promise_after (placed_for_deletion s point.path) s.promise
 
--- Nothing is left of a refused application but the promise.
+-- A failed application leaves all but the promise.
 pub record IsRefused {K V : Type 0} (s t : Nodes K V) (placed : Promise) : Type 0 where
   pub same : SameNodes s t
   pub void : t.promise ≡ no_promise
@@ -92,7 +92,7 @@ pub record IsRefused {K V : Type 0} (s t : Nodes K V) (placed : Promise) : Type 
 module _ {K V : Type 0} (bytes : K → List ℕ) (P : ℕ) {s : Nodes K V} {root : OpaqueNodePtr} {layout : Layout K V} (by : IsCanonicalTree (of_key bytes) P s root (pairs_of layout) layout) where
   -- ---- insertion
 
-  -- what is refused is not covered, so the key is not stored
+  -- what fails is not covered, so the key is not stored
   free_key : (k : K) (point : InsertPoint) → AnswersTo (of_key bytes) P layout (bytes k) point →
       (is_covered (placed_for s point.insert_kind) s.promise ≡ true → ⊥) → has_key (of_key bytes) (bytes k) (pairs_of layout) ≡ false
   free_key k point at uncovered = refused_new (at_root bytes P by at.root_is) at uncovered
@@ -128,7 +128,7 @@ module _ {K V : Type 0} (bytes : K → List ℕ) (P : ℕ) {s : Nodes K V} {root
       },
     )
 
-  -- a key in conflict, with its bytes or without memory for them
+  -- a key in conflict, with its bytes or out of memory for them
   module _ {IsClone : K × V → K × V → Type 0} {side : Side} {k : K} {v : V} (z : Nodes K V) (refused : is_conflict (of_key bytes) (bytes k) (pairs_of layout) ≡ false → ⊥) where
     pub conflict_step : (error : InsertPrefixError) → boxed_slice_items error.byte_repr ≡ bytes k → StepFrom bytes P IsClone side s s z (Some layout) (Insert k v) (Conflict k v error) (Some root)
     conflict_step error repr = let related = not_false (is_conflict (of_key bytes) (bytes k) (pairs_of layout)) refused in (
@@ -158,7 +158,7 @@ module _ {K V : Type 0} (bytes : K → List ℕ) (P : ℕ) {s : Nodes K V} {root
 
   -- ---- deletion
 
-  -- a deletion touches a few names, whatever command asks for it
+  -- a deletion touches a few names, whatever command it is for
   touched : (IsClone : K × V → K × V → Type 0) (t : Nodes K V) (x : K × V) (d : Command K V) →
       Answers bytes IsClone (pairs_of layout) d (Deleted (Some x)) (remove_key (of_key bytes) (bytes x.0) (pairs_of layout)) → TouchesAtMost 2 2 4 s t → TouchesBy bytes (Some layout) d s t
   touched IsClone t x (InsertPrefix k v) h few = absurd h

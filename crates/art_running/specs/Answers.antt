@@ -1,4 +1,4 @@
--- What each command answers, and what it makes of the pairs.
+-- What each command returns, and what it makes of the pairs.
 use Rattle.std.specs.Prelude.{◌≡◌, ◌≢◌, ℕ, List, length, map, Some, None, true, false}
 use Rattle.std.specs.List.{AllZip}
 use Rattle.std.specs.Option.{option_to_list}
@@ -10,7 +10,7 @@ use Rattle.art_running.specs.declared.run.Reply.{Reply}
 use Rattle.art_running.specs.declared.run.Reply.TheVariants.{Inserted, Conflict, Overwrote, Deleted, Cloned, Found, MatchLen, NoMemory}
 
 module _ {K V : Type 0} (bytes : K → List ℕ) where
-  -- the pairs that a command leaves where it is carried out and is no clone
+  -- the pairs that a command leaves if it succeeds and is no clone
   abbrev pub pairs_after_command : Command K V → List (K × V) → List (K × V)
   pairs_after_command (Insert k v) old = put (of_key bytes) (k, v) old
   pairs_after_command (InsertPrefix k v) old = overwrite (of_key bytes) (k, v) old
@@ -20,7 +20,7 @@ module _ {K V : Type 0} (bytes : K → List ℕ) where
   pairs_after_command command old = old
 
   module _ (IsClone : K × V → K × V → Type 0) where
-    -- the reply to a command, from the pairs before to the pairs after, where it is said what a clone of a pair is
+    -- the reply to a command, from the pairs before to the pairs after, by what a clone of a pair is
     abbrev pub Answers : List (K × V) → Command K V → Reply K V → List (K × V) → Type 0
     Answers old (Insert k v) (Inserted before) new =
         (is_conflict (of_key bytes) (bytes k) old ≡ false) × (before ≡ put_reply (of_key bytes) (k, v) old) ×

@@ -1,4 +1,4 @@
--- The steps of a run, as the functions that make them say them.
+-- The steps of a run, as the functions that make them state them.
 use Rattle.std.specs.Prelude.{◌≡◌, ℕ, List, Option, Some}
 use Rattle.art_nodes.specs.Nodes.{Nodes}
 use Rattle.art_parts.specs.declared.names.OpaqueNodePtr.{OpaqueNodePtr}
@@ -20,13 +20,13 @@ module _ {K V : Type 0} (bytes : K → List ℕ) (P : ℕ) (IsClone : K × V →
   MakesStep from command reply to = (old : State K V) → shown_state old ≡ from → IsSound bytes P old →
       (new : State K V) × (shown_state new ≡ to) × Step bytes P IsClone old command reply new
 
-  -- a step is made in one store, whatever side it is on and whatever the other one holds
+  -- a step is made in one store, whichever side it is on and whatever the other one holds
   abbrev pub StepsAlone : Nodes K V → Option OpaqueNodePtr → Command K V → Reply K V → Nodes K V →
       Option OpaqueNodePtr → Type 0
   StepsAlone s root command reply t after =
       (side : Side) (other : Nodes K V) → MakesStep (from_side side s other root) command reply (from_side side t other after)
 
-  -- of all trees of the root: the point leads to a pair that the command takes out
+  -- in all trees of the root: the point leads to a pair that the command removes
   abbrev pub IsDeletionAt : Nodes K V → OpaqueNodePtr → DeletePoint → Command K V → Type 0
   IsDeletionAt s root point command =
       ForTree (of_key bytes) P s root (λ pairs layout. (x : K × V) × LeadsTo layout x point ×

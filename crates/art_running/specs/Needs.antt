@@ -1,4 +1,4 @@
--- What a command has placed in a store, as its pairs tell: a leaf, and an inner node of the kind of which the tree then has more.
+-- What a command places in a store, by its pairs: a leaf, and an inner node of the kind of which the tree then has more.
 use Rattle.std.specs.Prelude.{ℕ, ◌+◌, ◌==◌, if◌then◌else◌, nat_lt, List, length, Option, Some, None}
 use Rattle.art_nodes.specs.Nodes.{Promise}
 use Rattle.art_parts.specs.Kinds.{kind_index}
@@ -35,7 +35,7 @@ module _ {K V : Type 0} (bytes : K → List ℕ) (P : ℕ) where
   abbrev pub inner_count : List (K × V) → NodeType → ℕ
   inner_count pairs kind = elim (tree_of (of_key bytes) pairs P 0) [ None ↦ 0 | Some tree ↦ count_of kind tree ]
 
-  -- a pair that does not take the place of just one other needs a leaf
+  -- a pair that does not replace just one other needs a leaf
   abbrev pub new_leaves : Command K V → List (K × V) → ℕ
   new_leaves (Insert k v) pairs = if has_key (of_key bytes) (bytes k) pairs then 0 else 1
   new_leaves (InsertPrefix k v) pairs = if length (related_to (of_key bytes) (bytes k) pairs) == 1 then 0 else 1

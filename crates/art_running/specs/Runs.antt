@@ -17,7 +17,7 @@ Chain {S} Step old (c ∷ cs) (r ∷ rs) new = (mid : S) × Step old c r mid × 
 Chain Step old [] (r ∷ rs) new = ⊥
 Chain Step old (c ∷ cs) [] new = ⊥
 
--- what a caller has of a state: the stores, the side that the tree is on, and the root
+-- what a caller sees of a state: the stores, the side that the tree is on, and the root
 pub record Shown (K V : Type 0) : Type 0 where
   pub first : Nodes K V
   pub second : Nodes K V

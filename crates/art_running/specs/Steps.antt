@@ -42,14 +42,14 @@ module _ {K V : Type 0} where
   abbrev pub root_in : State K V → Option OpaqueNodePtr
   root_in state = option_map name_of state.tree
 
-  -- No node of the tree's store changed, and the other store is as it was; of the promise this says nothing.
+  -- No node of the tree's store changed, and the other store is unchanged; nothing is stated of the promise.
   pub record NothingChanged (old new : State K V) : Type 0 where
     pub side : new.side ≡ old.side
     pub tree : new.tree ≡ old.tree
     pub nodes : SameNodes old.present new.present
     pub other : new.other ≡ old.other
 
-  -- what a command touches that is carried out: a few names, or the tree of all pairs with related keys where they are more than one
+  -- what a successful command touches: a few names, or the tree of all pairs with related keys if there are several
   abbrev pub TouchesBy : (K → List ℕ) → Option (Tree OpaqueNodePtr (K × V)) → Command K V → Nodes K V →
       Nodes K V → Type 0
   TouchesBy bytes tree (InsertPrefix k v) s t =
@@ -58,20 +58,20 @@ module _ {K V : Type 0} where
       (TouchesRelated (of_key bytes) (bytes k) s t tree)
   TouchesBy bytes tree command s t = TouchesAtMost 2 2 4 s t
 
-  -- The tree was changed in place: names stay, nodes beside it too, and no more is touched than the command has to.
+  -- The tree was changed in place: names stay, nodes outside it too, and no more is touched than the command has to.
   pub record InPlace (bytes : K → List ℕ) (old : State K V) (command : Command K V) (new : State K V) : Type 0 where
     pub side : new.side ≡ old.side
     pub kept : ChangesInPlace (of_key bytes) old.present new.present old.tree new.tree
     pub touches : TouchesBy bytes old.tree command old.present new.present
     pub other : new.other ≡ old.other
 
-  -- The tree went over to the other store: exactly its names went out of use in the one, and exactly the new tree's names came into use in the other.
+  -- The tree moved to the other store: exactly its names went out of use in the one, and exactly the new tree's names came into use in the other.
   pub record GoesOver (old new : State K V) : Type 0 where
     pub side : new.side ≡ opposite old.side
     pub came : KeepsOthers old.other new.present [] (names_in new.tree)
     pub went : KeepsOthers old.present new.other (names_in old.tree) []
 
-  -- The tree did not go over: its store is as it was, and the other one has the nodes that it had.
+  -- The tree did not move: its store is unchanged, and the other one has its old nodes.
   pub record StaysHere (old new : State K V) : Type 0 where
     pub side : new.side ≡ old.side
     pub tree : new.tree ≡ old.tree
@@ -100,7 +100,7 @@ module _ {K V : Type 0} (bytes : K → List ℕ) (P : ℕ) where
   abbrev pub IsPromised : Command K V → State K V → Type 0
   IsPromised command state = is_covered (needs bytes P command (pairs_in state.tree)) state.present.promise ≡ true
 
-  -- where there may be no memory: for the bytes of a key in conflict, for the clone of a tree, and for nodes of an insertion that are not promised
+  -- where an allocation may fail: for the bytes of a key in conflict, for the clone of a tree, and for nodes of an insertion that are not promised
   abbrev pub MayRefuse : Command K V → State K V → Type 0
   MayRefuse (Insert k v) old =
       (is_conflict (of_key bytes) (bytes k) (pairs_in old.tree) ≡ true) ⊎ (IsPromised (Insert k v) old → ⊥)
@@ -108,7 +108,7 @@ module _ {K V : Type 0} (bytes : K → List ℕ) (P : ℕ) where
   MayRefuse Clone old = old.tree ≢ None
   MayRefuse command old = ⊥
 
-  -- want of memory is answered only there
+  -- only there a reply is out of memory
   abbrev pub Refuses : State K V → Command K V → Reply K V → Type 0
   Refuses old command (NoMemory pair) = MayRefuse command old
   Refuses old command reply = ⊤
@@ -118,7 +118,7 @@ module _ {K V : Type 0} (bytes : K → List ℕ) (P : ℕ) where
   TakesNeeds old command new =
       new.present.promise ≡ promise_after (needs bytes P command (pairs_in old.tree)) old.present.promise
 
-  -- the promise stays as it was
+  -- the promise is unchanged
   abbrev pub KeepsPromise : State K V → State K V → Type 0
   KeepsPromise old new = new.present.promise ≡ old.present.promise
 
@@ -128,7 +128,7 @@ module _ {K V : Type 0} (bytes : K → List ℕ) (P : ℕ) where
   CloneTakes (Some tree) old new =
       (new.other.promise ≡ old.present.promise) × (new.present.promise ≡ tree_taken tree old.other.promise)
 
-  -- a refusal may void the promise, but not in a conflict; that of a clone leaves no more of the other store's than there was
+  -- a failure may void the promise, but not in a conflict; that of a clone leaves no more of the other store's than there was
   abbrev pub RefusalLeaves : State K V → Command K V → State K V → Type 0
   RefusalLeaves old (Insert k v) new =
       MatchBool (is_conflict (of_key bytes) (bytes k) (pairs_in old.tree))
@@ -137,7 +137,7 @@ module _ {K V : Type 0} (bytes : K → List ℕ) (P : ℕ) where
   RefusalLeaves old Clone new = IsLessened old.other.promise new.other.promise
   RefusalLeaves old command new = MayVoid old.present.promise new.present.promise
 
-  -- what becomes of the promise: what was placed is taken from it, a refusal leaves what it may, and else it stays
+  -- what becomes of the promise: what was placed is taken from it, a failure leaves what it may, and else it stays
   abbrev pub Promises : State K V → Command K V → Reply K V → State K V → Type 0
   Promises old command (Inserted before) new = TakesNeeds old command new
   Promises old command (Overwrote before count) new = TakesNeeds old command new

@@ -35,16 +35,16 @@ use std::alloc::AllocError;
 /// A command on a tree.
 #[derive(Debug, Drop)]
 pub enum Command<K, V> {
-    /// Puts a pair in. A stored key that is equal stays, and gets the value.
+    /// Inserts a pair. An equal stored key stays, and gets the value.
     Insert(K, V),
-    /// Puts a pair in, in the place of all with related keys; but a stored key that is equal stays, and gets the
-    /// value.
+    /// Inserts a pair and removes all with related keys: those whose keys are a prefix of its own, or start with it.
+    /// But an equal stored key stays, and gets the value.
     InsertPrefix(K, V),
-    /// Takes out the pair of the key with these bytes.
+    /// Removes the pair of the key with these bytes.
     Delete(Vec<u8>),
-    /// Takes out the first pair.
+    /// Removes the first pair.
     DeleteMin,
-    /// Takes out the last pair.
+    /// Removes the last pair.
     DeleteMax,
     /// Moves the tree to the other store, as clones of its pairs.
     Clone,
@@ -57,22 +57,22 @@ pub enum Command<K, V> {
 /// The reply to a command.
 #[derive(Debug, Drop)]
 pub enum Reply<K, V> {
-    /// The pair was inserted; with the key that was handed in and the old value, if an equal key was stored.
+    /// The pair was inserted; with the key that was passed and the old value, if an equal key was stored.
     Inserted(Option<(K, V)>),
-    /// The pair was not inserted, since its key is related to an unequal stored key.
+    /// The pair was not inserted, since an unequal stored key conflicts with its key.
     Conflict(K, V, InsertPrefixError),
-    /// The pair was inserted; with the pair that gave way, if it was just one, and how many gave way if they were
-    /// more. Where an equal key was stored, with the key that was handed in and the old value.
+    /// The pair was inserted; with the pair that it replaced, if there was exactly one, or with the number of those if
+    /// there were more. If an equal key was stored, with the key that was passed and the old value.
     Overwrote(Option<(K, V)>, usize),
-    /// The pair that was taken out, if there was one.
+    /// The removed pair, if there was one.
     Deleted(Option<(K, V)>),
-    /// The tree was cloned into the other store, and is gone here, if there was one.
+    /// The tree, if there was one, was cloned into the other store and freed in this one.
     Cloned,
     /// Whether the key is stored.
     Found(bool),
     /// The length of the stored key that was asked for, if there is one.
     MatchLen(Option<usize>),
-    /// There was no memory, and nothing was done; with the pair of an insertion.
+    /// An allocation failed, and nothing was done; with the pair of an insertion.
     NoMemory(Option<(K, V)>),
 }
 
@@ -83,7 +83,7 @@ pub enum Side {
     Second,
 }
 
-/// What a run leaves.
+/// The result of a run.
 #[derive(Debug, Drop)]
 pub struct RunResult<K, V> {
     /// The root of the tree, if it has any pair.
@@ -97,8 +97,8 @@ pub struct RunResult<K, V> {
 /// Carries commands out in order, each by a change of the tree in place, from no tree or from that of a canonical root
 /// in `first`. Returns the root, the store that it is in, and a reply for each command.
 ///
-/// An `Err` is for want of memory for the replies, before the first command. After that memory is refused command by
-/// command: such a command's reply is `NoMemory`, and it counts as not made.
+/// Fails only if the allocation of the replies fails, before the first command; the error returns the commands. Later
+/// an allocation failure concerns one command: its reply is `NoMemory`, and it changes nothing.
 pub fn run<K: AsBytes + Clone + Drop, V: Clone + Drop, const PREFIX_LEN: usize>(
     first: &mut NodeStore<K, V, PREFIX_LEN>,
     second: &mut NodeStore<K, V, PREFIX_LEN>,
@@ -157,7 +157,7 @@ impl Side {
     }
 }
 
-// Carries a command out on the tree of a side, and leaves the side and the root of the tree.
+// Carries a command out on the tree of a side, and returns the side and the root of the tree.
 fn answer_next<K: AsBytes + Clone + Drop, V: Clone + Drop, const P: usize>(
     first: &mut NodeStore<K, V, P>,
     second: &mut NodeStore<K, V, P>,
@@ -178,7 +178,7 @@ fn answer_next<K: AsBytes + Clone + Drop, V: Clone + Drop, const P: usize>(
     }
 }
 
-// Carries a command out in the store that the tree is in, whichever of both it is.
+// Carries a command out in the store that the tree is in, on either side.
 fn answer<K: AsBytes + Clone + Drop, V: Clone + Drop, const P: usize>(
     present: &mut NodeStore<K, V, P>,
     other: &mut NodeStore<K, V, P>,
@@ -243,7 +243,7 @@ fn answer_without_tree<K: AsBytes + Clone + Drop, V: Clone + Drop, const P: usiz
     }
 }
 
-// Begins the tree with a pair, or hands the pair back where there is no memory for it.
+// Begins the tree with a pair, or returns the pair if an allocation fails.
 fn begin<K: AsBytes + Drop, V: Drop, const P: usize>(
     store: &mut NodeStore<K, V, P>,
     root: &mut Option<OpaqueNodePtr>,
@@ -266,7 +266,7 @@ fn begin<K: AsBytes + Drop, V: Drop, const P: usize>(
     }
 }
 
-// Puts a pair into the tree.
+// Inserts a pair into the tree.
 fn insert<K: AsBytes + Clone + Drop, V: Clone + Drop, const P: usize>(
     store: &mut NodeStore<K, V, P>,
     root: &mut Option<OpaqueNodePtr>,
@@ -293,7 +293,7 @@ fn insert<K: AsBytes + Clone + Drop, V: Clone + Drop, const P: usize>(
     }
 }
 
-// Puts a pair into the tree, in the place of all with related keys.
+// Inserts a pair into the tree, and removes all with related keys.
 fn insert_prefix<K: AsBytes + Clone + Drop, V: Clone + Drop, const P: usize>(
     store: &mut NodeStore<K, V, P>,
     root: &mut Option<OpaqueNodePtr>,
@@ -321,7 +321,7 @@ fn insert_prefix<K: AsBytes + Clone + Drop, V: Clone + Drop, const P: usize>(
     }
 }
 
-// Takes out the pair of a point, for any command whose reply it is.
+// Removes the pair of a point, for any command whose reply it is.
 fn delete<K: AsBytes + Clone + Drop, V: Clone + Drop, const P: usize>(
     store: &mut NodeStore<K, V, P>,
     root: &mut Option<OpaqueNodePtr>,

@@ -43,7 +43,7 @@ placed_end {bytes = bytes} {P} {key = key} {path} {node} by is_end =
       deep = deep;
     }
 
--- a stored leaf at the end of a path of the layout, whose place is a front of the key
+-- a stored leaf at the end of a path of the layout, whose place is a prefix of the key
 pub record IsEndLeaf {K V : Type 0} (bytes : K × V → List ℕ) (P : ℕ) (s : Nodes K V) (p : LeafPtr) (layout : Tree OpaqueNodePtr (K × V)) (key : List ℕ) : Type 0 where
   pub path : List (Frame OpaqueNodePtr (K × V))
   pub shown : LeafNode K V
@@ -52,7 +52,7 @@ pub record IsEndLeaf {K V : Type 0} (bytes : K × V → List ℕ) (P : ℕ) (s :
   pub hole : IsHole bytes P path place (leaf (leaf_name p) (pair_of shown)) key
   pub there : map.get s.leaves p ≡ Some shown
 
--- the end node of a key is one, where it is the leaf of a pair
+-- the end node of a key is such a leaf, where it is the leaf of a pair
 pub end_leaf : {K V : Type 0} {bytes : K × V → List ℕ} {P : ℕ} {s : Nodes K V} {root : OpaqueNodePtr} {pairs : List (K × V)} {layout : Tree OpaqueNodePtr (K × V)}
     {key : List ℕ} {path : List (Frame OpaqueNodePtr (K × V))} {node : Tree OpaqueNodePtr (K × V)} {p : LeafPtr} {pair : K × V} →
     IsCanonicalTree bytes P s root pairs layout → IsEndNode bytes layout key path node → node ≡ leaf (leaf_name p) pair →

@@ -1,4 +1,4 @@
--- What is told of an applied point, from what is left for each layout of the root: by whatever layout of the new root.
+-- What is stated of an applied point, from what holds for each layout of the root.
 use Rattle.std.proofs.Common.{rules, ◌≡◌, ℕ, List, Some, Ok, Err, false, true, IsTrue, refl, ap, sym, ◌∙◌, subst}
 use Rattle.std.specs.Option.{option_map}
 use Rattle.art_nodes.specs.Nodes.{Nodes, Promise, no_promise}
@@ -22,19 +22,19 @@ use Rattle.art_writing.specs.Inserted.{HasInserted, IsPointIn, unlinked_leaf, pl
 use Rattle.art_writing.specs.Overwritten.{HasOverwritten, IsOverwritePointIn, placed_for_overwrite}
 use Rattle.art_writing.proofs.Left.{IsInserted, IsOverwritten}
 
--- ---- memory
+-- ---- allocations
 
 module _ {K V : Type 0} {s t : Nodes K V} {placed : Promise} {pair : K × V} where
   -- what is placed was covered, or is now
   pub granted : {X : Type 0} {done : X} → t.promise ≡ promise_after placed s.promise → TakesMemory s t placed pair (Ok done)
   granted after = record { promise = after; succeeds = λ covered. refl; handed_back = tt; leaves = tt; inners = tt; void = tt }
 
-  -- what was not covered is refused, and nothing is promised then
+  -- where it was not covered the call fails, and nothing is promised then
   handed_back : {X : Type 0} → (IsTrue (is_covered placed s.promise) → false ≡ true) → t.leaves ≡ s.leaves → t.inners ≡ s.inners → t.promise ≡ no_promise →
       TakesMemory {X = X} s t placed pair (Err (record { key = pair.0; value = pair.1 }))
   handed_back gone leaves inners void = record { promise = tt; succeeds = gone; handed_back = (refl, refl); leaves = leaves; inners = inners; void = void }
 
-  -- a refusal is one of each call
+  -- a failed allocation is a failure of each call
   refused_too : {X Y : Type 0} {refused : Refused K V} → TakesMemory {X = X} s t placed pair (Err refused) → TakesMemory {X = Y} s t placed pair (Err refused)
   refused_too is = record { promise = tt; succeeds = is.succeeds; handed_back = is.handed_back; leaves = is.leaves; inners = is.inners; void = is.void }
 
@@ -63,7 +63,7 @@ module _ {K V : Type 0} (bytes : K → List ℕ) {P : ℕ} {s t : Nodes K V} {pa
         memory = granted promise;
       }
 
-  -- the memory is refused, and the pair is handed back
+  -- an allocation fails, and the pair is returned
   pub refused : {point : InsertPoint} → (IsTrue (is_covered (placed_for s point.insert_kind) s.promise) → false ≡ true) → t.leaves ≡ s.leaves → t.inners ≡ s.inners →
       t.promise ≡ no_promise → IsApplied (of_key bytes) P s t point pair (Err (record { key = pair.0; value = pair.1 }))
   refused gone leaves inners void =
@@ -78,7 +78,7 @@ module _ {K V : Type 0} (bytes : K → List ℕ) {P : ℕ} {s t : Nodes K V} {pa
         memory = handed_back gone leaves inners void;
       }
 
-  -- and so where the pair would have come in the place of others
+  -- the same where the pair would have replaced others
   pub refused_overwrite : {point : OverwritePoint} → (IsTrue (is_covered (placed_for_overwrite point.overwrite_point.kind) s.promise) → false ≡ true) → t.leaves ≡ s.leaves →
       t.inners ≡ s.inners → t.promise ≡ no_promise → IsPrefixApplied (of_key bytes) P s t (points.OverwritePoint point) pair (Err (record { key = pair.0; value = pair.1 }))
   refused_overwrite gone leaves inners void =
@@ -94,7 +94,7 @@ module _ {K V : Type 0} (bytes : K → List ℕ) {P : ℕ} {s t : Nodes K V} {pa
         memory = handed_back gone leaves inners void;
       }
 
-  -- an insertion is one in the place of related keys, where none but an equal one is stored
+  -- an insertion is an overwrite, where only an equal key is stored
   pub applied_prefix : {point : InsertPoint} {done : InsertResult K V} → IsApplied (of_key bytes) P s t point pair (Ok done) →
       IsPrefixApplied (of_key bytes) P s t (points.InsertPoint point) pair (Ok (record { insert_result = done; leafs_removed = 0 }))
   applied_prefix {done = done} is =

@@ -1,4 +1,4 @@
--- The leaf of a delete point below its parent, and what the writes that take it out leave.
+-- The leaf of a delete point below its parent, and what its removal leaves.
 use Rattle.std.proofs.Common.{◌≡◌, ◌≢◌, ℕ, suc, ◌<◌, ◌≤◌, List, [], ◌∷◌, length, Bool, true, false, cond, leb, refl, ap, sym, ◌∙◌, subst, arith, Option, Some, None, IsSome, is_some, IfSome, IsSomeAnd}
 use Rattle.std.specs.FinMap.{get, insert, remove}
 use Rattle.std.proofs.lemmas.Bool.{leb-true, leb-false, lt-leb}
@@ -40,7 +40,7 @@ use Rattle.art_writing.specs.ParentWrites.{HasChild, LinksAreThere}
 use Rattle.art_writing.proofs.Deletions.{IsDeleted, leaf_at, some_same, taken_since}
 use Rattle.art_writing.proofs.Ways.{last_step-path_of, last_step-up, root_with-up, root_after_at, root_kept_at}
 
--- ---- what a parent's change tells of its number of children
+-- ---- what a parent's change implies for its number of children
 
 refused : {X : Type 0} (t : Bool) (a b : X) → a ≢ b → cond t a b ≡ b → t ≡ false
 refused true a b off e = absurd (off e)
@@ -54,7 +54,7 @@ neither : {X : Type 0} (t : Bool) (a b c : X) → a ≢ c → b ≢ c → cond t
 neither true a b c off non e = off e
 neither false a b c off non e = non e
 
--- a parent that keeps its kind has more children than the kind has at least
+-- a parent that keeps its kind has more children than the kind's minimum
 pub keeps_spare : (kind : NodeType) (count : ℕ) → change_of kind count ≡ keeps → kind_least kind < count
 keeps_spare Node4 count e = leb-false count 2 (refused (leb count 2) is_compressed keeps (λ f. absurd cc) e)
 keeps_spare Node16 count e = leb-false count 5 (refused (leb count 5) (shrinks Node4) keeps (λ f. absurd cc) e)
@@ -62,7 +62,7 @@ keeps_spare Node48 count e = leb-false count 17 (refused (leb count 17) (shrinks
 keeps_spare Node256 count e = leb-false count 49 (refused (leb count 49) (shrinks Node48) keeps (λ f. absurd cc) e)
 keeps_spare Leaf count e = leb-false count 0 (refused (leb count 0) (shrinks Leaf) keeps (λ f. absurd cc) e)
 
--- one that shrinks has as many as that, and is no Node4
+-- one that shrinks has the minimum, and is no Node4
 pub shrinks_least : (kind to : NodeType) (count : ℕ) → change_of kind count ≡ shrinks to → (kind ≢ Node4) × (count ≤ kind_least kind)
 shrinks_least Node4 to count e = let t = passed (leb count 2) is_compressed keeps (shrinks to) (λ f. absurd cc) e in absurd (cc (e, t))
 shrinks_least Node16 to count e = ((λ f. absurd cc), leb-true count 5 (passed (leb count 5) (shrinks Node4) keeps (shrinks to) (λ f. absurd cc) e))
@@ -72,7 +72,7 @@ shrinks_least Leaf to count e = ((λ f. absurd cc), leb-true count 0 (passed (le
 
 -- ---- what becomes of a parent, by its kind and its number of children
 
--- of one that is in the store
+-- of one in the store
 pub change_seen : {K V : Type 0} (s : Nodes K V) (path : TreePath) {parent : InnerPtr} {byte : ℕ} {node : Inner} {kind : NodeType} → last_step path ≡ Some (parent, byte) →
     get s.inners parent ≡ Some node → kind ≡ parent.kind → parent_change s path ≡ change_of kind (length node.children)
 change_seen s path {parent} {node = node} step got kind_is =
@@ -115,7 +115,7 @@ some_child : (name : OpaqueNodePtr) (b : ℕ) (o : Option Inner) → IsSomeAnd o
 some_child name b None has = has
 some_child name b (Some node) has = ap is_some has
 
--- the innermost node of a path that is as it was has a child where it had the hole
+-- the innermost node of a path that is unchanged has a child where it had the hole
 pub has_child : {A : Type 0} (old new : Inners) (name : OpaqueNodePtr) (fs : List (Frame OpaqueNodePtr A)) →
     IfSome (parent_of fs) (λ p. IsSomeAnd (get old p.0) (λ node. child_at node.children p.1 ≡ Some name)) →
     ((k : OpaqueNodePtr) → IsParent fs k → get new (as_inner k) ≡ get old (as_inner k)) → HasChild new (parent_of fs)
@@ -169,11 +169,11 @@ module _ {K V : Type 0} {bytes : K × V → List ℕ} {P : ℕ} {s : Nodes K V} 
           }
 
   module _ (at : IsBelow bytes P s root pairs layout x point parent byte) where
-    -- the leaves beside it are there
+    -- its neighbours are in the store
     leaf_ready : IsSome (get s.leaves point.leaf_node_ptr) × LinksAreThere s.leaves point.leaf_node_ptr
     leaf_ready = rw at.here (refl, links_there at.below at.here)
 
-    -- so after writes that change no leaf the parent has let it go
+    -- so after writes that change no leaf it is no longer a child of the parent
     pub let_go : {u : Nodes K V} {new : Option OpaqueNodePtr} → u.leaves ≡ s.leaves →
         ((t : Nodes K V) → (done : DeleteResult K V) → IsLeafTaken u t point new done → IsTakenOut bytes P s t root point done) → IsLetGo bytes P s u root point new
     let_go leaves taken =
@@ -190,7 +190,7 @@ module _ {K V : Type 0} {bytes : K × V → List ℕ} {P : ℕ} {s : Nodes K V} 
           ap length kids ∙ length-slots_of (join at.frame.left (child at.frame.byte (leaf (leaf_name point.leaf_node_ptr) (pair_of at.node)) at.frame.right)) ∙ one_more at.below,
         )
 
-    -- what becomes of the parent is told by its number of children
+    -- what becomes of the parent is determined by its number of children
     pub change_is : (to : ParentChange) → last_step point.path ≡ Some (parent, byte) → parent_change s point.path ≡ to →
         change_of at.frame.mark.kind (suc (length (bytes_of (join at.frame.left at.frame.right)))) ≡ to
     change_is to step is =
@@ -198,13 +198,13 @@ module _ {K V : Type 0} {bytes : K × V → List ℕ} {P : ℕ} {s : Nodes K V} 
         let told : parent_change s point.path ≡ change_of parent.kind (length node.children) = change_seen s point.path step got refl in
         ap (λ (p : InnerPtr). change_of p.kind (suc (length (bytes_of (join at.frame.left at.frame.right))))) at.parent_is ∙ ap (change_of parent.kind) (sym count) ∙ sym told ∙ is
 
-    -- ---- after writes that change no leaf the leaf goes
+    -- ---- after writes that change no leaf the leaf is removed
 
     module _ {w t : Nodes K V} {new : OpaqueNodePtr} {done : DeleteResult K V} (leaves : w.leaves ≡ s.leaves) (taken : IsLeafTaken w t point (Some new) done) where
       leaves_without : t.leaves ≡ without_leaf s.leaves point.leaf_node_ptr at.node
       leaves_without = (taken_since s leaves at.here taken).0
 
-      -- what is done, by the tree that is left, and the name that stands where the parent stood
+      -- what is done, by the tree that is left, and the name in the parent's place
       pub deleted_below : (name : OpaqueNodePtr) (tree : Tree OpaqueNodePtr (K × V)) (to : ParentChange) → parent_change s point.path ≡ to → new ≡ root_of at.above root name →
           IsRootAfter to (path_of (at.frame ∷ at.above)) root (Some (root_of at.above root name)) →
           IsLaidOut bytes P (node_at t) (links_at t) (root_of at.above root name) (remove_key bytes (bytes (pair_of at.node)) pairs) tree →
@@ -246,7 +246,7 @@ module _ {K V : Type 0} {bytes : K × V → List ℕ} {P : ℕ} {s : Nodes K V} 
           same_root [] e = e
           same_root (g ∷ gs) e = refl
 
-    -- ---- a smaller node takes the parent's place, after a reservation that changes no node
+    -- ---- a smaller node replaces the parent, after a reservation that changes no node
 
     module _ (u : Nodes K V) (same : u.inners ≡ s.inners) (to : NodeType) (step : last_step point.path ≡ Some (parent, byte)) (is : parent_change s point.path ≡ shrinks to) where
       fewest : (at.frame.mark.kind ≢ Node4) × (length (bytes_of (join at.frame.left at.frame.right)) < kind_least at.frame.mark.kind)

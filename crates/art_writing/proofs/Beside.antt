@@ -1,4 +1,4 @@
--- the leaves beside a new one in the chain of a store
+-- the neighbours of a new leaf in the chain of a store
 use Rattle.std.proofs.Common.{◌≡◌, List, [], ◌∷◌, ◌++◌, Option, Some, None, IsSomeAnd, refl, ap, sym, ◌∙◌, subst, append_assoc, append-nil, inl, inr}
 use Rattle.std.specs.FinMap as map
 use Rattle.std.specs.Option.{option_map}
@@ -36,7 +36,7 @@ module _ {K V : Type 0} (s : Nodes K V) (xs zs : List OpaqueNodePtr) (linked : A
       let same : ◌≡◌ {A = Links OpaqueNodePtr} (record { previous = option_map leaf_name x.previous; next = option_map leaf_name x.next }) (record { previous = before; next = after }) = cc in
       (ap (λ z. z.previous) same, ap (λ z. z.next) same)
 
-  -- what the first leaf after a place has before it is the last one before the place
+  -- the predecessor of the first leaf after a place is the last one before the place
   pub before_first : (p : LeafPtr) (rest : List OpaqueNodePtr) (previous : Option LeafPtr) → zs ≡ leaf_name p ∷ rest →
       IsSomeAnd (map.get s.leaves p) (λ leaf. previous ≡ leaf.previous) → option_map leaf_name previous ≡ last_or xs None
   before_first p rest previous e is = go (map.get s.leaves p) refl is
@@ -47,7 +47,7 @@ module _ {K V : Type 0} (s : Nodes K V) (xs zs : List OpaqueNodePtr) (linked : A
           ap (option_map leaf_name) h ∙ (links_are x p (last_or xs None) (first_or rest None) here
           (link_of (links_at s) xs rest (leaf_name p) None None (subst (λ z. AreLinked (links_at s) None (xs ++ z) None) e linked))).0
 
-  -- what the last leaf before a place has after it is the first one after the place
+  -- the successor of the last leaf before a place is the first one after the place
   pub after_last : (p : LeafPtr) (others : List OpaqueNodePtr) (next : Option LeafPtr) → xs ≡ others ++ leaf_name p ∷ [] →
       IsSomeAnd (map.get s.leaves p) (λ leaf. next ≡ leaf.next) → option_map leaf_name next ≡ first_or zs None
   after_last p others next e is = go (map.get s.leaves p) refl is

@@ -1,4 +1,4 @@
--- What is read before a branch is placed: where the key parts from those below the end of its way, and the leaves beside the new one.
+-- What is read before a branch is placed: where the key differs from those below the end of its path, and the neighbours of the new leaf.
 use Rattle.std.proofs.Common.{◌≡◌, ◌≢◌, ℕ, ◌+◌, ◌-◌, ◌<◌, ◌≤◌, List, [], ◌∷◌, ◌++◌, length, take, drop, get_or, Option, Some, None, IsSomeAnd, refl, ap, ap₂, sym, ◌∙◌, subst, arith, cond, ltb, Bool, true, false, append_assoc, append-nil, length-append, take_at}
 use Rattle.std.proofs.lemmas.List.{get_or_at, take-append-drop}
 use Rattle.std.proofs.lemmas.Option.{slice_get_within, get_or_from_slice_get}
@@ -42,7 +42,7 @@ use Rattle.art_reading.specs.EndNodes.{IsKindOf, IsMismatch, IsLeafForPrefix}
 use Rattle.art_writing.specs.Points.{AnswersTo}
 use Rattle.art_writing.proofs.Branches.{end_laid, end_hole, end_depth}
 
--- ---- the leaves beside
+-- ---- the neighbouring leaves
 
 -- the links that a leaf has in a chain
 leaf_links : {K V : Type 0} (s : Nodes K V) (xs zs : List OpaqueNodePtr) (p : LeafPtr) (own : LeafNode K V) → get s.leaves p ≡ Some own →
@@ -94,7 +94,7 @@ module _ {K V : Type 0} (s : Nodes K V) (fs : List (Frame OpaqueNodePtr (K × V)
 
 -- ---- the bytes
 
--- after a place and a part a key goes on with a byte
+-- after a place and a shared part a key has a further byte
 module _ (place part : List ℕ) (x : ℕ) (r key : List ℕ) (is : key ≡ place ++ (part ++ x ∷ r)) where
   regrouped : key ≡ (place ++ part) ++ x ∷ r
   regrouped = is ∙ sym (append_assoc place part (x ∷ r))
@@ -111,7 +111,7 @@ module _ (place part : List ℕ) (x : ℕ) (r key : List ℕ) (is : key ≡ plac
   pub long_of : (n : ℕ) → n ≡ length place + length part → n < length key
   long_of n e = let l = ap length regrouped in omega (arith, simp length-append at l)
 
--- both keys go on after the place with the part, and then with different bytes
+-- both keys have different bytes after the place and the shared part
 pub record AreWays (place key other : List ℕ) (used : ℕ) : Type 0 where
   pub part : List ℕ
   pub x : ℕ
@@ -123,7 +123,7 @@ pub record AreWays (place key other : List ℕ) (used : ℕ) : Type 0 where
   pub differ : y ≢ x
   pub used_is : used ≡ length place + length part
 
--- keys that are not related part after what they share
+-- keys that are not related differ after what they share
 pub unrelated_ways : (place key other : List ℕ) (used : ℕ) → IsFront place key → IsFront place other → are_related key other ≡ false → used ≡ shared_len key other → AreWays place key other used
 unrelated_ways place key other used front fronts apart shared =
     let f = unrelated_part key other apart in
@@ -141,7 +141,7 @@ unrelated_ways place key other used front fronts apart shared =
       used_is = shared ∙ ap length e ∙ length-append place part;
     }
 
--- a key that parts from a prefix after a place parts from what goes on with the prefix
+-- a key that differs from a prefix after a place differs from what continues the prefix
 pub prefix_ways : (place prefix key other : List ℕ) (depth matched : ℕ) → depth ≡ length place → key ≡ place ++ drop depth key →
     IsFront (place ++ prefix) other → matched ≡ shared_len prefix (drop depth key) → matched < length prefix → depth + matched < length key →
     (ways : AreWays place key other (depth + matched)) × (ways.y ≡ get_or prefix matched 0)
@@ -238,7 +238,7 @@ module _ {K V : Type 0} {bytes : K × V → List ℕ} {P : ℕ} {s : Nodes K V} 
           unrelated_ways place key (least_key bytes at.node) used (end_hole by at).front
           (subst (IsFront place) own (subst (IsRadix bytes P place) is (end_hole by at).radix)) (subst (λ k. are_related key k ≡ false) own apart) (shared ∙ ap (shared_len key) own)
 
-      -- the bytes are there
+      -- the bytes exist
       pub leaf_bounds : (point.key_bytes_used ≤ used) × (used < length key) × (used < length (bytes (pair_of shown)))
       leaf_bounds =
           let w = leaf_ways in
@@ -284,7 +284,7 @@ module _ {K V : Type 0} {bytes : K × V → List ℕ} {P : ℕ} {s : Nodes K V} 
     inner_long : depth_of at.path + mismatch.matched_bytes < length key
     inner_long = let (start, (header, children, is, (parts, long))) = inner_kind in long
 
-    -- the keys below go on with the prefix
+    -- the keys below continue after the prefix
     pub prefix_way : IsFront (place ++ prefix_of bytes (depth_of at.path) at.node) (least_key bytes at.node)
     prefix_way =
         let (header, children, is) = inner_found in
@@ -293,7 +293,7 @@ module _ {K V : Type 0} {bytes : K × V → List ℕ} {P : ℕ} {s : Nodes K V} 
         subst (λ z. IsFront (place ++ z) (least_key bytes at.node)) (sym prefix)
         (subst (λ t. IsFront (place ++ radix.0) (least_key bytes t)) (sym is) (least_way_below bytes P children (place ++ radix.0) radix.2 radix.4))
 
-    -- which is longer than what the key has of it
+    -- which is longer than the key's part of it
     pub prefix_inside : mismatch.matched_bytes < length (prefix_of bytes (depth_of at.path) at.node)
     prefix_inside = slice_get_within (prefix_of bytes (depth_of at.path) at.node) mismatch.matched_bytes mismatch.prefix_byte parts.byte
 

@@ -1,4 +1,4 @@
--- A branch at the end of a point's path: what a store has there, and what it is when the branch is placed.
+-- A branch at the end of a point's path: what the store has there before the branch is placed, and after.
 use Rattle.std.proofs.Common.{◌≡◌, ◌≢◌, ℕ, List, [], ◌∷◌, ◌++◌, length, take, Option, Some, None, IsSome, IsSomeAnd, IfSome, is_some, refl, ap, ap₂, sym, ◌∙◌, subst, cond, ltb, Bool, true, false, append_assoc, append-nil}
 use Rattle.std.specs.List.{AllByRecursion as Each}
 use Rattle.std.specs.Option.{option_map}
@@ -56,7 +56,7 @@ use Rattle.art_writing.proofs.Ways.{last_step-path_of, root_with-path_of, root_t
 
 -- ---- the end of a point's path
 
--- the leaves before a new one and those after it, which comes right before or right after those in the hole
+-- the leaves before a new one and those after it, which is adjacent to those in the hole
 leaf_list : {N A : Type 0} (fs : List (Frame N A)) (t : Tree N A) (first : Bool) →
     leaf_names (plug fs t) ≡ (leaves_before fs ++ cond first (leaf_names t) []) ++ (cond first [] (leaf_names t) ++ leaves_after fs)
 leaf_list fs t true = leaf_names-plug fs t
@@ -68,7 +68,7 @@ module _ {K V : Type 0} {bytes : K × V → List ℕ} {P : ℕ} {s : Nodes K V} 
   pub end_laid : IsLaidOut bytes P (node_at s) (links_at s) point.root pairs (plug at.path at.node)
   end_laid = subst (IsLaidOut bytes P (node_at s) (links_at s) point.root pairs) (sym at.is_end.whole) (laid_out by)
 
-  -- the place is a front of the key
+  -- the place is a prefix of the key
   pub end_hole : IsHole bytes P at.path (take (depth_of at.path) key) at.node key
   end_hole =
       let (place, path, radix) = radix_plug bytes P at.path at.node end_laid.radix in
@@ -99,7 +99,7 @@ module _ {K V : Type 0} {bytes : K × V → List ℕ} {P : ℕ} {s : Nodes K V} 
         (cond (ltb branch.old_byte branch.new_byte) [] (leaf_names at.node) ++ leaves_after at.path))
     ends_there = subst (AreThere s) (leaf_list at.path at.node (ltb branch.old_byte branch.new_byte)) (are_there s (plug at.path at.node) end_laid.holds)
 
-    -- the leaves beside the new one are there
+    -- the neighbours of the new leaf are in the store
     pub previous_is_there : IsThere s.leaves branch.previous
     previous_is_there =
         previous_there s (leaves_before at.path ++ cond (ltb branch.old_byte branch.new_byte) (leaf_names at.node) [])
@@ -110,7 +110,7 @@ module _ {K V : Type 0} {bytes : K × V → List ℕ} {P : ℕ} {s : Nodes K V} 
         next_there s (leaves_before at.path ++ cond (ltb branch.old_byte branch.new_byte) (leaf_names at.node) [])
         (cond (ltb branch.old_byte branch.new_byte) [] (leaf_names at.node) ++ leaves_after at.path) branch.next ends_there is.next
 
--- what is read is read for the key
+-- what is read is right for the key
 pub read_for : {K V : Type 0} {bytes : K × V → List ℕ} {P : ℕ} {s : Nodes K V} {point : InsertPoint} {text key : List ℕ} {branch : Branch P} →
     text ≡ key → ForEnd bytes P s text point (λ path node. IsBranch bytes text path node branch) → ForEnd bytes P s key point (λ path node. IsBranch bytes key path node branch)
 read_for {bytes = bytes} {P} {s} {point} {branch = branch} same read = subst (λ k. ForEnd bytes P s k point (λ path node. IsBranch bytes k path node branch)) same read
@@ -124,7 +124,7 @@ module _ {K V : Type 0} {bytes : K × V → List ℕ} {P : ℕ} {s : Nodes K V} 
   abbrev pub new_leaf : LeafNode K V
   new_leaf = record { key = pair.0; value = pair.1; previous = branch.previous; next = branch.next }
 
-  -- the store's equations, where the leaves were the same before, and the inner nodes but for those that were touched
+  -- the store's equations, where the leaves were the same before, and the inner nodes except for those that were touched
   pub branch_stored : {touched : List InnerPtr} → mid.leaves ≡ s.leaves → Touched s.inners mid.inners [] [] touched → Each IsInner touched →
       ((k : InnerPtr) → IsIn k touched → IsIn (inner_name k) (names_of at.node)) → name_of at.node ≡ old →
       BranchStored bytes P s t at.path (take (depth_of at.path) (bytes pair)) at.node placed.node done.leaf_node_ptr is.part branch.old_byte

@@ -1,4 +1,4 @@
--- What is told of a clone, from the copy of a canonical tree.
+-- What is stated of a clone, from the copy of a canonical tree.
 use Rattle.std.proofs.Common.{ℕ, List, [], Some, None, Result, IfOk, refl, sym, subst}
 use Rattle.std.proofs.lemmas.Result.{IfOk-weaker}
 use Rattle.art_parts.specs.LeafClones.{IsPairClone}
@@ -62,7 +62,7 @@ pub each_copied : {K V E : Type 0} {bytes : K × V → List ℕ} {P : ℕ} {IsCl
 each_copied {bytes = bytes} {P} {IsClone} {s} {old} {new} {root} {pairs} {layout} result {Q} is copied then =
     IfOk-weaker result (IsCopied IsClone layout old new) Q then (copied layout (has_children bytes P s root pairs layout is))
 
--- what a clone answers, as it answers of the copy of each tree of its root
+-- what a clone returns, as it returns the copy of each tree of its root
 module _ {K V E : Type 0} (bytes : K → List _) (P : _) (is_key_clone : K → K → Type 0) (is_value_clone : V → V → Type 0) (keep : KeepBytes bytes is_key_clone)
     {s : Nodes K V} (old new : Nodes K V) {root : OpaqueNodePtr} (result : Result CloneResult E) (canonical : IsCanonicalRoot (of_key bytes) P s root)
     (copied : (tree : Tree OpaqueNodePtr (K × V)) → IsFullTree s root tree → IfOk result (IsCopied (IsPairClone is_key_clone is_value_clone) tree old new)) where

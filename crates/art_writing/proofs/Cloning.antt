@@ -48,7 +48,7 @@ use Rattle.art_writing.specs.Freed.{CanGo, names_to_free}
 use Rattle.art_writing.proofs.FreedTrees.{all_can, all_go}
 
 module _ {A : Type 0} where
-  -- the children of a node rise as its bytes do
+  -- the bytes of a node's children are in order
   below_all : (b : ℕ) (cs : Subtrees OpaqueNodePtr A) → IsBelow b (slots_of cs) → Each (λ c. b < c) (bytes_of cs)
   below_all b no_child h = tt
   below_all b (child c t cs) h = (h.0, below_all b cs h.1)
@@ -57,7 +57,7 @@ module _ {A : Type 0} where
   rising_bytes no_child h = tt
   rising_bytes (child b t cs) h = (below_all b cs h.0, rising_bytes cs h.1)
 
--- the first of some leaves and then of others, and the last
+-- the first and the last of some leaves followed by others
 first_more : (min : Option LeafPtr) (xs : List OpaqueNodePtr) (p : LeafPtr) → option_map leaf_name min ≡ first_or xs None →
     option_map leaf_name (option_or min (Some p)) ≡ first_or xs (Some (leaf_name p))
 first_more None [] p e = refl
@@ -80,7 +80,7 @@ first_leaf ends = option_map (λ ends. ends.first) ends
 abbrev pub last_leaf : Option LeafEnds → Option LeafPtr
 last_leaf ends = option_map (λ ends. ends.last) ends
 
--- So many children are copied below the new node, and the others are to come.
+-- So many children are copied below the new node, and the others are still to be copied.
 pub record IsCloning {K V : Type 0} (IsClone : K × V → K × V → Type 0) (s : Nodes K V) (tree : Tree OpaqueNodePtr (K × V)) (old now : Nodes K V)
     (parent : InnerPtr) (rest : List (ℕ × OpaqueNodePtr)) (min max : Option LeafPtr) : Type 0 where
   pub name : OpaqueNodePtr
@@ -122,7 +122,7 @@ module _ {K V : Type 0} (is_key_clone : K → K → Type 0) (is_value_clone : V 
         last = refl;
       }
 
--- a store in which a copy is put below a node
+-- a store in which a copy is added below a node
 abbrev put_below : {K V : Type 0} → InnerPtr → ℕ → Option LeafPtr → Nodes K V → CloneResult → Nodes K V
 put_below parent b max next done =
     record { leaves = with_links_around next.leaves max (Some done.min_leaf) (Some done.min_leaf) max; inners = change next.inners parent (with_child b done.root); promise = next.promise }
@@ -130,14 +130,14 @@ put_below parent b max next done =
 all_names : {N A : Type 0} (cs : Subtrees N A) (b : ℕ) (u : Tree N A) → leaf_names_below (join cs (child b u no_child)) ≡ leaf_names_below cs ++ leaf_names u
 all_names cs b u = leaf_names_below-join cs (child b u no_child) ∙ ap (λ z. leaf_names_below cs ++ z) (append-nil (leaf_names u))
 
--- where a child is not copied, the tree so far is freed, and the store has what it had
+-- where a child is not copied, the tree so far is freed, and the store has its old nodes
 pub record IsRefused {K V : Type 0} (old next : Nodes K V) (name : OpaqueNodePtr) : Type 0 where
   pub tree : Tree OpaqueNodePtr (K × V)
   pub is_layout : IsLayout (node_at next) name tree
   pub leaves : (freed : Nodes K V) → Loses next freed tree → freed.leaves ≡ old.leaves
   pub inners : (freed : Nodes K V) → Loses next freed tree → freed.inners ≡ old.inners
 
--- the next child's tree, and what there is when it is copied and put below the node
+-- the next child's tree, and the store when it is copied and added below the node
 pub record NextCloned {K V : Type 0} (IsClone : K × V → K × V → Type 0) (s : Nodes K V) (tree : Tree OpaqueNodePtr (K × V)) (old now : Nodes K V)
     (parent : InnerPtr) (b : ℕ) (name : OpaqueNodePtr) (rest : List (ℕ × OpaqueNodePtr)) (min max : Option LeafPtr) : Type 0 where
   pub below : Tree OpaqueNodePtr (K × V)
@@ -190,7 +190,7 @@ module _ {K V : Type 0} {IsClone : K × V → K × V → Type 0} where
 
   module _ {s : Nodes K V} {tree : Tree OpaqueNodePtr (K × V)} {old now : Nodes K V} {parent : InnerPtr} {b : ℕ} {name : OpaqueNodePtr}
       {rest : List (ℕ × OpaqueNodePtr)} {min max : Option LeafPtr} where
-    -- the copies' bytes are below the next one
+    -- the copies' bytes are less than the next one
     copies_low : (f : IsCloning IsClone s tree old now parent ((b, name) ∷ rest) min max) (u : Tree OpaqueNodePtr (K × V)) (c : ℕ)
         (others : Subtrees OpaqueNodePtr (K × V)) → f.left ≡ child c u others → c ≡ b → Each (λ z. z < b) (bytes_of f.copies)
     copies_low f u c others is same =
@@ -198,7 +198,7 @@ module _ {K V : Type 0} {IsClone : K × V → K × V → Type 0} where
         subst (λ z. Each (λ y. y < z) (bytes_of f.copies)) same (subst (Each (λ y. y < c)) (sym (copied_bytes IsClone f.done f.copies f.same))
         (Pairwise-before (λ y z. y < z) (bytes_of f.done) (bytes_of others) c up))
 
-    -- the step of the stores, whatever the last one is
+    -- the step between the stores, whatever the last one is
     child_gained : (f : IsCloning IsClone s tree old now parent ((b, name) ∷ rest) min max) (u : Tree OpaqueNodePtr (K × V)) (c : ℕ)
         (others : Subtrees OpaqueNodePtr (K × V)) → f.left ≡ child c u others → c ≡ b → (next new : Nodes K V) (done : CloneResult) (copied : IsCopied IsClone u now next done) →
         new.leaves ≡ with_links_around next.leaves max (Some done.min_leaf) (Some done.min_leaf) max →

@@ -1,4 +1,4 @@
--- All below a node gives way to the node's first leaf: what the writes leave, from the equations of the store's maps.
+-- A subtree is replaced by its first leaf: what the writes leave, from the equations of the store's maps.
 use Rattle.std.proofs.Common.{◌≡◌, ◌≢◌, ℕ, ◌+◌, List, [], ◌∷◌, ◌++◌, length, length-append, append_assoc, append-nil, Option, Some, None, refl, ap, sym, ◌∙◌, subst, arith, ◌⊎◌, inl, inr}
 use Rattle.std.specs.List.{AllByRecursion as Each}
 use Rattle.std.specs.Option.{option_map}
@@ -38,7 +38,7 @@ use Rattle.art_model.proofs.stores.Views.{held_in_inner, leaf_or, same_inner_hel
 use Rattle.art_model.proofs.places.Wholes.{kept}
 use Rattle.art_model.proofs.stores.Writes.{inner_name_one, node_at-inner, node_at-leaf, parent_stays, parent_there, parent_written, same_but, same_inner, shown, with_child_at-elsewhere}
 
--- ---- paths, one behind the other, and the leaves beside a hole
+-- ---- paths, one after the other, and the neighbours of a hole
 
 module _ {N A : Type 0} where
   pub plug-append : (gs fs : List (Frame N A)) (t : Tree N A) → plug (gs ++ fs) t ≡ plug fs (plug gs t)
@@ -165,7 +165,7 @@ module _ {K V : Type 0} {bytes : K × V → List ℕ} {P : ℕ} {s : Nodes K V} 
       let g = length-leaf_names node in
       omega arith
 
-  -- ---- the leaf is out of its parent
+  -- ---- the leaf is removed from its parent
 
   abbrev mid : Nodes K V
   mid = record s { inners = change s.inners (as_inner f.mark) (without_child f.byte) }
@@ -195,7 +195,7 @@ module _ {K V : Type 0} {bytes : K × V → List ℕ} {P : ℕ} {s : Nodes K V} 
       (record { named = inl refl; were_free = tt; distinct = tt; apart = tt; there = mark_now; below = tt }) (mid_same (f.mark ∷ leaf_name n ∷ []) (inl refl)))
       (mid_same (names_of upper) (inl refl))
 
-  -- ---- it is linked with the leaf after the subtree, and the node above names it
+  -- ---- it is linked with the leaf after the subtree, and becomes a child of the node above
 
   module _ (w : Nodes K V) (next : Option LeafPtr) (leaves : w.leaves ≡ with_links_around s.leaves (Some n) next next (Some n))
       (inners : w.inners ≡ with_child_at (parent_of fs) (leaf_name n) (change s.inners (as_inner f.mark) (without_child f.byte))) where
@@ -207,7 +207,7 @@ module _ {K V : Type 0} {bytes : K × V → List ℕ} {P : ℕ} {s : Nodes K V} 
           (λ up. parent_apart (node_at s) (node_at s) fs node old.holds old.distinct k up i))
     ]
 
-    -- what is left below the node stands there
+    -- what is left below the node is unchanged there
     pub rest_layout : IsLayout (node_at w) (name_of node) rest
     rest_layout = record {
       named = same_name gs upper fewer refl;
@@ -215,7 +215,7 @@ module _ {K V : Type 0} {bytes : K × V → List ℕ} {P : ℕ} {s : Nodes K V} 
       distinct = mid_held.1;
     }
 
-    -- what is in use beside the subtree is as it was, but for links and the parent
+    -- nodes in use outside the subtree are unchanged, except for links and the parent
     other_held : (k : OpaqueNodePtr) → (IsIn k (names_of node) → ⊥) → (IsParent fs k → ⊥) → ((p : LeafPtr) → next ≡ Some p → k ≢ leaf_name p) → content_at w k ≡ content_at s k
     other_held k off up not_next = elim (leaf_or k) [
       | inl (p, e) ↦ subst (λ z. content_at w z ≡ content_at s z) (sym e) (ap (option_map held_leaf) (ap (λ m. get m p) leaves
@@ -227,7 +227,7 @@ module _ {K V : Type 0} {bytes : K × V → List ℕ} {P : ℕ} {s : Nodes K V} 
         some_one : {p q : LeafPtr} → ◌≡◌ {A = Option LeafPtr} (Some p) (Some q) → p ≡ q
         some_one e = cc
 
-    -- ---- and what is left below the node is freed
+    -- ---- what is left below the node is freed
 
     module _ {t : Nodes K V} (freed : Frees (names_of rest) w t) (first : first_of (leaf_names node) ≡ Some (leaf_name n))
         (next_is : option_map leaf_name next ≡ first_or (leaves_after fs) None) where

@@ -1,4 +1,4 @@
--- A node goes with one of its two children, and the other takes its place.
+-- A node is removed with one of its two children, and the other replaces it.
 use Rattle.std.proofs.Common.{◌≡◌, ℕ, ◌+◌, ◌≤◌, List, [], ◌∷◌, ◌++◌, length, take, min, Option, Some, None, IsSomeAnd, refl, ap, sym, subst, ◌∙◌, arith, append_assoc}
 use Rattle.std.proofs.lemmas.List.{take-take}
 use Rattle.art_inner.specs.Inner.{Inner}
@@ -6,7 +6,7 @@ use Rattle.art_parts.specs.declared.leaf.LeafNode.{LeafNode}
 use Rattle.art_parts.specs.Headers.{Prefix, header_of}
 use Rattle.art_parts.proofs.HeaderLaws.{extended_header, len_of_header, stored_of_header}
 
--- a prefix, a byte and another prefix behind it
+-- a prefix, a byte and another prefix after it
 pub lengthened : (P byte : ℕ) (first rest : List ℕ) (front own one both : Prefix) → front ≡ header_of P first → own ≡ header_of P rest →
     one.len ≡ front.len + 1 → one.stored ≡ take P (front.stored ++ take 1 (byte ∷ [])) → both.len ≡ one.len + own.len →
     both.stored ≡ take P (one.stored ++ take own.len own.stored) → both ≡ header_of P (first ++ byte ∷ rest)
@@ -18,7 +18,7 @@ lengthened P byte first rest front own one both is own_is one_len one_stored len
     extended_header P (first ++ byte ∷ []) rest own.stored one both first_one begins (omega arith)
     (stored ∙ ap (λ k. take P (one.stored ++ take k own.stored)) more) ∙ ap (header_of P) (append_assoc first (byte ∷ []) rest)
 
--- the node and the leaf that are there, by whose key the lengths have a sum
+-- the node and the leaf in the store, by whose key the lengths have a sum
 module _ {K V : Type 0} (bytes : K → List ℕ) (leaves : Option (LeafNode K V)) (inners : Option Inner) (front : ℕ)
     (may : IsSomeAnd leaves (λ leaf. IsSomeAnd inners (λ node. front + 1 + node.prefix.len ≤ length (bytes leaf.key)))) where
   pub leaf_there : None ≡ leaves → ⊥

@@ -1,4 +1,4 @@
--- The copying of a tree into another store: the copies above the one whose children have their turns, and what is copied so far.
+-- The copying of a tree into another store: the copies above the one whose children are being copied, and what is copied so far.
 use Rattle.std.proofs.Common.{◌≡◌, ◌≢◌, ℕ, suc, ◌+◌, ◌*◌, ◌<◌, List, [], ◌∷◌, ◌++◌, length, length-append, reverse, Option, Some, None, IsSome, true, refl, ap, sym, ◌∙◌, subst, arith}
 use Rattle.std.proofs.lemmas.List.{reverse-append}
 use Rattle.std.specs.Option.{option_or}
@@ -30,7 +30,7 @@ use Rattle.art_writing.proofs.Cloning.{IsCloning, NextCloned, cloned_whole, clon
 use Rattle.art_writing.proofs.FreedTrees.{all_can, all_go, inner_is_there, leaf_is_there, read, read_at_is}
 
 module _ {K V : Type 0} (IsClone : K × V → K × V → Type 0) (s : Nodes K V) where
-  -- A child of this node is copied, the tree of the name, from this store on.
+  -- A child of this node is being copied, the tree of the name, from this store on.
   pub record IsAboveCopy (Outer : Nodes K V → Tree OpaqueNodePtr (K × V) → Type 0) (f : Above) (now : Nodes K V) (tree : Tree OpaqueNodePtr (K × V)) : Type 0 where
     pub old : Nodes K V
     pub outer_tree : Tree OpaqueNodePtr (K × V)
@@ -39,19 +39,19 @@ module _ {K V : Type 0} (IsClone : K × V → K × V → Type 0) (s : Nodes K V)
     pub cloning : IsCloning IsClone s outer_tree old now f.copy ((f.byte, name) ∷ f.children) (first_leaf f.ends) (last_leaf f.ends)
     pub turn : (cloning_next refl cloning).below ≡ tree
 
-  -- The nodes above a tree, the innermost first, up to the root of the whole: of each the child below it is copied.
+  -- The nodes above a tree, the innermost first, up to the root of the whole: of each the child below it is being copied.
   abbrev pub AreAbove : Nodes K V → Tree OpaqueNodePtr (K × V) → List Above → Nodes K V → Tree OpaqueNodePtr (K × V) → Type 0
   AreAbove start whole [] now tree = (now ≡ start) × (tree ≡ whole)
   AreAbove start whole (f ∷ fs) now tree = IsAboveCopy (AreAbove start whole fs) f now tree
 
-  -- The children of a node are copied, and these are to come.
+  -- The children of a node are copied, and these are still to be copied.
   pub record IsCopying (start : Nodes K V) (whole : Tree OpaqueNodePtr (K × V)) (above : List Above) (now : Nodes K V) (copy : InnerPtr) (left : Children) (min max : Option LeafPtr) : Type 0 where
     pub old : Nodes K V
     pub tree : Tree OpaqueNodePtr (K × V)
     pub outer : AreAbove start whole above old tree
     pub cloning : IsCloning IsClone s tree old now copy left min max
 
-  -- A clone was refused: the store has the nodes of one in which some children of a node are copied.
+  -- A clone failed: the store has the nodes of one in which some children of a node are copied.
   pub record IsRefusedAt (start : Nodes K V) (whole : Tree OpaqueNodePtr (K × V)) (above : List Above) (into : Nodes K V) (copy : InnerPtr) : Type 0 where
     pub now : Nodes K V
     pub left : Children
@@ -68,12 +68,12 @@ module _ {K V : Type 0} (s : Nodes K V) where
   abbrev pub size_at : OpaqueNodePtr → ℕ
   size_at name = length (names_of (read (shape_at s) (map.len s.inners) name))
 
-  -- how many are below children that are to come
+  -- how many are below children still to be copied
   abbrev pub sizes_at : Children → ℕ
   sizes_at [] = 0
   sizes_at (slot ∷ slots) = size_at slot.1 + sizes_at slots
 
-  -- what is to come of the nodes above
+  -- what is still to be copied of the nodes above
   abbrev pub left_above : List Above → ℕ
   left_above [] = 0
   left_above (f ∷ fs) = suc (2 * sizes_at f.children + left_above fs)
@@ -104,7 +104,7 @@ module _ {K V : Type 0} (s : Nodes K V) where
       let both = length-append (names_below is.done) (names_below is.left) in
       omega (arith, slots, sizes, all, names, both)
 
--- an inner node whose name stands for a tree is there
+-- an inner node whose name stands for a tree is in the store
 pub root_there : {K V : Type 0} (s : Nodes K V) {p : InnerPtr} → p.kind ≢ Leaf → (tree : Tree OpaqueNodePtr (K × V)) → IsFullTree s (inner_name p) tree → IsSome (map.get s.inners p)
 root_there s off tree full = inner_is_there {s = s} off refl (shape_of tree) (all_can {s = s} full.0)
 
@@ -112,7 +112,7 @@ pub leaf_there_of : {K V : Type 0} (s : Nodes K V) {p : LeafPtr} {root : OpaqueN
     IsSome (map.get s.leaves p)
 leaf_there_of s named tree full = leaf_is_there {s = s} named refl (shape_of tree) (all_can {s = s} full.0)
 
--- ---- the turns
+-- ---- the steps
 
 module _ {K V : Type 0} {IsClone : K × V → K × V → Type 0} {s : Nodes K V} where
   -- the root's copy is placed
@@ -149,7 +149,7 @@ module _ {K V : Type 0} {IsClone : K × V → K × V → Type 0} {s : Nodes K V}
       cloning = rw (first, last) (next_of.then mid new done copied leaves inners promise);
     }
 
-    -- it is there
+    -- it is in the store
     pub child_inner : {p : InnerPtr} → p.kind ≢ Leaf → inner_name p ≡ name → IsSome (map.get s.inners p)
     child_inner off named = inner_is_there {s = s} off named (shape_of next_of.below) (all_can {s = s} next_of.is_full.0)
 
@@ -203,7 +203,7 @@ module _ {K V : Type 0} {IsClone : K × V → K × V → Type 0} {s : Nodes K V}
       abbrev pub outer_of : IsAboveCopy IsClone s (AreAbove IsClone s start whole fs) f is.old is.tree
       outer_of = subst (λ l. AreAbove IsClone s start whole l is.old is.tree) e is.outer
 
-      -- the node above goes on
+      -- the copying of the node above continues
       pub goes_on : IsCopying IsClone s start whole fs is.old f.copy ((f.byte, outer_of.name) ∷ f.children) (first_leaf f.ends) (last_leaf f.ends)
       goes_on = record { old = outer_of.old; tree = outer_of.outer_tree; outer = outer_of.outer; cloning = outer_of.cloning }
 
@@ -224,7 +224,7 @@ module _ {K V : Type 0} {IsClone : K × V → K × V → Type 0} {s : Nodes K V}
         cloning = rw (a, b) (its_next.then now new done its_copied leaves inners promise);
       }
 
-  -- ---- a clone is refused
+  -- ---- a clone fails
 
   module _ {start into : Nodes K V} {whole : Tree OpaqueNodePtr (K × V)} {above : List Above} {copy : InnerPtr} {name : OpaqueNodePtr}
       (is : IsRefusedAt IsClone s start whole above into copy) (named : name ≡ inner_name copy) where
@@ -232,7 +232,7 @@ module _ {K V : Type 0} {IsClone : K × V → K × V → Type 0} {s : Nodes K V}
     pub copy_can_go : (shape : Tree OpaqueNodePtr (Unit {0})) × CanGo into true name shape
     copy_can_go = let refused = cloning_refused {next = into} is.copying.cloning is.leaves is.inners named in (shape_of refused.tree, all_can refused.is_layout)
 
-    -- and then the store has the nodes of before
+    -- and then the store has its old nodes
     pub copy_undone : {freed : Nodes K V} → ((shape : Tree OpaqueNodePtr (Unit {0})) → CanGo into true name shape → Frees (names_to_free true shape) into freed) →
         ((q : InnerPtr) → q.kind ≡ Leaf → map.get freed.inners q ≡ map.get into.inners q) → SameNodes is.copying.old freed
     unfolding copy_can_go
@@ -291,6 +291,6 @@ module _ (size left children before after outer : ℕ) where
   pub falls_by : 0 < size → 2 * left + before < 2 * (size + left) + before
   falls_by some = omega arith
 
-  -- a node is whole
+  -- a node is complete
   pub falls_out : before ≡ after + suc (2 * outer) → 2 * outer + after < 2 * left + before
   falls_out more = omega arith

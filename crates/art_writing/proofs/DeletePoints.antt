@@ -1,4 +1,4 @@
--- points at which leaves go
+-- points at which leaves are removed
 use Rattle.std.proofs.Common.{◌≡◌, ℕ, List, [], false, true, not, ap, sym, ◌∙◌, subst, Option, Some}
 use Rattle.std.specs.Option.{option_map}
 use Rattle.art_nodes.specs.Nodes.{Nodes}
@@ -21,7 +21,7 @@ use Rattle.art_reading.specs.Descents.{LeadsToEnd, of_two}
 use Rattle.art_writing.specs.declared.delete.DeletePoint.{DeletePoint}
 use Rattle.art_writing.specs.Deleted.{IsDeletePoint, LeadsTo, pair_at}
 
--- the path to a leaf that a point names makes it that leaf's point
+-- the path to a leaf that a point names makes the point that leaf's
 pub leads_to : {A : Type 0} {tree : Tree OpaqueNodePtr A} {x : A} {point : DeletePoint} (is : HasLeaf tree (leaf_name point.leaf_node_ptr) x) →
     point.path ≡ path_of is.path → LeadsTo tree x point
 leads_to is path_is = record { path = is.path; whole = is.whole; path_is = path_is }
@@ -44,7 +44,7 @@ pub point_at_end : {A : Type 0} {tree : Tree OpaqueNodePtr A} {pairs : List A} {
 point_at_end First same (is, path_is) = (_, ap first_of same ∙ is.pair_is, leads_to is.has path_is)
 point_at_end Last same (is, path_is) = (_, ap last_of same ∙ is.pair_is, leads_to is.has path_is)
 
--- where no key is equal nothing goes
+-- where no key is equal nothing is removed
 pub nothing_goes : {A : Type 0} (bytes : A → List ℕ) (key : List ℕ) (pairs : List A) → with_key bytes key pairs ≡ [] → remove_key bytes key pairs ≡ pairs
 nothing_goes bytes key pairs e =
     filter_all (λ y. not (are_same key (bytes y))) pairs (Each-weaker (λ y. are_same key (bytes y) ≡ false) (λ y. not (are_same key (bytes y)) ≡ true) (λ y f. ap not f) pairs

@@ -1,4 +1,4 @@
--- What follows from a deletion's record for each clause of an applied point, and what stands at a point: the leaf and its parent.
+-- What follows from a deletion's record for each clause of an applied point, and what a store has at a point: the leaf and its parent.
 use Rattle.std.proofs.Common.{◌≡◌, ◌≢◌, ℕ, List, [], ◌∷◌, refl, ap, sym, ◌∙◌, subst, true, Option, Some, None, IfSome, IsSomeAnd}
 use Rattle.std.specs.Option.{option_map}
 use Rattle.std.specs.FinMap.{get}
@@ -36,7 +36,7 @@ use Rattle.art_reading.specs.PathSteps.{last_step}
 use Rattle.art_writing.proofs.Reserved.{nothing_after, taken_unasked}
 use Rattle.art_writing.proofs.Ways.{last_step-path_of}
 
--- the same value is there
+-- the same value is stored
 pub some_same : {X : Type 0} {x y : X} → ◌≡◌ {A = Option X} (Some x) (Some y) → x ≡ y
 some_same e = cc
 
@@ -76,7 +76,7 @@ some_root : {K V : Type 0} (bytes : K × V → List ℕ) (P : ℕ) (s : Nodes K 
 some_root bytes P s None pairs is = tt
 some_root bytes P s (Some root) pairs (layout, by) = (pairs, layout, by)
 
--- the leaf that was taken, as it was before writes that change no leaf
+-- the removed leaf, as it was before writes that change no leaf
 pub taken_since : {K V : Type 0} (s : Nodes K V) {w t : Nodes K V} {point : DeletePoint} {root : Option OpaqueNodePtr} {done : DeleteResult K V} {node : LeafNode K V} →
     w.leaves ≡ s.leaves → get s.leaves point.leaf_node_ptr ≡ Some node → IsLeafTaken w t point root done →
     (t.leaves ≡ without_leaf s.leaves point.leaf_node_ptr node) × (done.deleted_leaf ≡ unlinked_leaf (pair_of node))
@@ -87,7 +87,7 @@ taken_since s {t = t} {point} {done = done} leaves here taken = (
       (subst (λ m. IsSomeAnd (get m point.leaf_node_ptr) (λ leaf. done.deleted_leaf ≡ unlinked_leaf (pair_of leaf))) leaves taken.leaf),
 )
 
--- The root is canonical for the pairs without the one of the point; its pair is answered as a leaf alone; the rest stays.
+-- The root is canonical for the pairs without the point's pair, which is returned as a leaf with no siblings; the rest stays.
 pub record IsDeleted {K V : Type 0} (bytes : K × V → List ℕ) (P : ℕ) (s t : Nodes K V) (root : OpaqueNodePtr) (point : DeletePoint) (x : K × V)
     (pairs : List (K × V)) (layout : Tree OpaqueNodePtr (K × V)) (done : DeleteResult K V) : Type 0 where
   pub tree : Option (Tree OpaqueNodePtr (K × V))
@@ -114,12 +114,12 @@ module _ {K V : Type 0} (bytes : K × V → List ℕ) (P : ℕ) (t : Nodes K V) 
   one_tree rest after (Some name) (Some tree) None one two = absurd two
 
 module _ {A : Type 0} (bytes : A → List ℕ) where
-  -- the pair that a removal answers has the key
+  -- the pair that a removal returns has the key
   pub reply_key : (key : List ℕ) (pairs : List A) (x : A) → remove_reply bytes key pairs ≡ Some x → bytes x ≡ key
   reply_key key pairs x e =
       same_equal key (bytes x) (first_has (λ y. are_same key (bytes y) ≡ true) (with_key bytes key pairs) x (filter_passes (λ y. are_same key (bytes y)) pairs) e)
 
-  -- the first pair of a map goes by its key
+  -- the first pair of a map is removed by its key
   pub first_goes : (pairs : List A) (x : A) → IsMap bytes pairs → first_of pairs ≡ Some x → remove_key bytes (bytes x) pairs ≡ without_first pairs
   first_goes [] x is e = absurd cc
   first_goes (y ∷ ys) x is e = subst (λ z. remove_key bytes (bytes z) (y ∷ ys) ≡ ys) (some_same e) (first_is_removed_by_key bytes y ys is)

@@ -1,4 +1,4 @@
--- A tree is as it was where the nodes in use hold what they held: writes beside it and reservations don't matter.
+-- A tree is unchanged where the nodes in use hold what they held: writes outside it and reservations don't matter.
 use Rattle.std.proofs.Common.{◌≡◌, ◌≢◌, ℕ, List, ap, sym, subst, ◌∙◌, None, Result, Ok, Err, IfOk, OnErr, inl, inr}
 use Rattle.std.specs.Option.{option_map}
 use Rattle.std.specs.FinMap.{get, insert}
@@ -14,7 +14,7 @@ use Rattle.art_model.specs.Trees.{Tree}
 use Rattle.art_model.proofs.stores.Apart.{name_used, tree_kept}
 use Rattle.art_model.proofs.stores.Views.{held_in_inner, leaf_or}
 
--- a leaf that is placed leaves what is in use
+-- placing a leaf leaves the nodes in use
 pub leaf_elsewhere : {K V : Type 0} (s t : Nodes K V) (n : LeafPtr) (x : LeafNode K V) → get s.leaves n ≡ None → t.leaves ≡ insert s.leaves n x →
     t.inners ≡ s.inners → (k : OpaqueNodePtr) → content_at s k ≢ None → content_at t k ≡ content_at s k
 leaf_elsewhere s t n x free leaves inners k used = elim (leaf_or k) [
@@ -23,7 +23,7 @@ leaf_elsewhere s t n x free leaves inners k used = elim (leaf_or k) [
   | inr off ↦ held_in_inner t k.kind k.slot off ∙ ap (λ m. option_map held_inner (get m (record { kind = k.kind; slot = k.slot }))) inners ∙ sym (held_in_inner s k.kind k.slot off)
 ]
 
--- and so does one that is refused
+-- so does a placement that fails
 pub placement_elsewhere : {K V E : Type 0} (s t : Nodes K V) (x : LeafNode K V) (result : Result LeafPtr E) →
     IfOk result (λ n. t.leaves ≡ insert s.leaves n x) → IfOk result (λ n. get s.leaves n ≡ None) → t.inners ≡ s.inners → OnErr result (t ≡ s) →
     (k : OpaqueNodePtr) → content_at s k ≢ None → content_at t k ≡ content_at s k

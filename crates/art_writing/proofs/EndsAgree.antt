@@ -1,4 +1,4 @@
--- The leaf that is named at an end of a tree is that of the end's delete point.
+-- The leaf named at an end of a tree is that of the end's delete point.
 use Rattle.std.proofs.Common.{◌≡◌, ℕ, List, [], ◌∷◌, ◌++◌, Option, Some, refl, ap, sym, ◌∙◌, subst, inl}
 use Rattle.art_nodes.specs.Nodes.{Nodes}
 use Rattle.art_parts.specs.Names.{leaf_name}

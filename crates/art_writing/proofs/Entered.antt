@@ -1,4 +1,4 @@
--- a leaf that comes below an inner node, as an insertion: the point's node, where the leaf stands, and what the writes leave
+-- a leaf added below an inner node, as an insertion: the point's node, where the leaf is placed, and what the writes leave
 use Rattle.std.proofs.Common.{◌≡◌, ◌≢◌, ℕ, ◌<◌, List, [], ◌∷◌, ◌++◌, length, drop, get_or, Option, Some, None, IsSome, IsSomeAnd, IfSome, refl, leb, ap, sym, ◌∙◌, subst, arith, append_assoc, length-append, false, inl}
 use Rattle.std.specs.List.{AllByRecursion as Each}
 use Rattle.std.specs.FinMap as map
@@ -57,7 +57,7 @@ use Rattle.art_writing.proofs.Ways.{last_step-path_of, root_with-path_of, root_t
 
 -- ---- the point's node
 
--- the node that a key comes into, with the gap among its children at the key's byte
+-- the node to which a leaf is added, with the gap among its children at the key's byte
 pub record IsEntry {K V : Type 0} (bytes : K × V → List ℕ) (P : ℕ) (p : InnerPtr) (layout : Tree OpaqueNodePtr (K × V)) (key : List ℕ) (path : TreePath) (b : ℕ) : Type 0 where
   pub frames : List (Frame OpaqueNodePtr (K × V))
   pub place : List ℕ
@@ -193,7 +193,7 @@ module _ {K V : Type 0} {bytes : K × V → List ℕ} {P : ℕ} {s : Nodes K V} 
       (λ x f. same_related key (bytes x) (unrelated_after front b c key (bytes x) e.gap.front f (λ same. off.0 (sym same)))) (pairs_of t) (radix_way bytes P t (front ++ c ∷ []) h.0))
       (unequal cs h.1 off.1)
 
-  -- so nothing gives way
+  -- so nothing is replaced
   pub entry_reply : first_of (with_key bytes key pairs) ≡ None
   entry_reply =
       let others = subst (Each (λ c. c ≢ b)) (sym (bytes_of-join e.left e.right)) (Each-append (λ c. c ≢ b) (bytes_of e.left) (bytes_of e.right)
@@ -206,7 +206,7 @@ module _ {K V : Type 0} {bytes : K × V → List ℕ} {P : ℕ} {s : Nodes K V} 
 
 module _ {K V : Type 0} {bytes : K × V → List ℕ} {P : ℕ} {s t : Nodes K V} {point : InsertPoint} {p k : InnerPtr} {pairs : List (K × V)}
     {layout : Tree OpaqueNodePtr (K × V)} {b : ℕ} {n : LeafPtr} {new : K × V} where
-  -- the node, or the larger one in its place, has the leaf as a child
+  -- the node, or its larger replacement, has the leaf as a child
   pub entered_inserted : {root : OpaqueNodePtr} {done : InsertResult K V} (by : IsCanonicalTree bytes P s point.root pairs layout)
       (into : point.insert_kind ≡ IntoExisting p) (e : IsEntry bytes P p layout (bytes new) point.path b) →
       ChildAdded bytes P s t point.root pairs e.frames (inner_name p) (inner_name k) e.header e.left e.right b (leaf_name n) new → root ≡ paths.root_with e.frames point.root (inner_name k) →

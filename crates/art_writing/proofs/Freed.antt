@@ -54,7 +54,7 @@ module _ {K V : Type 0} where
 -- ---- the leaves of an iterator
 
 module _ {K V : Type 0} where
-  -- the first leaf of a walk is freed, and the walk goes on with the others
+  -- the first leaf of an iteration is freed, and the iteration continues with the others
   pub first_freed : {s t : Nodes K V} {next : Option (LeafPtr × LeafPtr)} (names : List OpaqueNodePtr) (p : LeafPtr) → AreDistinct names →
       Some (leaf_name p) ≡ first_of names → IsIteratorOf s next (without_first names) →
       t.leaves ≡ map.remove s.leaves p → t.inners ≡ s.inners → IsIteratorOf t next (without_first names)
@@ -64,7 +64,7 @@ module _ {K V : Type 0} where
       let off : (n : OpaqueNodePtr) → IsIn n xs → IsIn n (leaf_name p ∷ []) → ⊥ = λ n i j. apart_in (x ∷ []) xs n distinct (elim j [ inl f ↦ inl (sym same ∙ f) | inr k ↦ absurd k ]) i in
       goes_on s t next xs its (λ n i. ap (option_and_then links_of) ((leaf_freed {s = s} {t = t} p leaves inners).beside n (off n i) (λ z. z)))
 
-  -- Some of the names are gone, and the iterator stands for the others.
+  -- Some of the names are freed, and the iterator stands for the others.
   pub record AreLeft (s t : Nodes K V) (names : List OpaqueNodePtr) (iterator : Option (LeafPtr × LeafPtr)) : Type 0 where
     pub gone : List OpaqueNodePtr
     pub rest : List OpaqueNodePtr
@@ -76,7 +76,7 @@ module _ {K V : Type 0} where
   all_left {s} {names} is = record { gone = []; rest = names; whole = refl; iterator_of = is; freed = frees_none s }
 
   module _ {s t : Nodes K V} {names : List OpaqueNodePtr} {iterator : Option (LeafPtr × LeafPtr)} (is : AreLeft s t names iterator) where
-    -- no more come
+    -- no more are left
     pub none_come : None ≡ first_of is.rest → Frees names s t
     none_come none = subst (λ z. Frees z s t) (sym (is.whole ∙ go is.rest none)) is.freed
       where
@@ -84,7 +84,7 @@ module _ {K V : Type 0} where
         go [] e = append-nil is.gone
         go (x ∷ xs) e = absurd cc
 
-    -- the first one goes
+    -- the first one is freed
     pub one_goes : {u : Nodes K V} {next : Option (LeafPtr × LeafPtr)} → AreDistinct names → (p : LeafPtr) → Some (leaf_name p) ≡ first_of is.rest →
         IsIteratorOf t next (without_first is.rest) → u.leaves ≡ map.remove t.leaves p → u.inners ≡ t.inners → AreLeft s u names next
     one_goes {u} {next} distinct p first left leaves inners = go is.rest first is.whole left
@@ -115,7 +115,7 @@ leaf_less m p some =
     go None h = absurd cc
     go (Some x) h = refl
 
--- ---- the bytes of children rise
+-- ---- the bytes of children are in order
 
 -- no other child has its byte
 pub below_kept : (b : ℕ) (cs : List (ℕ × OpaqueNodePtr)) → IsBelow b cs → remove_child cs b ≡ cs

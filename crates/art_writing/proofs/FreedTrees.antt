@@ -1,4 +1,4 @@
--- A tree that is freed: what a store tells of it, and which of its names go.
+-- A tree that is freed: what a store shows of it, and which of its names are freed.
 use Rattle.std.proofs.Common.{◌≡◌, ◌≢◌, ℕ, zero, suc, ◌≤◌, ◌+◌, Bool, true, false, cond, List, [], ◌∷◌, ◌++◌, length, length-append, Option, Some, None, IsSome, is_some, refl, ap, ap₂, sym, ◌∙◌, subst, arith, inl, inr}
 use Rattle.std.specs.List.{AllByRecursion as Each}
 use Rattle.std.specs.Option.{option_map}
@@ -34,7 +34,7 @@ Shape = Tree OpaqueNodePtr (Unit {0})
 abbrev pub Shapes : Type 0
 Shapes = Subtrees OpaqueNodePtr (Unit {0})
 
--- ---- a tree that is read off a store, where at most so many inner nodes stand on a way down
+-- ---- a tree that is read off a store, where the inner nodes on a descent are bounded
 
 module _ {N : Type 0} where
   abbrev pub read_children : (N → Tree N (Unit {0})) → List (ℕ × N) → Subtrees N (Unit {0})
@@ -64,7 +64,7 @@ module _ {N : Type 0} where
       read_below no_child steps h enough = refl
       read_below (child b t cs) steps h enough = ap₂ (λ y z. child b y z) (read_is t steps h.0 (omega arith)) (read_below cs steps h.1 (omega arith))
 
--- ---- what a tree without leaves sees
+-- ---- a tree seen without its leaves
 
 module _ {K V : Type 0} (s : Nodes K V) where
   shape_in_inner : (kind : NodeType) (slot : ℕ) → kind ≢ Leaf → shape_in s kind slot ≡ option_map (inner_seen kind) (map.get s.inners (record { kind = kind; slot = slot }))
@@ -84,7 +84,7 @@ module _ {K V : Type 0} (s : Nodes K V) where
   not_leaf Node48 slot h slots e is = absurd cc
   not_leaf Node256 slot h slots e is = absurd cc
 
-  -- an inner node that is seen is there
+  -- an inner node that is seen is in the store
   pub record IsThere (k : OpaqueNodePtr) (h : NodeHeader) (slots : List (ℕ × OpaqueNodePtr)) : Type 0 where
     pub off : k.kind ≢ Leaf
     pub node : Inner
@@ -128,7 +128,7 @@ module _ {K V : Type 0} (s : Nodes K V) where
   pub count_at_is : (t : Shape) (root : OpaqueNodePtr) → IsLayout (shape_at s) root t → count_at root ≡ length (names_of t)
   count_at_is t root is = ap (λ z. length (names_of z)) (read_at_is t root is)
 
--- a name that holds what it held is seen as it was
+-- a name that holds what it held is seen unchanged
 pub shape_same : {K V : Type 0} (s t : Nodes K V) (k : OpaqueNodePtr) → content_at t k ≡ content_at s k → shape_at t k ≡ shape_at s k
 shape_same {K} {V} s t k e = elim (leaf_or k) [
   | inl (p, is) ↦ subst (λ z. shape_at t z ≡ shape_at s z) (sym is) refl
@@ -137,7 +137,7 @@ shape_same {K} {V} s t k e = elim (leaf_or k) [
       shape_at-inner t k off (map.get s.inners (as_inner k)) same ∙ sym (shape_at-inner s k off (map.get s.inners (as_inner k)) refl)
 ]
 
--- ---- names that go are names of the tree
+-- ---- freed names are names of the tree
 
 if_too : {N : Type 0} (b : Bool) (xs : List N) (k : N) → IsIn k (cond b xs []) → IsIn k xs
 if_too true xs k i = i
@@ -266,7 +266,7 @@ module _ {K V : Type 0} {s : Nodes K V} {too : Bool} {root : OpaqueNodePtr} {p :
 -- ---- all of a tree
 
 module _ {K V : Type 0} {s : Nodes K V} {root : OpaqueNodePtr} {layout : Tree OpaqueNodePtr (K × V)} where
-  -- a name that stands for a tree stands for its shape, and its leaves are there
+  -- a name that stands for a tree stands for its shape, and its leaves are in the store
   pub all_can : IsLayout (node_at s) root layout → CanGo s true root (shape_of layout)
   all_can is = record {
     layout = (has_shape s root layout is).0;
@@ -275,7 +275,7 @@ module _ {K V : Type 0} {s : Nodes K V} {root : OpaqueNodePtr} {layout : Tree Op
         (names_of layout) (all_taken (node_at s) layout is.holds)));
   }
 
--- so all of its names go
+-- so all of its names are freed
 pub all_go : {K V : Type 0} {s t : Nodes K V} (layout : Tree OpaqueNodePtr (K × V)) → Frees (names_to_free true (shape_of layout)) s t → Frees (names_of layout) s t
 all_go {K} {V} {s} {t} layout freed = subst (λ z. Frees z s t) (all_going (shape_of layout) ∙ names_of-shape layout) freed
 

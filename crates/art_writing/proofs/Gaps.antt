@@ -1,4 +1,4 @@
--- where a new leaf comes among the children of a node: the leaves beside it
+-- where a new leaf is placed among the children of a node: its neighbours
 use Rattle.std.proofs.Common.{◌≡◌, ◌≢◌, ◌⊎◌, ℕ, ◌<◌, ◌∷◌, ◌++◌, length, cond, ltb, Bool, true, false, Option, Some, None, refl, ap, sym, ◌∙◌, subst, arith, inl, inr}
 use Rattle.std.specs.List.{AllByRecursion as Each}
 use Rattle.std.specs.FinMap as map
@@ -43,7 +43,7 @@ full_child s l r c t (is, full) named =
       (children_right 1 l (child c t r) full.1).0,
     )
 
--- a child under a byte and no child there exclude each other
+-- a child under a byte and no child under it exclude each other
 there_is : {X : Type 0} {x : X} → ◌≡◌ {A = Option X} None (Some x) → ⊥
 there_is e = cc
 
@@ -52,7 +52,7 @@ none_later : (c : ℕ × OpaqueNodePtr) (rest : Children) (k : ℕ) → child_at
 none_later c rest k none = sym (at_later c rest k (λ e. there_is (sym none ∙ at_here c rest k e))) ∙ none
 
 module _ {A : Type 0} where
-  -- a byte of a child is as all of them are
+  -- a byte of a child has what all of them have
   byte_there : (Good : ℕ → Type 0) (cs : Subtrees OpaqueNodePtr A) {d : ℕ} {to : OpaqueNodePtr} → Each Good (bytes_of cs) → child_at (slots_of cs) d ≡ Some to → Good d
   byte_there Good no_child all is = absurd cc
   byte_there Good (child c t cs) {d} all is = elim (cases_eq c d) [
@@ -68,7 +68,7 @@ module _ {A : Type 0} where
     nothing_there (child c t l) r low high = at_later (c, name_of t) (slots_of (join l r)) b (λ e. omega (arith, e, low.0)) ∙ nothing_there l r low.1 high
 
     module _ (d : ℕ) (to : OpaqueNodePtr) where
-      -- the child above the gap between which and the gap is no other is the first on the right
+      -- the nearest child above the gap is the first on the right
       right_first : (l r : Subtrees OpaqueNodePtr A) → Each (λ c. c < b) (bytes_of l) → Each (λ c. b < c) (bytes_of r) → BytesRise (bytes_of (join l r)) → b < d →
           child_at (slots_of (join l r)) d ≡ Some to → ((k : ℕ) → b < k → k < d → child_at (slots_of (join l r)) k ≡ None) →
           (t : Tree OpaqueNodePtr A) × (others : Subtrees OpaqueNodePtr A) × (r ≡ child d t others) × (name_of t ≡ to)
@@ -85,7 +85,7 @@ module _ {A : Type 0} where
             absurd (there_is (sym (none c high.0 later) ∙ at_here (c, name_of t) (slots_of others) c refl))
       ]
 
-      -- the child below the gap between which and the gap is no other is the last on the left
+      -- the nearest child below the gap is the last on the left
       left_last : (l r : Subtrees OpaqueNodePtr A) → Each (λ c. c < b) (bytes_of l) → Each (λ c. b < c) (bytes_of r) → BytesRise (bytes_of (join l r)) → d < b →
           child_at (slots_of (join l r)) d ≡ Some to → ((k : ℕ) → d < k → k < b → child_at (slots_of (join l r)) k ≡ None) →
           (t : Tree OpaqueNodePtr A) × (others : Subtrees OpaqueNodePtr A) × (l ≡ join others (child d t no_child)) × (name_of t ≡ to)
@@ -174,7 +174,7 @@ module _ {K V : Type 0} {s : Nodes K V} {p : InnerPtr} {b : ℕ} {l r : Subtrees
     pub beside_full : (t : Tree OpaqueNodePtr (K × V)) × IsFullTree s found.1 t
     beside_full = by_side (λ side. (t : Tree OpaqueNodePtr (K × V)) × IsFullTree s found.1 t) right_full left_full
 
-    -- and what is beside its leaves is beside the gap
+    -- and the neighbours of its leaves are those of the gap
     pub beside_between : (previous next : Option LeafPtr) →
         ((t : Tree OpaqueNodePtr (K × V)) → IsFullTree s found.1 t → IsBeside s t (side_of b found.0) previous next) → ComesBetween s l r previous next
     beside_between previous next =

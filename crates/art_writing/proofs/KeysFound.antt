@@ -34,7 +34,7 @@ nothing_and true = refl
 nothing_and false = refl
 
 module _ {A : Type 0} (bytes : A → List ℕ) (key : List ℕ) where
-  -- a look-up finds a leaf exactly where the key is stored
+  -- a lookup finds a leaf exactly where the key is stored
   pub found_stored : (pairs : List A) (tree : Tree OpaqueNodePtr A) (found : Option LeafPtr) → FindsLeaf tree (with_key bytes key pairs) found → is_some found ≡ has_key bytes key pairs
   found_stored pairs tree None h = sym (any_is_first (λ x. are_same key (bytes x)) pairs ∙ ap (λ xs. is_some (first_of xs)) h)
   found_stored pairs tree (Some name) (x, only, has) = sym (any_is_first (λ x. are_same key (bytes x)) pairs ∙ ap (λ xs. is_some (first_of xs)) only)
@@ -62,7 +62,7 @@ module _ {A : Type 0} (bytes : A → List ℕ) (key : List ℕ) where
       by ih true same = related_sym key (bytes x) ∙ subst (λ q. are_related (bytes x) q ≡ false) (same_equal key (bytes y) same) h.0.1
       by ih false other = ih (rw other at e)
 
-  -- a key that a map has is in conflict with none
+  -- a key that a map has never conflicts
   stored_free : (pairs : List A) → IsMap bytes pairs → has_key bytes key pairs ≡ true → is_conflict bytes key pairs ≡ false
   stored_free [] rising e = refl
   stored_free (x ∷ xs) rising e = go (λ later. stored_free xs rising.1 later) (are_same key (bytes x)) refl

@@ -1,4 +1,4 @@
--- A larger node in the place of a full one: the parent is still there.
+-- A larger node replaces a full one: the parent is still in the store.
 use Rattle.std.proofs.Common.{◌≡◌, ◌≢◌, ℕ, Option, Some, None, IsSome, IsSomeAnd, refl, ap, sym, ◌∙◌, subst}
 use Rattle.std.specs.FinMap as map
 use Rattle.art_inner.specs.Inner.{Inner, child_at}
@@ -14,7 +14,7 @@ child_stays inners name node (Some (parent, byte)) free has =
     let differ : parent ≢ name = λ e. subst (λ o. IsSomeAnd o (λ node. IsSome (child_at node.children byte))) (ap (map.get inners) e ∙ free) has in
     subst (λ o. IsSomeAnd o (λ node. IsSome (child_at node.children byte))) (sym (inner_elsewhere inners name parent node differ)) has
 
--- a node that comes where another one went leaves the parent
+-- a node that replaces a freed one leaves the parent
 pub parent_stays : (inners new : Inners) (name larger : InnerPtr) (f : Inner → Inner) (step : Option (InnerPtr × ℕ)) → map.get inners larger ≡ None →
     HasChild (map.remove inners name) step → IsSomeAnd (map.get inners name) (λ node. new ≡ map.insert (map.remove inners name) larger (f node)) → HasChild new step
 parent_stays inners new name larger f step free has = there (map.get inners name) refl

@@ -1,4 +1,4 @@
--- a leaf that is placed below the node of a point, which has room or gives way to a larger one
+-- a leaf placed below the node of a point, which has room or is replaced by a larger one
 use Rattle.std.proofs.Common.{◌≡◌, ◌≢◌, ℕ, ◌<◌, ◌≤◌, List, ◌++◌, length, Bool, true, false, cond, leb, MatchBool, Option, Some, None, IsSomeAnd, IfSome, is_some, refl, ap, ap₂, sym, ◌∙◌, subst, arith, append_assoc, inl}
 use Rattle.std.proofs.lemmas.Bool.{leb-true, leb-false}
 use Rattle.std.specs.FinMap as map
@@ -61,7 +61,7 @@ next_larger_is Node48 not_last proper = refl
 next_larger_is Node256 not_last proper = absurd (not_last refl)
 next_larger_is Leaf not_last proper = absurd (proper refl)
 
--- the kind that is asked for is told by the node that is read
+-- the requested kind follows from the node that is read
 pub asked_of : {K V : Type 0} (s : Nodes K V) (p : InnerPtr) {kind : NodeType} {node : Inner} → kind ≡ p.kind → Some node ≡ map.get s.inners p →
     cond (leb (kind_capacity kind) (length node.children)) (next_larger kind) None ≡ cond (is_full s p) (next_larger p.kind) None
 asked_of s p {node = node} same there =
@@ -85,7 +85,7 @@ module _ {K V : Type 0} {bytes : K × V → List ℕ} {P : ℕ} {s : Nodes K V} 
       leaf_names-plug e.frames (inner (inner_name p) e.header (join e.left e.right)) ∙
       ap (λ z. leaves_before e.frames ++ z ++ leaves_after e.frames) (leaf_names_below-join e.left e.right) ∙ simp append_assoc
 
-  -- ---- the leaves beside the new one
+  -- ---- the neighbours of the new leaf
 
   module _ (previous next : Option LeafPtr) (beside : ComesBetween s e.left e.right previous next) where
     links : (option_map leaf_name previous ≡ last_or before None) × (option_map leaf_name next ≡ first_or after None)
@@ -105,7 +105,7 @@ module _ {K V : Type 0} {bytes : K × V → List ℕ} {P : ℕ} {s : Nodes K V} 
     abbrev new_leaf : LeafNode K V
     new_leaf = record { key = new.0; value = new.1; previous = previous; next = next }
 
-    -- the leaf is placed in a store that was reserved, and its name is the child's
+    -- the leaf is placed after a reservation, and its name is the child's
     module _ (r q : Nodes K V) {n : LeafPtr} {child : OpaqueNodePtr} (r_leaves : r.leaves ≡ s.leaves) (r_inners : r.inners ≡ s.inners) (free : map.get r.leaves n ≡ None)
         (q_leaves : q.leaves ≡ with_leaf r.leaves n (record { key = new.0; value = new.1; previous = previous; next = next }))
         (q_inners : q.inners ≡ r.inners) (child_is : child ≡ leaf_name n) (t : Nodes K V) (t_leaves : t.leaves ≡ q.leaves) where
@@ -140,7 +140,7 @@ module _ {K V : Type 0} {bytes : K × V → List ℕ} {P : ℕ} {s : Nodes K V} 
             entered_inserted by into e (room_added (entry_laid by e) into_room)
             (sym (root_stays e.frames (inner (inner_name p) e.header (join e.left e.right)) (entry_laid by e).named)) is (room_touched into)
 
-      -- the node is full, and gives way to a larger one
+      -- the node is full, and is replaced by a larger one
       module _ (full : is_full s p ≡ true) (not_last : p.kind ≢ Node256) (k : InnerPtr) (kind : k.kind ≡ larger_kind p.kind) (was_free : map.get q.inners k ≡ None)
           (inners : IsSomeAnd (map.get q.inners p) (λ node. t.inners ≡ with_child_at (last_step point.path) (inner_name k) (map.insert (map.remove q.inners p) k (with_child b child node)))) where
         abbrev HasGrown : Inner → Type 0
@@ -181,7 +181,7 @@ module _ {K V : Type 0} {bytes : K × V → List ℕ} {P : ℕ} {s : Nodes K V} 
             entered_inserted by into e (full_added (entry_laid by e) into_full)
             (root_is ∙ ap (λ path. root_with path point.root (inner_name k)) e.path_is ∙ root_with-path_of e.frames point.root (inner_name k)) is (full_touched into)
 
-  -- ---- room for one child more
+  -- ---- room for one more child
 
   -- a node that isn't full has it
   pub has_room : is_full s p ≡ false → (q : Inners) → q ≡ s.inners → IsSomeAnd (map.get q p) (λ node. HasPlace (kind_capacity p.kind) node.children b)
@@ -201,7 +201,7 @@ module _ {K V : Type 0} {bytes : K × V → List ℕ} {P : ℕ} {s : Nodes K V} 
       some None h few = h
       some (Some node) h few = let l = ap kind_capacity last in omega arith
 
-  -- whether a kind is asked for tells whether the node is full
+  -- a kind is requested exactly if the node is full
   module _ {asked : Option NodeType} (few : IfSome (map.get s.inners p) (λ node. length node.children < 256)) (is : asked ≡ cond (is_full s p) (next_larger p.kind) None) where
     asked_larger : is_full s p ≡ true → asked ≡ Some (larger_kind p.kind)
     asked_larger full = is ∙ ap (λ b. cond b (next_larger p.kind) None) full ∙ next_larger_is p.kind (not_of_last few full) (entry_inner by e)

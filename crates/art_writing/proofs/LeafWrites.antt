@@ -1,4 +1,4 @@
--- What the leaves are after some are linked otherwise.
+-- The leaves after some links are changed.
 use Rattle.std.proofs.Common.{◌≡◌, ◌≢◌, Option, Some, None, IsSome, refl, ap, sym, ◌∙◌, subst}
 use Rattle.std.specs.Option.{option_map}
 use Rattle.std.specs.FinMap.{get, insert}
@@ -19,21 +19,21 @@ use Rattle.art_model.proofs.leaves.Leaves.{joined_pair}
 use Rattle.art_model.proofs.stores.Shown.{no_leaf_gone}
 use Rattle.art_model.proofs.stores.Stores.{path_holds}
 
--- a name is there, or it isn't
+-- a name is in the store, or it isn't
 pub some_there : {X : Type 0} (o : Option X) → o ≢ None → IsSome o
 some_there None h = absurd (h refl)
 some_there (Some x) h = refl
 
 module _ {K V : Type 0} (m : Leaves K V) where
-  -- two changes that agree on what is there
+  -- two changes that agree on the names in the store
   pub change_as : (p : LeafPtr) (f h : LeafNode K V → LeafNode K V) (x : LeafNode K V) → get m p ≡ Some x → f x ≡ h x → change m p f ≡ change m p h
   change_as p f h x e same = changed_from m p f (Some x) e ∙ ap (insert m p) same ∙ sym (changed_from m p h (Some x) e)
 
-  -- a leaf that comes leaves the others there
+  -- a new leaf leaves the others in the store
   pub there_placed : (n : LeafPtr) (x : LeafNode K V) (o : Option LeafPtr) → IsThere m o → IsThere (insert m n x) o
   there_placed n x o h p e = still_placed leaf_cmp_total leaf_cmp-IsAntisymmetric m n p x (h p e)
 
-  -- a leaf is there, with its pair, when those beside a place are linked otherwise
+  -- a leaf is in the store, with its pair, after the links around a place change
   module _ (before after next previous : Option LeafPtr) (q : LeafPtr) (x : LeafNode K V) (is : get m q ≡ Some x) where
     pub joined_there : get (with_links_around m before after next previous) q ≢ None
     joined_there gone = let pairs = sym (ap (option_map pair_of) is) ∙ sym (joined_pair m before after next previous q) ∙ ap (option_map pair_of) gone in absurd cc
@@ -41,7 +41,7 @@ module _ {K V : Type 0} (m : Leaves K V) where
     pub joined_keeps : (y : LeafNode K V) → get (with_links_around m before after next previous) q ≡ Some y → pair_of y ≡ pair_of x
     joined_keeps y e = let pairs = sym (ap (option_map pair_of) e) ∙ joined_pair m before after next previous q ∙ ap (option_map pair_of) is in cc
 
--- a leaf of a tree that the store holds is there
+-- a leaf of a tree that the store holds is in the store
 pub tree_leaf_there : {K V : Type 0} (s : Nodes K V) (tree : Tree OpaqueNodePtr (K × V)) (p : LeafPtr) (x : K × V) → Holds (node_at s) tree → HasLeaf tree (leaf_name p) x → None ≡ get s.leaves p → ⊥
 tree_leaf_there s tree p x holds has gone =
     no_leaf_gone s p (leaf (leaf_name p) x) refl (path_holds (node_at s) has.path (leaf (leaf_name p) x) (subst (Holds (node_at s)) (sym has.whole) holds)).1 gone

@@ -1,4 +1,4 @@
--- What applied points leave, with the tree that is left.
+-- What applied points leave, with the resulting tree.
 use Rattle.std.specs.Prelude.{◌≡◌, ℕ, List, Some}
 use Rattle.std.specs.Option.{option_map}
 use Rattle.art_nodes.specs.Nodes.{Nodes}
@@ -14,7 +14,7 @@ use Rattle.art_writing.specs.declared.insert.InsertResult.{InsertResult}
 use Rattle.art_writing.specs.declared.insert.OverwritePoint.{OverwritePoint}
 use Rattle.art_writing.specs.declared.insert.PrefixInsertResult.{PrefixInsertResult}
 
--- The root is canonical for the pairs with the new one; where the key was stored it is answered with the old value, as a leaf alone; the rest stays.
+-- The root is canonical for the pairs with the new one; an equal stored key's old value is returned, as a leaf with no siblings; the rest stays.
 pub record IsInserted {K V : Type 0} (bytes : K × V → List ℕ) (P : ℕ) (s t : Nodes K V) (point : InsertPoint)
     (pair : K × V) (pairs : List (K × V))
     (layout : Tree OpaqueNodePtr (K × V)) (done : InsertResult K V) : Type 0 where
@@ -25,7 +25,7 @@ pub record IsInserted {K V : Type 0} (bytes : K × V → List ℕ) (P : ℕ) (s 
   pub kept : ChangesInPlace bytes s t (Some layout) (Some tree)
   pub touches : Touches point.insert_kind s t
 
--- The root is canonical for the pairs with the new one in the place of all with related keys; the answer tells what gave way; the rest stays.
+-- The root is canonical for the pairs with the new one, which replaces all with related keys; the result has what was replaced; the rest stays.
 pub record IsOverwritten {K V : Type 0} (bytes : K × V → List ℕ) (P : ℕ) (s t : Nodes K V)
     (point : OverwritePoint) (pair : K × V)
     (pairs : List (K × V)) (layout : Tree OpaqueNodePtr (K × V)) (done : PrefixInsertResult K V) : Type 0 where

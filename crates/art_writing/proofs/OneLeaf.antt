@@ -23,7 +23,7 @@ use Rattle.art_model.proofs.stores.Touches.{Touched, touched_none, then_placed, 
 use Rattle.art_writing.specs.Inserted.{unlinked_leaf}
 use Rattle.art_writing.specs.ParentWrites.{IsPlanted}
 
--- a leaf without siblings that is placed is planted
+-- a leaf without siblings that is placed begins a tree
 pub placed_alone : {K V : Type 0} (s : Nodes K V) {t : Nodes K V} {n : LeafPtr} {x : K × V} {made : LeafNode K V} → get s.leaves n ≡ None → t.leaves ≡ insert s.leaves n made →
     t.inners ≡ s.inners → t.promise ≡ take_leaf s.promise → made ≡ unlinked_leaf x → IsPlanted s t n x
 placed_alone s {n = n} fresh placed inners promise is = record { fresh = fresh; leaves = placed ∙ ap (insert s.leaves n) is; inners = inners; promise = promise }
@@ -46,7 +46,7 @@ module _ {K V : Type 0} (bytes : K → List ℕ) (P : ℕ) {s t : Nodes K V} {n 
   pub planted_root : IsCanonicalRoot (of_key bytes) P t (leaf_name n)
   planted_root = (x ∷ [], leaf (leaf_name n) x, planted)
 
-  -- one leaf came, and nothing else
+  -- one leaf is new, and nothing else
   pub leaves_touched : Touched s.leaves t.leaves (n ∷ []) [] []
   leaves_touched = subst (λ m. Touched s.leaves m (n ∷ []) [] []) (sym is.leaves) (then_placed leaf_cmp_total leaf_cmp-IsAntisymmetric (touched_none s.leaves) n (unlinked_leaf x) is.fresh (λ i. i))
 
@@ -62,6 +62,6 @@ module _ {K V : Type 0} (bytes : K → List ℕ) (P : ℕ) {s t : Nodes K V} {n 
         (record { placed_in = λ k i. i; freed_in = λ k i. i; changed_in = λ k i. i; old_stays = λ k i. absurd i; new_comes = λ k i. inr i });
   }
 
-  -- so what stood stands apart from the new tree
+  -- so every existing tree is disjoint from the new one
   pub planted_apart : KeepsApart (of_key bytes) P s t None (Some (leaf_name n))
   planted_apart = tree_apart (of_key bytes) P s t None (Some (leaf_name n)) [] (x ∷ []) None (Some (leaf (leaf_name n) x)) refl planted in_place.others

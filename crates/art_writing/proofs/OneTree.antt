@@ -1,4 +1,4 @@
--- A tree that is freed while what is left stays one tree: a root with one child goes, or hangs below its last child, where an end goes.
+-- A tree is freed while what is left stays one tree: a root with one child is freed, or is attached below its last child, where an end is freed.
 use Rattle.std.proofs.Common.{◌≡◌, ◌≢◌, ℕ, ◌+◌, ◌<◌, Bool, true, false, cond, List, [], ◌∷◌, ◌++◌, length, length-append, append-nil, append_assoc, Option, Some, None, IsSome, IsSomeAnd, ◌⊎◌, inl, inr, refl, ap, sym, ◌∙◌, subst, arith}
 use Rattle.std.specs.List.{AllByRecursion as Each}
 use Rattle.std.specs.FinMap as map
@@ -54,7 +54,7 @@ module _ {N : Type 0} where
     distinct = λ d. Pairwise-append ◌≢◌ xs zs (Pairwise-left ◌≢◌ xs ys d) (same.distinct (Pairwise-right ◌≢◌ xs ys d)) (apart_each xs zs (λ k i j. apart_in xs ys k d i (same.back k j)));
   }
 
-  -- two neighbours change places
+  -- two neighbours are swapped
   exchanged : (xs ys zs : List N) → SameNames (xs ++ (ys ++ zs)) (ys ++ (xs ++ zs))
   exchanged xs ys zs = record {
     forth = λ k i. elim (in_either k xs (ys ++ zs) i) [
@@ -80,7 +80,7 @@ module _ {N : Type 0} where
   exchanged_last xs ys =
       same_then (same_names (ap (λ z. xs ++ z) (sym (append-nil ys)))) (same_then (exchanged xs ys []) (same_names (ap (λ z. ys ++ z) (append-nil xs))))
 
-  -- a tree's names before those of a node, of its first child and of its other ones: the tree takes the child's place
+  -- a tree's names before those of a node, of its first child and of its other ones: the tree replaces the child
   changed_places : (z : N) (a f m : List N) → SameNames (a ++ (z ∷ (f ++ m))) ((z ∷ (a ++ m)) ++ f)
   changed_places z a f m =
       same_then (exchanged a (z ∷ []) (f ++ m)) (same_then (same_after (z ∷ a) (f ++ m) (m ++ f) (exchanged_last f m)) (same_names (ap (λ l. z ∷ l) (sym (append_assoc a m f)))))
@@ -104,7 +104,7 @@ keeps_on xs ys zs first second = record {
   taken = λ k i off. elim (is_in_or ys k) [ inl j ↦ first.taken k j off | inr non ↦ sym (first.beside k off non) ∙ second.taken k i non ];
 }
 
--- ---- trees that are seen, with their leaves where these are to go too
+-- ---- trees that are seen, with their leaves where these are to be freed too
 
 module _ {K V : Type 0} (s : Nodes K V) (too : Bool) where
   pub record IsSeen (t : Shape) : Type 0 where
@@ -178,7 +178,7 @@ module _ {K V : Type 0} {s : Nodes K V} {too : Bool} (cs ds : Shapes) (seen : Ar
     leaves = λ every. Each-right (IsUsed s) (leaf_names_below cs) (leaf_names_below ds) (subst (Each (IsUsed s)) (leaf_names_below-join cs ds) (seen.leaves every));
   }
 
--- ---- what the first and the last child tell
+-- ---- what the first and the last child show
 
 abbrev pub slots_under : Shape → Children
 slots_under (leaf n x) = []
@@ -254,14 +254,14 @@ has_first (inner n h (child b a cs)) byte name e =
 
 -- ---- what is left
 
--- Of the tree of a name this much is left, under the name `now`: the other names that go are out of use, and so many leaves are freed.
+-- Of the tree of a name this much is left, under the name `now`: the other names to be freed are out of use, and so many leaves are freed.
 pub record IsLeft {K V : Type 0} (s t : Nodes K V) (too : Bool) (now : OpaqueNodePtr) (shape : Shape) (count : ℕ) : Type 0 where
   pub left : Shape
   pub can : CanGo t too now left
   pub kept : KeepsOthers s t (names_to_free too shape) (names_to_free too left)
   pub counted : leaves_to_free too shape ≡ count + leaves_to_free too left
 
--- From one store to the next something of what is left has gone, and the rest is one tree again; so many leaves are freed.
+-- From one store to the next a part of what is left was freed, and the rest is one tree again; so many leaves are freed.
 pub record IsTurn {K V : Type 0} (t u : Nodes K V) (too : Bool) (left : Shape) (next : OpaqueNodePtr) (freed : ℕ) : Type 0 where
   pub after : Shape
   pub can : CanGo u too next after
@@ -270,7 +270,7 @@ pub record IsTurn {K V : Type 0} (t u : Nodes K V) (too : Bool) (left : Shape) (
   pub fewer : length (names_of after) < length (names_of left)
 
 module _ {K V : Type 0} {s : Nodes K V} {too : Bool} where
-  -- nothing has gone yet
+  -- nothing is freed yet
   pub all_is_left : {root : OpaqueNodePtr} (shape : Shape) → CanGo s too root shape → IsLeft s s too root shape 0
   all_is_left shape can = record {
     left = shape;
@@ -289,11 +289,11 @@ module _ {K V : Type 0} {s : Nodes K V} {too : Bool} where
     counted = let a = is.counted in let b = turn.counted in omega (arith, a, b);
   }
 
-  -- and one in which no leaf went
+  -- and one that freed no leaf
   pub still_left : {t u : Nodes K V} {now next : OpaqueNodePtr} {shape : Shape} {count : ℕ} (is : IsLeft s t too now shape count) → IsTurn t u too is.left next 0 → IsLeft s u too next shape count
   still_left {u = u} {next = next} {shape = shape} {count = count} is turn = subst (IsLeft s u too next shape) (let e : count + 0 ≡ count = omega arith in e) (less_is_left is turn)
 
-  -- all has gone
+  -- all is freed
   pub none_is_left : {t u : Nodes K V} {now : OpaqueNodePtr} {shape : Shape} {count : ℕ} (is : IsLeft s t too now shape count) → Frees (names_to_free too is.left) t u →
       Frees (names_to_free too shape) s u
   none_is_left {shape = shape} is freed = keeps_on (names_to_free too shape) (names_to_free too is.left) [] is.kept freed
@@ -322,7 +322,7 @@ module _ {K V : Type 0} (t u : Nodes K V) (n : OpaqueNodePtr) (f : Inner → Inn
       let head : header_at n.kind (f there.node) ≡ h = ap (λ p. let r : NodeHeader = record { kind = n.kind; length_of = p.len; stored = p.stored } in r) (same there.node) ∙ there.head in
       shape_at-inner u n there.off (Some (f there.node)) got ∙ shown head (made there.node there.children)
 
--- ---- a root with one child goes
+-- ---- a root with one child is freed
 
 module _ {K V : Type 0} {t u : Nodes K V} {too : Bool} where
   only_turn : {now next mark : OpaqueNodePtr} {head : NodeHeader} {byte : ℕ} (only : Shape) → CanGo t too now (inner mark head (child byte only no_child)) → name_of only ≡ next →
@@ -360,7 +360,7 @@ module _ {K V : Type 0} {t u : Nodes K V} {too : Bool} where
       go (inner n h (child b a no_child)) can e = only_turn a can (some_parts (b, name_of a) (byte, next) (ap first_of e)).1 inners leaves
       go (inner n h (child b a (child c d cs))) can e = absurd cc
 
--- ---- the last child is taken out of the root
+-- ---- the last child is removed from the root
 
 module _ (byte : ℕ) (name : OpaqueNodePtr) where
   below_last : (b : ℕ) (cs : Children) → IsBelow b (cs ++ (byte, name) ∷ []) → b < byte
@@ -429,7 +429,7 @@ module _ {K V : Type 0} {t v : Nodes K V} {too : Bool} where
       subst (λ z. IsCut t v too z now lower) (sym has.is) (cut_off byte has.others has.last (subst (CanGo t too now) has.is can) has.named
       (subst IsRising (slots ∙ ap slots_under has.is) up) inners leaves)
 
--- the root hangs below that child from then on
+-- the root is attached below that child
 pub root_hangs : {K V : Type 0} {t v u : Nodes K V} {too : Bool} {left : Shape} {now lower root : OpaqueNodePtr} {freed : ℕ} (cut : IsCut t v too left now lower) →
     AreJoined v u too cut.upper cut.cut root freed → IsTurn t u too left root freed
 root_hangs {too = too} {left = left} cut joined = record {
@@ -444,7 +444,7 @@ some_names : {N A : Type 0} (t : Tree N A) → 0 < length (names_of t)
 some_names (leaf n x) = omega arith
 some_names (inner n h cs) = omega arith
 
--- ---- a tree takes the place of the first child of another one
+-- ---- a tree replaces the first child of another one
 
 -- Of two trees there are now two others, with the same names.
 pub record AreMoved {K V : Type 0} (s t : Nodes K V) (too : Bool) (upper lower : Shape) (left child : OpaqueNodePtr) : Type 0 where
@@ -488,7 +488,7 @@ module _ {K V : Type 0} {s : Nodes K V} {too : Bool} where
     names = is.names ∙ step.moved.names;
   }
 
-  -- the lower one is an end, which goes
+  -- the lower one is an end, which is freed
   pub end_gone : {t u : Nodes K V} {upper lower : Shape} {left child : OpaqueNodePtr} {freed : ℕ} (is : AreMoved s t too upper lower left child) →
       Frees (names_to_free too is.below) t u → freed ≡ leaves_to_free too is.below → AreJoined s u too upper lower left freed
   end_gone {t} {u} {upper} {lower} {left} {child} {freed} is goes counted =
@@ -564,9 +564,9 @@ fewer_below {K} {V} {t} {u} {too} {left} {node} {next} {first} {upper} {lower} c
     let c = step.fewer in
     omega (arith, a, b, c)
 
--- ---- what the writes ask
+-- ---- preconditions of the writes
 
--- a name with a child is that of an inner node that is there
+-- a name with a child is that of an inner node in the store
 pub record HasChildren {K V : Type 0} (t : Nodes K V) (k : OpaqueNodePtr) : Type 0 where
   pub off : k.kind ≢ Leaf
   pub node : Inner
@@ -591,7 +591,7 @@ pub some_children : {K V : Type 0} (t : Nodes K V) (k : OpaqueNodePtr) (others :
 some_children t k [] x e = has_children t k x (sym (ap first_of e))
 some_children t k (o ∷ os) x e = has_children t k o (sym (ap first_of e))
 
--- a child may be put in the place of the first one
+-- the first child may be replaced
 first_place : (capacity : ℕ) (l : Children) (byte : ℕ) (name : OpaqueNodePtr) → Some (byte, name) ≡ first_of l → HasPlace capacity l byte
 first_place capacity [] byte name e = absurd cc
 first_place capacity (c ∷ cs) byte name e =

@@ -1,4 +1,4 @@
--- Overwrite points, applied: a pair that takes the place of a related one in its leaf.
+-- Overwrite points, applied: a pair replaces a related one in its leaf.
 use Rattle.std.proofs.Common.{◌≡◌, ◌≢◌, ℕ, ◌+◌, ◌<◌, ◌≤◌, List, [], ◌∷◌, ◌++◌, length, length-append, append_assoc, append-nil, drop, Option, Some, None, true, false, is_some, IsSome, IfSome, IsSomeAnd, refl, ap, ap₂, sym, ◌∙◌, subst, arith}
 use Rattle.std.specs.List.{AllByRecursion as Each}
 use Rattle.std.specs.FinMap as map
@@ -64,7 +64,7 @@ pub record IsRelatedLeaf {K V : Type 0} (bytes : K × V → List ℕ) (P : ℕ) 
   pub unequal : key ≢ bytes (pair_of at.shown)
 
 module _ {K V : Type 0} {bytes : K × V → List ℕ} {P : ℕ} {s : Nodes K V} {point : OverwritePoint} {p : LeafPtr} {pairs : List (K × V)} {layout : Tree OpaqueNodePtr (K × V)} where
-  -- it is there where a point names it
+  -- it is in the store where a point names it
   pub related_leaf : {key : List ℕ} → IsOverwritePointIn bytes P s key point → leaf_name p ≡ point.overwrite_point → IsCanonicalTree bytes P s point.root pairs layout →
       IsRelatedLeaf bytes P s p layout key
   related_leaf {key} answers named by =
@@ -82,12 +82,12 @@ module _ {K V : Type 0} {bytes : K × V → List ℕ} {P : ℕ} {s : Nodes K V} 
 
 module _ {K V : Type 0} {bytes : K × V → List ℕ} {P : ℕ} {s : Nodes K V} {point : OverwritePoint} {p : LeafPtr} (new : K × V)
     (answers : IsOverwritePointIn bytes P s (bytes new) point) (named : leaf_name p ≡ point.overwrite_point) where
-  -- the leaf is there
+  -- the leaf is in the store
   pub related_leaf_there : IsSome (map.get s.leaves p)
   related_leaf_there = let (pairs, layout, by, own) = answers in rw (related_leaf answers named by).at.there refl
 
   module _ (t : Nodes K V) (leaves : t.leaves ≡ change s.leaves p (with_pair new.0 new.1)) (inners : t.inners ≡ s.inners) where
-    -- the pair is in, and the old one is answered
+    -- the pair is inserted, and the old one is returned
     pub leaf_pair_overwritten : (swapped : K × V) (existing : LeafNode K V) → IfSome (map.get s.leaves p) (λ leaf. swapped ≡ (leaf.key, leaf.value)) → existing ≡ unlinked_leaf swapped →
         ForTree bytes P s point.root (λ pairs layout. IsOverwritten bytes P s t point new pairs layout
         (record { insert_result = record { leaf_node_ptr = p; existing_leaf = Some existing; new_root = point.root; parent_node_change = NoChange }; leafs_removed = 0 }))
@@ -110,7 +110,7 @@ module _ {K V : Type 0} {bytes : K × V → List ℕ} {P : ℕ} {s : Nodes K V} 
 
 -- ---- the end node is an inner node
 
--- The key is a proper front of all keys below the node, which are two or more.
+-- The key is a proper prefix of all keys below the node, which are two or more.
 pub record IsSubtreeAt {K V : Type 0} (bytes : K × V → List ℕ) (P : ℕ) (s : Nodes K V) (point : OverwritePoint) (layout : Tree OpaqueNodePtr (K × V)) (key : List ℕ) : Type 0 where
   pub path : List (Frame OpaqueNodePtr (K × V))
   pub place : List ℕ
@@ -124,7 +124,7 @@ pub record IsSubtreeAt {K V : Type 0} (bytes : K × V → List ℕ) (P : ℕ) (s
   pub two : 2 ≤ length (pairs_of node)
 
 module _ {A : Type 0} (bytes : A → List ℕ) (P : ℕ) where
-  -- what is below an inner node goes on after its prefix
+  -- what is below an inner node continues after its prefix
   goes_on : {N : Type 0} (key front : List ℕ) → IsFront key front → (cs : Subtrees N A) → AreRadix bytes P front cs →
       Each (λ y. IsFront key (bytes y) × (length key < length (bytes y))) (pairs_below cs)
   goes_on key front short no_child h = tt
@@ -197,7 +197,7 @@ module _ {K V : Type 0} {bytes : K × V → List ℕ} {P : ℕ} {s : Nodes K V} 
               let (y, ys, f) = radix_some bytes P u ((place ++ hole.radix.0) ++ c ∷ []) h.1.0 in
               rw (e, f) (let l = length-append xs (y ∷ (ys ++ pairs_below cs)) in omega arith)
 
--- more than one went
+-- more than one was removed
 went_many : {X : Type 0} (xs : List X) → 2 ≤ length xs → only_or_count xs ≡ (None, length xs)
 went_many [] two = absurd (omega arith)
 went_many (x ∷ []) two = absurd (omega arith)
@@ -251,7 +251,7 @@ module _ {K V : Type 0} {bytes : K × V → List ℕ} {P : ℕ} {s : Nodes K V} 
       are_there s (plug at.path at.node) old_laid.holds p (subst (IsIn (leaf_name p)) (sym (leaf_names-plug at.path at.node))
       (in_around (leaf_name p) (leaves_before at.path) (leaf_names at.node) (leaves_after at.path) i))
 
-  -- the leaves beside the subtree are there
+  -- the neighbours of the subtree are in the store
   pub subtree_previous : {previous : Option LeafPtr} → option_map leaf_name previous ≡ last_or (leaves_before at.path) None → IsThere s.leaves previous
   subtree_previous {previous} e = previous_there s (leaves_before at.path) (leaves_after at.path) previous subtree_others e
 
@@ -272,7 +272,7 @@ module _ {K V : Type 0} {bytes : K × V → List ℕ} {P : ℕ} {s : Nodes K V} 
       has None h = tt
       has (Some p) h = some (map.get s.inners p.0) p.1 h
 
-  -- what is read of the leaves beside it
+  -- what is read of the neighbours
   pub read_previous : (previous : Option LeafPtr) →
       ((tree : Tree OpaqueNodePtr (K × V)) → IsFullTree s point.overwrite_point tree → (first : Option LeafPtr) × IsBeside s tree Before previous first) →
       option_map leaf_name previous ≡ last_or (leaves_before at.path) None
@@ -287,7 +287,7 @@ module _ {K V : Type 0} {bytes : K × V → List ℕ} {P : ℕ} {s : Nodes K V} 
     parent_inners : u.inners ≡ with_child_at (parent_of at.path) (leaf_name n) s.inners
     parent_inners = put.inners ∙ ap (λ o. with_child_at o (leaf_name n) s.inners) (ap last_step at.path_is ∙ last_step-path_of at.path)
 
-    -- the subtree stands as it did when the leaf is placed and the parent names it
+    -- the subtree is unchanged when the leaf is placed and the parent names it
     pub subtree_still : IsFullTree u point.overwrite_point at.node
     subtree_still = (
       record {
@@ -316,7 +316,7 @@ module _ {K V : Type 0} {bytes : K × V → List ℕ} {P : ℕ} {s : Nodes K V} 
         freed = freed;
       }
 
-      -- the leaf is in, and the number of those that went is answered
+      -- the leaf is inserted, and the number of removed leaves is returned
       pub subtree_overwritten : (after : OpaqueNodePtr) (count : ℕ) → after ≡ root_with point.path point.root (leaf_name n) → count ≡ length (leaf_names at.node) → point.overwrite_point.kind ≢ Leaf →
           IsOverwritten bytes P s t point (pair_of x) pairs layout
           (record { insert_result = record { leaf_node_ptr = n; existing_leaf = None; new_root = after; parent_node_change = NoChange }; leafs_removed = count })
@@ -343,7 +343,7 @@ module _ {K V : Type 0} {bytes : K × V → List ℕ} {P : ℕ} {s : Nodes K V} 
             });
           }
 
--- ---- what is asked of the store where the pair is put
+-- ---- what is required of the store where the pair is inserted
 
 module _ {K V : Type 0} {bytes : K × V → List ℕ} {P : ℕ} {s : Nodes K V} {point : OverwritePoint} {key : List ℕ} (answers : IsOverwritePointIn bytes P s key point)
     (off : point.overwrite_point.kind ≢ Leaf) where
@@ -353,7 +353,7 @@ module _ {K V : Type 0} {bytes : K × V → List ℕ} {P : ℕ} {s : Nodes K V} 
 
 module _ {K V : Type 0} {bytes : K × V → List ℕ} {P : ℕ} {s : Nodes K V} {point : OverwritePoint} {key : List ℕ} (answers : IsOverwritePointIn bytes P s key point)
     (off : point.overwrite_point.kind ≢ Leaf) (r : Nodes K V) (same : SameNodes s r) where
-  -- the leaves beside it are there
+  -- its neighbours are in the store
   pub ends_there : (previous next : Option LeafPtr) →
       ((tree : Tree OpaqueNodePtr (K × V)) → IsFullTree s point.overwrite_point tree → (first : Option LeafPtr) × IsBeside s tree Before previous first) →
       ((tree : Tree OpaqueNodePtr (K × V)) → IsFullTree s point.overwrite_point tree → (last : Option LeafPtr) × IsBeside s tree After last next) →
@@ -371,6 +371,6 @@ module _ {K V : Type 0} {bytes : K × V → List ℕ} {P : ℕ} {s : Nodes K V} 
       let (pairs, layout, by, own) = answers in
       subst (λ m. HasChild m (last_step point.path)) (sym (inners ∙ same.1)) (subtree_parent by (subtree_at answers off by))
 
-  -- the tree stands when the leaf is put in its place
+  -- the tree is unchanged when the leaf replaces it
   pub end_still : {u : Nodes K V} {n : LeafPtr} {x : LeafNode K V} → IsPutAt s u point n x → (tree : Tree OpaqueNodePtr (K × V)) × IsFullTree u point.overwrite_point tree
   end_still put = let (pairs, layout, by, own) = answers in let at = subtree_at answers off by in (at.node, subtree_still by at put)

@@ -1,4 +1,4 @@
--- How many pairs are related to the key of a point: one where they are in a leaf, so that a refusal is for no pair alone.
+-- How many pairs are related to the key of a point: one where they are in a leaf, so that an insertion never fails for a single pair.
 use Rattle.std.proofs.Common.{◌≡◌, ◌≢◌, ℕ, ◌≤◌, List, [], ◌∷◌, length, is_some, true, false, refl, ap, sym, ◌∙◌, subst, arith, ◌⊎◌, inl, inr}
 use Rattle.std.proofs.Math.Dec.{leb-zero}
 use Rattle.art_parts.specs.Names.{leaf_name}
@@ -40,7 +40,7 @@ module _ {K V : Type 0} (bytes : K × V → List ℕ) (P : ℕ) {s : Nodes K V} 
   under_root : {name : OpaqueNodePtr} → name ≡ name_of layout → IsCanonicalTree bytes P s name pairs layout
   under_root is = subst (λ n. IsCanonicalTree bytes P s n pairs layout) (sym (is ∙ by.stands.0.named)) by
 
-  -- as many pairs are related to the key as the end node has, which gives way
+  -- as many pairs are related to the key as the end node has, which is replaced
   pub related_count : {key : List ℕ} (point : OverwritePoint) → AnswersToOverwrite bytes layout key point → IsOne point.overwrite_point.kind (length (related_to bytes key pairs))
   related_count {key} point at =
       let here = under_root at.root_is in
@@ -61,7 +61,7 @@ module _ {K V : Type 0} (bytes : K × V → List ℕ) (P : ℕ) {s : Nodes K V} 
             inr (off, subst (λ ps. 2 ≤ length ps) (sym all) a.two)
       ]
 
-  -- where an insertion may be refused no pair is related
+  -- where an insertion may fail no pair is related
   new_alone : {key : List ℕ} (new : K × V) (point : InsertPoint) → is_conflict bytes key pairs ≡ false → AnswersTo bytes P layout key point →
       (is_covered (placed_for s point.insert_kind) s.promise ≡ true → ⊥) → length (related_to bytes key pairs) ≢ 1
   new_alone {key} new point free at off one = none (with_key bytes key pairs) (sym (any_is_first (λ y. are_same key (bytes y)) pairs) ∙ refused_new (under_root at.root_is) at off)
@@ -71,7 +71,7 @@ module _ {K V : Type 0} (bytes : K × V → List ℕ) (P : ℕ) {s : Nodes K V} 
       none [] e one = absurd cc
       none (x ∷ xs) e one = absurd cc
 
-  -- a refusal is for no pair alone
+  -- a failure is never for a single pair
   pub not_alone : (key : List ℕ) (new : K × V) (point : PrefixInsertPoint) → IsPointFor bytes P key pairs layout point →
       (is_covered (placed_for_prefix s point) s.promise ≡ true → ⊥) → length (related_to bytes key pairs) ≢ 1
   not_alone key new (points.InsertPoint point) (free, at) off one = new_alone new point free at off one

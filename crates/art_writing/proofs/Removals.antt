@@ -1,4 +1,4 @@
--- A leaf goes that is the root, or that stands below a node with one other child.
+-- The removal of a leaf that is the root, or that is below a node with one other child.
 use Rattle.std.proofs.Common.{◌≡◌, ◌≢◌, ℕ, suc, ◌+◌, ◌≤◌, ◌<◌, cond, nat_lt, List, [], ◌∷◌, ◌++◌, length, Option, Some, None, IsSome, IfSome, IsSomeAnd, slice_get, refl, ap, ap₂, sym, ◌∙◌, subst, arith, append-nil, length-append, ◌⊎◌, inl, inr}
 use Rattle.std.specs.List.{AllByRecursion as Each}
 use Rattle.std.specs.Option.{option_map}
@@ -63,7 +63,7 @@ use Rattle.art_reading.specs.declared.path.TreePath.TheVariants.{Root}
 
 -- ---- a leaf that is the root
 
--- The point's leaf is all of the tree.
+-- The point's leaf is the whole tree.
 pub record IsAlone {K V : Type 0} (bytes : K × V → List ℕ) (P : ℕ) (s : Nodes K V) (root : OpaqueNodePtr) (pairs : List (K × V))
     (layout : Tree OpaqueNodePtr (K × V)) (x : K × V) (point : DeletePoint) : Type 0 where
   pub node : LeafNode K V
@@ -88,7 +88,7 @@ module _ {K V : Type 0} {bytes : K × V → List ℕ} {P : ℕ} {s : Nodes K V} 
     alone_among : LeafAmong s (leaf (leaf_name point.leaf_node_ptr) (pair_of at.node)) [] [] point.leaf_node_ptr at.node
     alone_among = record { list = refl; here = at.here }
 
-    -- it is there, and none is beside it
+    -- it is in the store, and has no neighbours
     pub alone_ready : IsSome (get s.leaves point.leaf_node_ptr) × LinksAreThere s.leaves point.leaf_node_ptr
     alone_ready = rw at.here (refl, (before_there at.laid.holds at.laid.linked alone_among, after_there at.laid.holds at.laid.linked alone_among))
 
@@ -111,19 +111,19 @@ module _ {K V : Type 0} {bytes : K × V → List ℕ} {P : ℕ} {s : Nodes K V} 
 -- ---- a leaf below a node with one other child
 
 module _ {A : Type 0} where
-  -- one child on both sides stands on the right or on the left
+  -- one child on both sides is on the right or on the left
   sides : (l r : Subtrees OpaqueNodePtr A) (c : ℕ) (v : Tree OpaqueNodePtr A) → join l r ≡ child c v no_child → (r ≡ child c v no_child) ⊎ (l ≡ child c v no_child)
   sides no_child r c v e = inl e
   sides (child d u no_child) r c v e = inr cc
   sides (child d u (child f w l)) r c v e = absurd cc
 
-  -- the keys below a node begin with its whole prefix
+  -- the keys below a node start with its whole prefix
   whole_way : (bytes : A → List ℕ) (P : ℕ) (place : List ℕ) (w : Tree OpaqueNodePtr A) (radix : IsRadix bytes P place w) →
       Each (λ x. IsFront (place ++ prefix_at bytes P place w radix) (bytes x)) (pairs_of w)
   whole_way bytes P place (leaf k y) radix = (subst (λ z. IsFront z (bytes y)) (sym (append-nil place)) radix, tt)
   whole_way bytes P place (inner k head cs) radix = radix_below bytes P cs (place ++ radix.0) radix.4
 
--- The point's leaf stands below a node that has one other child, `v` under the byte `c`.
+-- The point's leaf is below a node that has one other child, `v` under the byte `c`.
 pub record IsOneOfTwo {K V : Type 0} (bytes : K × V → List ℕ) (P : ℕ) (s : Nodes K V) (root : OpaqueNodePtr) (pairs : List (K × V))
     (layout : Tree OpaqueNodePtr (K × V)) (x : K × V) (point : DeletePoint) (parent : InnerPtr) (byte : ℕ) : Type 0 where
   pub at : IsBelow bytes P s root pairs layout x point parent byte
@@ -160,7 +160,7 @@ module _ {K V : Type 0} {bytes : K × V → List ℕ} {P : ℕ} {s : Nodes K V} 
     pub left_prefix : List ℕ
     left_prefix = prefix_at bytes P ((two.place ++ two.hole.radix.0) ++ two.c ∷ []) two.v left_radix
 
-    -- the inner nodes when the node is gone and the child has its prefix
+    -- the inner nodes when the node is removed and the child has its prefix
     pub lengthened_inners : Inners
     lengthened_inners =
         prefix_written P (two.hole.radix.0 ++ two.c ∷ prefix_at bytes P ((two.place ++ two.hole.radix.0) ++ two.c ∷ []) two.v left_radix) two.v (remove s.inners (as_inner at.frame.mark))
@@ -186,7 +186,7 @@ module _ {K V : Type 0} {bytes : K × V → List ℕ} {P : ℕ} {s : Nodes K V} 
     left_other : name_of two.v ≢ at.frame.mark
     left_other = off_node at.below.laid is_compressed_at (name_of two.v) (own_name two.v)
 
-    -- ---- the node as it is taken out
+    -- ---- the node when it is removed
 
     -- without the leaf it has the one child
     other_left : (any : Inner) → get s.inners parent ≡ Some any → (without_child byte any).children ≡ (two.c, name_of two.v) ∷ []
@@ -206,13 +206,13 @@ module _ {K V : Type 0} {bytes : K × V → List ℕ} {P : ℕ} {s : Nodes K V} 
     parent_found : (node : Inner) × (get s.inners parent ≡ Some node)
     parent_found = let (off, node, got, head, kids) = parent_is at.below in (node, ap (get s.inners) (sym at.parent_is) ∙ got)
 
-    -- so it may be taken out by its other child
+    -- so it may be removed by its other child
     pub one_left : IsSomeAnd (get s.inners parent) (λ node. length (without_child byte node).children ≡ 1)
     one_left =
         let (node, there) = parent_found in
         subst (λ o. IsSomeAnd o (λ node. length (without_child byte node).children ≡ 1)) (sym there) (ap length (other_left node there))
 
-    -- The parent is taken out, and its header is answered, and its other child with the byte.
+    -- The parent is removed, and its header is returned, and its other child with the byte.
     pub record IsOtherTaken (u : Nodes K V) (header : Prefix) (d : ℕ) (other : OpaqueNodePtr) : Type 0 where
       pub leaves : u.leaves ≡ s.leaves
       pub inners : u.inners ≡ remove s.inners parent
@@ -253,7 +253,7 @@ module _ {K V : Type 0} {bytes : K × V → List ℕ} {P : ℕ} {s : Nodes K V} 
         let d = length-append (two.place ++ two.hole.radix.0) (two.c ∷ []) in let f = length-append two.place two.hole.radix.0 in
         record { leaf = y; here = got; long = omega arith }
 
-    -- The leaf right after the one that goes, or the one right before it, is such a leaf.
+    -- The successor of the removed leaf, or its predecessor, is such a leaf.
     pub beside_other : (p : LeafPtr) × (cond (nat_lt byte two.c) at.node.next at.node.previous ≡ Some p) × IsBelowOther p
     beside_other = elim (sides at.frame.left at.frame.right two.c two.v two.one) [
       | inl e ↦

@@ -33,7 +33,7 @@ pub record IsOwnLeaf {K V : Type 0} (bytes : K × V → List ℕ) (P : ℕ) (s :
   pub same : bytes (pair_of at.shown) ≡ key
 
 module _ {K V : Type 0} {bytes : K × V → List ℕ} {P : ℕ} {s : Nodes K V} {point : InsertPoint} {p : LeafPtr} {pairs : List (K × V)} {layout : Tree OpaqueNodePtr (K × V)} where
-  -- it is there where a point names it
+  -- it is in the store where a point names it
   pub own_leaf : {key : List ℕ} → IsPointIn bytes P s key point → point.insert_kind ≡ Exact p → IsCanonicalTree bytes P s point.root pairs layout → IsOwnLeaf bytes P s p layout key
   own_leaf {key} answers exact by =
       let answers_at = answers_to answers by in
@@ -43,7 +43,7 @@ module _ {K V : Type 0} {bytes : K × V → List ℕ} {P : ℕ} {s : Nodes K V} 
 
 module _ {K V : Type 0} {bytes : K × V → List ℕ} {P : ℕ} {s : Nodes K V} {point : InsertPoint} {p : LeafPtr} (new : K × V)
     (answers : IsPointIn bytes P s (bytes new) point) (exact : point.insert_kind ≡ Exact p) where
-  -- the leaf is there
+  -- the leaf is in the store
   pub own_leaf_there : IsSome (map.get s.leaves p)
   own_leaf_there = let (pairs, layout, by, own) = answers in rw (own_leaf answers exact by).at.there refl
 
@@ -63,7 +63,7 @@ module _ {K V : Type 0} {bytes : K × V → List ℕ} {P : ℕ} {s : Nodes K V} 
       inners = inners;
     }
 
-    -- the value is in, and the old one is answered with the key that was handed in
+    -- the value is stored, and the old one is returned with the key that was passed
     pub value_replaced : (swapped : V) (existing : LeafNode K V) → IfSome (map.get s.leaves p) (λ leaf. swapped ≡ leaf.value) → existing ≡ unlinked_leaf (new.0, swapped) →
         ForTree bytes P s point.root (λ pairs layout. IsInserted bytes P s t point new pairs layout
         (record { leaf_node_ptr = p; existing_leaf = Some existing; new_root = point.root; parent_node_change = NoChange }))

@@ -33,7 +33,7 @@ module _ (promise : Promise) where
       go zero e = let l = leaf_promised (Some kind) h in absurd (omega arith)
       go (suc n) e = rw e (covered_inner 1 kind h)
 
--- nothing was asked for
+-- nothing was requested
 pub is_none : {X : Type 0} (o : Option X) → is_some o ≡ false → o ≡ None
 is_none None e = refl
 is_none (Some x) e = absurd cc
@@ -42,7 +42,7 @@ is_none (Some x) e = absurd cc
 pub nothing_after : (promise : Promise) → promise_after (record { leaves = 0; inner = None }) promise ≡ promise
 nothing_after promise = grind (arith, common_steps)
 
--- an inner node that is placed unasked is of the promise, or voids it
+-- an inner node placed without a request is taken from the promise, or voids it
 pub taken_unasked : (kind : NodeType) (promise : Promise) → take_inner kind promise ≡ promise_after (record { leaves = 0; inner = Some kind }) promise
 taken_unasked kind promise = by_promise (leb 0 promise.leaves) (promises promise.inner kind) (le-leb 0 promise.leaves (omega arith))
   where
@@ -51,22 +51,22 @@ taken_unasked kind promise = by_promise (leb 0 promise.leaves) (promises promise
     by_promise true false e = refl
     by_promise false u e = absurd cc
 
--- what holds where a call was not refused
+-- what holds where a call did not fail
 pub not_refused : {X E Q : Type 0} (r : Result X E) → is_err r ≡ false → OnOk r Q → Q
 not_refused (Ok x) e h = h
 not_refused (Err y) e h = absurd cc
 
--- and where it was refused
+-- and where it failed
 pub was_refused : {X E Q : Type 0} (r : Result X E) → is_err r ≡ true → OnErr r Q → Q
 was_refused (Ok x) e h = absurd cc
 was_refused (Err y) e h = h
 
--- a call that was refused did not succeed
+-- a call that failed did not succeed
 pub not_granted : {X E Q : Type 0} (r : Result X E) → is_err r ≡ true → (Q → IsOk r) → Q → false ≡ true
 not_granted (Ok x) e h q = absurd cc
 not_granted (Err y) e h q = h q
 
--- what is left of a promise when the leaf and the inner node that were reserved for are placed
+-- what is left of a promise when the reserved leaf and inner node are placed
 pub after_reserve : {K V Y E : Type 0} (s r : Nodes K V) (o : Option NodeType) {placed : Promise} (reserved : Result Y E) → is_err reserved ≡ false → (IsTrue (covers s.promise 1 o) → r ≡ s) →
     (IsFalse (covers s.promise 1 o) → OnOk reserved (r.promise ≡ record { leaves = 1; inner = o })) → record { leaves = 1; inner = o } ≡ placed →
     inner_taken o (take_leaf r.promise) ≡ promise_after placed s.promise

@@ -59,7 +59,7 @@ module _ {K V : Type 0} {bytes : K × V → List ℕ} {P : ℕ} {s t : Nodes K V
       IsFront ((place ++ part) ++ b ∷ []) (least_key bytes z) → BranchInserted bytes P (node_at s) (node_at t) (links_at s) (links_at t) fs place z z (inner_name m) (leaf_name n) part b c (pair_of x))
       (sym is) (λ old stored way. leaf_branched old stored way)
 
-  -- the node in the hole is an inner node, whose prefix goes on after the part with a byte and a rest
+  -- the node in the hole is an inner node, whose prefix continues after the part with a byte and a rest
   prefix_inserted : (k : OpaqueNodePtr) (h : NodeHeader) (cs : Subtrees OpaqueNodePtr (K × V)) (rest : List ℕ) →
       mid ≡ change s.inners (as_inner k) (with_header (record { len = length rest; stored = take P rest })) → (node : Tree OpaqueNodePtr (K × V)) → node ≡ inner k h cs →
       IsLaidOut bytes P (node_at s) (links_at s) root pairs (plug fs node) →
@@ -73,7 +73,7 @@ module _ {K V : Type 0} {bytes : K × V → List ℕ} {P : ℕ} {s t : Nodes K V
       (inner k (canonical_header P rest (length (bytes_of cs))) cs) (inner_name m) (leaf_name n) part b c (pair_of x))
       (sym is) (λ old stored prefix. prefix_branched rest written old stored (sym (prefix_is bytes P k h cs place stored.hole.radix) ∙ prefix))
 
--- a prefix that is as long as the part and more, of what goes on after the part with a byte
+-- a prefix longer than the part, by what follows the part with a byte
 prefix_parts : (prefix part rest more : List ℕ) (b : ℕ) → prefix ++ rest ≡ part ++ b ∷ more → length part < length prefix → prefix ≡ part ++ b ∷ drop (length part + 1) prefix
 prefix_parts prefix part rest more b whole long =
     let front : take (length part + 1) prefix ≡ part ++ b ∷ [] =
@@ -85,7 +85,7 @@ module _ {K V : Type 0} {bytes : K × V → List ℕ} {P : ℕ} {s : Nodes K V} 
     {layout : Tree OpaqueNodePtr (K × V)} {pair : K × V} (by : IsCanonicalTree bytes P s point.root pairs layout)
     (at : AnswersTo bytes P layout (bytes pair) point) {branch : Branch P} (is : IsBranch bytes (bytes pair) at.path at.node branch)
     {mid t : Nodes K V} {done : InsertResult K V} where
-  -- a split of this kind inserts the pair and tells of the parent
+  -- a split of this kind inserts the pair and names the parent
   split_done : {k : InsertKind} → point.insert_kind ≡ k →
       ((parent : InnerPtr × ℕ) (told : InsertParentNodeChange) → told ≡ NewParent parent.0 parent.1 → IsChange k (Some parent) told) →
       {old : OpaqueNodePtr} (placed : IsBranchPlaced mid t point old branch pair done) {u : Tree OpaqueNodePtr (K × V)} →

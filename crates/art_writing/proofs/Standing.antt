@@ -22,7 +22,7 @@ module _ {K V : Type 0} {bytes : K × V → List ℕ} {P : ℕ} {s : Nodes K V} 
       IsCanonicalTree bytes P s root pairs layout → IsCanonicalTree bytes P mid root pairs layout
   tree_stays {mid} same by = elsewhere.tree_stays by (λ k used. ap₂ (λ leaves inners. content_at (record mid { leaves = leaves; inners = inners }) k) same.0 same.1)
 
-  -- the point answers to each layout of its root
+  -- the point fits each layout of its root
   pub answers_to : {key : List ℕ} {point : InsertPoint} {pairs : List (K × V)} {layout : Tree OpaqueNodePtr (K × V)} → IsPointIn bytes P s key point →
       IsCanonicalTree bytes P s point.root pairs layout → AnswersTo bytes P layout key point
   answers_to {key} {point} {pairs} {layout} (others, other, by, at) mine = subst (λ l. AnswersTo bytes P l key point) (has_one_map bytes P s point.root pairs others layout other mine by).1 at
@@ -33,7 +33,7 @@ module _ {K V : Type 0} {bytes : K × V → List ℕ} {P : ℕ} {s : Nodes K V} 
   overwrite_answers_to {key} {point} {pairs} {layout} (others, other, by, at) mine =
       subst (λ l. AnswersToOverwrite bytes l key point) (has_one_map bytes P s point.root pairs others layout other mine by).1 at
 
-  -- a point that was found for a root is one in the store
+  -- a point that was found for a root is a point of the store
   pub point_in : {root : OpaqueNodePtr} {text key : List ℕ} {point : InsertPoint} {pairs : List (K × V)} {layout : Tree OpaqueNodePtr (K × V)} →
       IsCanonicalTree bytes P s root pairs layout → text ≡ key → AnswersTo bytes P layout text point → IsPointIn bytes P s key point
   point_in {key = key} {point} {pairs} {layout} by same at =
@@ -49,7 +49,7 @@ module _ {K V : Type 0} {bytes : K × V → List ℕ} {P : ℕ} {s : Nodes K V} 
     pub prefix_at : (point : PrefixInsertPoint) → IsPointFor bytes P key pairs layout point → IsCanonicalTree bytes P s (root_of point) pairs layout
     prefix_at point at = subst (λ r. IsCanonicalTree bytes P s r pairs layout) (sym (prefix_root point at)) by
 
-    -- and so it is one in the store
+    -- and so it is a point of the store
     pub prefix_point_in : (point : PrefixInsertPoint) → IsPointFor bytes P key pairs layout point → IsPrefixPointIn bytes P s key point
     prefix_point_in (points.InsertPoint point) (free, at) = point_in by refl at
     prefix_point_in (points.OverwritePoint point) (related, at) = (pairs, layout, prefix_at (points.OverwritePoint point) (related, at), at)

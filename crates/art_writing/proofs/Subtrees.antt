@@ -88,7 +88,7 @@ module _ {N A : Type 0} (bytes : A → List ℕ) (P : ℕ) where
     least_in_below no_child front two h = absurd (omega arith)
     least_in_below (child b t cs) front two h = let (y, i, e) = least_in t (front ++ b ∷ []) h.0 in (y, in_left y (pairs_of t) (pairs_below cs) i, e)
 
-  -- the whole bytes of an inner node are a front of one of the keys
+  -- the whole bytes of an inner node are a prefix of one of the keys
   abbrev HasKey : List A → Entry N → Type 0
   HasKey ys e = (y : A) × IsIn y ys × IsFront e.1 (bytes y)
 
@@ -109,7 +109,7 @@ module _ {N A : Type 0} (bytes : A → List ℕ) (P : ℕ) where
         (Each-weaker (HasKey (pairs_below cs)) (HasKey (pairs_of t ++ pairs_below cs))
         (λ e k. (k.0, in_right k.0 (pairs_of t) (pairs_below cs) k.1, k.2)) (inner_nodes_below bytes d cs) (whole_key_below cs front d h.1))
 
-  -- no pair beside a hole has a key that begins with the hole's place
+  -- no pair outside a hole has a key that starts with the hole's place
   beside_off : (fs : List (Frame N A)) (place : List ℕ) → IsPath bytes P place fs → (y : A) → IsFront place (bytes y) → IsIn y (pairs_before fs ++ pairs_after fs) → ⊥
   beside_off fs place path y front i = elim (in_either y (pairs_before fs) (pairs_after fs) i) [
     | inl j ↦ itself (each_in (λ z. Precedes (bytes z) (bytes y)) y (pairs_before fs) (path_before bytes P fs place (bytes y) path front) j)
@@ -194,7 +194,7 @@ module _ {K V : Type 0} {bytes : K × V → List ℕ} (P : ℕ) {s u v : Nodes K
       };
     }
 
--- ---- what becomes of the parent is told by its number of children
+-- ---- what becomes of the parent is determined by its number of children
 
 -- what is placed, by what becomes of the parent
 abbrev placed_by : ParentChange → Promise
@@ -234,7 +234,7 @@ module _ {K V : Type 0} {bytes : K × V → List ℕ} {P : ℕ} {s : Nodes K V} 
     one_child at.node (have_two_children bytes P hole.0 at.node hole.2),
   )
 
-  -- the node above it has a child where it stands, also where others changed
+  -- the node above it has a child where it is, also where others changed
   pub above_ready : (inners : Inners) → ((k : OpaqueNodePtr) → IsParent at.path k → map.get inners (as_inner k) ≡ map.get s.inners (as_inner k)) →
       HasChild inners (last_step point.path)
   above_ready inners same = subst (HasChild inners) (sym (ap last_step at.path_is ∙ last_step-path_of at.path))
@@ -252,7 +252,7 @@ module _ {K V : Type 0} {bytes : K × V → List ℕ} {P : ℕ} {s : Nodes K V} 
 
 -- ---- the first leaf below it
 
--- The first leaf below the node stands below another one, the parent.
+-- The first leaf below the node is below another one, the parent.
 pub record HasFirstBelow {K V : Type 0} (s : Nodes K V) (node : Tree OpaqueNodePtr (K × V)) (n : LeafPtr) (parent : InnerPtr) (byte : ℕ) : Type 0 where
   pub frame : Frame OpaqueNodePtr (K × V)
   pub above : List (Frame OpaqueNodePtr (K × V))
@@ -320,7 +320,7 @@ module _ {K V : Type 0} {bytes : K × V → List ℕ} {P : ℕ} {s : Nodes K V} 
         parent = refl;
       }
 
-  -- where the node is the leaf it is the tree that was
+  -- where the node is the leaf it is the old tree
   pub collapsed_leaf : (x : K × V) → leaf (leaf_name n) x ≡ at.node → IsCollapsed bytes P s s root at.path at.node (record { root = root; leaf = n; count = 1 })
   collapsed_leaf x is = subst (λ z. IsCollapsed bytes P s s root at.path z (record { root = root; leaf = n; count = 1 })) is
       (own_leaf x (subst (λ z. plug at.path z ≡ layout) (sym is) at.whole) (subst (IsRadix bytes P (hole by at).0) (sym is) (hole by at).2))
@@ -339,7 +339,7 @@ module _ {K V : Type 0} {bytes : K × V → List ℕ} {P : ℕ} {s : Nodes K V} 
     abbrev pub rest : Tree OpaqueNodePtr (K × V)
     rest = collapses.rest at.path first.above among_all
 
-    -- it is there, and so is its parent
+    -- it is in the store, and so is its parent
     pub first_there : IsThere s.leaves (Some n)
     first_there p e none = let gone : ◌≡◌ {A = Option (LeafNode K V)} None (Some first.y) = sym none ∙ ap (map.get s.leaves) (sym (some_same e)) ∙ first.here in absurd cc
 
@@ -362,7 +362,7 @@ module _ {K V : Type 0} {bytes : K × V → List ℕ} {P : ℕ} {s : Nodes K V} 
           ∙ ap (λ z. with_child_at (parent_of at.path) z (change s.inners parent (without_child byte))) name_is
           ∙ ap₂ (λ (q : InnerPtr) (b : ℕ). with_child_at (parent_of at.path) (leaf_name n) (change s.inners q (without_child b))) (sym first.parent_is) (sym first.byte_is)
 
-      -- what is left below the node can go
+      -- what is left below the node can be freed
       pub rest_there : IsLayout (node_at w) point.node rest
       rest_there = subst (λ z. IsLayout (node_at w) z rest) (ap name_of first.whole ∙ at.named) (collapses.rest_layout at.path first.above among_all w next leaves inners_are)
 
@@ -371,7 +371,7 @@ module _ {K V : Type 0} {bytes : K × V → List ℕ} {P : ℕ} {s : Nodes K V} 
         name_first : first_of (leaf_names own_node) ≡ Some (leaf_name n)
         name_first = ap (λ z. first_of (leaf_names z)) first.whole ∙ first.name_is
 
-        -- the one leaf stands in its place
+        -- the one leaf is in its place
         pub collapsed_below : IsCollapsed bytes P s t root at.path at.node (record { root = new; leaf = n; count = others + 1 })
         collapsed_below =
             let follows = next_is by at last next beside in
@@ -424,7 +424,7 @@ module _ {K V : Type 0} {bytes : K × V → List ℕ} {P : ℕ} {s u : Nodes K V
 
   module _ (v : Nodes K V) (new_root : Option OpaqueNodePtr) (gone : LeafNode K V) (told : IfSome (map.get u.leaves left.leaf) (λ leaf. gone ≡ unlinked_leaf (pair_of leaf)))
       (canonical : ForTree bytes P u left.root (λ pairs layout. IsCanonical bytes P v new_root (remove_key bytes (bytes (pair_of gone)) pairs))) where
-    -- the pairs beside the node are left
+    -- the pairs outside the node are left
     pub others_left : IsCanonical bytes P v new_root (pairs_beside at)
     others_left =
         let (node, here, pair) = leaf_at c.canonical leads_to_one in
@@ -449,7 +449,7 @@ module _ {K V : Type 0} {bytes : K × V → List ℕ} {P : ℕ} {s u : Nodes K V
         same_after (Some name) (Some tree) after is own = (has_one_map bytes P v name (pairs_beside at) after own.0 tree own.1 is).0
 
 module _ {K V : Type 0} {bytes : K × V → List ℕ} {P : ℕ} {s u v : Nodes K V} {root : OpaqueNodePtr} {point : SubtreeDeletePoint} {left : Collapsed} (done : DeleteResult K V) where
-  -- so the node is out of the tree
+  -- so the node is removed from the tree
   pub subtree_taken : IsSubtreePointIn bytes P s root point →
       ForTree bytes P s root (λ pairs layout. (at : LeadsToNode layout point) → IsCollapsed bytes P s u root at.path at.node left) →
       IfSome (map.get u.leaves left.leaf) (λ leaf. done.deleted_leaf ≡ unlinked_leaf (pair_of leaf)) →
@@ -467,7 +467,7 @@ module _ {K V : Type 0} {bytes : K × V → List ℕ} {P : ℕ} {s u v : Nodes K
 
 -- ---- how many leaves there are
 
--- one more than those that went is no more than were there
+-- one more than those removed is no more than there were
 pub count_fits : {K V : Type 0} (t : Nodes K V) (n : LeafPtr) (y : LeafNode K V) (others all : ℕ) → map.get t.leaves n ≡ Some y →
     others + map.len t.leaves ≡ all → (0 < others → all < 2 ^ 64) → others + 1 < 2 ^ 64
 count_fits {K} {V} t n y others all here total few = go others refl

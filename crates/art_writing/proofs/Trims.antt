@@ -1,4 +1,4 @@
--- The header that a split prefix leaves to its node, from what is stored of the prefix, or from the least leaf below.
+-- The header that remains of a split prefix, from what is stored of the prefix, or from the least leaf below.
 use Rattle.std.proofs.Common.{◌≡◌, ◌≢◌, ℕ, ◌+◌, ◌-◌, ◌<◌, ◌≤◌, min, List, length, take, drop, Some, None, ap, sym, ◌∙◌, subst, arith}
 use Rattle.std.specs.FinMap.{get}
 use Rattle.art_inner.specs.Inner.{Inner}
@@ -51,7 +51,7 @@ module _ {K V : Type 0} {bytes : K × V → List ℕ} {P : ℕ} {s : Nodes K V} 
     own : old ≡ header_of P prefix
     own = read ∙ prefixes.header_is part proper there
 
-    -- less than the prefix goes
+    -- less than the prefix is removed
     pub trim_inside : mismatch.matched_bytes + 1 ≤ old.len
     trim_inside = let l = len_of_header P prefix old own in let inside = prefix_inside by at kind in omega arith
 

@@ -29,7 +29,7 @@ use Rattle.art_model.proofs.pairs.Puts.{any_is_first}
 use Rattle.art_model.proofs.keys.Keys.{not_same}
 
 module _ {N A : Type 0} (bytes : A → List ℕ) (P : ℕ) (key : List ℕ) (end : ℕ) where
-  -- a place that is a front of the key is no longer than this
+  -- a place that is a prefix of the key is no longer than this
   abbrev NoLonger : (List ℕ × N) → Type 0
   NoLonger place = IsFront place.0 key → length place.0 ≤ end
 
@@ -59,7 +59,7 @@ module _ {K V : Type 0} {bytes : K × V → List ℕ} {P : ℕ} {s : Nodes K V} 
       any_is_first (λ x. are_same key (bytes x)) pairs ∙ ap (λ xs. is_some (first_of xs)) (ap (with_key bytes key) (sym (end_laid by at).pairs_are)
       ∙ with_key-hole bytes P at.path (take (depth_of at.path) key) key at.node (end_hole by at).path (end_hole by at).front ∙ none)
 
-  -- an inner node that a key ends at has no pair with it
+  -- an inner node at which a key ends has no pair with it
   ends_at_inner : (name : OpaqueNodePtr) (header : NodeHeader) (cs : Subtrees OpaqueNodePtr (K × V)) → at.node ≡ inner name header cs → has_key bytes key pairs ≡ false
   ends_at_inner name header cs is =
       let place = take (depth_of at.path) key in
@@ -71,7 +71,7 @@ module _ {K V : Type 0} {bytes : K × V → List ℕ} {P : ℕ} {s : Nodes K V} 
       not_stored (ap (λ t. with_key bytes key (pairs_of t)) is ∙ filter_none (λ x. are_same key (bytes x)) (pairs_below cs)
       (not_below bytes P key (depth_of at.path) cs (place ++ part) (depth_of at.path + header.length_of + 1) (omega arith) len below long_below.1))
 
-  -- so where an insertion may be refused its key is not stored
+  -- so where an insertion may fail its key is not stored
   pub refused_new : (is_covered (placed_for s point.insert_kind) s.promise ≡ true → ⊥) → has_key bytes key pairs ≡ false
   refused_new uncovered = go point.key_bytes_used point.insert_kind at.kind_is uncovered
     where

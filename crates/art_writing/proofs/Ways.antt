@@ -1,4 +1,4 @@
--- Paths of code and of the model: the last step, the roots that are told, and the same one step up.
+-- Paths of code and of the model: the last step, the resulting roots, and the same one step up.
 use Rattle.std.proofs.Common.{◌≡◌, ◌≢◌, ℕ, List, [], ◌∷◌, Some, refl}
 use Rattle.art_parts.specs.Names.{inner_name}
 use Rattle.art_parts.specs.declared.names.InnerPtr.{InnerPtr}
@@ -15,7 +15,7 @@ use Rattle.art_reading.specs.declared.path.TreePath.{TreePath}
 use Rattle.art_reading.specs.declared.path.TreePath.TheVariants.{Root, ChildOfRoot, Normal}
 
 module _ {A : Type 0} where
-  -- the last step goes down from the innermost node
+  -- the last step descends from the innermost node
   pub last_step-path_of : (fs : List (Frame OpaqueNodePtr A)) → last_step (path_of fs) ≡ parent_of fs
   last_step-path_of [] = refl
   last_step-path_of (f ∷ fs) = down (path_of fs)
@@ -25,7 +25,7 @@ module _ {A : Type 0} where
       down (ChildOfRoot parent b) = refl
       down (Normal parent b grandparent c) = refl
 
-  -- the root, where another node stands at the end of the path
+  -- the root, where another node is at the end of the path
   pub root_with-path_of : (fs : List (Frame OpaqueNodePtr A)) (root node : OpaqueNodePtr) → root_with (path_of fs) root node ≡ paths.root_with fs root node
   root_with-path_of [] root node = refl
   root_with-path_of (f ∷ fs) root node = down (path_of fs)
@@ -35,7 +35,7 @@ module _ {A : Type 0} where
       down (ChildOfRoot parent b) = refl
       down (Normal parent b grandparent c) = refl
 
--- it is the root by what is told of the parent
+-- it is the root by what is reported of the parent
 pub root_told : (point : InsertPoint) (path : TreePath) (node : InnerPtr) (byte : ℕ) → root_with path point.root (inner_name node) ≡ root_after (record point { path = path }) (NewParent node byte)
 root_told point Root node byte = refl
 root_told point (ChildOfRoot parent b) node byte = refl
@@ -54,7 +54,7 @@ module _ {A : Type 0} (f : Frame OpaqueNodePtr A) where
       above (ChildOfRoot parent b) = refl
       above (Normal parent b grandparent c) = refl
 
-  -- the root is another one exactly where the node is the root
+  -- the root is another one exactly if the node is the root
   pub root_with-up : (fs : List (Frame OpaqueNodePtr A)) (root node : OpaqueNodePtr) → root_with (up (path_of (f ∷ fs))) root node ≡ paths.root_with fs root node
   root_with-up [] root node = refl
   root_with-up (g ∷ gs) root node = above (path_of gs)
@@ -70,7 +70,7 @@ module _ {A : Type 0} (f : Frame OpaqueNodePtr A) where
   above_root change g root (ChildOfRoot parent b) = refl
   above_root change g root (Normal parent b grandparent c) = refl
 
-  -- and that is the one that a deletion answers where the parent gives way
+  -- and that is the one that a deletion returns where the parent is replaced
   pub root_after_at : (change : ParentChange) (fs : List (Frame OpaqueNodePtr A)) (root node : OpaqueNodePtr) → change ≢ keeps →
       IsRootAfter change (path_of (f ∷ fs)) root (Some (paths.root_with fs root node))
   root_after_at change [] root node gives_way = top change gives_way

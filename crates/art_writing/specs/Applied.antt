@@ -1,4 +1,4 @@
--- What a private function that applies a point answers, in one word for each kind of point. No public clause cites this module.
+-- What a private function that applies a point returns, as one definition for each kind of point. No public clause cites this module.
 use Rattle.std.specs.Prelude.{◌≡◌, ℕ, List, Some, Result, IsOk, IsTrue, IfOk, IfErr, OnOk, OnErr}
 use Rattle.std.specs.Option.{option_map}
 use Rattle.art_nodes.specs.Nodes.{Nodes, Promise, no_promise}
@@ -16,7 +16,7 @@ use Rattle.art_writing.specs.declared.insert.Refused.{Refused}
 use Rattle.art_writing.specs.Inserted.{HasInserted, Touches, unlinked_leaf, placed_for}
 use Rattle.art_writing.specs.Overwritten.{HasCome, TouchesForPrefix, placed_for_prefix, root_of}
 
--- The nodes are placed, from the promise where it covers them; or the pair is handed back, with the nodes as they were and nothing promised.
+-- The nodes are placed, from the promise where it covers them; or the pair is returned, with the nodes as they were and nothing promised.
 pub record TakesMemory {K V X : Type 0} (s t : Nodes K V) (placed : Promise) (pair : K × V)
     (result : Result X (Refused K V)) : Type 0 where
   pub promise : OnOk result (t.promise ≡ promise_after placed s.promise)
@@ -43,7 +43,7 @@ module _ {K V : Type 0} (bytes : K × V → List ℕ) (P : ℕ) (s t : Nodes K V
     pub touches : OnOk result (Touches point.insert_kind s t)
     pub memory : TakesMemory s t (placed_for s point.insert_kind) pair result
 
-  -- A point of a prefix insertion is applied, whichever of both kinds it is.
+  -- A point of a prefix insertion is applied, of either kind.
   pub record IsPrefixApplied (point : PrefixInsertPoint) (pair : K × V)
       (result : Result (PrefixInsertResult K V) (Refused K V)) : Type 0 where
     pub canonical : ForTree bytes P s (root_of point) (λ pairs layout. IfOk result (λ done.

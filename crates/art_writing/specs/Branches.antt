@@ -24,7 +24,7 @@ use Rattle.art_writing.specs.declared.insert.branch.Branch.{Branch}
 use Rattle.art_writing.specs.Points.{AnswersTo}
 use Rattle.art_reading.specs.PathSteps.{last_step, root_with}
 
--- this holds of the path and the node that the point answers to, in each layout of its root
+-- this holds of the path and the node of the point, in each layout of its root
 abbrev pub ForEnd : {K V : Type 0} → (K × V → List ℕ) → ℕ → Nodes K V → List ℕ → InsertPoint →
     (List (Frame OpaqueNodePtr (K × V)) → Tree OpaqueNodePtr (K × V) → Type 0) → Type 0
 ForEnd {K} {V} bytes P s key point Holds =
@@ -34,7 +34,7 @@ ForEnd {K} {V} bytes P s key point Holds =
 
 module _ {A : Type 0} {P : ℕ} (bytes : A → List ℕ) (key : List ℕ) (path : List (Frame OpaqueNodePtr A))
     (node : Tree OpaqueNodePtr A) where
-  -- After the node's place the key and the keys below go on with the part, and then with different bytes. The new leaf is beside those of the node.
+  -- After the node's place the key and the keys below share the part, and then differ in a byte. The new leaf is a neighbour of those of the node.
   pub record IsBranch (branch : Branch P) : Type 0 where
     pub part : List ℕ
     pub header : branch.header ≡ header_of P part

@@ -1,4 +1,4 @@
--- What is told of a tree that was copied into another store. No public clause cites this module.
+-- What is stated of a tree that was copied into another store. No public clause cites this module.
 use Rattle.std.specs.Prelude.{◌≡◌, ◌≤◌, length, Some, None, Result, IfOk, OnErr}
 use Rattle.std.specs.FinMap as map
 use Rattle.art_inner.specs.Inner.{Inner, Children, IsRising, childless}
@@ -15,7 +15,7 @@ use Rattle.art_model.specs.Promises.{IsLessened, tree_taken}
 use Rattle.art_model.specs.Roots.{IsFullTree}
 use Rattle.art_writing.specs.declared.clone.CloneResult.{CloneResult}
 
--- The store gained a tree of the first one's form with clones of its pairs, which is taken from its promise; the root and the ends of the leaves are named.
+-- The store gained a tree of the same form with clones of the pairs, which is taken from its promise; the root and the ends of the leaves are returned.
 pub record IsCopied {K V : Type 0} (IsClone : K × V → K × V → Type 0) (tree : Tree OpaqueNodePtr (K × V))
     (old new : Nodes K V) (done : CloneResult) : Type 0 where
   pub copy : Tree OpaqueNodePtr (K × V)
@@ -26,7 +26,7 @@ pub record IsCopied {K V : Type 0} (IsClone : K × V → K × V → Type 0) (tre
   pub first : first_or (leaf_names copy) None ≡ Some (leaf_name done.min_leaf)
   pub last : last_or (leaf_names copy) None ≡ Some (leaf_name done.max_leaf)
 
--- The tree of a name is copied into another store; or that store has the nodes that it had. It promises no more than it did.
+-- The tree of a name is copied into another store; or that store has its old nodes. It promises no more than it did.
 pub record IsCloned {K V E : Type 0} (IsClone : K × V → K × V → Type 0) (s : Nodes K V) (root : OpaqueNodePtr)
     (old new : Nodes K V) (result : Result CloneResult E) : Type 0 where
   pub copied : (tree : Tree OpaqueNodePtr (K × V)) → IsFullTree s root tree →

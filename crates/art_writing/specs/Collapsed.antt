@@ -1,4 +1,4 @@
--- What private functions leave that take a node out with all below it: the tree with one leaf in the node's place, and then without it. No public clause cites this module.
+-- What private functions leave that remove a node with its whole subtree: the tree with one leaf in the node's place, and then without it. No public clause cites this module.
 use Rattle.std.specs.Prelude.{◌≡◌, ◌⊎◌, ℕ, List, [], ◌∷◌, ◌++◌, length, Some, IfSome}
 use Rattle.art_nodes.specs.Nodes.{Nodes}
 use Rattle.art_parts.specs.Names.{leaf_name}
@@ -19,7 +19,7 @@ use Rattle.art_writing.specs.declared.delete.subtree.Collapsed.{Collapsed}
 use Rattle.art_writing.specs.declared.delete.subtree.SubtreeDeletePoint.{SubtreeDeletePoint}
 use Rattle.art_writing.specs.declared.delete.subtree.SubtreeDeleteResult.{SubtreeDeleteResult}
 
--- The first leaf below the node at the end of the path stands in the node's place, and the others are freed.
+-- The first leaf below the node at the end of the path replaces the node, and the others are freed.
 pub record IsCollapsed {K V : Type 0} (bytes : K × V → List ℕ) (P : ℕ) (s t : Nodes K V) (root : OpaqueNodePtr)
     (path : List (Frame OpaqueNodePtr (K × V))) (node : Tree OpaqueNodePtr (K × V)) (done : Collapsed) : Type 0 where
   pub first : K × V
@@ -33,7 +33,7 @@ pub record IsCollapsed {K V : Type 0} (bytes : K × V → List ℕ) (P : ℕ) (s
   pub count : done.count ≡ length (pairs_of node)
   pub parent : parent_change t (path_of path) ≡ parent_change s (path_of path)
 
--- The point's node is out of the tree, with all below it.
+-- The point's node is removed from the tree, with its whole subtree.
 pub record IsSubtreeTaken {K V : Type 0} (bytes : K × V → List ℕ) (P : ℕ) (s t : Nodes K V) (root : OpaqueNodePtr)
     (point : SubtreeDeletePoint) (done : SubtreeDeleteResult) : Type 0 where
   pub canonical : ForTree bytes P s root (λ pairs layout. (at : LeadsToNode layout point) →

@@ -1,8 +1,8 @@
--- How the refusal of a key is displayed that is related to an unequal stored one.
+-- How the conflict of a key with an unequal stored one is displayed.
 use Rattle.std.specs.Prelude.{ℕ, List, [], ◌∷◌, ◌++◌, flat_map, codes}
 use Rattle.std.specs.Fmt.{decimal}
 
--- bytes in decimal, parted by commas
+-- bytes in decimal, separated by commas
 abbrev pub bytes_text : List ℕ → List ℕ
 bytes_text [] = []
 bytes_text (byte ∷ bytes) = decimal byte ++ flat_map (λ other. codes ", " ++ decimal other) bytes

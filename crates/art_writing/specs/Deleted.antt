@@ -1,4 +1,4 @@
--- The points at which leaves go, what an applied delete point places and touches, and the root that it leaves.
+-- The points at which leaves are removed, what an applied delete point places and touches, and the root that it leaves.
 use Rattle.std.specs.Prelude.{◌≡◌, ℕ, if◌then◌else◌, nat_le, List, length, Option, Some, None, ⊤}
 use Rattle.std.specs.FinMap as map
 use Rattle.std.specs.Option.{option_map}
@@ -18,7 +18,7 @@ use Rattle.art_reading.specs.declared.path.TreePath.{TreePath}
 use Rattle.art_reading.specs.declared.path.TreePath.TheVariants.{Root, ChildOfRoot, Normal}
 use Rattle.art_reading.specs.PathSteps.{last_step, path_of}
 
--- the point names the leaf of this pair, with the parent and the grandparent of that and the bytes that lead down
+-- the point names the leaf of this pair, with its parent and grandparent and the bytes that lead down
 pub record LeadsTo {A : Type 0} (tree : Tree OpaqueNodePtr A) (x : A) (point : DeletePoint) : Type 0 where
   pub path : List (Frame OpaqueNodePtr A)
   pub whole : plug path (leaf (leaf_name point.leaf_node_ptr) x) ≡ tree
@@ -34,20 +34,20 @@ IsDeletePoint tree pair point = ⊥
 abbrev pub pair_at : {K V : Type 0} → Nodes K V → Option DeletePoint → Option (K × V)
 pair_at s point = pair_under s (option_map (λ p. p.leaf_node_ptr) point)
 
--- the point answers to the store and the root
+-- the point is a delete point of the store and the root
 abbrev pub IsDeletePointIn : {K V : Type 0} → (K × V → List ℕ) → ℕ → Nodes K V → OpaqueNodePtr → DeletePoint → Type 0
 IsDeletePointIn {K} {V} bytes P s root point =
     (pairs : List (K × V)) × (layout : Tree OpaqueNodePtr (K × V)) × (x : K × V) ×
     IsCanonicalTree bytes P s root pairs layout × LeadsTo layout x point
 
--- what becomes of a leaf's parent when the leaf goes: there is none; it keeps its kind; a node of the next smaller kind takes its place; its other child does
+-- what becomes of a leaf's parent when the leaf is removed: there is none; it keeps its kind; a node of the next smaller kind replaces it; its other child does
 pub data ParentChange : Type 0 where
   no_parent : ParentChange
   keeps : ParentChange
   shrinks : NodeType → ParentChange
   is_compressed : ParentChange
 
--- by the parent's kind and its number of children: one that has as many as its kind has at least can't keep the kind
+-- by the parent's kind and its number of children: one with the kind's minimum can't keep the kind
 abbrev pub change_of : NodeType → ℕ → ParentChange
 change_of Node4 count = if nat_le count 2 then is_compressed else keeps
 change_of kind count = if nat_le count (kind_least kind) then shrinks (smaller_kind kind) else keeps
@@ -61,7 +61,7 @@ module _ {K V : Type 0} where
         elim (map.get s.inners parent) [ None ↦ no_parent | Some node ↦ change_of parent.kind (length node.children) ]
   ]
 
-  -- the nodes that a deletion places: the smaller one that takes the parent's place
+  -- the nodes that a deletion places: the smaller one that replaces the parent
   abbrev pub placed_for_deletion : Nodes K V → TreePath → Promise
   placed_for_deletion s path = elim (parent_change s path) [
     | shrinks kind ↦ record { leaves = 0; inner = Some kind }

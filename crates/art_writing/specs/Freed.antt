@@ -1,4 +1,4 @@
--- The nodes below a name that go, with the leaves or without them. No public clause cites this module.
+-- The nodes below a name that are freed, with the leaves or without them. No public clause cites this module.
 use Rattle.std.specs.Prelude.{◌≡◌, ℕ, ◌+◌, ◌<◌, Bool, true, if◌then◌else◌, List, [], ◌∷◌, ◌++◌, length, Option, Some, None, ⊤}
 use Rattle.std.specs.List.{AllByRecursion as Each}
 use Rattle.art_inner.specs.Inner.{Children}
@@ -22,7 +22,7 @@ IsEnd (inner n h no_child) = ⊤
 IsEnd (inner n h (child b t cs)) = ⊥
 
 module _ {N A : Type 0} (leaves_too : Bool) where
-  -- the names that go
+  -- the names that are freed
   abbrev mutual
     pub names_to_free : Tree N A → List N
     names_to_free (leaf n x) = if leaves_too then n ∷ [] else []
@@ -36,7 +36,7 @@ module _ {N A : Type 0} (leaves_too : Bool) where
   abbrev pub leaves_to_free : Tree N A → ℕ
   leaves_to_free t = if leaves_too then length (leaf_names t) else 0
 
--- The name stands for a tree without leaves, and the leaves are there where they are to go too.
+-- The name stands for a tree without leaves, and the leaves are in the store where they are to be freed too.
 pub record CanGo {K V : Type 0} (s : Nodes K V) (leaves_too : Bool) (root : OpaqueNodePtr)
     (shape : Tree OpaqueNodePtr (Unit {0})) : Type 0 where
   pub layout : IsLayout (shape_at s) root shape
@@ -49,7 +49,7 @@ pub record CanBothGo {K V : Type 0} (s : Nodes K V) (leaves_too : Bool) (left ch
   pub below : CanGo s leaves_too child lower
   pub apart : AreDistinct (names_of upper ++ names_of lower)
 
--- From one store to the next two trees became one, which has fewer names: those that went are out
+-- From one store to the next two trees became one, which has fewer names: the freed ones are out
 -- of use, and so many leaves are freed.
 pub record AreJoined {K V : Type 0} (s t : Nodes K V) (leaves_too : Bool)
     (upper lower : Tree OpaqueNodePtr (Unit {0})) (root : OpaqueNodePtr) (freed : ℕ) : Type 0 where

@@ -22,13 +22,13 @@ use Rattle.art_writing.specs.declared.insert.InsertResult.{InsertResult}
 use Rattle.art_reading.specs.declared.path.TreePath.TheVariants.{Root}
 use Rattle.art_writing.specs.Points.{AnswersTo}
 
--- the point answers to the store, the root that it names, and the key
+-- the point is an insert point of the store, its root and the key
 abbrev pub IsPointIn : {K V : Type 0} → (K × V → List ℕ) → ℕ → Nodes K V → List ℕ → InsertPoint → Type 0
 IsPointIn {K} {V} bytes P s key point =
     (pairs : List (K × V)) × (layout : Tree OpaqueNodePtr (K × V)) ×
     IsCanonicalTree bytes P s point.root pairs layout × AnswersTo bytes P layout key point
 
--- a leaf with no leaves beside it
+-- a leaf with no neighbours
 abbrev pub unlinked_leaf : {K V : Type 0} → K × V → LeafNode K V
 unlinked_leaf pair = record { key = pair.0; value = pair.1; previous = None; next = None }
 
@@ -51,18 +51,18 @@ module _ {K V : Type 0} where
   Touches (IntoExisting p) s t = MatchBool (is_full s p) (TouchesAtMost 2 1 3 s t) (TouchesAtMost 1 0 3 s t)
   Touches (MismatchPrefix mismatch p) s t = TouchesAtMost 2 0 4 s t
 
--- what is told of the leaf's parent: nothing where a value was replaced, and else its name and the leaf's byte there
+-- what is reported of the leaf's parent: nothing where a value was replaced, and else its name and the leaf's byte there
 abbrev pub IsChange : InsertKind → Option (InnerPtr × ℕ) → InsertParentNodeChange → Type 0
 IsChange (Exact p) parent told = told ≡ NoChange
 IsChange kind None told = ⊥
 IsChange kind (Some parent) told = told ≡ NewParent parent.0 parent.1
 
--- the root after an insertion: the leaf's parent where the point's node was the root and has a parent told, and else the old root
+-- the root after an insertion: the leaf's parent where the point's node was the root and has a parent, and else the old root
 abbrev pub root_after : InsertPoint → InsertParentNodeChange → OpaqueNodePtr
 root_after point NoChange = point.root
 root_after point (NewParent parent byte) = elim point.path [ Root ↦ inner_name parent | _ ↦ point.root ]
 
--- The tree has the pair's leaf under the name that is answered, and root and parent are told by the leaf's path.
+-- The tree has the pair's leaf under the returned name, and root and parent follow from the leaf's path.
 pub record HasInserted {K V : Type 0} (tree : Tree OpaqueNodePtr (K × V)) (point : InsertPoint)
     (pair : K × V) (done : InsertResult K V) : Type 0 where
   pub path : List (Frame OpaqueNodePtr (K × V))

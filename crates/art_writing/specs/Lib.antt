@@ -1,4 +1,4 @@
--- what changes speak of: pairs, canonical roots, and what a change keeps, touches and takes of a promise
+-- the definitions that changes cite: pairs, canonical roots, and what a change keeps and touches and takes from a promise
 pub use Rattle.art_model.specs.Pairs
 pub use Rattle.art_model.specs.Clones
 pub use Rattle.art_model.specs.Trees
@@ -13,7 +13,7 @@ pub use Rattle.art_model.specs.Promises
 pub use Rattle.art_reading.specs.Matching
 pub use Rattle.art_reading.specs.PathSteps
 pub use Rattle.art_reading.specs.EndNodes
--- the parent that a path ends with, and the leaves beside one
+-- the parent at the end of a path, and the neighbours of a leaf
 pub mod ParentWrites
 -- insertion
 pub mod Points

@@ -19,13 +19,13 @@ use Rattle.art_writing.specs.Inserted.{HasInserted, IsPointIn, Touches, placed_f
 use Rattle.art_writing.specs.Points.{AnswersToOverwrite}
 
 module _ {K V : Type 0} where
-  -- the point answers to the store, the root that it names, and the key
+  -- the point is an overwrite point of the store, its root and the key
   abbrev pub IsOverwritePointIn : (K × V → List ℕ) → ℕ → Nodes K V → List ℕ → OverwritePoint → Type 0
   IsOverwritePointIn bytes P s key point =
       (pairs : List (K × V)) × (layout : Tree OpaqueNodePtr (K × V)) ×
       IsCanonicalTree bytes P s point.root pairs layout × AnswersToOverwrite bytes layout key point
 
-  -- what an overwrite touches, by the kind of the node that gives way: the leaf, whose pair is replaced; or the whole subtree
+  -- what an overwrite touches, by the kind of the node that is replaced: the leaf, whose pair is replaced; or the whole subtree
   abbrev pub TouchesForNode : NodeType → (K × V → List ℕ) → List ℕ → Nodes K V → Nodes K V →
       Tree OpaqueNodePtr (K × V) → Type 0
   TouchesForNode Leaf bytes key s t layout = TouchesAtMost 0 0 1 s t
@@ -36,7 +36,7 @@ abbrev pub placed_for_overwrite : NodeType → Promise
 placed_for_overwrite Leaf = record { leaves = 0; inner = None }
 placed_for_overwrite kind = record { leaves = 1; inner = None }
 
--- The tree has the pair's leaf under the name that is answered, which is its old name where a leaf's pair was replaced; nothing is told of its parent.
+-- The tree has the pair's leaf under the returned name, which is its old name where a leaf's pair was replaced; nothing is reported of its parent.
 pub record HasOverwritten {K V : Type 0} (tree : Tree OpaqueNodePtr (K × V)) (point : OverwritePoint)
     (pair : K × V) (done : InsertResult K V) : Type 0 where
   pub has : HasLeaf tree (leaf_name done.leaf_node_ptr) pair
@@ -46,12 +46,12 @@ pub record HasOverwritten {K V : Type 0} (tree : Tree OpaqueNodePtr (K × V)) (p
 -- ---- points of either kind
 
 module _ {K V : Type 0} where
-  -- the point answers to the store, the root that it names, and the key
+  -- the point is a point of the store, its root and the key
   abbrev pub IsPrefixPointIn : (K × V → List ℕ) → ℕ → Nodes K V → List ℕ → PrefixInsertPoint → Type 0
   IsPrefixPointIn bytes P s key (points.InsertPoint point) = IsPointIn bytes P s key point
   IsPrefixPointIn bytes P s key (points.OverwritePoint point) = IsOverwritePointIn bytes P s key point
 
-  -- the tree has the leaf of what is stored for the pair under the name that is answered
+  -- the tree has the leaf of what is stored for the pair under the returned name
   abbrev pub HasCome : (K × V → List ℕ) → List (K × V) → Tree OpaqueNodePtr (K × V) → PrefixInsertPoint →
       K × V → InsertResult K V → Type 0
   HasCome bytes pairs tree (points.InsertPoint point) pair done =

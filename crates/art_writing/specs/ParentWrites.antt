@@ -1,4 +1,4 @@
--- What the writes of the operations ask and answer: a child of the parent that a path ends with, and the leaves beside one.
+-- What the writes of the operations require and return: a child of the parent at the end of a path, and the neighbours of a leaf.
 use Rattle.std.specs.Prelude.{◌≡◌, ◌⊎◌, ◌<◌, ℕ, if◌then◌else◌, nat_lt, Option, Some, None, IsSome, IsSomeAnd, IfSome, ⊤}
 use Rattle.std.specs.List.{AllByRecursion as Each}
 use Rattle.std.specs.FinMap as map
@@ -23,19 +23,19 @@ abbrev pub HasChild : Inners → Option (InnerPtr × ℕ) → Type 0
 HasChild inners None = ⊤
 HasChild inners (Some parent) = IsSomeAnd (map.get inners parent.0) (λ node. IsSome (child_at node.children parent.1))
 
--- A leaf with no siblings came into a store.
+-- A leaf with no siblings is new in a store.
 pub record IsPlanted {K V : Type 0} (s t : Nodes K V) (name : LeafPtr) (pair : K × V) : Type 0 where
   pub fresh : map.get s.leaves name ≡ None
   pub leaves : t.leaves ≡ map.insert s.leaves name (unlinked_leaf pair)
   pub inners : t.inners ≡ s.inners
   pub promise : t.promise ≡ take_leaf s.promise
 
--- the leaves that a leaf names are there
+-- the leaves that a leaf names are in the store
 abbrev pub LinksAreThere : {K V : Type 0} → Leaves K V → LeafPtr → Type 0
 LinksAreThere leaves name =
     IfSome (map.get leaves name) (λ leaf. IsThere leaves leaf.previous × IsThere leaves leaf.next)
 
--- the side of the byte of a child on which that of a new one is
+-- the side of a child's byte on which that of a new one is
 abbrev pub side_of : ℕ → ℕ → Direction
 side_of new other = if nat_lt other new then After else Before
 
@@ -44,7 +44,7 @@ abbrev pub with_beside : {K V : Type 0} → Direction → Option LeafPtr → Lea
 with_beside Before other = with_previous other
 with_beside After other = with_next other
 
--- a new leaf that comes right before a tree's first leaf, or right after its last one, has these leaves beside it
+-- a new leaf right before a tree's first leaf, or right after its last one, has these neighbours
 abbrev pub IsBeside : {K V : Type 0} → Nodes K V → Tree OpaqueNodePtr (K × V) → Direction → Option LeafPtr →
     Option LeafPtr → Type 0
 IsBeside s tree Before previous next =
@@ -73,7 +73,7 @@ abbrev pub HasLastChild : {N A : Type 0} → Subtrees N A → (Tree N A → Type
 HasLastChild {N} {A} children IsSuch =
     (others : Subtrees N A) × (b : ℕ) × (t : Tree N A) × (children ≡ join others (child b t no_child)) × IsSuch t
 
--- a new leaf between these children has these leaves beside it: it comes right before all on the right, or right after all on the left
+-- a new leaf between these children has these neighbours: it is right before all on the right, or right after all on the left
 abbrev pub ComesBetween : {K V : Type 0} → Nodes K V → Subtrees OpaqueNodePtr (K × V) →
     Subtrees OpaqueNodePtr (K × V) → Option LeafPtr → Option LeafPtr → Type 0
 ComesBetween s left right previous next =

@@ -1,4 +1,4 @@
--- The points at which keys come into a tree: what a point says of its key's end node.
+-- The points at which keys are inserted: what a point says of its key's end node.
 use Rattle.std.specs.Prelude.{◌≡◌, ℕ, Bool, true, false, List, ⊤}
 use Rattle.std.specs.Box.{boxed_slice_items}
 use Rattle.art_parts.specs.declared.names.OpaqueNodePtr.{OpaqueNodePtr}
@@ -22,7 +22,7 @@ overwrites (points.InsertPoint point) = false
 overwrites (points.OverwritePoint point) = true
 
 module _ {A : Type 0} (bytes : A → List ℕ) where
-  -- The point names the tree's root and the key's end node, which gives way, with the parent and the grandparent of that and the bytes that lead down.
+  -- The point names the tree's root and the key's end node, which is replaced, with its parent and grandparent and the bytes that lead down.
   pub record AnswersToOverwrite (layout : Tree OpaqueNodePtr A) (key : List ℕ) (point : OverwritePoint) : Type 0 where
     pub path : List (Frame OpaqueNodePtr A)
     pub node : Tree OpaqueNodePtr A
@@ -33,7 +33,7 @@ module _ {A : Type 0} (bytes : A → List ℕ) where
     pub gives_way : IsOverwrittenWith bytes key (depth_of path) point.key_bytes_used node
 
 module _ {A : Type 0} (bytes : A → List ℕ) (P : ℕ) where
-  -- The point names the tree's root and the key's end node, with the parent and the grandparent of that and the bytes that lead down.
+  -- The point names the tree's root and the key's end node, with its parent and grandparent and the bytes that lead down.
   pub record AnswersTo (layout : Tree OpaqueNodePtr A) (key : List ℕ) (point : InsertPoint) : Type 0 where
     pub path : List (Frame OpaqueNodePtr A)
     pub node : Tree OpaqueNodePtr A
@@ -47,12 +47,12 @@ module _ {A : Type 0} (bytes : A → List ℕ) (P : ℕ) where
   AnswersToPrefix layout key (points.InsertPoint point) = AnswersTo layout key point
   AnswersToPrefix layout key (points.OverwritePoint point) = AnswersToOverwrite bytes layout key point
 
-  -- the point of the key, which is one to overwrite exactly where a stored key is related to it and unequal
+  -- the point of the key, which is one to overwrite exactly if a stored key is related to it and unequal
   abbrev pub IsPointFor : List ℕ → List A → Tree OpaqueNodePtr A → PrefixInsertPoint → Type 0
   IsPointFor key pairs layout point =
       (is_conflict bytes key pairs ≡ overwrites point) × AnswersToPrefix layout key point
 
--- a refusal with the bytes of the key, or for want of memory
+-- an error with the bytes of the key, or out of memory
 abbrev pub IsRefusedFor : List ℕ → InsertSearchError → Type 0
 IsRefusedFor key (Prefix error) = boxed_slice_items error.byte_repr ≡ key
 IsRefusedFor key (Memory error) = ⊤

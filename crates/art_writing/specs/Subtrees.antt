@@ -1,4 +1,4 @@
--- The points at which a node goes with all below it.
+-- The points at which a node is removed with its whole subtree.
 use Rattle.std.specs.Prelude.{◌≡◌, ℕ, List, [], ◌++◌, Option, Some, None}
 use Rattle.art_nodes.specs.Nodes.{Nodes}
 use Rattle.art_parts.specs.declared.names.OpaqueNodePtr.{OpaqueNodePtr}
@@ -11,7 +11,7 @@ use Rattle.art_model.specs.Trees.{Tree}
 use Rattle.art_reading.specs.PathSteps.{path_of}
 use Rattle.art_writing.specs.declared.delete.subtree.SubtreeDeletePoint.{SubtreeDeletePoint}
 
--- The point names a node of the tree, with the parent and the grandparent of that and the bytes that lead down.
+-- The point names a node of the tree, with its parent and grandparent and the bytes that lead down.
 pub record LeadsToNode {A : Type 0} (tree : Tree OpaqueNodePtr A) (point : SubtreeDeletePoint) : Type 0 where
   pub path : List (Frame OpaqueNodePtr A)
   pub node : Tree OpaqueNodePtr A
@@ -25,18 +25,18 @@ abbrev pub pairs_beside : {A : Type 0} → {tree : Tree OpaqueNodePtr A} → {po
 pairs_beside at = pairs_before at.path ++ pairs_after at.path
 
 module _ {A : Type 0} (bytes : A → List ℕ) (prefix : List ℕ) (tree : Tree OpaqueNodePtr A) where
-  -- Below the point's node are the pairs whose keys begin with the prefix, and no others.
+  -- Below the point's node are the pairs whose keys start with the prefix, and no others.
   pub record HasPrefixBelow (point : SubtreeDeletePoint) : Type 0 where
     pub at : LeadsToNode tree point
     pub gone : pairs_of at.node ≡ below bytes prefix (pairs_of tree)
     pub left : pairs_beside at ≡ not_below bytes prefix (pairs_of tree)
 
-  -- the point of a prefix, or none where no key begins with it
+  -- the point of a prefix, or none where no key starts with it
   abbrev pub IsPrefixPoint : Option SubtreeDeletePoint → Type 0
   IsPrefixPoint None = below bytes prefix (pairs_of tree) ≡ []
   IsPrefixPoint (Some point) = HasPrefixBelow point
 
--- the point answers to the store and the root
+-- the point is a subtree point of the store and the root
 abbrev pub IsSubtreePointIn : {K V : Type 0} → (K × V → List ℕ) → ℕ → Nodes K V → OpaqueNodePtr →
     SubtreeDeletePoint → Type 0
 IsSubtreePointIn {K} {V} bytes P s root point =

@@ -1,4 +1,4 @@
--- What a delete point that is applied answers, in one word, and what the private functions do that take its leaf alone, or let it go before.
+-- What an applied delete point returns, as one definition, and what the private functions do that remove its leaf alone, or remove it from its parent before.
 use Rattle.std.specs.Prelude.{◌≡◌, ℕ, List, Option, Some, IsSome, IsSomeAnd, IfSome}
 use Rattle.std.specs.FinMap as map
 use Rattle.art_nodes.specs.Nodes.{Nodes}
@@ -17,7 +17,7 @@ use Rattle.art_writing.specs.Deleted.{IsRootAfter, TouchesFor, pair_at, parent_c
 use Rattle.art_writing.specs.Inserted.{unlinked_leaf}
 use Rattle.art_writing.specs.ParentWrites.{LinksAreThere}
 
--- The point's leaf goes from between those beside it, and is answered alone, with this root; inner nodes and the promise stay.
+-- The point's leaf is removed from between its neighbours, and is returned alone, with this root; inner nodes and the promise stay.
 pub record IsLeafTaken {K V : Type 0} (s t : Nodes K V) (point : DeletePoint) (root : Option OpaqueNodePtr)
     (done : DeleteResult K V) : Type 0 where
   pub leaf : IsSomeAnd (map.get s.leaves point.leaf_node_ptr) (λ leaf. done.deleted_leaf ≡ unlinked_leaf (pair_of leaf))
@@ -49,7 +49,7 @@ pub record IsTakenOut {K V : Type 0} (bytes : K × V → List ℕ) (P : ℕ) (s 
   pub touches : TouchesFor (parent_change s point.path) s t
   pub promise : t.promise ≡ promise_after (placed_for_deletion s point.path) s.promise
 
--- The point's leaf is still there, and all else is done: once it is taken, and this root answered, the point is applied.
+-- The point's leaf is still in the store, and all else is done: once it is removed, and this root returned, the point is applied.
 pub record IsLetGo {K V : Type 0} (bytes : K × V → List ℕ) (P : ℕ) (s u : Nodes K V) (root : OpaqueNodePtr)
     (point : DeletePoint) (new_root : Option OpaqueNodePtr) : Type 0 where
   pub leaf : IsSome (map.get u.leaves point.leaf_node_ptr)

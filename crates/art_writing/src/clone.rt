@@ -1,4 +1,4 @@
-//! The copying of a tree into another store.
+//! Cloning a tree into another store.
 ghost use Rattle.std.specs.Prelude.{◌≡◌, ◌≢◌, List, [], Some, None, IsSome, IsSomeAnd, IfOk, IfSome, OnOk, OnErr};
 ghost use Rattle.std.specs.FinMap as map;
 ghost use Rattle.std.specs.Option.{option_map, option_or};
@@ -47,10 +47,10 @@ struct LeafEnds {
     last: LeafPtr,
 }
 
-/// Clones the tree of a canonical root into another store, pair by pair, and leaves the source as it is.
+/// Clones the tree of a canonical root into another store, pair by pair. The source is unchanged.
 ///
-/// An `Err` is for want of memory, for a node, for the clone of a key or a value, or for the list of the nodes
-/// above. What was placed is freed then, and the other store has the nodes that it had.
+/// Fails if an allocation fails: that of a node, of the clone of a key or a value, or of the list of the nodes above.
+/// What was placed is freed then, and the other store has the nodes that it had.
 pub fn clone_unchecked<K: AsBytes + Clone + Drop, V: Clone + Drop, const PREFIX_LEN: usize>(
     store: &NodeStore<K, V, PREFIX_LEN>,
     root: OpaqueNodePtr,
@@ -83,8 +83,8 @@ pub fn clone_unchecked<K: AsBytes + Clone + Drop, V: Clone + Drop, const PREFIX_
     clone_tree(store, root, into)
 }
 
-// An inner node that is copied, while a child of it is: that child's byte, the children that come after it, and
-// the ends of the leaves so far.
+// An inner node while a child of it is copied: that child's byte, the children after it, and the ends of the leaves so
+// far.
 #[derive(Drop)]
 struct Above<'a> {
     copy: InnerPtr,
@@ -108,8 +108,8 @@ fn clone_tree<K: AsBytes + Clone + Drop, V: Clone + Drop, const P: usize>(
     }
 }
 
-// Clones the tree of an inner node. The copies above the one whose children have their turns stand in a list;
-// where a clone is refused each of them is freed with what is below it.
+// Clones the tree of an inner node. The copies above the current node are in a list; where a clone fails each of them
+// is freed with its subtree.
 fn clone_inner<K: AsBytes + Clone + Drop, V: Clone + Drop, const P: usize>(
     store: &NodeStore<K, V, P>,
     root: InnerPtr,
@@ -172,7 +172,7 @@ fn clone_inner<K: AsBytes + Clone + Drop, V: Clone + Drop, const P: usize>(
     }
 }
 
-// Places a copy of an inner node, without a child, and returns it with the children that are to be copied.
+// Places a copy of an inner node without children, and returns it with the children that are to be copied.
 fn begin<'a, K: AsBytes + Clone + Drop, V: Clone + Drop, const P: usize>(
     store: &'a NodeStore<K, V, P>,
     name: InnerPtr,
@@ -233,7 +233,7 @@ fn clone_leaf<K: AsBytes + Clone + Drop, V: Clone + Drop, const P: usize>(
     })
 }
 
-// Places an inner node of the kind and with the header of another one, without a child.
+// Places an inner node of the kind and with the header of another one, without children.
 #[inline(always)]
 fn place_like<K: AsBytes + Drop, V: Drop, const P: usize>(
     node: InnerRef<'_, P>,
@@ -257,8 +257,8 @@ fn place_like<K: AsBytes + Drop, V: Drop, const P: usize>(
     }
 }
 
-// The same of one kind. A node is large: it stands on the stack while it is placed, with room for its own kind
-// alone, and not in the frame of the loop.
+// The same of one kind. A node is large: it is on the stack only while it is placed, with room for its own kind alone,
+// and not in the frame of the loop.
 #[inline(never)]
 fn place_one_like<N: InnerNode<P>, K: AsBytes + Drop, V: Drop, const P: usize>(
     node: &N,
@@ -280,7 +280,7 @@ fn place_one_like<N: InnerNode<P>, K: AsBytes + Drop, V: Drop, const P: usize>(
     Ok(name)
 }
 
-// Puts a copy under a byte of an inner node, its leaves behind the others, and returns the ends of all.
+// Adds a copy under a byte of an inner node, its leaves after the others, and returns the ends of all.
 fn add_copy<K: AsBytes + Drop, V: Drop, const P: usize>(
     into: &mut NodeStore<K, V, P>,
     parent: InnerPtr,

@@ -1,4 +1,4 @@
-//! Leaves, inner nodes and whole trees are freed. Nothing here takes memory.
+//! Frees leaves, inner nodes and whole trees. Nothing here allocates.
 ghost use Rattle.std.specs.Prelude.{◌≡◌, ◌+◌, ◌<◌, ◌↔◌, ◌++◌, ◌^◌, List, [], ◌∷◌, length, Some, None, IsTrue, IsSome, IfSome, IfNone};
 ghost use Rattle.std.specs.FinMap as map;
 ghost use Rattle.art_parts.specs.declared.names.InnerPtr.{InnerPtr};
@@ -20,7 +20,7 @@ use art_nodes::node::{AsBytes, InnerPtr, NodePtr, OpaqueNodePtr};
 use art_nodes::store::NodeStore;
 use art_reading::iterator::RawIterator;
 
-/// Frees the leaves that are left of an iterator. It reads no other node.
+/// Frees the remaining leaves of an iterator. It reads no other node.
 pub fn deallocate_leaves<K: AsBytes + Drop, V: Drop, const PREFIX_LEN: usize>(
     leaf_range: RawIterator,
     store: &mut NodeStore<K, V, PREFIX_LEN>,
@@ -39,8 +39,8 @@ pub fn deallocate_leaves<K: AsBytes + Drop, V: Drop, const PREFIX_LEN: usize>(
     }
 }
 
-/// Frees the inner nodes of the tree that a name stands for. It reads no leaf: the leaves may be freed
-/// before or after. Its cost is as that of `deallocate_tree`.
+/// Frees the inner nodes of the tree rooted at `root`. It reads no leaf: the leaves may be freed before or after. It
+/// costs as much as `deallocate_tree`.
 pub fn deallocate_tree_non_leaves<K: AsBytes + Drop, V: Drop, const PREFIX_LEN: usize>(
     root: OpaqueNodePtr,
     store: &mut NodeStore<K, V, PREFIX_LEN>,
@@ -55,8 +55,8 @@ pub fn deallocate_tree_non_leaves<K: AsBytes + Drop, V: Drop, const PREFIX_LEN: 
     free_nodes(store, root, false);
 }
 
-/// Frees all nodes of the tree that a name stands for, and returns how many leaves it had. It takes no memory, and no
-/// stack that grows with the tree. It costs a step for each node.
+/// Frees all nodes of the tree rooted at `root`, and returns how many leaves it had. It allocates nothing, and its
+/// stack does not grow with the tree. It costs a step for each node.
 pub fn deallocate_tree<K: AsBytes + Drop, V: Drop, const PREFIX_LEN: usize>(
     root: OpaqueNodePtr,
     store: &mut NodeStore<K, V, PREFIX_LEN>,
@@ -76,8 +76,8 @@ pub fn deallocate_tree<K: AsBytes + Drop, V: Drop, const PREFIX_LEN: usize>(
 // Frees the inner nodes below a name, and the leaves too if asked to; returns how many leaves it freed.
 // An inner node may be without children.
 //
-// No list of what is left is kept, and no stack: the nodes that are left are one tree all the time. Its root goes
-// once it has one child, and else hangs below its last child from then on.
+// It keeps neither a list of what is left nor a stack: the remaining nodes are one tree all the time. Its root is freed
+// once it has one child, and is attached below its last child before.
 pub(crate) fn free_nodes<K: AsBytes + Drop, V: Drop, const P: usize>(
     store: &mut NodeStore<K, V, P>,
     root: OpaqueNodePtr,
@@ -115,8 +115,8 @@ pub(crate) fn free_nodes<K: AsBytes + Drop, V: Drop, const P: usize>(
     }
 }
 
-// Makes one tree of two: the first takes the place of the end to which first children lead in the second, and that
-// end goes. Returns the root of both, and how many leaves were freed.
+// Joins two trees: the first replaces the end that the first children of the second lead to, and that end is freed.
+// Returns the root of both, and how many leaves were freed.
 fn hang<K: AsBytes + Drop, V: Drop, const P: usize>(
     store: &mut NodeStore<K, V, P>,
     left: OpaqueNodePtr,
@@ -186,7 +186,7 @@ fn last_child<K: AsBytes + Drop, V: Drop, const P: usize>(
     })
 }
 
-// The name of an inner node, as such a one.
+// The name of an inner node, with its kind.
 fn inner_of(name: OpaqueNodePtr) -> InnerPtr
     ensures { result ≡ as_inner name }
 {
@@ -231,7 +231,7 @@ fn free_end<K: AsBytes + Drop, V: Drop, const P: usize>(
     }
 }
 
-// Frees an inner node. It is large: it stands on the stack while it goes, and not in the frame of the loop.
+// Frees an inner node. It is large: it is on the stack only while it is freed, and not in the frame of the loop.
 #[inline(never)]
 fn free_node<K: AsBytes + Drop, V: Drop, const P: usize>(
     store: &mut NodeStore<K, V, P>,

@@ -1,4 +1,4 @@
-//! Deletion: the point at which a leaf goes out of a tree.
+//! Deletion: the point at which a leaf is removed from a tree.
 ghost use Rattle.std.specs.Prelude.{◌≡◌, ◌+◌, ◌<◌, ◌^◌, length, IsSome, IfSome, IfNone, Some};
 ghost use Rattle.art_model.specs.Canonical.{IsCanonical};
 ghost use Rattle.art_model.specs.Pairs.{first_of, last_of, of_key, remove_key, remove_reply};
@@ -19,7 +19,7 @@ mod subtree;
 
 pub use subtree::{SubtreeDeletePoint, SubtreeDeleteResult, search_for_prefix_delete_point};
 
-/// Where a leaf goes out of a tree.
+/// Where a leaf is removed from a tree.
 #[derive(Clone, Copy, PartialEq, Eq, Debug)]
 pub struct DeletePoint {
     /// The nodes right above the leaf.
@@ -27,16 +27,16 @@ pub struct DeletePoint {
     pub leaf_node_ptr: LeafPtr,
 }
 
-/// What a deletion did.
+/// The result of a deletion.
 #[derive(Debug, Drop)]
 pub struct DeleteResult<K, V> {
-    /// The root of the tree, if it has a leaf left.
+    /// The root of the tree, if a leaf is left.
     pub new_root: Option<OpaqueNodePtr>,
-    /// The leaf that went, with no siblings.
+    /// The removed leaf, with no siblings.
     pub deleted_leaf: LeafNode<K, V>,
 }
 
-/// A deletion that failed. No call returns one: a deletion takes no memory.
+/// A failed deletion. No call returns one: a deletion allocates nothing.
 #[derive(Clone, Copy, PartialEq, Eq, Debug)]
 pub struct DeleteRefused {
     pub point: DeletePoint,
@@ -44,7 +44,7 @@ pub struct DeleteRefused {
 
 /// Returns the point of a key, or `None` where no stored key is equal to it.
 ///
-/// It goes the way of `search_unchecked`, at the same cost.
+/// It descends as `search_unchecked` does, at the same cost.
 pub fn search_for_delete_point<K: AsBytes + Drop, V: Drop, const PREFIX_LEN: usize>(
     store: &NodeStore<K, V, PREFIX_LEN>,
     root: OpaqueNodePtr,
@@ -95,9 +95,9 @@ pub fn search_for_delete_point_visiting<K: AsBytes + Drop, V: Drop, const PREFIX
 
 /// Returns the point of a key, or `None` where no stored key is equal to it.
 ///
-/// On its way it compares no prefix, and passes over them by their lengths; at the leaf it compares the
-/// whole key. So it takes fewer steps than `search_for_delete_point` where the key is there, and may read
-/// more nodes where it isn't: at most one more than the key has bytes.
+/// On its descent it skips prefixes by their lengths, without a comparison; at the leaf it compares the whole key. So
+/// it takes fewer steps than `search_for_delete_point` if the key is stored, and may read more nodes if it isn't: at
+/// most one more than the key has bytes.
 #[inline(always)]
 pub fn search_for_delete_point_by_lengths<
     Q: KeyQuery,
@@ -120,7 +120,7 @@ pub fn search_for_delete_point_by_lengths<
     search_from(store, root, query, start, &mut Visits::new())
 }
 
-// Returns the point of a key, by a way that begins with this behavior, and counts each node that it reads.
+// Returns the point of a key, by a descent that begins with this behavior, and counts each node that it reads.
 #[inline(always)]
 fn search_from<Q: KeyQuery, K: AsBytes + Drop, V: Drop, const P: usize>(
     store: &NodeStore<K, V, P>,

@@ -1,4 +1,4 @@
-//! Insertion: the point at which a key comes into a tree.
+//! Insertion: the point at which a key is inserted into a tree.
 ghost use Rattle.std.specs.Prelude.{◌≡◌, ◌↔◌, false, IsOk, IfOk, IfErr};
 ghost use Rattle.art_model.specs.Pairs.{is_conflict, of_key};
 ghost use Rattle.art_model.specs.Roots.{ForTree, IsCanonicalRoot};
@@ -26,7 +26,7 @@ mod overwrite;
 pub use art_reading::end_node::InsertKind;
 pub use beginning::plant;
 
-/// A key that can't be inserted: a stored key begins with it, or it begins with a stored key.
+/// A key that can't be inserted: an unequal stored key starts with it, or it starts with a stored key.
 #[derive(PartialEq, Eq, Debug, Drop, Error)]
 pub struct InsertPrefixError {
     /// The bytes of the key.
@@ -49,7 +49,7 @@ impl fmt::Display for InsertPrefixError {
     }
 }
 
-/// Bytes, which are displayed in decimal, parted by commas.
+/// Bytes, displayed in decimal and separated by commas.
 #[derive(Clone, Copy)]
 struct ListedBytes<'a>(&'a [u8]);
 
@@ -86,15 +86,15 @@ impl Clone for InsertPrefixError {
 /// Why there is no point for a key.
 #[derive(PartialEq, Eq, Debug, Drop, Error)]
 pub enum InsertSearchError {
-    /// An unequal stored key is related to the key.
+    /// An unequal stored key is a prefix of the key, or starts with it.
     #[error("{0}")]
     Prefix(InsertPrefixError),
-    /// The same, and there was no memory for the bytes of the key.
+    /// The same, and the allocation for the bytes of the key failed.
     #[error("{0}")]
     Memory(AllocError),
 }
 
-/// Where a key comes into a tree.
+/// Where a key is inserted into a tree.
 ///
 /// The place of a node is the bytes that lead to it from the root, prefixes and children's bytes. A
 /// key's end node is the node with the longest place that is a prefix of the key.
@@ -102,7 +102,7 @@ pub enum InsertSearchError {
 pub struct InsertPoint {
     /// The nodes right above the key's end node.
     pub path: TreePath,
-    /// The end node, and what is to be done there.
+    /// The end node, and what is done there.
     pub insert_kind: InsertKind,
     /// The length of the end node's place; for `IntoExisting` with the node's prefix added.
     pub key_bytes_used: usize,
@@ -110,8 +110,8 @@ pub struct InsertPoint {
     pub root: OpaqueNodePtr,
 }
 
-/// Where the leaf of a key comes in the place of all pairs with related keys, at least one of which is
-/// unequal: the key's end node gives way.
+/// Where the leaf of a key replaces all pairs with related keys (a key is related to its prefixes and to the keys that
+/// start with it), at least one of which is unequal: the key's end node is replaced.
 #[derive(Clone, Copy, PartialEq, Eq, Debug)]
 pub struct OverwritePoint {
     /// The nodes right above the key's end node.
@@ -125,7 +125,7 @@ pub struct OverwritePoint {
     pub root: OpaqueNodePtr,
 }
 
-/// Where a key comes into a tree in the place of all related keys.
+/// Where a key is inserted and replaces all related keys.
 #[derive(Clone, Copy, PartialEq, Eq, Debug)]
 pub enum PrefixInsertPoint {
     /// No stored key is related to the key, or only an equal one.
@@ -134,23 +134,23 @@ pub enum PrefixInsertPoint {
     OverwritePoint(OverwritePoint),
 }
 
-/// What a prefix insertion did.
+/// The result of a prefix insertion.
 #[derive(Debug, Drop)]
 pub struct PrefixInsertResult<K, V> {
-    /// The leaf of the key. `existing_leaf` has the pair that gave way, if it was the only one; where an equal key
-    /// was stored, the key that was handed in and the old value.
+    /// The leaf of the key. `existing_leaf` has the replaced pair, if there was only one; if an equal key was stored,
+    /// the key that was passed and the old value.
     pub insert_result: InsertResult<K, V>,
     /// How many leaves were freed: none where a leaf's pair was replaced.
     pub leafs_removed: usize,
 }
 
-/// What an insertion did.
+/// The result of an insertion.
 #[derive(Debug, Drop)]
 pub struct InsertResult<K, V> {
     /// The leaf of the key.
     pub leaf_node_ptr: LeafPtr,
-    /// If an equal key was stored, the key that was handed in and the old value, as a leaf with no siblings. After a
-    /// prefix insertion, the only pair that gave way, if it was one.
+    /// If an equal key was stored, the key that was passed and the old value, as a leaf with no siblings. After a
+    /// prefix insertion, the replaced pair, if there was only one.
     pub existing_leaf: Option<LeafNode<K, V>>,
     /// The root of the tree.
     pub new_root: OpaqueNodePtr,
@@ -161,29 +161,28 @@ pub struct InsertResult<K, V> {
 /// What an insertion made of the parent of its leaf.
 #[derive(Clone, Copy, PartialEq, Eq, Debug)]
 pub enum InsertParentNodeChange {
-    /// The parent has a child more, the leaf. It is a new node, or the one that was there where it
-    /// had room.
+    /// The parent has the leaf as a further child. It is a new node, or the old one if that had room.
     NewParent {
         new_parent_node: InnerPtr,
         /// The byte under which the parent has the leaf.
         leaf_node_key_byte: u8,
     },
-    /// A leaf was given another value or another pair, or came in the place of others.
+    /// A leaf got another value or another pair, or replaced others.
     NoChange,
 }
 
-/// A pair that was not inserted, for want of memory.
+/// A pair that was not inserted, because an allocation failed.
 #[derive(PartialEq, Eq, Debug, Drop)]
 pub struct Refused<K, V> {
     pub key: K,
     pub value: V,
 }
 
-/// Returns the point of a key in the tree of a canonical root. It is an error where an unequal stored key is related to
-/// the key: one of the two is a prefix of the other. The error has the key's bytes, or is for want of memory for them.
+/// Returns the point of a key in the tree of a canonical root. Fails if an unequal stored key conflicts with it: one of
+/// the two is a prefix of the other. The error has the key's bytes, or reports that the allocation for them failed.
 ///
-/// Nothing else takes memory. A prefix that is longer than what its node stores of it is read from a leaf, each such
-/// prefix from the same one.
+/// Nothing else allocates. A prefix that its node does not store whole is read from a leaf, each such prefix from the
+/// same one.
 #[inline(always)]
 pub fn search_for_insert_point<K: AsBytes + Drop, V: Drop, const PREFIX_LEN: usize>(
     store: &NodeStore<K, V, PREFIX_LEN>,
@@ -203,7 +202,7 @@ pub fn search_for_insert_point<K: AsBytes + Drop, V: Drop, const PREFIX_LEN: usi
 }
 
 /// Returns what `search_for_insert_point` does, and counts each reading of a node: at least the nodes whose place is a
-/// prefix of the key, these alone where each prefix is stored whole, and at most three for each level of the tree, the
+/// prefix of the key, only these if each prefix is stored whole, and at most three for each level of the tree, the
 /// leaves being one. A full counter stays full.
 #[inline(always)]
 pub fn search_for_insert_point_visiting<K: AsBytes + Drop, V: Drop, const PREFIX_LEN: usize>(
@@ -229,9 +228,9 @@ pub fn search_for_insert_point_visiting<K: AsBytes + Drop, V: Drop, const PREFIX
     }
 }
 
-/// Returns the point of a key that takes the place of all related keys, in the tree of a canonical root.
+/// Returns the point of a key that replaces all related keys, in the tree of a canonical root.
 ///
-/// It goes the way of `search_for_insert_point`, at the same cost, and takes no memory.
+/// It descends as `search_for_insert_point` does, at the same cost, and allocates nothing.
 #[inline(always)]
 pub fn search_for_prefix_insert_point<K: AsBytes + Drop, V: Drop, const PREFIX_LEN: usize>(
     store: &NodeStore<K, V, PREFIX_LEN>,
@@ -280,7 +279,7 @@ pub fn search_for_prefix_insert_point_visiting<K: AsBytes + Drop, V: Drop, const
     }
 }
 
-// The refusal of a key.
+// The error of a conflicting key.
 fn refusal(alloc: Global, key_bytes: &[u8]) -> InsertSearchError
     ensures { IsRefusedFor key_bytes.now result }
 {

@@ -1,4 +1,4 @@
-//! What changes a radix tree in a store.
+//! Operations that change a radix tree in a store.
 #![tactic(auto)]
 
 pub mod clone;

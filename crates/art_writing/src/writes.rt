@@ -1,5 +1,5 @@
-//! Writes that several operations make: a leaf comes between two others or goes, and a parent gets
-//! another child.
+//! Writes that several operations make: a leaf is linked between two others or unlinked, and a child of a parent is
+//! replaced.
 ghost use Rattle.std.specs.Prelude.{◌≡◌, ◌<◌, None, IsSome, IsSomeAnd};
 ghost use Rattle.std.specs.FinMap as map;
 ghost use Rattle.art_nodes.specs.Nodes.{take_leaf};
@@ -37,7 +37,7 @@ impl Direction {
     }
 }
 
-// Gives a leaf, where there is one, another leaf on one side.
+// Sets the neighbour of a leaf on one side, if there is a leaf.
 #[inline(always)]
 fn set_beside<K: AsBytes + Drop, V: Drop, const P: usize>(
     store: &mut NodeStore<K, V, P>,
@@ -63,7 +63,7 @@ fn set_beside<K: AsBytes + Drop, V: Drop, const P: usize>(
     store.set_links(leaf, previous, next);
 }
 
-/// Links two leaves, where there are both, or the one that there is with none.
+/// Links two leaves, or the only one of them with none.
 #[inline(always)]
 pub(crate) fn link<K: AsBytes + Drop, V: Drop, const P: usize>(
     store: &mut NodeStore<K, V, P>,
@@ -80,7 +80,7 @@ pub(crate) fn link<K: AsBytes + Drop, V: Drop, const P: usize>(
     set_beside(store, next, Direction::Before, previous);
 }
 
-/// Places a leaf of a pair, which is promised, between two others, and returns its name.
+/// Places a leaf of a pair, which the promise covers, between two others, and returns its name.
 #[inline(always)]
 pub(crate) fn place_between<K: AsBytes + Drop, V: Drop, const P: usize>(
     store: &mut NodeStore<K, V, P>,
@@ -112,7 +112,7 @@ pub(crate) fn place_between<K: AsBytes + Drop, V: Drop, const P: usize>(
     name
 }
 
-/// Takes a leaf from between the two that it names, and returns it alone.
+/// Removes a leaf from between its two neighbours, and returns it with no siblings.
 #[inline(always)]
 pub(crate) fn take_from_between<K: AsBytes + Drop, V: Drop, const P: usize>(
     store: &mut NodeStore<K, V, P>,
@@ -137,7 +137,7 @@ pub(crate) fn take_from_between<K: AsBytes + Drop, V: Drop, const P: usize>(
     LeafNode::with_no_siblings(leaf.key, leaf.value)
 }
 
-/// Puts a node in the place at the end of a path, and returns the root.
+/// Replaces the node at the end of a path, and returns the root.
 #[inline(always)]
 pub(crate) fn replace_at<K: AsBytes + Drop, V: Drop, const P: usize>(
     store: &mut NodeStore<K, V, P>,
@@ -160,7 +160,7 @@ pub(crate) fn replace_at<K: AsBytes + Drop, V: Drop, const P: usize>(
     }
 }
 
-/// The leaves beside a new one that comes right before the first leaf of a tree, or right after the last one.
+/// The neighbours of a new leaf right before the first leaf of a tree, or right after the last one.
 #[inline(always)]
 pub(crate) fn links_beside<K: AsBytes + Drop, V: Drop, const P: usize>(
     store: &NodeStore<K, V, P>,

@@ -6,7 +6,7 @@ use std::io;
 use std::io::{BufReader, BufWriter};
 use std::process::ExitCode;
 
-// The exit status where something can't be read or written, or an allocation fails.
+// The exit status if something can't be read or written, or an allocation fails.
 const FAILED: u8 = 1;
 
 fn main(rt: HostRuntime) -> ExitCode {

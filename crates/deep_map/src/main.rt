@@ -1,6 +1,5 @@
-//! Fills a map whose tree is as deep as the argument says, and tries what reads, copies and frees all of it.
-//! Prints a line for each, and ends with status 1 where one is not as it has to be. `tools/deep` runs it on a
-//! small stack.
+//! Fills a map whose tree is as deep as the argument says, and tries what reads, copies and frees all of it. Prints a
+//! line for each, and ends with status 1 if a result is wrong. `tools/deep` runs it on a small stack.
 #![tactic(auto)]
 
 use art_operations::map::ByteMap;
@@ -21,8 +20,7 @@ fn key_below(alloc: Global, level: usize) -> Result<Vec<u8>, AllocError> {
     Ok(key)
 }
 
-// Puts in a key at each level, so that there is an inner node for each but the last. Returns
-// whether the map has them.
+// Inserts a key at each level, so that there is an inner node for each but the last. Returns whether the map has them.
 fn is_filled(map: &mut Map, alloc: Global, levels: usize) -> bool {
     for level in 0..levels {
         let Ok(key) = key_below(alloc, level) else {
@@ -53,7 +51,7 @@ fn has_equal_clone(map: &Map) -> bool {
     }
 }
 
-// Puts a key in the place of all pairs but the last one.
+// Inserts a key that replaces all pairs but the last one.
 fn is_overwritten(map: &mut Map, alloc: Global, lowest: usize) -> bool {
     let Ok(key) = [1].to_vec(alloc) else {
         return false;
@@ -69,7 +67,7 @@ fn is_cleared(map: &mut Map) -> bool {
     map.is_empty()
 }
 
-// What was tried, and whether it was as it has to be.
+// What was tried, and whether its result was right.
 fn tries(alloc: Global, lowest: usize) -> [(&'static str, bool); 8] {
     let levels = lowest.saturating_add(1);
     let mut map = ByteMap::new(alloc);

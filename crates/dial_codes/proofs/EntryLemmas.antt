@@ -1,4 +1,4 @@
--- Where the code of a line ends, and entries as a map keeps them.
+-- Where the code of a line ends, and entries as a map stores them.
 use Rattle.std.proofs.Common.{◌≡◌, ◌≢◌, ◌≤◌, ℕ, Bool, true, false, not, cond, eqb, eq-eqb, ◌&&◌, ◌||◌, List, [], ◌∷◌, ◌++◌, length, map, filter, Option, Some, None, is_some, refl, ap, ap₂, sym, ◌∙◌, subst, arith, ◌⊎◌, inl, inr}
 use Rattle.std.specs.List.{AllByRecursion as Each, list_all, list_any}
 use Rattle.std.specs.List.Sorted.{IsPermutation}
@@ -49,7 +49,7 @@ ended_equal a b e = sym (ended_text a 0) ∙ ap without_last e ∙ ended_text b 
 both_true : (s t : Bool) → s ≡ true → t ≡ true → (s && t) ≡ true
 both_true s t h k = rw (h, k) refl
 
--- a stored name stands in the row of its code
+-- a stored name is in the row of its code
 pub name_is_stored : (code : List ℕ) (named : Named) (pairs : List (List ℕ × Named)) → Some named ≡ value_at ended (ended code) pairs → has_code_at named.line code (rows_of pairs) ≡ true
 name_is_stored code named [] h = absurd cc
 name_is_stored code named (x ∷ xs) h = go (are_same (ended code) (ended x.0)) refl h (name_is_stored code named xs)
@@ -63,7 +63,7 @@ name_is_stored code named (x ∷ xs) h = go (are_same (ended code) (ended x.0)) 
         or_left _ _ (both_true _ _ (subst (λ z. are_same code z ≡ true) (sym same) (front_same code)) (eq-eqb x.1.line named.line (ap (λ z. z.line) (sym is))))
     go false e h ih = or_right _ _ (ih h)
 
--- a value is found just where a key is stored
+-- a value is found exactly if a key is stored
 value_stored : (key : List ℕ) (pairs : List (List ℕ × Named)) → is_some (value_at ended key pairs) ≡ has_key (of_key ended) key pairs
 value_stored key [] = refl
 value_stored key (x ∷ xs) = go (are_same key (ended x.0)) (value_stored key xs)
@@ -103,7 +103,7 @@ none_stored new pairs h = go (first_of (with_key (of_key ended) (ended new.0) pa
     go None e = refl
     go (Some x) e = absurd (false≢true (sym e))
 
--- where no key is equal a pair comes to the others
+-- where no key is equal a pair is added to the others
 pair_comes : (key : List ℕ) (value : Named) (pairs : List (List ℕ × Named)) → has_key (of_key ended) (ended key) pairs ≡ false →
     IsPermutation ((key, value.name.items, value.line) ∷ rows_of pairs) (rows_of (put (of_key ended) (key, value) pairs))
 pair_comes key value pairs h =
@@ -155,7 +155,7 @@ pub entries_rise : (pairs : List (List ℕ × Named)) → RiseBy (slice_cmp nat_
 entries_rise [] h = tt
 entries_rise (x ∷ xs) h = (entries_after x xs h.0, entries_rise xs h.1)
 
--- what passes a test and stands in a list is among those that pass
+-- what passes a test and is in a list is among those that pass
 passes_in : {A : Type 0} (test : A → Bool) (x : A) (xs : List A) → IsIn x xs → test x ≡ true → IsIn x (filter test xs)
 passes_in test x [] h e = h
 passes_in test x (y ∷ xs) h e = go (test y) refl h (λ r. passes_in test x xs r e)
@@ -166,7 +166,7 @@ passes_in test x (y ∷ xs) h e = go (test y) refl h (λ r. passes_in test x xs 
     go false b (inl s) ih = absurd (false≢true (sym b ∙ ap test s ∙ e))
     go false b (inr r) ih = ih r
 
--- and what is among them passes, and stands in the list
+-- and what is among them passes, and is in the list
 in_passes : {A : Type 0} (test : A → Bool) (x : A) (xs : List A) → IsIn x (filter test xs) → IsIn x xs × (test x ≡ true)
 in_passes test x [] h = absurd h
 in_passes test x (y ∷ xs) h = go (test y) refl h (in_passes test x xs)

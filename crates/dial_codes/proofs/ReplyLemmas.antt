@@ -11,7 +11,7 @@ use Rattle.dial_codes.specs.Replies.{AreAnswered, HaveReplies, IsStoppedAt, repl
 pub no_replies : (entries : List (List ℕ × List ℕ)) (old : Option (List ℕ)) → HaveReplies entries [] old old
 no_replies entries old = record { numbers_are = tt; written = appends_none old }
 
--- the reply to one line more is appended, and stays where all is kept
+-- the reply to one more line is appended, and stays
 pub one_reply_more : (entries : List (List ℕ × List ℕ)) (number : ℕ) (line seen read : List ℕ) (old now new kept : Option (List ℕ)) → seen ≡ line → is_code seen ≡ true → read ≡ line →
     Appends now new (reply_of entries read) → Keeps new kept → (before : List (List ℕ)) → number ≡ length before + 1 → HaveReplies entries before old now →
     HaveReplies entries (before ++ line ∷ []) old kept
@@ -33,7 +33,7 @@ stopped_at entries number line seen old now e none before after n h = record {
   replies = h;
 }
 
--- what was answered stays so where what was written stays
+-- what was answered stays so while what was written stays
 pub still_answered : (entries : List (List ℕ × List ℕ)) (text : Option (List ℕ)) (refused : Option ℕ) (old now new : Option (List ℕ)) →
     IfSome text (λ bs. AreAnswered entries (lines bs) refused old now) → Keeps now new → IfSome text (λ bs. AreAnswered entries (lines bs) refused old new)
 still_answered entries None refused old now new answered keeps = tt

@@ -35,7 +35,7 @@ numbered-append n (x ∷ entries) e =
     let k : n + 1 + length entries ≡ n + length (x ∷ entries) = omega arith in
     ap (λ rows. (x.0, x.1, n) ∷ rows) (numbered-append (n + 1) entries e ∙ ap (λ m. numbered (n + 1) entries ++ (e.0, e.1, m) ∷ []) k)
 
--- with the entry of one line more
+-- with the entry of one more line
 pub one_entry_more : (rows others : List (List ℕ × List ℕ × ℕ)) (number : ℕ) (line seen : List ℕ) → seen ≡ line → HasLine seen number rows others →
     (before : List (List ℕ)) → number ≡ length before + 1 → IsFilledBy rows before → IsFilledBy others (before ++ line ∷ [])
 one_entry_more rows others number line seen e has before n h =
@@ -92,7 +92,7 @@ repeated_at code n entries h =
     let (before, earlier, after, are, is, same) = same_from code n 1 entries h in
     record { before = before; earlier = earlier; after = after; entries_are = are; number_is = is; same = same }
 
--- a fault beside the rows of a table is one after the lines that it was made of
+-- a fault next to the rows of a table is one after its lines
 fault_is : (line : List ℕ) (entries : List (List ℕ × List ℕ)) (rows : List (List ℕ × List ℕ × ℕ)) (fault : LineError) → IsPermutation (numbered 1 entries) rows →
     IsFaultBeside line rows fault → IsFaultOf line entries fault
 fault_is line entries rows NoEntry same h = h

@@ -25,7 +25,7 @@ entries_of pairs = map (λ x. (x.0, x.1.name.items)) pairs
 abbrev pub entry_of : Bor (List ℕ) × Bor (List ℕ) → List ℕ × List ℕ
 entry_of lent = (lent.0.now, lent.1.now)
 
--- the code of an entry is no longer than that of another one, which there is
+-- the code of an entry is no longer than that of another one, if there is one
 abbrev pub IsNoLonger : List ℕ × List ℕ → Option (List ℕ × List ℕ) → Type 0
 IsNoLonger entry None = ⊥
 IsNoLonger entry (Some other) = length (code_of entry) ≤ length (code_of other)

@@ -19,7 +19,7 @@ pub record HaveReplies (entries : List (List ℕ × List ℕ)) (numbers : List (
   pub numbers_are : Each (λ number. is_code number ≡ true) numbers
   pub written : Appends old new (flat_map (reply_of entries) numbers)
 
--- The lines before this one are numbers, and were answered, and it is none.
+-- The lines before this one are numbers, and were answered, and this one is no number.
 pub record IsStoppedAt (entries : List (List ℕ × List ℕ)) (ls : List (List ℕ)) (number : ℕ) (old new : Option (List ℕ)) : Type 0 where
   pub before : List (List ℕ)
   pub line : List ℕ

@@ -21,7 +21,7 @@ rows_of pairs = map (λ x. (x.0, x.1.name.items, x.1.line)) pairs
 abbrev pub has_code_at : ℕ → List ℕ → List (List ℕ × List ℕ × ℕ) → Bool
 has_code_at line code rows = list_any (λ row. are_same code row.0 && row.2 == line) rows
 
--- The line is that of an entry, which came to the others with the line's number.
+-- The line is that of an entry, which was added to the others with the line's number.
 pub record HasLine (line : List ℕ) (number : ℕ) (old new : List (List ℕ × List ℕ × ℕ)) : Type 0 where
   pub entry : List ℕ × List ℕ
   pub code : is_code (code_of entry) ≡ true

@@ -34,7 +34,7 @@ IsFaultOf line entries NoEntry = (code name : List ℕ) → is_code code ≡ tru
 IsFaultOf line entries (Repeated earlier) = (code name : List ℕ) × (line ≡ line_of (code, name)) × IsRepeatedAt code earlier entries
 IsFaultOf line entries NoMemory = ⊤
 
--- The lines before this one are those of entries, and it has this fault beside them.
+-- The lines before this one are those of entries, and it has this fault.
 pub record IsRefusedAt (ls : List (List ℕ)) (number : ℕ) (fault : LineError) : Type 0 where
   pub entries : List (List ℕ × List ℕ)
   pub before : List (List ℕ)
@@ -45,7 +45,7 @@ pub record IsRefusedAt (ls : List (List ℕ)) (number : ℕ) (fault : LineError)
   pub number_is : number ≡ length before + 1
   pub is : IsFaultOf line entries fault
 
--- a line is at fault, or the input can't be read
+-- a line has a fault, or the input can't be read
 abbrev pub IsRefusedFor : List (List ℕ) → TableError → Type 0
 IsRefusedFor ls (Line number fault) = IsRefusedAt ls number fault
 IsRefusedFor ls (Input error) = ⊤

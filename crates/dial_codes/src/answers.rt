@@ -1,4 +1,4 @@
-//! Numbers are answered with the entries with the longest codes that they begin with.
+//! Answers numbers with the entries with the longest codes that they start with.
 ghost use Rattle.std.specs.Prelude.{◌≡◌, [], IfOk, IfSome, OnOk, Some};
 ghost use Rattle.std.specs.Io.Buffered.{reader_remaining, writer_buffer, writer_contents};
 ghost use Rattle.std.specs.Io.KnownBytes.{Appends};
@@ -13,12 +13,11 @@ use std::io;
 use std::io::{BufReader, BufWriter, ErrorKind, Read, Write};
 use text_lines::lines::{next_line, write_out};
 
-/// Answers each line of the input, which is a number, with the entry with the longest code
-/// that it begins with, or with `none`. Where
-/// a line is no number it stops there, and returns which line that is.
+/// Answers each line of the input, which is a number, with the entry with the longest code that it starts with, or with
+/// `none`. At a line that is no number it stops, and returns which line that is.
 ///
-/// Replies are written out before it waits for a line. While the next line has come already they gather in the
-/// output, which has a buffer for that.
+/// Replies are written out before it waits for a line. While the next line is already available they are collected in
+/// the output, which has a buffer for that.
 pub fn answer_numbers<R: Read, W: Write>(
     alloc: Global,
     table: &Table,
@@ -60,7 +59,7 @@ pub fn serve<R: Read, W: Write + Drop>(
     Ok(refused)
 }
 
-// Writes the entry with the longest code that the number begins with, or `none`, a line.
+// Writes the entry with the longest code that the number starts with, or `none`, as a line.
 fn answer_number<W: Write>(table: &Table, number: &[u8], output: &mut W) -> io::Result<()>
     ensures { OnOk result (Appends (W.contents output.old) (W.contents output.new)
         (reply_of (entries_of table.now) number.now)) }
@@ -71,7 +70,7 @@ fn answer_number<W: Write>(table: &Table, number: &[u8], output: &mut W) -> io::
     }
 }
 
-// Writes a code and its name, a line.
+// Writes a code and its name, as a line.
 fn write_entry<W: Write>(output: &mut W, code: &[u8], name: &[u8]) -> io::Result<()>
     ensures { OnOk result (Appends (W.contents output.old) (W.contents output.new)
         (reply_with (Some (code.now, name.now)))) }

@@ -6,7 +6,7 @@ ghost use Rattle.dial_codes.specs.Entries.{is_code, line_of};
 
 use text_lines::words::split_word;
 
-/// Whether these are one digit or more.
+/// Returns whether these are one digit or more.
 pub fn is_code(bytes: &[u8]) -> bool
     ensures { result ≡ is_code bytes.now }
 {
@@ -19,7 +19,7 @@ fn are_digits(bytes: &[u8]) -> bool
     bytes.iter().all(|byte| byte.is_ascii_digit())
 }
 
-/// The code and the name of a line: one digit or more, a space, and the name.
+/// Returns the code and the name of a line: one digit or more, a space, and the name.
 pub fn parse_entry(line: &[u8]) -> Option<(&[u8], &[u8])>
     ensures entry { IfSome result (λ entry. line.now ≡ line_of (entry.0.now, entry.1.now)) }
     ensures code { IfSome result (λ entry. is_code entry.0.now ≡ true) }

@@ -1,4 +1,4 @@
-//! A table of codes with names, and the longest code that a number begins with.
+//! A table of codes with names, and the longest code that a number starts with.
 #![tactic(auto)]
 
 pub mod answers;

@@ -100,7 +100,7 @@ pub fn add_line(table: &mut Table, alloc: Global, line: &[u8], number: u64) -> R
     }
 }
 
-/// Returns the entry with the longest code that the number begins with.
+/// Returns the entry with the longest code that the number starts with.
 pub fn find<'a>(table: &'a Table, number: &[u8]) -> Option<(&'a [u8], &'a [u8])>
     ensures found { IfSome result (λ entry.
         IsIn (entry.0.now, entry.1.now) (entries_of table.now) × IsFront entry.0.now number.now) }

@@ -1,4 +1,4 @@
-//! Finds for each number on standard input the longest code that it begins with, in a table that a file has.
+//! Finds for each number on standard input the longest code that it starts with, in a table that a file has.
 #![tactic(auto)]
 
 use dial_codes::answers::serve;
@@ -8,19 +8,19 @@ use std::process::ExitCode;
 use std::rt::{Env, Files};
 use std::{env, fs, io};
 
-// What is printed for `--help`, and where no table is named.
+// What is printed for `--help`, and if no table is named.
 const USAGE: &str = "usage: dial_plan TABLE";
 
-// What stands in the table and in the input.
+// What is in the table and in the input.
 const LINES: &str =
     "TABLE has lines of a code, a space and a name, as '44 United Kingdom'. For each number, a line of
 standard input, it prints the line with the longest code that the number begins with, or
 'none'.";
 
-// The exit status where a line of the table or of the input is refused, or no table is named.
+// The exit status if a line of the table or of the input is invalid, or no table is named.
 const REFUSED: u8 = 2;
 
-// The exit status where something can't be read or written, or there is no memory.
+// The exit status if something can't be read or written, or an allocation fails.
 const FAILED: u8 = 1;
 
 // The first argument.
@@ -52,7 +52,7 @@ fn read_file(rt: &(impl Files + AllocGlobal), path: &str) -> Result<Table, Table
     }
 }
 
-// Answers the numbers of standard input, and says which line is none.
+// Answers the numbers of standard input, and reports which line is none.
 fn answer(rt: &(impl Input + Print + AllocGlobal), table: &Table) -> io::Result<Option<u64>> {
     let alloc = rt.alloc();
     let mut input = BufReader::new(alloc, rt.reader())?;

@@ -40,7 +40,7 @@ number_after-bits (suc count) number small =
 pub bits_apart : (count a b : ℕ) → a < 2 ^ count → b < 2 ^ count → bits count a ≡ bits count b → a ≡ b
 bits_apart count a b small other e = sym (number_after-bits count a small) ∙ ap (number_after 0) e ∙ number_after-bits count b other
 
--- the bits of a number begin with those of the number without its last bits
+-- the bits of a number start with those of the number without its last bits
 pub bits_front : (count more number : ℕ) → (tail : List ℕ) × (bits (count + more) number ≡ bits count (number / 2 ^ more) ++ tail)
 bits_front count zero number =
     let none : count + 0 ≡ count = omega arith in

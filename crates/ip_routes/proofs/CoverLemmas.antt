@@ -1,4 +1,4 @@
--- The routes that cover an address are those whose strings begin the address's.
+-- The routes that cover an address are those whose strings are prefixes of the address's.
 use Rattle.std.proofs.Common.{◌≡◌, ℕ, suc, ◌+◌, ◌-◌, ◌*◌, ◌/◌, ◌^◌, ◌<◌, ◌≤◌, Bool, true, false, if◌then◌else◌, ◌&&◌, eqb, eq-eqb, eqb-true, List, [], ◌∷◌, ◌++◌, length, filter, map, Option, Some, None, refl, ap, ap₂, sym, ◌∙◌, subst, arith, ◌⊎◌, inl, inr}
 use Rattle.std.specs.List.{AllByRecursion as Each}
 use Rattle.std.specs.Ordering.{is_lt, nat_cmp}
@@ -32,7 +32,7 @@ same_tests false false h k = refl
 both_true : (s t : Bool) → s ≡ true → t ≡ true → (s && t) ≡ true
 both_true s t h k = rw (h, k) refl
 
--- a list that begins another, and is as long as the first part of it, is this part
+-- a prefix of a list that is as long as its first part is this part
 front_whole : (xs ys tail : List ℕ) → length xs ≡ length ys → is_front xs (ys ++ tail) ≡ true → xs ≡ ys
 front_whole [] [] tail e h = refl
 front_whole [] (y ∷ ys) tail e h = absurd (omega arith)
@@ -41,7 +41,7 @@ front_whole (x ∷ xs) (y ∷ ys) tail e h =
     let parts = and_parts (eqb x y) (is_front xs (ys ++ tail)) h in
     ap₂ (λ z zs. z ∷ zs) (eqb-true x y parts.0) (front_whole xs ys tail (omega arith) parts.1)
 
--- the bits of the prefix of a network begin those of a number where they are its first bits
+-- the bits of the prefix of a network are the first ones of a number where they are its first bits
 module _ (length more a b : ℕ) (small : a < 2 ^ length) (fits : b < 2 ^ (length + more)) where
   bits_begin : is_front (bits length a) (bits (length + more) b) ≡ true → a ≡ b / 2 ^ more
   bits_begin h =
@@ -87,7 +87,7 @@ module _ (n : Network) (a : IpAddr) (is : IsNetwork n) (fits : number_of a < 2 ^
       ∙ begin_bits n.length (host_bits n) (n.number / 2 ^ host_bits n) (number_of a) (prefix_fits n is) (of_version v)
       (ap (λ m. m / 2 ^ host_bits n) number ∙ shl-shr (number_of a / 2 ^ host_bits n) (host_bits n)))
 
--- a string begins that of an address where its network covers it
+-- a string is a prefix of that of an address where its network covers it
 pub front_covers : (string : List ℕ) (a : IpAddr) → IsString string → number_of a < 2 ^ width (version_of a) → is_front string (query_of a) ≡ covers (network_of string) a
 front_covers string a s fits =
     same_tests _ _ (λ h. begins (network_of string) a s.network_is fits (ap (λ t. is_front t (query_of a)) (sym s.is) ∙ h))
@@ -96,7 +96,7 @@ front_covers string a s fits =
 string_length : (string : List ℕ) → IsString string → length string ≡ (network_of string).length + 1
 string_length string s = ap length s.is ∙ (let many = length-bits (network_of string).length ((network_of string).number / 2 ^ host_bits (network_of string)) in omega arith)
 
--- ---- the last of the pairs whose strings begin that of an address
+-- ---- the last of the pairs whose strings are prefixes of that of an address
 
 no_last : {A : Type 0} (xs : List A) → last_of xs ≡ None → xs ≡ []
 no_last [] h = refl
@@ -116,7 +116,7 @@ module _ (pairs : List (List ℕ × Source)) (a : IpAddr) (strings : HaveStrings
   abbrev Found : List (List ℕ × Source)
   Found = strings_in_front (λ text. text) (query_of a) pairs
 
-  -- the length of a route is told by its string
+  -- the length of a route is determined by its string
   as_length : (x y : List ℕ × Source) → IsString x.0 → IsString y.0 → length x.0 ≤ length y.0 → (network_of x.0).length ≤ (network_of y.0).length
   as_length x y s t h = let i = string_length x.0 s in let j = string_length y.0 t in omega arith
 
@@ -126,7 +126,7 @@ module _ (pairs : List (List ℕ × Source)) (a : IpAddr) (strings : HaveStrings
       (each_from _ pairs (λ x there. sym (front_covers x.0 a (each_in (λ y. IsString y.0) x pairs strings there) fits)
       ∙ each_in (λ y. is_front y.0 (query_of a) ≡ false) x pairs (none_passes (λ y. is_front y.0 (query_of a)) pairs (no_last Found none)) there))
 
-  -- whether a string begins that of the address
+  -- whether a string is a prefix of that of the address
   abbrev Begins : List ℕ × Source → Bool
   Begins x = is_front x.0 (query_of a)
 
@@ -151,13 +151,13 @@ module _ (pairs : List (List ℕ × Source)) (a : IpAddr) (strings : HaveStrings
         refl,
       )
 
--- the last of the strings that begin another is the longest of them
+-- the last of the strings that are prefixes of another is the longest of them
 abbrev pub LastIsLongest : Type 0
 LastIsLongest =
     (xs : List (List ℕ × Source)) (query : List ℕ) (last : List ℕ × Source) → Pairwise (λ x y. is_before x.0 y.0 ≡ true) xs → last_of (strings_in_front (λ text. text) query xs) ≡ Some last →
     Each (λ x. length x.0 ≤ length last.0) (strings_in_front (λ text. text) query xs)
 
--- strings that rise in their order come one before another
+-- strings that rise in their order are one before another
 strings_rise : (pairs : List (List ℕ × Source)) → RiseBy (slice_cmp nat_cmp) pairs → Pairwise (λ x y. is_before x.0 y.0 ≡ true) pairs
 strings_rise [] h = tt
 strings_rise (x ∷ xs) h = (Each-weaker _ (λ y. is_before x.0 y.0 ≡ true) (λ y e. ap is_lt e) xs h.0, strings_rise xs h.1)

@@ -1,4 +1,4 @@
--- Networks and the addresses at both of their ends, and beside these.
+-- Networks and the addresses at both of their ends, and next to these.
 use Rattle.std.proofs.Common.{◌≡◌, ℕ, true, false, List, [], ◌∷◌, refl}
 use Rattle.std.specs.Net.Addr.{ipv4_bits}
 use Rattle.std.specs.declared.net.ip_addr.IpAddr.{IpAddr}

@@ -52,7 +52,7 @@ module _ {A : Type 0} where
   in_permutation x xs ys same there =
       each_in (λ y. IsIn y ys) x xs (Each-permutation (λ y. IsIn y ys) ys xs (IsPermutation-sym xs ys same) (each_from (λ y. IsIn y ys) ys (λ y i. i))) there
 
-  -- a relation of each element to all later ones, with one element more at the end
+  -- a relation of each element to all later ones, with one more element at the end
   pub Pairwise-push : (R : A → A → Type 0) (xs : List A) (y : A) → Pairwise R xs → Each (λ x. R x y) xs → Pairwise R (xs ++ y ∷ [])
   Pairwise-push R [] y h k = (tt, tt)
   Pairwise-push R (x ∷ xs) y h k = (pushed xs h.0, Pairwise-push R xs y h.1 k.1)

@@ -13,7 +13,7 @@ use Rattle.ip_routes.specs.Routes.{IsAnswer, Route}
 pub no_replies : (routes : List Route) (old : Option (List ℕ)) → HaveReplies routes [] old old
 no_replies routes old = record { answers = []; lines_are = refl; written = appends_none old }
 
--- the reply to one line more is appended, and stays where all is kept
+-- the reply to one more line is appended, and stays
 pub one_reply_more : (routes : List Route) (number : ℕ) (line seen : List ℕ) (address : IpAddr) (found : Option (List ℕ)) (old now new kept : Option (List ℕ)) → seen ≡ line →
     IsIpText seen address → IsAnswer routes address found → Appends now new (reply_with found) → Keeps new kept →
     (before : List (List ℕ)) → number ≡ length before + 1 → HaveReplies routes before old now → HaveReplies routes (before ++ line ∷ []) old kept
@@ -42,7 +42,7 @@ stopped_at routes number line seen old now e none before after n h = record {
 replies_kept : (routes : List Route) (ls : List (List ℕ)) (old now new : Option (List ℕ)) → HaveReplies routes ls old now → Keeps now new → HaveReplies routes ls old new
 replies_kept routes ls old now new h keeps = record { answers = h.answers; lines_are = h.lines_are; written = appends_kept old now new _ h.written keeps }
 
--- what was answered stays so where what was written stays
+-- what was answered stays so while what was written stays
 pub still_answered : (routes : List Route) (text : Option (List ℕ)) (refused : Option ℕ) (old now new : Option (List ℕ)) → IfSome text (λ bs. AreAnswered routes (lines bs) refused old now) →
     Keeps now new → IfSome text (λ bs. AreAnswered routes (lines bs) refused old new)
 still_answered routes None refused old now new answered keeps = tt

@@ -16,7 +16,7 @@ pub prefix_fits : (network : Network) → IsNetwork network → network.number /
 prefix_fits network is =
     shr_below network.number network.length (host_bits network) (subst (λ w. network.number < 2 ^ w) (whole_width (width network.version) network.length is.length_fits) is.number_fits)
 
--- a network comes back from its string
+-- a network is recovered from its string
 pub network_comes_back : (network : Network) → IsNetwork network → network_of (string_of network) ≡ network
 network_comes_back network is = back (bits network.length (network.number / 2 ^ host_bits network)) (length-bits network.length _)
     (number_after-bits network.length (network.number / 2 ^ host_bits network) (prefix_fits network is))

@@ -28,7 +28,7 @@ use Rattle.ip_routes.specs.Written.{IsNetwork, IsWritten}
 
 -- ---- pairs in the order of their keys
 
--- an element that comes to its place
+-- an element that is inserted at its place
 added : {A : Type 0} (bytes : A → List ℕ) (new : A) (xs : List A) → IsPermutation (new ∷ xs) (add_in_order bytes new xs)
 added bytes new [] = IsPermutation-refl (new ∷ [])
 added bytes new (x ∷ xs) = go (is_before (bytes new) (bytes x)) (added bytes new xs)
@@ -62,7 +62,7 @@ module _ (key : List ℕ) (pairs : List (List ℕ × Source)) where
       (λ x off same. false≢true (sym off ∙ ap (λ t. are_same (ended key) (ended t)) same ∙ front_same (ended key))) pairs
       (none_passes HasKey pairs (first_none (with_key (of_key ended) (ended key) pairs) (no_pair Stored none)))
 
-  -- and the pair comes to the others
+  -- and the pair is added to the others
   pub pair_comes : (source : Source) → None ≡ value_at ended (ended key) pairs → put (of_key ended) (key, source) pairs ≡ add_in_order (of_key ended) (key, source) pairs
   pair_comes source none =
       put-new (of_key ended) (key, source) pairs (no_pair Stored none)
@@ -78,7 +78,7 @@ module _ (key : List ℕ) (pairs : List (List ℕ × Source)) where
       let same = filtered_passes HasKey x pairs found in
       (x, in_filter HasKey x pairs found, append_cancel_right x.0 key (0 ∷ []) (same_equal (ended key) (ended x.0) same), is)
 
--- ---- a line more
+-- ---- a further line
 
 module _ (line : List ℕ) (number : ℕ) (network : Network) (key : List ℕ) (source : Source) (pairs : List (List ℕ × Source)) (strings : HaveStrings pairs)
     (written : IsWritten line network) (is : IsNetwork network) (key_is : key ≡ string_of network) (back : network_of (string_of network) ≡ network) where
@@ -145,7 +145,7 @@ lines_more n (l ∷ ls) (r ∷ rs) line route h k =
     let next : n + length (l ∷ ls) ≡ n + 1 + length ls = omega arith in
     (h.0, lines_more (n + 1) ls rs line route h.1 (subst (λ m. IsRouteOf line m route) next k))
 
--- with the route of one line more
+-- with the route of one more line
 pub one_route_more : (table next : List Route) (number : ℕ) (line seen : List ℕ) → seen ≡ line → Adds seen number table next →
     (before : List (List ℕ)) → number ≡ length before + 1 → IsFilledBy table before → IsFilledBy next (before ++ line ∷ [])
 one_route_more table next number line seen e adds before n h =
@@ -160,7 +160,7 @@ one_route_more table next number line seen e adds before n h =
       same = IsPermutation-push_more h.routes table next adds.route h.same adds.came;
     }
 
--- a fault beside the routes of a table is one beside those of the lines
+-- a fault next to the routes of a table is one next to those of the lines
 fault_is : (line : List ℕ) (routes table : List Route) (fault : LineError) → IsPermutation routes table → IsFaultBeside line table fault → IsFaultBeside line routes fault
 fault_is line routes table (Why.Route error) same h = h
 fault_is line routes table (Why.Twice n) same h = record {

@@ -22,7 +22,7 @@ module _ (byte : ℕ) where
   has_it [] b lacks = All-head (λ c. c ≢ byte) byte b lacks refl
   has_it (x ∷ a) b lacks = has_it a b (All-tail (λ c. c ≢ byte) x (a ++ byte ∷ b) lacks)
 
-  -- what stands before the first such byte, and after it
+  -- what is before the first such byte, and after it
   pub same_parts : (a b c d : List ℕ) → Lacks a → Lacks c → a ++ byte ∷ b ≡ c ++ byte ∷ d → (a ≡ c) × (b ≡ d)
   same_parts [] b [] d ha hc e = (refl, cc)
   same_parts [] b (x ∷ c) d ha hc e = absurd (All-head (λ z. z ≢ byte) x c hc (cc))
@@ -103,14 +103,14 @@ module _ (line : List ℕ) (a : IpAddr) (n : ℕ) (w : IsWrittenAt line a n) whe
   pub has_space : Lacks 32 line → ⊥
   has_space lacks = has_it 32 (w.text ++ 47 ∷ w.digits) w.name (subst (Lacks 32) line_parts lacks)
 
-  -- what stands before the first space
+  -- what is before the first space
   pub route_is : (route name : List ℕ) → line ≡ route ++ 32 ∷ name → Lacks 32 route → route ≡ w.text ++ 47 ∷ w.digits
   route_is route name is lacks = (same_parts 32 route name (w.text ++ 47 ∷ w.digits) w.name lacks route_lacks (sym is ∙ line_parts)).0
 
   pub has_slash : (route name : List ℕ) → line ≡ route ++ 32 ∷ name → Lacks 32 route → Lacks 47 route → ⊥
   has_slash route name is lacks none = has_it 47 w.text w.digits (subst (Lacks 47) (route_is route name is lacks) none)
 
-  -- and what stands before the first slash there, and after it
+  -- and what is before the first slash there, and after it
   pub parts_are : (route name address digits : List ℕ) → line ≡ route ++ 32 ∷ name → Lacks 32 route → route ≡ address ++ 47 ∷ digits → Lacks 47 address →
       (address ≡ w.text) × (digits ≡ w.digits)
   parts_are route name address digits is lacks parts none =
@@ -121,7 +121,7 @@ module _ (line : List ℕ) (a : IpAddr) (n : ℕ) (w : IsWrittenAt line a n) whe
 cut_more : (n d m : ℕ) → min (min (min n m * 10) m + d) m ≡ min (n * 10 + d) m
 cut_more n d m = omega arith
 
--- one digit more
+-- a further digit
 pub length_more : (ds : List ℕ) (i j cut tens next byte digit : ℕ) → i < length ds → AllDigits 10 (take i ds) → cut ≡ min (digits_value 10 (take i ds)) (2 ^ 32 - 1) →
     byte ≡ get_or ds i 0 → (digit_value byte < 10) × (digit ≡ digit_value byte) → tens ≡ min (cut * 10) (2 ^ 32 - 1) → next ≡ min (tens + digit) (2 ^ 32 - 1) →
     AllDigits 10 (take (i + 1) ds) × (next ≡ min (digits_value 10 (take (i + 1) ds)) (2 ^ 32 - 1))

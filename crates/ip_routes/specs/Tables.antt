@@ -27,7 +27,7 @@ AreLinesFrom number (line ∷ ls) [] = ⊥
 AreLinesFrom number (line ∷ ls) (route ∷ routes) =
     IsRouteOf line number route × AreLinesFrom (number + 1) ls routes
 
--- The lines are those of these routes, and no network comes twice.
+-- The lines are those of these routes, and no network occurs twice.
 pub record AreLinesOf (ls : List (List ℕ)) (routes : List Route) : Type 0 where
   pub are : AreLinesFrom 1 ls routes
   pub apart : Pairwise (λ a b. a.network ≢ b.network) routes
@@ -38,7 +38,7 @@ pub record IsTableOf (ls : List (List ℕ)) (table : List Route) : Type 0 where
   pub lines_are : AreLinesOf ls routes
   pub same : IsPermutation routes table
 
--- The line of this number is that of a route, which came to the others, and its network is new.
+-- The line of this number is that of a route, which was added to the others, and its network is new.
 pub record Adds (line : List ℕ) (number : ℕ) (old new : List Route) : Type 0 where
   pub route : Route
   pub is : IsRouteOf line number route
@@ -61,7 +61,7 @@ IsFaultBeside line routes (Why.Route error) = IsFaultOf line error
 IsFaultBeside line routes (Why.Twice earlier) = IsTwice line earlier routes
 IsFaultBeside line routes Why.NoMemory = ⊤
 
--- The lines before this one are those of routes, and it has this fault beside them.
+-- The lines before this one are those of routes, and it has this fault.
 pub record IsRefusedAt (ls : List (List ℕ)) (number : ℕ) (fault : LineError) : Type 0 where
   pub routes : List Route
   pub before : List (List ℕ)
@@ -72,7 +72,7 @@ pub record IsRefusedAt (ls : List (List ℕ)) (number : ℕ) (fault : LineError)
   pub number_is : number ≡ length before + 1
   pub is : IsFaultBeside line routes fault
 
--- a line is at fault, or the input can't be read
+-- a line has a fault, or the input can't be read
 abbrev pub IsRefusedFor : List (List ℕ) → TableError → Type 0
 IsRefusedFor ls (Line number fault) = IsRefusedAt ls number fault
 IsRefusedFor ls (Input error) = ⊤

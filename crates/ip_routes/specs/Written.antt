@@ -11,7 +11,7 @@ use Rattle.ip_routes.specs.Addresses.{cleared, host_bits, number_of, version_of,
 abbrev pub LeadsWithZero : List ℕ → Type 0
 LeadsWithZero digits = (1 < length digits) × (slice_index digits 0 ≡ 48)
 
--- decimal digits that write this number, which no zero leads
+-- decimal digits that write this number, without a leading zero
 abbrev pub IsLength : List ℕ → ℕ → Type 0
 IsLength digits number = IsNumber 10 digits number × ¬ LeadsWithZero digits
 

@@ -1,4 +1,4 @@
-//! Addresses are answered with the longest routes that cover them.
+//! Answers addresses with the longest routes that cover them.
 ghost use Rattle.std.specs.Prelude.{◌≡◌, [], IfOk, IfSome, OnOk};
 ghost use Rattle.std.specs.Io.Buffered.{reader_remaining, writer_buffer, writer_contents};
 ghost use Rattle.std.specs.Io.KnownBytes.{Appends};
@@ -14,10 +14,10 @@ use std::net::IpAddr;
 use text_lines::lines::{next_line, write_out};
 
 /// Answers each line of the input, which is an address, with the line of the longest route that covers it, or with
-/// `none`. Where a line is no address it stops there, and returns which line that is.
+/// `none`. At a line that is no address it stops, and returns which line that is.
 ///
-/// Replies are written out before it waits for a line. While the next line has come already they gather in the
-/// output, which has a buffer for that.
+/// Replies are written out before it waits for a line. While the next line is already available they are collected in
+/// the output, which has a buffer for that.
 pub fn answer_addresses<R: Read, W: Write>(
     alloc: Global,
     table: &Table,

@@ -45,7 +45,7 @@ pub fn parse_route(line: &[u8]) -> Result<Network, RouteError>
     })
 }
 
-// Returns the address and the length of a line, of which a great length may be cut.
+// Returns the address and the length of a line. A great length may be cut.
 fn read_route(line: &[u8]) -> Option<(IpAddr, u32)>
     ensures written { IfSome result (λ read. (length : ℕ) ×
         IsWrittenAt line.now read.0 length × (read.1 ≡ min length (2 ^ 32 - 1))) }
@@ -61,7 +61,7 @@ fn read_route(line: &[u8]) -> Option<(IpAddr, u32)>
     Some((address, length))
 }
 
-// Returns the number that decimal digits write, of which a great one is cut. No zero leads it.
+// Returns the number that decimal digits write. A great one is cut. No zero leads it.
 fn read_length(digits: &[u8]) -> Option<u32>
     ensures number { IfSome result (λ cut. (length : ℕ) × IsLength digits.now length ×
         (cut ≡ min length (2 ^ 32 - 1))) }
@@ -78,7 +78,7 @@ fn read_length(digits: &[u8]) -> Option<u32>
     Some(length)
 }
 
-// Returns whether a zero stands before other digits.
+// Returns whether a zero is before other digits.
 fn leads_with_zero(digits: &[u8]) -> bool
     ensures yes { OnTrue result (LeadsWithZero digits.now) }
     ensures no { OnFalse result (¬ LeadsWithZero digits.now) }
@@ -86,7 +86,7 @@ fn leads_with_zero(digits: &[u8]) -> bool
     digits.len() > 1 && digits[0] == b'0'
 }
 
-// Returns what stands before the first such byte, and what stands after it; `None` where there is none.
+// Returns what is before the first such byte, and what is after it; `None` if there is none.
 fn split_at(bytes: &[u8], byte: u8) -> Option<(&[u8], &[u8])>
     ensures parts { IfSome result (λ parts. bytes.now ≡ parts.0.now ++ byte ∷ parts.1.now) }
     ensures first { IfSome result (λ parts. All (λ c. c ≢ byte) parts.0.now) }

@@ -47,10 +47,10 @@ pub enum TableError {
     Input(io::Error),
 }
 
-/// Routes, of which no two have the same network. A contract sees the list of them.
+/// Routes, of which no two have the same network. Contracts see the list of them.
 ///
 /// The key of a route is its version and the bits of its prefix, so that the routes that cover an address are those
-/// whose keys begin that of the address.
+/// whose keys are prefixes of the address's.
 #[derive(Drop)]
 pub struct Table {
     map: TreeMap<Terminated, Source, 16>,
@@ -69,7 +69,7 @@ impl Model for Table {
 }
 
 impl Table {
-    /// Returns a table without a route, and takes no memory.
+    /// Returns a table without a route, without an allocation.
     pub fn new(alloc: Global) -> Self
         ensures { result ≡ [] }
     {
@@ -103,7 +103,7 @@ impl Table {
         Ok(())
     }
 
-    /// Returns the line of the longest route that covers an address, or `None` where none does. It takes no memory.
+    /// Returns the line of the longest route that covers an address, or `None` if none does. It allocates nothing.
     pub fn find(&self, address: &IpAddr) -> Option<&[u8]>
         ensures { IsAnswer self.now address.now (option_map (λ line. line.now) result) }
     {
@@ -131,7 +131,7 @@ fn key_of(alloc: Global, network: Network) -> Result<Terminated, AllocError>
     }
 }
 
-/// Reads a table to its end: a line for each route, and none twice.
+/// Reads a table to its end: a line for each route, and no two of a network.
 pub fn read_table<R: BufRead>(alloc: Global, input: &mut R) -> Result<Table, TableError>
     ensures table { IfOk result (λ table. IfSome (R.remaining input.old) (λ text.
         IsTableOf (lines text) table)) }

@@ -8,7 +8,7 @@ use std::process::ExitCode;
 use std::rt::{Env, Files};
 use std::{env, fs, io};
 
-// What is printed for `--help`, and where no file is named.
+// What is printed for `--help`, and if no file is named.
 const USAGE: &str = "usage: path_index FILE";
 
 // What lines may ask for.
@@ -19,10 +19,10 @@ const REQUESTS: &str = "FILE has paths, a line each. Lines of standard input ask
   between A B     the paths from A up to but without B; A has no space
   first, last     the first, the last path in the order of bytes";
 
-// The exit status where a line of the file or of the input is refused, or no file is named.
+// The exit status if a line of the file or of the input is invalid, or no file is named.
 const REFUSED: u8 = 2;
 
-// The exit status where something can't be read or written, or there is no memory.
+// The exit status if something can't be read or written, or an allocation fails.
 const FAILED: u8 = 1;
 
 // The first argument.
@@ -54,7 +54,7 @@ fn read_file(rt: &(impl Files + AllocGlobal), path: &str) -> Result<Index, Index
     }
 }
 
-// Answers the lines of standard input, and returns which asks for nothing.
+// Answers the lines of standard input, and returns which is no valid request.
 fn answer(rt: &(impl Input + Print + AllocGlobal), index: &Index) -> io::Result<Option<u64>> {
     let alloc = rt.alloc();
     let mut input = BufReader::new(alloc, rt.reader())?;

@@ -28,7 +28,7 @@ stored_more path (l ∷ ls) line = go (are_same path l) (stored_more path ls lin
     go true ih = refl
     go false ih = ih
 
--- with the path of one line more
+-- with the path of one more line
 pub one_path_more : (paths others : List (List ℕ)) (line seen : List ℕ) (number : ℕ) → seen ≡ line → AddsPath seen paths others → HasNoZero seen →
     (before : List (List ℕ)) → number ≡ length before + 1 → ArePathsOf paths before → ArePathsOf others (before ++ line ∷ [])
 one_path_more paths others line seen number e adds plain before n h = record {

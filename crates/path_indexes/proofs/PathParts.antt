@@ -22,13 +22,13 @@ use Rattle.art_operations.specs.Parts as part
 use Rattle.std.specs.declared.ops.Bound.TheVariants.{Included, Excluded}
 use Rattle.path_indexes.specs.Paths.{AddsPath, below, between, is_stored}
 
--- a string without a zero begins what is ended where it begins what stands before the end
+-- a string without a zero is a prefix of an ended one exactly if it is one of what is before the end
 ended_begins : (text other : List ℕ) → HasNoZero text → is_front text (ended other) ≡ is_front text other
 ended_begins [] other h = refl
 ended_begins (x ∷ text) [] h = rw (ne_eqb x 0 h.0) refl
 ended_begins (x ∷ text) (y ∷ other) h = ap (λ b. eqb x y && b) (ended_begins text other h.1)
 
--- what is ended comes before a string without a zero where what stands before the end does
+-- an ended string is before a string without a zero exactly if what is before the end is
 before_ended : (text other : List ℕ) → HasNoZero other → is_before (ended text) other ≡ is_before text other
 before_ended [] [] h = refl
 before_ended [] (y ∷ other) h = let off : y ≢ 0 = h.0 in rw (lt-ltb 0 y (omega arith)) refl
@@ -41,7 +41,7 @@ before_ended (x ∷ text) (y ∷ other) h = go (nat_cmp x y) (before_ended text 
     go Equal ih = ih
     go Greater ih = refl
 
--- strings are the same where they are so with their ends
+-- strings are equal where they are with their ends
 same_ended : (a b : List ℕ) → are_same (ended a) (ended b) ≡ are_same a b
 same_ended a b = go (are_same a b) refl
   where
@@ -50,7 +50,7 @@ same_ended a b = go (are_same a b) refl
     go false e = not_same (ended a) (ended b) (λ h. false≢true (sym e ∙ subst (λ c. are_same a c ≡ true) (append_cancel_right a b (0 ∷ []) h) (front_same a)))
 
 module _ {V : Type 0} where
-  -- where a test says of pairs what another says of their keys
+  -- where a test states of pairs what another states of their keys
   keys_kept : (test : List ℕ × V → Bool) (other : List ℕ → Bool) → ((x : List ℕ × V) → test x ≡ other x.0) → (pairs : List (List ℕ × V)) →
       keys_of (filter test pairs) ≡ filter other (keys_of pairs)
   keys_kept test other same [] = refl
@@ -70,7 +70,7 @@ module _ {V : Type 0} where
       keys_kept (λ x. not (is_before (ended x.0) from) && is_before (ended x.0) to) (λ path. not (is_before path from) && is_before path to)
       (λ x. ap₂ (λ a b. not a && b) (before_ended x.0 from f) (before_ended x.0 to t)) pairs
 
-  -- what is found under a path's key tells whether it is stored
+  -- what is found under a path's key is whether it is stored
   pub found_is_stored : (path : List ℕ) (pairs : List (List ℕ × V)) → is_some (value_at ended (ended path) pairs) ≡ is_stored path (keys_of pairs)
   found_is_stored path [] = refl
   found_is_stored path (x ∷ xs) = rw (same_ended path x.0) (go (are_same path x.0) (found_is_stored path xs))
@@ -117,7 +117,7 @@ module _ {V : Type 0} where
   keys_rise [] h = tt
   keys_rise (x ∷ xs) h = (each_later x xs h.0, keys_rise xs h.1)
 
-  -- all pairs of a walk come, and no more
+  -- an iteration returns all pairs, and no more
   pairs_came : (s : List (List ℕ × V)) (xs : List (Bor (List ℕ) × Bor V)) (t : List (List ℕ × V)) → Yields TakesFirst s xs t → length s ≡ length xs + length t
   pairs_came s [] t h = let e = ap length h in omega arith
   pairs_came s (x ∷ xs) t (j, step, more) = let e = ap length step in let ih = pairs_came j xs t more in omega (arith, e)

@@ -21,7 +21,7 @@ key_lines (x ∷ xs) = ap (λ bs. path_line x.0 ++ bs) (key_lines xs)
 pub no_replies : (paths : List (List ℕ)) (old : Option (List ℕ)) → HaveReplies paths [] old old
 no_replies paths old = record { requests = []; are = tt; lines_are = refl; written = appends_none old }
 
--- the reply to one line more is appended, and stays where all is kept
+-- the reply to one more line is appended, and stays
 pub one_reply_more : (paths : List (List ℕ)) (number : ℕ) (line seen : List ℕ) (request : Request) (old now new kept : Option (List ℕ)) → seen ≡ line → seen ≡ line_of request → IsRequest request →
     Appends now new (reply_to paths request) → Keeps new kept → (before : List (List ℕ)) → number ≡ length before + 1 → HaveReplies paths before old now →
     HaveReplies paths (before ++ line ∷ []) old kept
@@ -45,7 +45,7 @@ stopped_at paths number line seen old now e none before after n h = record {
   replies = h;
 }
 
--- what was answered stays so where what was written stays
+-- what was answered stays so while what was written stays
 pub still_answered : (paths : List (List ℕ)) (text : Option (List ℕ)) (refused : Option ℕ) (old now new : Option (List ℕ)) →
     IfSome text (λ bs. AreAnswered paths (lines bs) refused old now) → Keeps now new → IfSome text (λ bs. AreAnswered paths (lines bs) refused old new)
 still_answered paths None refused old now new answered keeps = tt

@@ -1,4 +1,4 @@
--- Lines that have a zero, and lines that ask for nothing.
+-- Lines that have a zero, and lines that are no valid requests.
 use Rattle.std.proofs.Common.{◌≡◌, ◌≢◌, ℕ, Bool, true, false, ◌||◌, eqb, eqb-true, eq-eqb, List, [], ◌∷◌, ◌++◌, drop, get_or, codes, refl, ap, sym, ◌∙◌, subst, arith}
 use Rattle.std.specs.Bool.{OnFalse, OnTrue}
 use Rattle.std.specs.List.{list_any}
@@ -31,12 +31,12 @@ one_found (x ∷ bytes) h of = go (λ k. one_found bytes k of.1) (eqb x 0) refl 
     go ih true e h = of.0 (eqb-true x 0 e)
     go ih false e h = ih h
 
--- what the test tells
+-- what the test decides
 pub told : (bytes : List ℕ) (found : Bool) → found ≡ list_any is_zero bytes → OnTrue found (¬ HasNoZero bytes) × OnFalse found (HasNoZero bytes)
 told bytes true e = (one_found bytes (sym e), tt)
 told bytes false e = (tt, none_found bytes (sym e))
 
--- what stands after a front has no zero where the whole has none
+-- what is after a prefix has no zero where the whole has none
 pub rest_plain : (line front rest : List ℕ) → line ≡ front ++ rest → HasNoZero line → HasNoZero rest
 rest_plain line front rest e h = Each-right (λ byte. byte ≢ 0) front rest (subst HasNoZero e h)
 
@@ -59,7 +59,7 @@ line_plain First h = none_found (codes "first") refl
 line_plain Last h = none_found (codes "last") refl
 line_plain (Count prefix) h = plain_front (codes "count ") refl prefix.now h
 
--- ---- lines that ask for nothing
+-- ---- lines that are no valid requests
 
 -- no request has this line
 abbrev AsksNothing : List ℕ → Type 0
@@ -72,16 +72,16 @@ zero_asks_nothing line zero request is same = zero (subst HasNoZero (sym same) (
 abbrev at : ℕ → List ℕ → ℕ
 at n line = get_or line n 0
 
--- one path alone has no part between
+-- a single path has no separator
 pub no_between : (line words : List ℕ) → line ≡ codes "between " ++ words → HasNoSpace words → AsksNothing line
 no_between line words e none (Between from to) is same = has_space from.now to.now (subst HasNoSpace (ap (drop 8) (sym e ∙ same)) none)
 no_between line words e none request is same = omega (arith, ap (at 0) (sym e ∙ same))
 
--- the line does not begin so
+-- the line does not start so
 abbrev BeginsOtherwise : List ℕ → List ℕ → Type 0
 BeginsOtherwise line front = (rest : List ℕ) → line ≢ front ++ rest
 
--- a line that is no word alone, and begins with none of the other words, asks for nothing
+-- a line that is not just a word, and starts with none of the other words, is no valid request
 pub no_request : (line : List ℕ) → line ≢ codes "first" → line ≢ codes "last" → BeginsOtherwise line (codes "under ") → BeginsOtherwise line (codes "at ") →
     BeginsOtherwise line (codes "count ") → BeginsOtherwise line (codes "between ") → AsksNothing line
 no_request line first last under at_one count between (Under prefix) is same = under prefix.now same

@@ -13,7 +13,7 @@ use Rattle.path_indexes.specs.declared.index.IndexError.TheVariants.{Line, Input
 abbrev pub is_stored : List ℕ → List (List ℕ) → Bool
 is_stored path paths = list_any (λ other. are_same path other) paths
 
--- the paths that begin with a prefix
+-- the paths that start with a prefix
 abbrev pub below : List ℕ → List (List ℕ) → List (List ℕ)
 below prefix paths = filter (λ path. is_front prefix path) paths
 
@@ -27,11 +27,11 @@ pub record IsIndexOf (ls paths : List (List ℕ)) : Type 0 where
   pub rising : Pairwise (λ a b. is_before a b ≡ true) paths
   pub same : (path : List ℕ) → is_stored path paths ≡ is_stored path ls
 
--- a path came to the others, unless it was one of them
+-- a path was added to the others, unless it was one of them
 abbrev pub AddsPath : List ℕ → List (List ℕ) → List (List ℕ) → Type 0
 AddsPath path old new = (other : List ℕ) → is_stored other new ≡ (is_stored other old || are_same other path)
 
--- why a path was not added: it has a zero, or there was no memory
+-- why a path was not added: it has a zero, or an allocation failed
 abbrev pub IsFaultOf : List ℕ → PathError → Type 0
 IsFaultOf path Zero = ¬ HasNoZero path
 IsFaultOf path NoMemory = ⊤
@@ -46,7 +46,7 @@ pub record IsRefusedAt (ls : List (List ℕ)) (number : ℕ) (fault : PathError)
   pub number_is : number ≡ length before + 1
   pub is : IsFaultOf line fault
 
--- a line is at fault, or the input can't be read
+-- a line has a fault, or the input can't be read
 abbrev pub IsRefusedFor : List (List ℕ) → IndexError → Type 0
 IsRefusedFor ls (Line number fault) = IsRefusedAt ls number fault
 IsRefusedFor ls (Input error) = ⊤

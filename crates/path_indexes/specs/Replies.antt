@@ -13,11 +13,11 @@ use Rattle.path_indexes.specs.Requests.{IsRequest, line_of}
 abbrev pub path_line : List ℕ → List ℕ
 path_line path = path ++ codes "\n"
 
--- each path, a line
+-- each path, as a line
 abbrev pub path_lines : List (List ℕ) → List ℕ
 path_lines paths = flat_map path_line paths
 
--- a path, a line, or that there is none
+-- a path as a line, or that there is none
 abbrev pub found_line : Option (List ℕ) → List ℕ
 found_line None = codes "none\n"
 found_line (Some path) = path_line path
@@ -43,7 +43,7 @@ pub record HaveReplies (paths ls : List (List ℕ)) (old new : Option (List ℕ)
   pub lines_are : ls ≡ map line_of requests
   pub written : Appends old new (flat_map (reply_to paths) requests)
 
--- The lines before this one got their replies, and it asks for nothing that there is.
+-- The lines before this one got their replies, and it is no valid request.
 pub record IsStoppedAt (paths ls : List (List ℕ)) (number : ℕ) (old new : Option (List ℕ)) : Type 0 where
   pub before : List (List ℕ)
   pub line : List ℕ
@@ -53,7 +53,7 @@ pub record IsStoppedAt (paths ls : List (List ℕ)) (number : ℕ) (old new : Op
   pub none : (request : Request) → IsRequest request → line ≢ line_of request
   pub replies : HaveReplies paths before old new
 
--- all lines got their replies; or those before this one did, which asks for nothing that there is
+-- all lines got their replies; or those before this one did, which is no valid request
 abbrev pub AreAnswered : List (List ℕ) → List (List ℕ) → Option ℕ → Option (List ℕ) → Option (List ℕ) → Type 0
 AreAnswered paths ls None old new = HaveReplies paths ls old new
 AreAnswered paths ls (Some number) old new = IsStoppedAt paths ls number old new

@@ -1,4 +1,4 @@
-//! Lines that ask for something are answered, one after another.
+//! Answers lines, one after another.
 ghost use Rattle.std.specs.Prelude.{◌≡◌, [], IfOk, IfSome, OnOk, option_copied};
 ghost use Rattle.std.specs.Io.Buffered.{reader_remaining, writer_buffer, writer_contents};
 ghost use Rattle.std.specs.Io.KnownBytes.{Appends};
@@ -16,11 +16,10 @@ use std::io;
 use std::io::{BufReader, BufWriter, ErrorKind, Read, Write};
 use text_lines::lines::{next_line, write_out};
 
-/// Answers each line of the input with what it asks for. Where a line asks for nothing that there is it stops
-/// there, and returns the number of that line.
+/// Answers each line of the input. At a line that is no valid request it stops, and returns the number of that line.
 ///
-/// Replies are written out before it waits for a line. While the next line has come already they gather in the
-/// output, which has a buffer for that.
+/// Replies are written out before it waits for a line. While the next line is already available they are collected in
+/// the output, which has a buffer for that.
 pub fn answer_requests<R: Read, W: Write>(
     alloc: Global,
     index: &Index,
@@ -62,7 +61,7 @@ pub fn serve<R: Read, W: Write + Drop>(
     Ok(refused)
 }
 
-/// Writes the reply to a request. It takes no memory.
+/// Writes the reply to a request. It allocates nothing.
 pub fn answer<W: Write>(index: &Index, request: Request<'_>, output: &mut W) -> io::Result<()>
     requires { IsRequest request }
     ensures { OnOk result (Appends (W.contents output.old) (W.contents output.new)
@@ -89,7 +88,7 @@ fn write_paths<W: Write>(output: &mut W, part: Part<'_>) -> io::Result<()>
     Ok(())
 }
 
-// Writes a path, a line.
+// Writes a path, as a line.
 fn write_path<W: Write>(output: &mut W, path: &Terminated) -> io::Result<()>
     ensures { OnOk result (Appends (W.contents output.old) (W.contents output.new)
         (path_line path.now)) }
@@ -98,7 +97,7 @@ fn write_path<W: Write>(output: &mut W, path: &Terminated) -> io::Result<()>
     output.write_all(b"\n")
 }
 
-// Writes a path, a line, or that there is none.
+// Writes a path as a line, or that there is none.
 fn write_found<W: Write>(output: &mut W, path: Option<&Terminated>) -> io::Result<()>
     ensures { OnOk result (Appends (W.contents output.old) (W.contents output.new)
         (found_line (option_copied path.entry))) }
@@ -109,7 +108,7 @@ fn write_found<W: Write>(output: &mut W, path: Option<&Terminated>) -> io::Resul
     }
 }
 
-// Writes whether something is so, a line.
+// Writes whether something is so, as a line.
 fn write_told<W: Write>(output: &mut W, is_so: bool) -> io::Result<()>
     ensures { OnOk result (Appends (W.contents output.old) (W.contents output.new)
         (told_line is_so)) }

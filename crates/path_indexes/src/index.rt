@@ -34,7 +34,7 @@ pub enum IndexError {
     Input(io::Error),
 }
 
-/// Reads an index to the end of the input: a line for each path. A path that comes again is stored once.
+/// Reads an index to the end of the input: a line for each path. A path that occurs again is stored once.
 pub fn read_index<R: BufRead>(alloc: Global, input: &mut R) -> Result<Index, IndexError>
     ensures index { IfOk result (λ index. IfSome (R.remaining input.old) (λ text.
         IsIndexOf (lines text) (keys_of index))) }

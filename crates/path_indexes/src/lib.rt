@@ -1,4 +1,4 @@
-//! Paths that are kept in memory, and what lines ask of them.
+//! Paths in memory, and requests about them.
 #![tactic(auto)]
 
 pub mod answers;

@@ -1,4 +1,4 @@
-//! The parts of an index that lines ask for. None of these calls takes memory.
+//! The parts of an index that lines ask for. None of these calls allocates.
 ghost use Rattle.std.specs.Prelude.{◌≡◌, ◌<◌, ◌^◌, length, option_copied};
 ghost use Rattle.art_operations.specs.Ended.{HasNoZero};
 ghost use Rattle.art_operations.specs.MapItems.{keys_of};
@@ -9,10 +9,10 @@ use crate::index::Index;
 use art_operations::keys::Terminated;
 use art_operations::map::Range;
 
-/// Paths of an index that stand one after another.
+/// Consecutive paths of an index.
 pub type Part<'a> = Range<'a, Terminated, (), 16>;
 
-/// Returns the paths that begin with a prefix, in order.
+/// Returns the paths that start with a prefix, in order.
 pub fn part_below<'a>(index: &'a Index, prefix: &[u8]) -> Part<'a>
     requires { HasNoZero prefix.now }
     ensures paths { keys_of result ≡ below prefix.now (keys_of index.now) }
@@ -21,7 +21,7 @@ pub fn part_below<'a>(index: &'a Index, prefix: &[u8]) -> Part<'a>
     index.as_byte_map().prefix(prefix)
 }
 
-/// Returns the paths from one up to but without another, in order; none where the other comes first.
+/// Returns the paths from one up to but without another, in order; none if the other is before it.
 pub fn part_between<'a>(index: &'a Index, from: &[u8], to: &[u8]) -> Part<'a>
     requires from { HasNoZero from.now }
     requires to { HasNoZero to.now }
@@ -57,7 +57,7 @@ pub fn last(index: &Index) -> Option<&Terminated>
     }
 }
 
-/// Returns how many paths begin with a prefix.
+/// Returns how many paths start with a prefix.
 pub fn count_below(index: &Index, prefix: &[u8]) -> usize
     requires { HasNoZero prefix.now }
     ensures { result ≡ length (below prefix.now (keys_of index.now)) }

@@ -20,7 +20,7 @@ impl<'a> Request<'a> {
     ghost use Rattle.path_indexes.specs.Requests.{IsRequest, line_of};
     ghost use Rattle.path_indexes.specs.declared.request.Request.{Request};
 
-    /// Returns what a line without its line feed asks for, or `None` where there is nothing that it asks for.
+    /// Returns what a line without its line feed asks for, or `None` if it is no valid request.
     pub fn parse(line: &'a [u8]) -> Option<Self>
         ensures line { IfSome result (λ request. line.now ≡ line_of request) }
         ensures is { IfSome result IsRequest }

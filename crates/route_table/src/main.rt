@@ -8,18 +8,18 @@ use std::process::ExitCode;
 use std::rt::{Env, Files};
 use std::{env, fs, io};
 
-// What is printed for `--help`, and where no file is named.
+// What is printed for `--help`, and if no file is named.
 const USAGE: &str = "usage: route_table FILE";
 
-// What stands in the file and in the input.
+// What is in the file and in the input.
 const LINES: &str =
     "FILE has routes, as '10.1.0.0/16 office' or '2001:db8::/32 lab', a line each. For each address, a line of
 standard input, it prints the line of the longest route that covers it, or 'none'.";
 
-// The exit status where a line of the file or of the input is refused, or no file is named.
+// The exit status if a line of the file or of the input is invalid, or no file is named.
 const REFUSED: u8 = 2;
 
-// The exit status where something can't be read or written, or there is no memory.
+// The exit status if something can't be read or written, or an allocation fails.
 const FAILED: u8 = 1;
 
 // The first argument.
@@ -51,7 +51,7 @@ fn read_file(rt: &(impl Files + AllocGlobal), path: &str) -> Result<Table, Table
     }
 }
 
-// Answers the addresses of standard input, and returns which line is none.
+// Answers the addresses of standard input, and reports which line is none.
 fn answer(rt: &(impl Input + Print + AllocGlobal), table: &Table) -> io::Result<Option<u64>> {
     let alloc = rt.alloc();
     let mut input = BufReader::new(alloc, rt.reader())?;

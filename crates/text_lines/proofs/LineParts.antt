@@ -10,7 +10,7 @@ use Rattle.text_lines.specs.Lines.{IsLineRead, lines, without_empty_end}
 abbrev parts : List ℕ → List (List ℕ)
 parts = slice_split (λ b. eqb b 10)
 
--- an empty part in front stays, since there are parts
+-- a first empty part stays, since there are parts
 front_stays : (bs : List ℕ) → without_empty_end ([] ∷ parts bs) ≡ [] ∷ without_empty_end (parts bs)
 front_stays [] = refl
 front_stays (b ∷ bs) = go (eqb b 10) (parts bs)
@@ -20,7 +20,7 @@ front_stays (b ∷ bs) = go (eqb b 10) (parts bs)
     go false [] = refl
     go false (p ∷ ps) = refl
 
--- a byte goes onto the first part
+-- a byte is added to the first part
 onto_more : (x : ℕ) (ps : List (List ℕ)) (front : List ℕ) (rest : List (List ℕ)) → without_empty_end ps ≡ front ∷ rest → without_empty_end (onto_first x ps) ≡ (x ∷ front) ∷ rest
 onto_more x [] front rest e = absurd cc
 onto_more x (p ∷ []) front rest e = ap (λ t. cond t [] ((x ∷ p) ∷ [])) (ne_eqb (length (x ∷ p)) 0 (λ z. omega arith)) ∙ go (eqb (length p) 0) e
@@ -70,7 +70,7 @@ last_line (x ∷ y ∷ xs) some unended = go (eqb x 10) refl unended (last_line 
     go true b h ih = absurd (h [] (ap (λ z. z ∷ []) (eqb-true x 10 b)))
     go false b h ih = onto_more x (parts (y ∷ xs)) _ _ (ih (λ line e. h (x ∷ line) (ap (λ bs. x ∷ bs) e)))
 
--- what ends with a byte is what stands before it, and the byte
+-- what ends with a byte is what is before it, and the byte
 pub ends : (got : List ℕ) (k : ℕ) → slice_get got k ≡ Some 10 → length got ≡ suc k → got ≡ take k got ++ 10 ∷ []
 ends [] k e l = absurd cc
 ends (x ∷ []) zero e l = let is : x ≡ 10 = cc in ap (λ z. z ∷ []) is
@@ -107,7 +107,7 @@ pub read_none : (old new : Option (List ℕ)) (line : List ℕ) → IsAtEnd old 
 read_none None new line e = tt
 read_none (Some text) new line e = ap lines e
 
--- the same, at what is known of the answer
+-- the same, for what is known of the result
 pub read_as : (old new : Option (List ℕ)) (line : List ℕ) (m n : Bool) → m ≡ n → IfSome old (λ text. IsLineRead m text line new) → IfSome old (λ text. IsLineRead n text line new)
 read_as old new line m n e h = subst (λ t. IfSome old (λ text. IsLineRead t text line new)) e h
 

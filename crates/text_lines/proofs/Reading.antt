@@ -1,4 +1,4 @@
--- A text that a loop reads line by line: what its invariant says, and how that begins, goes on, ends and stops.
+-- A text that a loop reads line by line: its invariant, and how that begins, continues, ends and stops.
 use Rattle.std.proofs.Common.{◌≡◌, ℕ, ◌+◌, true, false, List, [], ◌∷◌, ◌++◌, length, Option, Some, None, IfSome, refl, ap, sym, ◌∙◌, subst, arith, append_assoc, append-nil, length-append}
 use Rattle.text_lines.specs.Lines.{IsLineRead, lines}
 
@@ -26,7 +26,7 @@ begins Holds (Some bs) h = record {
   holds = h;
 }
 
--- after one line more
+-- after one more line
 pub goes_on : (Holds Then : List (List ℕ) → Type 0) (text left next : Option (List ℕ)) (number : ℕ) (line : List ℕ) → IfSome text (λ bs. IsReadTo Holds bs left number) →
     IfSome left (λ bs. IsLineRead true bs line next) → ((before : List (List ℕ)) → number ≡ length before + 1 → Holds before → Then (before ++ line ∷ [])) → IfSome text (λ bs. IsReadTo Then bs next (number + 1))
 goes_on Holds Then None left next number line h read more = tt

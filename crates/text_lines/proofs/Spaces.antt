@@ -1,4 +1,4 @@
--- Words of a line: the place of the first space tells the first word from the rest.
+-- Words of a line: the first space separates the first word from the rest.
 use Rattle.std.proofs.Common.{◌≡◌, ◌≢◌, ℕ, List, [], ◌∷◌, ◌++◌, refl}
 use Rattle.std.specs.List.{All}
 use Rattle.std.proofs.lemmas.List.Elements.{All-head, All-tail}

@@ -32,7 +32,7 @@ appends_kept (Some p) (Some q) (Some r) xs h k = k ∙ h
 
 -- ---- what a loop writes of the items of an iterator
 
--- What is written of the items that came, and these items are left.
+-- What is written of the items so far, and these items are left.
 pub record AreWritten {A : Type 0} (line : A → List ℕ) (items left : List A) (old new : Option (List ℕ)) : Type 0 where
   pub done : List A
   pub are : items ≡ done ++ left

@@ -8,7 +8,7 @@ without_empty_end [] = []
 without_empty_end (part ∷ []) = if length part == 0 then [] else part ∷ []
 without_empty_end (part ∷ next ∷ parts) = part ∷ without_empty_end (next ∷ parts)
 
--- what stands between line feeds; after the last one, where that is something
+-- the parts between line feeds; the one after the last, if it is not empty
 abbrev pub lines : List ℕ → List (List ℕ)
 lines text = without_empty_end (slice_split (λ b. b == 10) text)
 

@@ -1,4 +1,4 @@
-//! A text that a program reads line by line, and what it writes line by line.
+//! Reading a text line by line, and writing line by line.
 #![tactic(auto)]
 
 pub mod lines;

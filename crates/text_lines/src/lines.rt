@@ -1,4 +1,4 @@
-//! A text is read line by line.
+//! Reads a text line by line.
 ghost use Rattle.std.specs.Prelude.{◌≡◌, ◌-◌, ◌↔◌, IfOk, IfSome, IsTrue, Some, length, slice_get};
 ghost use Rattle.std.specs.Io.KnownBytes.{Keeps};
 ghost use Rattle.text_lines.specs.Lines.{IsLineRead};
@@ -32,8 +32,8 @@ fn is_ended(line: &[u8]) -> bool
     }
 }
 
-/// Writes out what has gathered in the output, unless the next line of the input has come already:
-/// so a program that calls it after each line has replied to all of them before it waits.
+/// Writes out what the output has collected, unless the next line of the input is already available: so a program that
+/// calls it after each line has replied to all of them before it waits.
 pub fn write_out<R: Read, W: Write>(input: &BufReader<R>, output: &mut W) -> io::Result<()>
     ensures { Keeps (W.contents output.old) (W.contents output.new) }
 {

@@ -1,4 +1,4 @@
-//! Prints each word of standard input with how often it stands there, in the order of bytes.
+//! Prints each word of standard input with how often it occurs, in the order of bytes.
 #![tactic(auto)]
 
 use std::io;

@@ -34,7 +34,7 @@ part_plain text word k below is =
 pub no_words : (counts : List (List ℕ × ℕ)) → counts ≡ [] → HasTimes (flat_map words []) counts
 no_words counts e = subst (HasTimes []) (sym e) (record { each = λ word. refl })
 
--- with the words of one line more
+-- with the words of one more line
 pub one_line_more : (counts others : List (List ℕ × ℕ)) (number : ℕ) (line seen : List ℕ) → seen ≡ line →
     ((ws : List (List ℕ)) → HasTimes ws counts → HasTimes (ws ++ words seen) others) → (before : List (List ℕ)) → number ≡ length before + 1 →
     HasTimes (flat_map words before) counts → HasTimes (flat_map words (before ++ line ∷ [])) others

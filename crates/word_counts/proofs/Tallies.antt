@@ -1,4 +1,4 @@
--- How often words stand in a list, and how a map keeps that.
+-- How often words occur in a list, and how a map counts them.
 use Rattle.std.proofs.Common.{◌≡◌, ℕ, ◌+◌, ◌-◌, ◌^◌, ◌<◌, ◌⊎◌, inl, inr, Bool, true, false, cond, eqb, eqb-true, ne_eqb, min, List, [], ◌∷◌, ◌++◌, length, filter, map, unwrap_or, Some, None, refl, ap, ap₂, sym, ◌∙◌, subst, arith, length-append}
 use Rattle.std.specs.List.{AllByRecursion as Each}
 use Rattle.std.specs.Option.{option_map}
@@ -28,7 +28,7 @@ times_more key ws w = ap length (filter-append (λ v. are_same key v) ws (w ∷ 
     go true = refl
     go false = refl
 
--- the number that is kept
+-- the number that is stored
 number_is : (n : ℕ) → unwrap_or (first_of (numbers_for n)) 0 ≡ min n (2 ^ 64 - 1)
 number_is n = go (eqb n 0) refl
   where
@@ -39,7 +39,7 @@ number_is n = go (eqb n 0) refl
 some_number : (n : ℕ) → 0 < n → numbers_for n ≡ min n (2 ^ 64 - 1) ∷ []
 some_number n h = ap (λ t. cond t [] (min n (2 ^ 64 - 1) ∷ [])) (ne_eqb n 0 (λ z. omega arith))
 
--- the number that is kept of one more
+-- the number that is stored for one more
 next_number : (n : ℕ) → min (unwrap_or (first_of (numbers_for n)) 0 + 1) (2 ^ 64 - 1) ∷ [] ≡ numbers_for (n + 1)
 next_number n =
     let e = number_is n in
@@ -55,7 +55,7 @@ value_is_first bytes key pairs = go (with_key (of_key bytes) key pairs)
 
 -- ---- words, and their keys
 
--- strings are the same where they are so with their ends
+-- strings are equal where they are with their ends
 same_ended : (a b : List ℕ) → are_same (ended a) (ended b) ≡ are_same a b
 same_ended a b = go (are_same a b) refl
   where
@@ -116,7 +116,7 @@ module _ {K : Type 0} (bytes : K → List ℕ) (key : List ℕ) (value : ℕ) wh
       go false true e f ih = rw (e, f) (ap (λ vs. x.1 ∷ vs) ih)
       go false false e f ih = rw (e, f) ih
 
--- the one number that is kept gives way to the next one
+-- the one number that is stored is replaced by the next one
 only_number : {A : Type 0} (value : A → ℕ) (xs : List A) (n count next : ℕ) → map value xs ≡ numbers_for n → first_of (map value xs) ≡ Some count →
     next ≡ min (count + 1) (2 ^ 64 - 1) → map (λ x. next) xs ≡ numbers_for (n + 1)
 only_number value [] n count next all first is = absurd cc
@@ -171,7 +171,7 @@ Rise = Pairwise (λ x y. is_before x.0 y.0 ≡ true)
 earlier_apart : (a b : List ℕ) → is_before a b ≡ true → are_same a b ≡ false
 earlier_apart a b h = not_same a b (λ e. false≢true (sym (before_apart a b h) ∙ subst (λ c. is_before c a ≡ true) e (subst (λ c. is_before a c ≡ true) (sym e) h)))
 
--- nothing is found under a word that comes before all
+-- nothing is found under a word that is before all
 found_later : (word : List ℕ) (xs : List (List ℕ × ℕ)) → Each (λ y. is_before word y.0 ≡ true) xs → found word xs ≡ []
 found_later word xs h =
     ap (map (λ x. x.1)) (filter_none (λ y. are_same word y.0) xs (Each-weaker (λ y. is_before word y.0 ≡ true) (λ y. are_same word y.0 ≡ false) (λ y e. earlier_apart word y.0 e) xs h))

@@ -8,7 +8,7 @@ use Rattle.word_counts.specs.Words.{EndsWord, GapsAreNoWords, IsWord, WordsAreRu
 abbrev parts : List ℕ → List (List ℕ)
 parts = slice_split is_gap
 
--- a byte goes onto the first of parts that there are
+-- a byte is added to the first of existing parts
 onto_more : (x y : ℕ) (ps qs : List (List ℕ)) → onto_first x (onto_first y ps ++ qs) ≡ onto_first x (onto_first y ps) ++ qs
 onto_more x y [] qs = refl
 onto_more x y (p ∷ ps) qs = refl
@@ -21,7 +21,7 @@ onto_parts x (b ∷ bs) qs = go (is_gap b)
     go true = refl
     go false = onto_more x b (parts bs) qs
 
--- a gap parts a text
+-- a gap separates a text
 split_gap : (xs : List ℕ) (g : ℕ) (ys : List ℕ) → is_gap g ≡ true → parts (xs ++ g ∷ ys) ≡ parts xs ++ parts ys
 split_gap [] g ys e = ap (λ t. cond t ([] ∷ parts ys) (onto_first g (parts ys))) e
 split_gap (x ∷ xs) g ys e =
@@ -35,7 +35,7 @@ split_gap (x ∷ xs) g ys e =
 pub words_around : (xs : List ℕ) (g : ℕ) (ys : List ℕ) → is_gap g ≡ true → words (xs ++ g ∷ ys) ≡ words xs ++ words ys
 words_around xs g ys e = ap (filter is_filled) (split_gap xs g ys e) ∙ filter-append is_filled (parts xs) (parts ys)
 
--- the front goes before the first part
+-- the first part is prepended
 abbrev before_first : List ℕ → List (List ℕ) → List (List ℕ)
 before_first front [] = front ∷ []
 before_first front (p ∷ ps) = (front ++ p) ∷ ps

@@ -1,15 +1,15 @@
--- How often each word stands in a list, and how that is written.
+-- How often each word occurs in a list, and how that is written.
 use Rattle.std.specs.Prelude.{◌≡◌, ℕ, ◌-◌, ◌^◌, true, if◌then◌else◌, ◌==◌, min, List, [], ◌∷◌, ◌++◌, length, filter, map, flat_map, codes, Option}
 use Rattle.std.specs.Fmt.{decimal}
 use Rattle.std.specs.Io.KnownBytes.{Appends}
 use Rattle.art_operations.specs.Keys.{are_same, is_before}
 use Rattle.art_operations.specs.Pairs.{Pairwise, with_key}
 
--- how often a word stands in a list
+-- how often a word occurs in a list
 abbrev pub times : List ℕ → List (List ℕ) → ℕ
 times word ws = length (filter (λ w. are_same word w) ws)
 
--- the numbers that a word has which stands there so often: none, or one, which is at most 2 ^ 64 - 1
+-- the numbers of a word that occurs so often: none, or one, which is at most 2 ^ 64 - 1
 abbrev pub numbers_for : ℕ → List ℕ
 numbers_for n = if n == 0 then [] else min n (2 ^ 64 - 1) ∷ []
 
@@ -17,7 +17,7 @@ numbers_for n = if n == 0 then [] else min n (2 ^ 64 - 1) ∷ []
 pub record HasTimes (ws : List (List ℕ)) (counts : List (List ℕ × ℕ)) : Type 0 where
   pub each : (word : List ℕ) → map (λ x. x.1) (with_key (λ x. x.0) word counts) ≡ numbers_for (times word ws)
 
--- Each word of the list is there once, in the order of bytes, with how often it stands in the list.
+-- Each word of the list is stored once, in the order of bytes, with how often it occurs in the list.
 pub record IsCountOf (ws : List (List ℕ)) (counts : List (List ℕ × ℕ)) : Type 0 where
   pub rising : Pairwise (λ x y. is_before x.0 y.0 ≡ true) counts
   pub numbers : HasTimes ws counts

@@ -12,11 +12,11 @@ abbrev pub is_filled : List ℕ → Bool
 is_filled [] = false
 is_filled (byte ∷ bytes) = true
 
--- what stands between gaps, where that is something
+-- the parts between gaps that are not empty
 abbrev pub words : List ℕ → List (List ℕ)
 words text = filter is_filled (slice_split is_gap text)
 
--- ---- what decides them
+-- ---- what determines them
 
 abbrev pub AreGaps : List ℕ → Type 0
 AreGaps = Each (λ byte. is_gap byte ≡ true)

@@ -1,4 +1,4 @@
-//! Words are counted in a map, line by line, and written in the order of bytes.
+//! Counts words in a map, line by line, and writes them in the order of bytes.
 ghost use Rattle.std.specs.Prelude.{◌≡◌, ℕ, ◌++◌, ◌∷◌, [], List, IfOk, IfSome, OnOk, OnErr, flat_map};
 ghost use Rattle.std.specs.Io.Buffered.{writer_buffer, writer_contents};
 ghost use Rattle.std.specs.Io.KnownBytes.{Appends};
@@ -13,11 +13,11 @@ use std::io::{BufRead, BufWriter, ErrorKind, Write};
 use std::{io, mem};
 use text_lines::lines::next_line;
 
-/// Words with their counts. Any word may be the beginning of another.
+/// Words with their counts. A word may be a prefix of another.
 pub type Counts = TreeMap<Terminated, u64, 16>;
 
-/// Reads a text to its end, writes each of its words with how often it stands there, a line each, in the
-/// order of bytes, and flushes the output.
+/// Reads a text to its end, writes each of its words with how often it occurs, a line each, in the order of bytes, and
+/// flushes the output.
 pub fn report<R: BufRead, W: Write + Drop>(
     alloc: Global,
     input: &mut R,
@@ -64,7 +64,7 @@ pub fn count_words<R: BufRead>(alloc: Global, input: &mut R) -> io::Result<Count
     Err(io::Error::from(ErrorKind::FileTooLarge))
 }
 
-/// Counts each word of a line once more. The buffer is for their keys. It is refused only for want of memory.
+/// Counts each word of a line once more. The buffer is for their keys. Fails only if an allocation fails.
 pub fn count_line(
     counts: &mut Counts,
     buffer: &mut Vec<u8>,
@@ -82,8 +82,8 @@ pub fn count_line(
     Ok(())
 }
 
-// Counts a word once more, by one way down the tree where it is stored already. The buffer is for its key, so
-// that memory is taken for a new word alone.
+// Counts a word once more, by a single descent of the tree if it is stored already. The buffer is for its key, so that
+// only a new word allocates.
 fn count_word(
     counts: &mut Counts,
     buffer: &mut Vec<u8>,
@@ -150,7 +150,7 @@ fn write_count<W: Write>(output: &mut W, word: &[u8], count: u64) -> io::Result<
     output.write_all(b"\n")
 }
 
-/// A list of words has one count, so what is written of a text is known.
+/// A list of words has one count, so what is written of a text is determined.
 pub fn a_list_of_words_has_one_count()
     ensures { CountIsOne }
 {}

@@ -1,4 +1,4 @@
-//! The words of a text, each with how often it stands there.
+//! The words of a text, each with how often it occurs.
 #![tactic(auto)]
 
 pub mod counts;

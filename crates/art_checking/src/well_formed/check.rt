@@ -30,7 +30,7 @@ use std::alloc::AllocError;
 use std::cmp::Ordering;
 use std::collections::BTreeSet;
 
-// A node whose child is checked: where the bytes that lead to it end, and its children that come after that one.
+// A node whose child is being checked: where the bytes that lead to it end, and its children after that one.
 #[derive(Drop)]
 struct Above<'a> {
     name: InnerPtr,
@@ -53,7 +53,7 @@ pub(super) fn check_nodes<K: AsBytes + Drop, V: Drop, const P: usize>(
     Ok(seen)
 }
 
-// Checks the node of a root and all that is below it, where nothing was met yet.
+// Checks a root and all nodes below it, where nothing was met yet.
 fn check_root<K: AsBytes + Drop, V: Drop, const P: usize>(
     store: &NodeStore<K, V, P>,
     root: OpaqueNodePtr,
@@ -73,8 +73,7 @@ fn check_root<K: AsBytes + Drop, V: Drop, const P: usize>(
     }
 }
 
-// Checks an inner root that was met, and all that is below it. The nodes above the one whose children have
-// their turns stand in a list.
+// Checks an inner root that was met, and all nodes below it. The nodes above the current one are kept in a list.
 fn check_below<K: AsBytes + Drop, V: Drop, const P: usize>(
     store: &NodeStore<K, V, P>,
     root: InnerPtr,
@@ -130,8 +129,8 @@ fn check_below<K: AsBytes + Drop, V: Drop, const P: usize>(
     }
 }
 
-// Comes to an inner node that was met: appends its prefix to the bytes that lead to it, and returns its
-// children, with their least leaf where it is known.
+// Enters an inner node that was met: appends its prefix to the bytes that lead to it, and returns its children, with
+// their least leaf if it is known.
 fn enter<'a, K: AsBytes + Drop, V: Drop, const P: usize>(
     store: &'a NodeStore<K, V, P>,
     name: InnerPtr,
@@ -158,8 +157,8 @@ fn enter<'a, K: AsBytes + Drop, V: Drop, const P: usize>(
     Ok((children, least))
 }
 
-// Goes from an inner node all of whose children were passed: cuts its prefix off the bytes that lead to it,
-// and counts its children.
+// Leaves an inner node all of whose children were passed: cuts its prefix off the bytes that lead to it, and counts its
+// children.
 fn leave<K: AsBytes + Drop, V: Drop, const P: usize>(
     store: &NodeStore<K, V, P>,
     name: InnerPtr,
@@ -181,8 +180,7 @@ fn leave<K: AsBytes + Drop, V: Drop, const P: usize>(
     check_count(store, node, place)
 }
 
-// Adds a name that is reached at a place to those that were met: a name for the second time is a loop,
-// and one that leads nowhere is dead.
+// Records a name that is reached at a place. A name that was met before is a loop, and one without a node is dead.
 fn meet<K: AsBytes + Drop, V: Drop, const P: usize>(
     store: &NodeStore<K, V, P>,
     name: OpaqueNodePtr,
@@ -221,8 +219,8 @@ fn is_there<K: AsBytes + Drop, V: Drop, const P: usize>(
     }
 }
 
-// Appends the prefix of an inner node to the bytes that lead to it. A prefix that is not stored whole is
-// read from the least leaf below. Returns that leaf, where it is known.
+// Appends the prefix of an inner node to the bytes that lead to it. A prefix that is not stored whole is read from the
+// least leaf below. Returns that leaf, if it is known.
 fn read_prefix<K: AsBytes + Drop, V: Drop, const P: usize>(
     store: &NodeStore<K, V, P>,
     name: InnerPtr,
@@ -247,8 +245,8 @@ fn read_prefix<K: AsBytes + Drop, V: Drop, const P: usize>(
     Ok(found)
 }
 
-// The prefix of an inner node: what is stored of it, or what the least leaf below has there, where that is
-// not all. With that leaf, where it is known.
+// The prefix of an inner node: its stored bytes, or those of the least leaf below if they are not all. With that leaf,
+// if it is known.
 fn whole_prefix<'a, K: AsBytes + Drop, V: Drop, const P: usize>(
     store: &'a NodeStore<K, V, P>,
     name: InnerPtr,
@@ -328,7 +326,7 @@ fn part_of<K: AsBytes + Drop, V: Drop, const P: usize>(
     key.get(depth..end)
 }
 
-// The leaf at the end of the walk down least children, if there is one.
+// The leaf at the end of the descent along least children, if there is one.
 fn least_leaf<K: AsBytes + Drop, V: Drop, const P: usize>(
     store: &NodeStore<K, V, P>,
     name: OpaqueNodePtr,
@@ -399,7 +397,7 @@ fn check_leaf<K: AsBytes + Drop, V: Drop, const P: usize>(
     check_order(store, key, node.next, Ordering::Greater, place)
 }
 
-// Checks that a leaf's sibling, if it has one, is there and stands in this order to it.
+// Checks that a leaf's sibling, if it has one, is a leaf of the store and compares to it in this order.
 fn check_order<K: AsBytes + Drop, V: Drop, const P: usize>(
     store: &NodeStore<K, V, P>,
     key: &[u8],

@@ -1,4 +1,4 @@
-//! Errors with copies of what they say, or the want of memory for these.
+//! Errors with copies of what they report, or out of memory.
 ghost use Rattle.art_model.specs.Faults.{dead_name, leaf_sibling_wrong_order, loop_found, prefix_mismatch, stored_prefix_mismatch, unreadable_prefix, wrong_children_count, wrong_sibling_links};
 ghost use Rattle.art_checking.specs.Checked.{Says};
 ghost use Rattle.art_checking.specs.Checks.{between};

@@ -1,4 +1,4 @@
-//! What may be wrong with a tree.
+//! The faults of a tree.
 
 ghost use Rattle.std.specs.Prelude.{◌≡◌};
 
@@ -9,30 +9,30 @@ use std::cmp::Ordering;
 use std::fmt;
 use thiserror::Error;
 
-/// Why a store and a root are no well-formed tree.
+/// Why a store and a root are not a well-formed tree.
 #[derive(PartialEq, Eq, Debug, Drop, Error)]
 pub enum MalformedTreeError {
-    /// A node was met on two ways: there is a loop, or the node is shared.
+    /// A node was met twice, at different places: there is a loop, or the node is shared.
     #[error("Found a loop in the tree containing the node [{node_ptr}]. First observed that node at [{first_observed:?}], then later observed the same node at [{later_observed:?}]")]
     LoopFound {
         node_ptr: OpaqueNodePtr,
         first_observed: KeyPrefix,
         later_observed: KeyPrefix,
     },
-    /// An inner node has fewer children than its kind may have. It never has more.
+    /// An inner node has fewer children than its kind allows. It never has more.
     #[error("Found an inner node of type [{inner_node_type}] at location [{key_prefix:?}] that had the wrong number of children! Expected children in range [{least}..={most}], but found [{num_children}] children", least = range_of(*.inner_node_type).0, most = range_of(*.inner_node_type).1)]
     WrongChildrenCount {
         key_prefix: KeyPrefix,
         inner_node_type: NodeType,
         num_children: usize,
     },
-    /// A leaf's key does not begin with the bytes that lead to the leaf.
+    /// A leaf's key does not start with the bytes that lead to the leaf.
     #[error("Found a leaf that had a mismatched key from the expected prefix! Expected the leaf key to start with [{expected_prefix:?}], but the leaf key was [{entire_key:?}]")]
     PrefixMismatch {
         expected_prefix: KeyPrefix,
         entire_key: Vec<u8>,
     },
-    /// There is no root, but a length.
+    /// There is no root, but the length is not 0.
     #[error("The length of the tree is not 0, even though the root is None")]
     EmptyTreeWithLen,
     /// A leaf names a sibling whose key is not before its own, or not after it.
@@ -54,29 +54,27 @@ pub enum MalformedTreeError {
         actual_previous: OptionalLeafPtr,
         actual_next: OptionalLeafPtr,
     },
-    /// A name leads to no node of its kind.
+    /// There is no node of its kind under a name.
     #[error("Found a name [{name}] at location [{key_prefix:?}] that leads to no node of its kind")]
     DeadName {
         /// The bytes that lead to the name, or to the leaf that names it as a sibling.
         key_prefix: KeyPrefix,
         name: OpaqueNodePtr,
     },
-    /// A prefix is longer than what can be stored, and there is no leaf to read it from, or the leaf's key
-    /// is too short.
+    /// A prefix is longer than its stored bytes, and there is no leaf to read it from, or the leaf's key is too short.
     #[error("Found an inner node [{name}] at location [{key_prefix:?}] whose prefix cannot be read from a leaf")]
     UnreadablePrefix {
         key_prefix: KeyPrefix,
         name: OpaqueNodePtr,
     },
-    /// A prefix is longer than what can be stored, and its stored bytes are not those of the leaf that
-    /// it is read from.
+    /// A prefix is longer than its stored bytes, and these are not those of the leaf that it is read from.
     #[error("Found an inner node at location [{key_prefix:?}] that stores the prefix bytes [{stored:?}], but its least leaf has [{actual:?}]")]
     StoredPrefixMismatch {
         key_prefix: KeyPrefix,
         stored: Vec<u8>,
         actual: Vec<u8>,
     },
-    /// There was no memory for the check. It says nothing of the tree.
+    /// An allocation of the check failed. It reports nothing about the tree.
     #[error("Memory ran out while the tree was checked")]
     OutOfMemory,
 }
@@ -161,7 +159,7 @@ impl Clone for MalformedTreeError {
     }
 }
 
-// A link as it prints.
+// A link as it is displayed.
 #[derive(Drop)]
 struct Link(OptionalLeafPtr);
 
@@ -174,7 +172,7 @@ impl fmt::Display for Link {
     }
 }
 
-// What is wrong with a leaf's links, as it prints: of each what was expected, and what was found.
+// The faulty links of a leaf as they are displayed: of each what was expected, and what was found.
 #[derive(Drop)]
 struct WrongLinks {
     previous: (OptionalLeafPtr, OptionalLeafPtr),
@@ -195,7 +193,7 @@ impl fmt::Display for WrongLinks {
     }
 }
 
-// The same of one link, by the word for it.
+// The same for one link, with the word for it.
 #[derive(Drop)]
 struct WrongLink(&'static str, (OptionalLeafPtr, OptionalLeafPtr));
 

@@ -7,15 +7,15 @@ use art_nodes::node::OpaqueNodePtr;
 use std::alloc::{AllocError, Global};
 use std::marker::Model;
 
-// Names, each with its place, in the order in which they were added, seen as the list of them. The bytes of
-// all places stand in one list, one place behind the other.
+// Names, each with its place, in the order in which they were added, seen as the list of them. The bytes of all places
+// are in one list, one place after the other.
 #[derive(Drop)]
 pub(super) struct Met {
     marks: Vec<Mark>,
     bytes: Vec<u8>,
 }
 
-// A name, and from where to where its place stands.
+// A name, and where its place begins and ends.
 #[derive(Clone, Copy)]
 struct Mark {
     name: OpaqueNodePtr,
@@ -51,7 +51,7 @@ impl Met {
         self.marks.len()
     }
 
-    // The place that stands at a number, if it has this name.
+    // The place of the entry at an index, if it has this name.
     #[inline(always)]
     pub(super) fn place_under(&self, number: usize, name: OpaqueNodePtr) -> Option<&[u8]>
         ensures { option_map (λ place. place.now) result ≡

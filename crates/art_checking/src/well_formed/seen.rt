@@ -8,8 +8,8 @@ use super::met::Met;
 use art_nodes::node::{LeafPtr, NodePtr, NodeType, OpaqueNodePtr};
 use std::alloc::{AllocError, Global};
 
-// The names that were met, each with its place, and the leaves among them, both in the order in which they
-// were met. A name was met if it stands in the list where its number says.
+// The names that were met, each with its place, and the leaves among them, both in the order in which they were met. A
+// name was met if the list has it at its number.
 #[derive(Drop)]
 pub(super) struct Seen {
     numbers: Numbers,
@@ -125,7 +125,7 @@ fn number_in(row: &[usize], slot: usize) -> usize
     }
 }
 
-// Writes a number into a slot of a row, which is made longer by zeros where it ends before.
+// Writes a number into a slot of a row, which is extended by zeros if it ends before.
 #[inline(always)]
 fn set_in(row: &mut Vec<usize>, slot: usize, number: usize) -> Result<(), AllocError>
     ensures here { OnOk result (number_at row.new.items slot ≡ number) }

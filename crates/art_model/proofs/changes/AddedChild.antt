@@ -1,4 +1,4 @@
--- A leaf more among the children of the node in the hole: where it comes, the kind of a larger node, and what the change keeps.
+-- A further leaf among the children of the node in the hole: its position, the kind of a larger node, and what the change keeps.
 use Rattle.std.proofs.Common.{◌≡◌, ◌≢◌, ℕ, suc, ◌<◌, ◌≤◌, List, [], length, Some, None, refl, ap, sym, ◌∙◌, subst, arith, eq-eqb, inl, inr}
 use Rattle.std.specs.List.{AllByRecursion as Each}
 use Rattle.std.proofs.lemmas.Bool.{cases_order, ne_eqb}
@@ -24,7 +24,7 @@ use Rattle.art_model.proofs.lists.Lists.{Each-weaker}
 use Rattle.art_model.proofs.places.Paths.{root_with}
 use Rattle.art_model.proofs.stores.Slots.{IsInRange, kind_of-range, range_of_kind}
 
--- ---- where a child comes under a byte that has none
+-- ---- the position of a child under a byte that has none
 
 -- the children under lesser bytes, and those under greater ones
 pub record IsSplit {A : Type 0} (cs : Subtrees OpaqueNodePtr A) (b : ℕ) : Type 0 where
@@ -47,7 +47,7 @@ split_at (child c t cs) b up none = elim (cases_order c b) [
 
 -- ---- the kind of a larger node
 
--- a full node that gets a child more has the next kind
+-- a full node that gets a further child has the next kind
 pub kind_of-larger : (kind : NodeType) (n : ℕ) → kind ≡ kind_of n → kind ≢ Node256 → kind_capacity kind ≤ n → larger_kind kind ≡ kind_of (suc n)
 kind_of-larger kind n e not_last full = sym (kind_of-range (larger_kind kind) (suc n) (more kind (subst (λ k. IsInRange k n) (sym e) (range_of_kind n)) not_last full))
   where
@@ -58,9 +58,9 @@ kind_of-larger kind n e not_last full = sym (kind_of-range (larger_kind kind) (s
     more Node256 h off f = absurd (off refl)
     more Leaf h off f = absurd h
 
--- ---- the whole of it
+-- ---- all of it
 
--- The node in the hole has a leaf more among its children, under its old name or another: what is laid out then, and that the change was one in place.
+-- The node in the hole has a further leaf among its children, under its old name or another: the new layout, and that the tree was changed in place.
 pub record ChildAdded {K V : Type 0} (bytes : K × V → List ℕ) (P : ℕ) (s t : Nodes K V) (root : OpaqueNodePtr) (pairs : List (K × V))
     (fs : List (Frame OpaqueNodePtr (K × V))) (m node : OpaqueNodePtr) (h : NodeHeader) (l r : Subtrees OpaqueNodePtr (K × V)) (b : ℕ) (n : OpaqueNodePtr) (new : K × V) : Type 0 where
   pub header : NodeHeader

@@ -1,4 +1,4 @@
--- A branch is placed, from the equations of the store's maps: a leaf and a node above it and the tree in the hole, which may be touched itself.
+-- A branch is placed, from the equations of the store's maps: a leaf, and a node above it and the tree in the hole, which may be changed itself.
 use Rattle.std.proofs.Common.{◌≡◌, ◌≢◌, ℕ, ◌+◌, ◌≤◌, List, [], ◌∷◌, ◌++◌, length, take, Option, Some, None, refl, ap, sym, ◌∙◌, subst, map, arith, cond, ltb, Bool, true, false, ◌⊎◌, inl, inr}
 use Rattle.std.specs.List.{AllByRecursion as Each}
 use Rattle.std.specs.Option.{option_map}
@@ -130,14 +130,14 @@ module _ {K V : Type 0} {bytes : K × V → List ℕ} {P : ℕ} {s t : Nodes K V
   pub branch_print : Footprint s t (both_names (n ∷ []) (m ∷ [])) (both_names [] []) (both_names (listed x.next ++ (listed x.previous ++ [])) (parents fs ++ touched))
   branch_print = footprint_of s t touched_leaves touched_inners (off, tt) tt are_inners
 
-  -- a node of the tree that was touched is what it was made then
+  -- a node of the tree that was touched is what it became then
   pub touched_is : (k : OpaqueNodePtr) → k.kind ≢ Leaf → IsIn (as_inner k) touched → get t.inners (as_inner k) ≡ get mid (as_inner k)
   touched_is k kind i =
       ap (λ z. get z (as_inner k)) is.inners ∙ with_child_at-elsewhere fs (inner_name m) (insert mid m node) k
       (λ up. parent_apart (node_at s) (node_at t) fs tree old.holds old.distinct k up (is.in_tree (as_inner k) i))
       ∙ inner_elsewhere mid m (as_inner k) node (not_new k (each_in (λ z. (get s.inners z ≢ None) × (get mid z ≢ None)) (as_inner k) touched is.touches.are_changed i).0)
 
-  -- two names are placed, and three are changed and those that were touched
+  -- two names are placed, and three are changed in addition to those that were touched
   pub branch_touches : (most : ℕ) → 3 + length touched ≤ most → TouchesAtMost 2 0 most s t
   branch_touches most few =
       let beside = length-beside x.next x.previous in let above = length-parents fs touched in
@@ -198,13 +198,13 @@ header_touches s k h slots header held =
 
 module _ {K V : Type 0} {bytes : K × V → List ℕ} {P : ℕ} {s t : Nodes K V} {root : OpaqueNodePtr} {pairs : List (K × V)}
     {fs : List (Frame OpaqueNodePtr (K × V))} {place : List ℕ} {m : InnerPtr} {n : LeafPtr} {part : List ℕ} {b c : ℕ} {x : LeafNode K V} where
-  -- a leaf, which stays what it was
+  -- a leaf, which is unchanged
   pub leaf_branched : {k : OpaqueNodePtr} {y : K × V} {mid : Inners} → IsLaidOut bytes P (node_at s) (links_at s) root pairs (plug fs (leaf k y)) →
       BranchStored bytes P s t fs place (leaf k y) m n part b c x mid [] → IsFront ((place ++ part) ++ b ∷ []) (bytes y) →
       BranchInserted bytes P (node_at s) (node_at t) (links_at s) (links_at t) fs place (leaf k y) (leaf k y) (inner_name m) (leaf_name n) part b c (pair_of x)
   leaf_branched {k} {y} old is front = split_leaf old is.hole front (branch_same old is) (branch_placed old is (leaf k y) refl)
 
-  -- an inner node, whose prefix is the part, a byte and a rest: the rest is left to it
+  -- an inner node, whose prefix is the part, a byte and a rest: the rest stays its prefix
   pub prefix_branched : {k : OpaqueNodePtr} {h : NodeHeader} {cs : Subtrees OpaqueNodePtr (K × V)} {mid : Inners} (rest : List ℕ) →
       mid ≡ change s.inners (as_inner k) (with_header (record { len = length rest; stored = take P rest })) → IsLaidOut bytes P (node_at s) (links_at s) root pairs (plug fs (inner k h cs)) →
       (is : BranchStored bytes P s t fs place (inner k h cs) m n part b c x mid (as_inner k ∷ [])) → is.hole.radix.0 ≡ part ++ b ∷ rest →

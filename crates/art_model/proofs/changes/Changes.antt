@@ -1,4 +1,4 @@
--- What each change makes of the tree in the hole: a radix tree again, with the pairs that the map's operation leaves.
+-- What each change does to the tree in the hole: a radix tree again, with the pairs that the map's operation leaves.
 use Rattle.std.proofs.Common.{◌≡◌, ℕ, suc, ◌<◌, ◌≤◌, List, [], ◌∷◌, ◌++◌, length, refl, ap, sym, ◌∙◌, append_assoc, append-nil, arith, length-append, subst, cond, ltb, ◌⊎◌, inl, inr}
 use Rattle.std.specs.List.{AllByRecursion as Each}
 use Rattle.std.proofs.lemmas.Bool.{cases_order, le-ltb, lt-ltb}
@@ -52,12 +52,12 @@ module _ {N A : Type 0} (bytes : A → List ℕ) (P : ℕ) where
             ap (λ l. new ∷ l) (append-nil (pairs_of t)) ∙ sym (replace_key-between bytes new [] [] (pairs_of t) tt high),
           )
 
-  -- a node whose prefix lost its front, a byte further down
+  -- a node whose prefix lost its first part, a byte further down
   pub trimmed : (place m q : List ℕ) (b : ℕ) (n : N) (h : NodeHeader) (cs : Subtrees N A) → 2 ≤ length (bytes_of cs) → BytesRise (bytes_of cs) → AreRadix bytes P (place ++ (m ++ b ∷ q)) cs →
       IsRadix bytes P ((place ++ m) ++ b ∷ []) (inner n (canonical_header P q (length (bytes_of cs))) cs)
   trimmed place m q b n h cs two up below = (q, refl, two, up, subst (λ f. AreRadix bytes P f cs) (simp append_assoc) below)
 
-  -- a node whose prefix took its parent's prefix and its byte in front
+  -- a node whose prefix got its parent's prefix and its byte prepended
   pub merged : (place part : List ℕ) (c : ℕ) (q : List ℕ) (n : N) (cs : Subtrees N A) → 2 ≤ length (bytes_of cs) → BytesRise (bytes_of cs) → AreRadix bytes P (((place ++ part) ++ c ∷ []) ++ q) cs →
       IsRadix bytes P place (inner n (canonical_header P (part ++ c ∷ q) (length (bytes_of cs))) cs)
   merged place part c q n cs two up below = (part ++ c ∷ q, refl, two, up, subst (λ f. AreRadix bytes P f cs) (simp append_assoc) below)
@@ -100,7 +100,7 @@ module _ {N A : Type 0} (bytes : A → List ℕ) (P : ℕ) where
             replace_key-between bytes new (pairs_below cs) [] (pairs_below ds) low high ∙ append_assoc (pairs_below cs) (new ∷ []) (pairs_below ds)),
       )
 
-  -- a child that is a leaf goes: what is left below
+  -- a child that is a leaf is removed: what is left below
   pub without_child : (place part : List ℕ) (cs ds : Subtrees N A) (b : ℕ) (n : N) (x : A) →
       BytesRise (bytes_of (join cs (child b (leaf n x) ds))) → AreRadix bytes P (place ++ part) (join cs (child b (leaf n x) ds)) →
       BytesRise (bytes_of (join cs ds)) × AreRadix bytes P (place ++ part) (join cs ds) × (pairs_below (join cs ds) ≡ remove_key bytes (bytes x) (pairs_below (join cs (child b (leaf n x) ds))))
@@ -126,14 +126,14 @@ module _ {N A : Type 0} (bytes : A → List ℕ) (P : ℕ) where
       gone : pairs_below cs ++ remove_key bytes (bytes x) (x ∷ []) ++ pairs_below ds ≡ pairs_below cs ++ pairs_below ds
       gone = rw (front_same (bytes x)) (ap (λ l. l ++ pairs_below ds) (append-nil (pairs_below cs)))
 
-  -- a child that is a leaf goes, and two or more stay: the node keeps its kind or shrinks
+  -- a child that is a leaf is removed, and two or more stay: the node keeps its kind or shrinks
   unfoldable pub child_removed : (place part : List ℕ) (cs ds : Subtrees N A) (b : ℕ) (m n : N) (x : A) →
       BytesRise (bytes_of (join cs (child b (leaf n x) ds))) → AreRadix bytes P (place ++ part) (join cs (child b (leaf n x) ds)) → 2 ≤ length (bytes_of (join cs ds)) →
       let u = inner m (canonical_header P part (length (bytes_of (join cs ds)))) (join cs ds) in
       IsRadix bytes P place u × (pairs_of u ≡ remove_key bytes (bytes x) (pairs_below (join cs (child b (leaf n x) ds))))
   child_removed place part cs ds b m n x up all two = let (rising, below, its) = without_child place part cs ds b n x up all in ((part, refl, two, rising, below), its)
 
-  -- a child that is a leaf goes, and one is left
+  -- a child that is a leaf is removed, and one is left
   pub child_left : (place part : List ℕ) (cs ds : Subtrees N A) (b c : ℕ) (n : N) (x : A) (v : Tree N A) →
       BytesRise (bytes_of (join cs (child b (leaf n x) ds))) → AreRadix bytes P (place ++ part) (join cs (child b (leaf n x) ds)) → join cs ds ≡ child c v no_child →
       IsRadix bytes P ((place ++ part) ++ c ∷ []) v × (pairs_of v ≡ remove_key bytes (bytes x) (pairs_below (join cs (child b (leaf n x) ds))))
@@ -142,10 +142,10 @@ module _ {N A : Type 0} (bytes : A → List ℕ) (P : ℕ) where
       ((subst (AreRadix bytes P (place ++ part)) one below).0, sym (append-nil (pairs_of v)) ∙ ap pairs_below (sym one) ∙ its)
 
 module _ {A : Type 0} (bytes : A → List ℕ) where
-  -- a pair takes the place of the one with its key
+  -- a pair replaces the one with its key
   pub exact : (new x : A) → bytes new ≡ bytes x → replace_key bytes new (x ∷ []) ≡ new ∷ []
   exact new x e = rw (← e, front_same (bytes new)) refl
 
-  -- the only pair goes
+  -- the only pair is removed
   pub alone : (x : A) → remove_key bytes (bytes x) (x ∷ []) ≡ []
   alone x = rw (front_same (bytes x)) refl

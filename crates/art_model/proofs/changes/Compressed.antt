@@ -1,4 +1,4 @@
--- A deletion that leaves a node one child, from the equations of the store's maps: the child takes the node's place, with a longer prefix where it is an inner node.
+-- A deletion that leaves a node one child, from the equations of the store's maps: the child replaces the node, with a longer prefix where it is an inner node.
 use Rattle.std.proofs.Common.{◌≡◌, ◌≢◌, ℕ, ◌≤◌, List, [], ◌∷◌, ◌++◌, length, take, map, Option, Some, None, refl, ap, sym, ◌∙◌, subst, arith, append-nil, ◌⊎◌, inl, inr}
 use Rattle.std.specs.List.{AllByRecursion as Each}
 use Rattle.std.specs.Option.{option_map}
@@ -49,7 +49,7 @@ module _ {A : Type 0} (P : ℕ) (prefix : List ℕ) where
   with_prefix (leaf k y) = leaf k y
   with_prefix (inner k head cs) = inner k (canonical_header P prefix (length (bytes_of cs))) cs
 
-  -- and so in a store
+  -- the same in a store
   abbrev pub prefix_written : Tree OpaqueNodePtr A → Inners → Inners
   prefix_written (leaf k y) inners = inners
   prefix_written (inner k head cs) inners = change inners (as_inner k) (with_header (headers.header_of P prefix))
@@ -64,7 +64,7 @@ abbrev pub prefix_at : {A : Type 0} (bytes : A → List ℕ) (P : ℕ) (place : 
 prefix_at bytes P place (leaf k y) radix = []
 prefix_at bytes P place (inner k head cs) radix = radix.0
 
--- A leaf is taken from a node that has one other child, `v`; the node goes, and `v` takes its place, with the node's prefix and its own byte in front of its own prefix.
+-- A leaf is removed from a node that has one other child, `v`, which replaces the node, with the node's prefix and its own byte prepended to its own prefix.
 pub record Compressed {K V : Type 0} (bytes : K × V → List ℕ) (P : ℕ) (s t : Nodes K V) (fs : List (Frame OpaqueNodePtr (K × V))) (place : List ℕ)
     (m : OpaqueNodePtr) (h : NodeHeader) (l r : Subtrees OpaqueNodePtr (K × V)) (b : ℕ) (n : LeafPtr) (x : LeafNode K V) (c : ℕ) (v : Tree OpaqueNodePtr (K × V)) : Type 0 where
   pub hole : IsHole bytes P fs place (inner m h (join l (child b (leaf (leaf_name n) (pair_of x)) r))) (bytes (pair_of x))
@@ -118,7 +118,7 @@ module _ {K V : Type 0} {bytes : K × V → List ℕ} {P : ℕ} {s t : Nodes K V
   pub v_held : Holds (node_at s) v
   v_held = left_child_held (node_at s) (node_at t) fs m h l (child b (leaf (leaf_name n) (pair_of x)) no_child) r old.holds old.distinct c v is.one
 
-  -- ---- which names are which
+  -- ---- the names
 
   left_names : names_of v ≡ names_below (join l r)
   left_names = sym (append-nil (names_of v)) ∙ sym (ap names_below is.one)
@@ -164,7 +164,7 @@ module _ {K V : Type 0} {bytes : K × V → List ℕ} {P : ℕ} {s t : Nodes K V
       go (inner j head cs) prefix f =
           inner_changed_elsewhere (remove s.inners (as_inner m)) (as_inner j) (as_inner k) (with_header (headers.header_of P prefix)) (λ e. f (inl (sym (inner_name_one k j e)))) ∙ without
 
-  -- the parent is still as it was then
+  -- the parent is still unchanged then
   pub above_same : (k : OpaqueNodePtr) → IsParent fs k → get middle (as_inner k) ≡ get s.inners (as_inner k)
   above_same k up = middle_elsewhere k (λ e. off_parent k (inl (sym e)) up) (λ i. off_parent k (inr (left_in k (rewritten_in v k i))) up)
 

@@ -1,4 +1,4 @@
--- A tree that is one leaf loses it, from the equations of the store's maps.
+-- The only leaf of a tree is removed, from the equations of the store's maps.
 use Rattle.std.proofs.Common.{◌≡◌, ℕ, List, [], ◌∷◌, ◌++◌, Option, Some, None, refl, ap₂, sym, subst, arith, inr}
 use Rattle.std.specs.Option.{option_map}
 use Rattle.art_parts.specs.Names.{leaf_name}
@@ -37,7 +37,7 @@ module _ {K V : Type 0} {bytes : K × V → List ℕ} {P : ℕ} {s t : Nodes K V
   pub emptied_touches : TouchesAtMost 0 1 0 s t
   emptied_touches = touches_at_most s t 0 1 0 touched_leaves touched_inners tt tt tt (omega arith) (omega arith) (omega arith)
 
-  -- and what is beside the tree stays
+  -- and what is outside the tree stays
   pub emptied_in_place : ChangesInPlace bytes s t (Some (leaf (leaf_name n) (pair_of x))) None
   emptied_in_place = in_place (footprint_of s t touched_leaves touched_inners tt tt tt) P
       (record { placed_in = λ k i. absurd i; freed_in = λ k i. i; changed_in = λ k i. absurd i; old_stays = λ k i. inr i; new_comes = λ k i. absurd i }) (λ e f i j. absurd j) (λ e f i j. absurd j)

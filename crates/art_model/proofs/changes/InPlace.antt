@@ -23,7 +23,7 @@ pub names_back : {N : Type 0} {old new placed freed : List N} → AreNames old n
 names_back names = record { placed_in = names.freed_in; freed_in = names.placed_in; changed_in = λ n i. absurd i; old_stays = names.new_comes; new_comes = names.old_stays }
 
 module _ {K V : Type 0} {s t : Nodes K V} {placed freed changed : List OpaqueNodePtr} (print : Footprint s t placed freed changed) where
-  -- nodes beside the tree are as they were
+  -- nodes outside the tree are unchanged
   pub others_kept : {old new : List OpaqueNodePtr} → AreNames old new placed freed changed → KeepsOthers s t old new
   others_kept {old} {new} names = record {
     beside = λ n not_old not_new. print.others n (λ i. not_new (names.placed_in n i)) (λ i. not_old (names.freed_in n i)) (λ i. not_old (names.changed_in n i));
@@ -37,7 +37,7 @@ module _ {K V : Type 0} {s t : Nodes K V} {placed freed changed : List OpaqueNod
     ];
   }
 
-  -- The whole of it, where the nodes that stay keep their names.
+  -- All of it, where the nodes that stay keep their names.
   pub in_place : {bytes : K × V → List ℕ} (P : ℕ) {old new : Option (Tree OpaqueNodePtr (K × V))} → AreNames (names_in old) (names_in new) placed freed changed →
       KeepLeaves bytes P (leaves_in old) (leaves_in new) → KeepNames (inners_in bytes old) (inners_in bytes new) → ChangesInPlace bytes s t old new
   in_place P names leaves inners = record {

@@ -1,4 +1,4 @@
--- Insertions from store to store: a branch takes the place of a subtree, or a node has one child more.
+-- Insertions from store to store: a branch replaces a subtree, or a node has one more child.
 use Rattle.std.proofs.Common.{◌≡◌, ◌≢◌, ℕ, suc, ◌+◌, ◌<◌, List, [], ◌∷◌, ◌++◌, length, refl, ap, sym, ◌∙◌, subst, length-append, arith, append-nil, Option, Some, None, true, false, Bool, cond, ltb, ◌⊎◌, inl, inr}
 use Rattle.std.specs.List.{AllByRecursion as Each}
 use Rattle.art_model.specs.Keys.{IsFront}
@@ -21,7 +21,7 @@ use Rattle.art_model.proofs.stores.Canonical.{IsLaidOut}
 use Rattle.art_model.proofs.changes.Regrown.{IsBranch, branch_regrown, children_regrown}
 use Rattle.art_model.proofs.changes.Replaced.{replaced, linked_in_hole}
 
--- The key goes on from the node in the hole with a byte, and the children stand on both sides of it.
+-- The key continues from the node in the hole with a byte, and the children are on both sides of it.
 pub record IsGap {N A : Type 0} (bytes : A → List ℕ) (P : ℕ) (fs : List (Frame N A)) (place : List ℕ) (m : N) (h : NodeHeader) (l r : Subtrees N A) (b : ℕ) (key : List ℕ) : Type 0 where
   pub hole : IsHole bytes P fs place (inner m h (join l r)) key
   pub front : IsFront ((place ++ hole.radix.0) ++ b ∷ []) key
@@ -29,7 +29,7 @@ pub record IsGap {N A : Type 0} (bytes : A → List ℕ) (P : ℕ) (fs : List (F
   pub high : Each (λ c. b < c) (bytes_of r)
 
 module _ {N A : Type 0} (bytes : A → List ℕ) (P : ℕ) (at to : N → Option (Node N A)) (before links : N → Option (Links N)) (fs : List (Frame N A)) (place : List ℕ) where
-  -- The tree `t` in the hole became `u`, which stands beside a new leaf below a new node: a leaf is split, or a prefix.
+  -- The tree `t` in the hole became `u`, below a new node whose other child is a new leaf: a leaf is split, or a prefix.
   pub record BranchInserted (t u : Tree N A) (m n : N) (part : List ℕ) (b c : ℕ) (new : A) : Type 0 where
     pub hole : IsHole bytes P fs place t (bytes new)
     pub radix : IsRadix bytes P ((place ++ part) ++ b ∷ []) u
@@ -54,7 +54,7 @@ module _ {N A : Type 0} (bytes : A → List ℕ) (P : ℕ) (at to : N → Option
     pub parent : ParentHas to fs m
     pub relinked : Relinked before links (leaves_before fs ++ cond (ltb b c) (leaf_names t) []) (n ∷ []) (cond (ltb b c) [] (leaf_names t) ++ leaves_after fs)
 
-  -- The node in the hole has one child more, a new leaf: it has room, or a larger node takes its place.
+  -- The node in the hole has one more child, a new leaf: it has room, or a larger node replaces it.
   pub record ChildInserted (m node n : N) (h : NodeHeader) (l r : Subtrees N A) (b : ℕ) (new : A) : Type 0 where
     pub gap : IsGap bytes P fs place m h l r b (bytes new)
     pub named : (node ≡ m) ⊎ (at node ≡ None)
@@ -102,11 +102,11 @@ module _ {N A : Type 0} {bytes : A → List ℕ} {P : ℕ} {at to : N → Option
       linked = linked_in_hole fs before links t grown (cond (ltb b c) (leaf_names t) []) [] (n ∷ []) (cond (ltb b c) [] (leaf_names t)) old.distinct old.linked old_leaves new_leaves is.relinked;
     }) (bytes new) (replace_key bytes new) (replace_key-between bytes new) is.hole.front (branched.1 ∙ ap (replace_key bytes new) (same_pairs_of t u is.same_entries))
 
-    -- and inner nodes that stay keep their names
+    -- inner nodes that stay keep their names
     pub branch_keeps : KeepNames (inner_nodes bytes 0 (plug fs t)) (inner_nodes bytes 0 (plug fs (inner m (canonical_header P part 2) (two_children b u c (leaf n new)))))
     branch_keeps = kept bytes P fs place t grown is.hole.path is.hole.radix branched.0 (kept_branch bytes P place t u m n (canonical_header P part 2) b c new branched.0 is.same_inners)
 
-    -- and keys that stay keep their leaves' names
+    -- keys that stay keep their leaves' names
     pub branch_keeps_leaves : KeepLeaves bytes P (entries_of (plug fs t)) (entries_of (plug fs (inner m (canonical_header P part 2) (two_children b u c (leaf n new)))))
     branch_keeps_leaves =
         kept_leaves bytes P fs t grown old.radix branch_inserted.radix (kept_leaves_more bytes P t grown place branched.0 (λ e i. among e (ltb b c) (subst (IsIn e) (sym is.same_entries) i)))
@@ -138,14 +138,14 @@ module _ {N A : Type 0} {bytes : A → List ℕ} {P : ℕ} {at to : N → Option
           (leaf_names_below-three l no_child r) (leaf_names_below-three l (child b (leaf n new) no_child) r) is.relinked;
     }) (bytes new) (replace_key bytes new) (replace_key-between bytes new) is.gap.hole.front with_leaf.1
 
-    -- and inner nodes that stay keep their names
+    -- inner nodes that stay keep their names
     pub child_keeps : KeepNames (inner_nodes bytes 0 (plug fs (inner m h (join l r))))
         (inner_nodes bytes 0 (plug fs (inner node (canonical_header P is.gap.hole.radix.0 (suc (length (bytes_of (join l r))))) (join l (child b (leaf n new) r)))))
     unfolding with_leaf with_child
     child_keeps = kept bytes P fs place (inner m h (join l r)) (inner node head (join l (child b (leaf n new) r))) is.gap.hole.path is.gap.hole.radix with_leaf.0
         (kept_children bytes P place m node h head (join l r) (join l (child b (leaf n new) r)) is.gap.hole.radix with_leaf.0 refl (λ d. inner_nodes-leaf bytes P d l r b n new) is.same_kind)
 
-    -- and keys that stay keep their leaves' names
+    -- keys that stay keep their leaves' names
     pub child_keeps_leaves : KeepLeaves bytes P (entries_of (plug fs (inner m h (join l r))))
         (entries_of (plug fs (inner node (canonical_header P is.gap.hole.radix.0 (suc (length (bytes_of (join l r))))) (join l (child b (leaf n new) r)))))
     child_keeps_leaves = kept_leaves bytes P fs (inner m h (join l r)) (inner node head (join l (child b (leaf n new) r))) old.radix child_inserted.radix
@@ -156,7 +156,7 @@ module _ {N A : Type 0} {bytes : A → List ℕ} {P : ℕ} {at to : N → Option
   -- ---- what is split: a leaf, or an inner node's prefix
 
   module _ {m n : N} {part : List ℕ} {b c : ℕ} {new : A} where
-    -- a leaf whose key goes on after the part with another byte
+    -- a leaf whose key continues after the part with another byte
     pub split_leaf : {k : N} {x : A} → IsLaidOut bytes P at before root pairs (plug fs (leaf k x)) → IsHole bytes P fs place (leaf k x) (bytes new) →
         IsFront ((place ++ part) ++ b ∷ []) (bytes x) → SameBut at to fs [] →
         BranchPlaced bytes P at to before links fs place (leaf k x) (leaf k x) m n part b c new → BranchInserted bytes P at to before links fs place (leaf k x) (leaf k x) m n part b c new

@@ -1,4 +1,4 @@
--- An insertion into a node that is full, from the equations of the store's maps: a larger node takes its place, and what is laid out then, and what is touched.
+-- An insertion into a full node, from the equations of the store's maps: a larger node replaces it; the new layout, and what is touched.
 use Rattle.std.proofs.Common.{◌≡◌, ◌≢◌, ℕ, suc, ◌≤◌, List, [], ◌∷◌, ◌++◌, length, Some, None, ap, sym, ◌∙◌, subst, arith, inl, inr}
 use Rattle.std.specs.List.{AllByRecursion as Each}
 use Rattle.std.specs.FinMap.{get, insert, remove}
@@ -32,7 +32,7 @@ use Rattle.art_model.proofs.stores.Stores.{IsParent, path_holds, parent_apart}
 use Rattle.art_model.proofs.stores.Touches.{Touched, IsInner, both_names, touches_at_most, footprint_of, touched_none, then_freed, then_placed}
 use Rattle.art_model.proofs.stores.Writes.{shown, parents_inner, inner_at, node_at-inner, same_but, parents, length-parents, parent_there, parent_written, then_parent, with_child_at-elsewhere, inner_name_one}
 
--- A leaf is placed, and a larger node takes the place of the full one in the hole, with the leaf as a child under a byte that had none.
+-- A leaf is placed, and a larger node replaces the full one in the hole, with the leaf as a child under a byte that had none.
 pub record IntoFull {K V : Type 0} (bytes : K × V → List ℕ) (P : ℕ) (s t : Nodes K V) (fs : List (Frame OpaqueNodePtr (K × V))) (place : List ℕ)
     (m k : OpaqueNodePtr) (h : NodeHeader) (l r : Subtrees OpaqueNodePtr (K × V)) (b : ℕ) (n : LeafPtr) (x : LeafNode K V) (full : Inner) : Type 0 where
   pub gap : IsGap bytes P fs place m h l r b (bytes (pair_of x))
@@ -64,7 +64,7 @@ module _ {K V : Type 0} {bytes : K × V → List ℕ} {P : ℕ} {s t : Nodes K V
   parent_not_old : (q : OpaqueNodePtr) → IsParent fs q → q ≢ m
   parent_not_old q is e = parent_apart (node_at s) (node_at t) fs (inner m h (join l r)) old.holds old.distinct q is (inl (sym e))
 
-  -- names in use but the old node's have what they had before the parent is written
+  -- names in use except the old node's have what they had before the parent is written
   still : (q : OpaqueNodePtr) → q ≢ m → get s.inners (as_inner q) ≢ None → get before_parent (as_inner q) ≡ get s.inners (as_inner q)
   still q off used =
       inner_elsewhere (remove s.inners (as_inner m)) (as_inner k) (as_inner q) grown (λ e. used (ap (get s.inners) e ∙ into.was_free))
@@ -88,7 +88,7 @@ module _ {K V : Type 0} {bytes : K × V → List ℕ} {P : ℕ} {s t : Nodes K V
   k_was_free : node_at s k ≡ None
   k_was_free = node_at-inner s k into.is_inner None into.was_free
 
-  -- the larger node has the place and one child more
+  -- the larger node has the place and one more child
   pub full_inserted : ChildInserted bytes P (node_at s) (node_at t) (links_at s) (links_at t) fs place m k (leaf_name n) h l r b (pair_of x)
   full_inserted =
       let held = path_holds (node_at s) fs (inner m h (join l r)) old.holds in

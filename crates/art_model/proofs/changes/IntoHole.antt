@@ -1,4 +1,4 @@
--- A leaf takes the place of all that is in the hole, which is freed, from the equations of the store's maps: what is laid out then, and what is touched.
+-- A leaf replaces all that is in the hole, which is freed, from the equations of the store's maps: the new layout, and what is touched.
 use Rattle.std.proofs.Common.{◌≡◌, ◌≢◌, ℕ, List, [], ◌∷◌, ◌++◌, length, length-append, map, ◌+◌, ap₂, true, false, not, Option, Some, None, refl, ap, sym, ◌∙◌, subst, arith, inl, inr}
 use Rattle.std.specs.List.{AllByRecursion as Each}
 use Rattle.std.specs.Option.{option_map}
@@ -43,7 +43,7 @@ use Rattle.art_model.proofs.stores.Touches.{Touched, both_names, footprint_of, t
 use Rattle.art_model.proofs.stores.Views.{held_in_inner}
 use Rattle.art_model.proofs.stores.Writes.{node_at-leaf, parents, parent_there, parents_inner, parent_written, then_parent, same_but, with_child_at-elsewhere, length-parents}
 
--- A leaf is placed between the leaves beside the hole, the parent names it, and then all names of the hole are freed. All keys in the hole are related to the new one.
+-- A leaf is placed between the leaves next to the hole, the parent names it, and then all names of the hole are freed. All keys in the hole are related to the new one.
 pub record IntoHole {K V : Type 0} (bytes : K × V → List ℕ) (P : ℕ) (s u t : Nodes K V) (fs : List (Frame OpaqueNodePtr (K × V))) (place : List ℕ)
     (node : Tree OpaqueNodePtr (K × V)) (n : LeafPtr) (x : LeafNode K V) : Type 0 where
   pub hole : IsHole bytes P fs place node (bytes (pair_of x))
@@ -56,7 +56,7 @@ pub record IntoHole {K V : Type 0} (bytes : K × V → List ℕ) (P : ℕ) (s u 
   pub inners : u.inners ≡ with_child_at (parent_of fs) (leaf_name n) s.inners
   pub freed : Frees (names_of node) u t
 
--- ---- a leaf's name beside the hole is none of the hole's
+-- ---- the name of a leaf next to the hole is none of the hole's
 
 module _ {N A : Type 0} where
   leaf_below_in : (cs : Subtrees N A) (k : N) → IsIn k (leaf_names_below cs) → IsIn k (names_below cs)
@@ -129,7 +129,7 @@ module _ {K V : Type 0} {bytes : K × V → List ℕ} {P : ℕ} {s u t : Nodes K
   others_there : AreThere s (before ++ after)
   others_there p i = are_there s (plug fs node) old.holds p (subst (IsIn (leaf_name p)) (sym (leaf_names-plug fs node)) (in_around (leaf_name p) before (leaf_names node) after i))
 
-  -- the leaves beside the hole are there
+  -- the neighbours of the hole are in the store
   pub hole_previous : IsThere s.leaves x.previous
   hole_previous = previous_there s before after x.previous others_there into.last
 
@@ -206,7 +206,7 @@ module _ {K V : Type 0} {bytes : K × V → List ℕ} {P : ℕ} {s u t : Nodes K
       ap (add_in_order bytes new) (filter_none (λ y. not (are_related (bytes new) (bytes y))) (pairs_of node)
       (Each-weaker (λ y. are_related (bytes new) (bytes y) ≡ true) (λ y. not (are_related (bytes new) (bytes y)) ≡ false) (λ y e. ap not e) (pairs_of node) into.related))
 
-  -- those in the hole are all that are related
+  -- those in the hole are exactly the related ones
   pub hole_related : related_to bytes (bytes new) (pairs_of (plug fs node)) ≡ pairs_of node
   hole_related = related_at bytes P fs place (bytes new) node into.hole.path into.hole.front ∙ all_related
 
@@ -216,7 +216,7 @@ module _ {K V : Type 0} {bytes : K × V → List ℕ} {P : ℕ} {s u t : Nodes K
       ∙ filter_none (λ y. are_same (bytes new) (bytes y)) (pairs_of node)
       (Each-weaker (λ y. bytes y ≢ bytes new) (λ y. are_same (bytes new) (bytes y) ≡ false) (λ y off. not_same (bytes new) (bytes y) (λ e. off (sym e))) (pairs_of node) into.unequal))
 
-  -- so those in the hole are what goes
+  -- so those in the hole are the removed ones
   pub hole_reply : overwrite_reply bytes new pairs ≡ only_or_count (pairs_of node)
   hole_reply = overwrite_reply-new bytes new pairs none_stored ∙ ap (λ xs. only_or_count (related_to bytes (bytes new) xs)) (sym old.pairs_are) ∙ ap only_or_count hole_related
 
@@ -284,7 +284,7 @@ module _ {K V : Type 0} {bytes : K × V → List ℕ} {P : ℕ} {s u t : Nodes K
   in_before_whole : (k : OpaqueNodePtr) → IsIn k (before ++ after) → IsIn k (names_of (plug fs node))
   in_before_whole k i = taken_in takes_leaves (plug fs node) k (subst (IsIn k) (sym (leaf_names-plug fs node)) (in_around k before (leaf_names node) after i))
 
-  -- nodes that stay keep their names, and nodes beside the tree are as they were
+  -- nodes that stay keep their names, and nodes outside the tree are unchanged
   pub hole_kept : ChangesInPlace bytes s t (Some (plug fs node)) (Some (plug fs (leaf (leaf_name n) new)))
   hole_kept = in_place hole_print P
       (names_around fs node (leaf (leaf_name n) new) (leaf_name n ∷ []) (names_of node) (both_names beside (parents fs ++ []))

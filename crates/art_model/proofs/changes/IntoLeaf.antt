@@ -1,4 +1,4 @@
--- A leaf gets another value, or another pair, from the equations of the store's maps: what is laid out then, and what is touched.
+-- A leaf gets another value, or another pair, from the equations of the store's maps: the new layout, and what is touched.
 use Rattle.std.proofs.Common.{◌≡◌, ◌≢◌, ℕ, List, [], ◌∷◌, Some, None, refl, ap, sym, ◌∙◌, subst, arith, true, inl, inr}
 use Rattle.std.specs.Option.{option_map}
 use Rattle.std.specs.FinMap.{get}
@@ -35,7 +35,7 @@ use Rattle.art_model.proofs.stores.Touches.{Touched, touched_none, then_changed,
 use Rattle.art_model.proofs.stores.Views.{leaf_or}
 use Rattle.art_model.proofs.stores.Writes.{node_at-leaf, parent_there, parent_stays, same_but, same_inner}
 
--- The leaf in the hole has another pair: it was written so.
+-- The leaf in the hole has another pair.
 pub record IntoLeaf {K V : Type 0} (bytes : K × V → List ℕ) (P : ℕ) (s t : Nodes K V) (fs : List (Frame OpaqueNodePtr (K × V))) (place : List ℕ)
     (p : LeafPtr) (x : LeafNode K V) (new : K × V) : Type 0 where
   pub hole : IsHole bytes P fs place (leaf (leaf_name p) (pair_of x)) (bytes new)
@@ -77,7 +77,7 @@ module _ {K V : Type 0} {bytes : K × V → List ℕ} {P : ℕ} {s t : Nodes K V
     linked = linked_still fs (leaf_name p) (pair_of x) new old (λ k i. links_same k);
   }
 
-  -- the same root is canonical for what an operation makes of the pairs that puts the new one in the place of the leaf's
+  -- the same root is canonical for the result of an operation that replaces the leaf's pair by the new one
   pub leaf_changed : (F : List (K × V) → List (K × V)) → IsLocal bytes (bytes new) F → F (pair_of x ∷ []) ≡ new ∷ [] →
       IsLaidOut bytes P (node_at t) (links_at t) root (F pairs) (plug fs (leaf (leaf_name p) new))
   leaf_changed F local its =
@@ -109,7 +109,7 @@ module _ {K V : Type 0} {bytes : K × V → List ℕ} {P : ℕ} {s t : Nodes K V
       }) (in_hole fs (leaf (leaf_name p) (pair_of x))))
       (leaf_alone_keeps_leaves old alone F local its (kept_leaf bytes P (leaf_name p) (pair_of x) new)) (leaf_alone_keeps old alone)
 
-  -- ---- where a pair with an equal key is put: the key stays
+  -- ---- a put of a pair with an equal key: the key stays
   module _ (handed : K × V) (same : bytes (pair_of x) ≡ bytes handed) (alike : bytes new ≡ bytes handed) (kept : new ≡ (x.key, handed.1)) where
     key_same : are_same (bytes handed) (bytes (pair_of x)) ≡ true
     key_same = ap (are_same (bytes handed)) same ∙ front_same (bytes handed)
@@ -134,7 +134,7 @@ module _ {K V : Type 0} {bytes : K × V → List ℕ} {P : ℕ} {s t : Nodes K V
     pub leaf_insertion_kept : ChangesInPlace bytes s t (Some (plug fs (leaf (leaf_name p) (pair_of x)))) (Some (plug fs (leaf (leaf_name p) new)))
     leaf_insertion_kept = leaf_kept (replace_key bytes new) (replace_key-between bytes new) replaced_here
 
-    -- the key that was handed in is answered with the old value
+    -- the key that was passed is returned with the old value
     pub leaf_reply : put_reply bytes handed pairs ≡ Some (handed.0, x.value)
     leaf_reply = put_reply-old bytes handed pairs (pair_of x) leaf_stored
 
@@ -149,7 +149,7 @@ module _ {K V : Type 0} {bytes : K × V → List ℕ} {P : ℕ} {s t : Nodes K V
         ∙ ap first_of (with_key-hole bytes P fs place (bytes new) (leaf (leaf_name p) (pair_of x)) into.hole.path into.hole.front)
         ∙ rw (not_same (bytes new) (bytes (pair_of x)) unequal) refl
 
-    -- the new pair takes the place of the old one
+    -- the new pair replaces the old one
     pub leaf_overwritten : IsLaidOut bytes P (node_at t) (links_at t) root (overwrite bytes new pairs) (plug fs (leaf (leaf_name p) new))
     leaf_overwritten = subst (λ ps. IsLaidOut bytes P (node_at t) (links_at t) root ps (plug fs (leaf (leaf_name p) new))) (sym (overwrite-new bytes new pairs none_stored))
         (leaf_changed (replace_related bytes new) (replace_related-between bytes new) replaced_related)

@@ -1,4 +1,4 @@
--- An insertion into a node that has room, from the equations of the store's maps: what is laid out then, and what is touched.
+-- An insertion into a node that has room, from the equations of the store's maps: the new layout, and what is touched.
 use Rattle.std.proofs.Common.{◌≡◌, ◌≢◌, ℕ, suc, ◌<◌, List, [], ◌∷◌, ◌++◌, length, Some, None, refl, ap, sym, ◌∙◌, subst, arith, inl, inr}
 use Rattle.std.specs.Option.{option_map}
 use Rattle.std.specs.FinMap.{get}
@@ -32,7 +32,7 @@ use Rattle.art_model.proofs.leaves.Placed.{LeafPlaced, placed_was_free, placed_n
 use Rattle.art_model.proofs.stores.Slots.{put_child-new, kind_of-room}
 use Rattle.art_model.proofs.stores.Writes.{inner_at, node_at-inner, same_but, same_inner, shown, parent_stays, parent_there, inner_name_one, header_with}
 
--- A leaf is placed, and the node in the hole, which has room, takes it as a child under a byte that had none.
+-- A leaf is placed, and the node in the hole, which has room, gets it as a child under a byte that had none.
 pub record IntoRoom {K V : Type 0} (bytes : K × V → List ℕ) (P : ℕ) (s t : Nodes K V) (fs : List (Frame OpaqueNodePtr (K × V))) (place : List ℕ)
     (m : OpaqueNodePtr) (h : NodeHeader) (l r : Subtrees OpaqueNodePtr (K × V)) (b : ℕ) (n : LeafPtr) (x : LeafNode K V) : Type 0 where
   pub gap : IsGap bytes P fs place m h l r b (bytes (pair_of x))
@@ -46,7 +46,7 @@ module _ {K V : Type 0} {bytes : K × V → List ℕ} {P : ℕ} {s t : Nodes K V
   others : (k : OpaqueNodePtr) → k ≢ m → get t.inners (as_inner k) ≡ get s.inners (as_inner k)
   others k off = ap (λ z. get z (as_inner k)) into.inners ∙ inner_changed_elsewhere s.inners (as_inner m) (as_inner k) (with_child b (leaf_name n)) (λ e. off (inner_name_one k m e))
 
-  -- the node has one child more
+  -- the node has one more child
   pub room_inserted : ChildInserted bytes P (node_at s) (node_at t) (links_at s) (links_at t) fs place m m (leaf_name n) h l r b (pair_of x)
   room_inserted =
       let held = path_holds (node_at s) fs (inner m h (join l r)) old.holds in

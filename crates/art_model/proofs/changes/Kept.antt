@@ -54,11 +54,11 @@ module _ {N A : Type 0} (bytes : A → List ℕ) (P : ℕ) where
       (head.kind, take (length place + head.length_of) (least_below bytes ds), node) (inner_nodes_below bytes d cs) whole named
       (whole_differ bytes P (inner m h cs) place (part, e, two, up, below)))
 
-  -- a leaf more or less among children makes no difference to the inner nodes below
+  -- a further leaf or one less among children makes no difference to the inner nodes below
   pub inner_nodes-leaf : (d : ℕ) (l r : Subtrees N A) (b : ℕ) (n : N) (x : A) → inner_nodes_below bytes d (join l (child b (leaf n x) r)) ≡ inner_nodes_below bytes d (join l r)
   inner_nodes-leaf d l r b n x = inner_nodes_below-join bytes d l (child b (leaf n x) r) ∙ sym (inner_nodes_below-join bytes d l r)
 
-  -- The one child that is left takes its parent's place: its nodes were among those of the parent.
+  -- The one child that is left replaces its parent: its nodes were among those of the parent.
   pub kept_lifted : (place : List ℕ) (m n : N) (h : NodeHeader) (l r : Subtrees N A) (b c : ℕ) (x : A) (v u : Tree N A) →
       IsRadix bytes P place (inner m h (join l (child b (leaf n x) r))) → join l r ≡ child c v no_child →
       inner_nodes bytes (length place) u ≡ inner_nodes bytes (length place + h.length_of + 1) v →
@@ -107,11 +107,11 @@ module _ {N A : Type 0} (bytes : A → List ℕ) (P : ℕ) where
   pub kept_leaves_more : (t u : Tree N A) (place : List ℕ) → IsRadix bytes P place u → ((e : A × N) → IsIn e (entries_of t) → IsIn e (entries_of u)) → KeepLeaves (entries_of t) (entries_of u)
   kept_leaves_more t u place radix among = keep_among (λ e. bytes e.0) (λ e. e.1) (λ e f. Unit {0}) (entries_of u) (entries_of t) (entries_of u) (keys_differ u place radix) among (λ e i. i)
 
-  -- and those of the new tree among those that were there
+  -- those of the new tree are among the old ones
   pub kept_leaves_fewer : (t u : Tree N A) (place : List ℕ) → IsRadix bytes P place t → ((e : A × N) → IsIn e (entries_of u) → IsIn e (entries_of t)) → KeepLeaves (entries_of t) (entries_of u)
   kept_leaves_fewer t u place radix among = keep_among (λ e. bytes e.0) (λ e. e.1) (λ e f. Unit {0}) (entries_of t) (entries_of t) (entries_of u) (keys_differ t place radix) (λ e i. i) among
 
-  -- one leaf in the place of another with its name
+  -- one leaf replaces another with its name
   pub kept_leaf : (n : N) (x new : A) → KeepLeaves (entries_of (leaf n x)) (entries_of (leaf n new))
   kept_leaf n x new e f (inl i) (inl j) alike same = ap (λ z. z.1) (sym i) ∙ ap (λ z. z.1) j
   kept_leaf n x new e f (inl i) (inr j) alike same = absurd j

@@ -1,4 +1,4 @@
--- A deletion below a node that keeps two or more children, from the equations of the store's maps: what is laid out then, which names stay, and what is touched.
+-- A deletion below a node that keeps two or more children, from the equations of the store's maps: the new layout, which names stay, and what is touched.
 use Rattle.std.proofs.Common.{◌≡◌, ◌≢◌, ℕ, suc, ◌<◌, ◌≤◌, List, [], ◌∷◌, ◌++◌, length, Some, None, refl, ap, sym, ◌∙◌, subst, append_assoc, arith, length-append, eq-eqb, inl, inr}
 use Rattle.std.specs.List.{AllByRecursion as Each}
 use Rattle.std.specs.Option.{option_map}
@@ -56,7 +56,7 @@ module _ {A : Type 0} where
   remove_child-there no_child r b t low high = rw (eq-eqb b b refl) (remove_child-above r b high)
   remove_child-there (child c u l) r b t low high = rw (ne_eqb c b (λ e. let h = low.0 in omega arith)) (ap (λ z. (c, name_of u) ∷ z) (remove_child-there l r b t low.1 high))
 
--- a node of an inner kind that has more children than its kind has at least keeps two
+-- a node of an inner kind that has more children than the kind's minimum keeps two
 pub two_of_spare : (kind : NodeType) (n : ℕ) → kind ≢ Leaf → kind_least kind ≤ n → 2 ≤ n
 two_of_spare Node4 n off h = omega arith
 two_of_spare Node16 n off h = omega arith
@@ -72,7 +72,7 @@ two_of_larger Node48 n off h = let a = h.0 in omega arith
 two_of_larger Node256 n off h = omega arith
 two_of_larger Leaf n off h = absurd h
 
--- with one child fewer than its kind has at least it has the smaller kind's number
+-- with one child fewer than its kind's minimum it has the smaller kind's number
 pub kind_of-smaller : (kind : NodeType) (n : ℕ) → kind ≢ Node4 → kind ≡ kind_of (suc n) → n < kind_least kind → smaller_kind kind ≡ kind_of n
 kind_of-smaller kind n off e least = sym (kind_of-range (smaller_kind kind) n (fewer kind off (subst (λ k. IsInRange k (suc n)) (sym e) (range_of_kind (suc n))) least))
   where
@@ -91,7 +91,7 @@ room_in_smaller Node48 n off h = omega arith
 room_in_smaller Node256 n off h = omega arith
 room_in_smaller Leaf n off h = omega arith
 
--- a smaller kind is another
+-- a smaller kind is another one
 smaller_other : (kind : NodeType) → kind ≢ Node4 → kind ≢ Leaf → smaller_kind kind ≢ kind
 smaller_other Node4 first end e = first refl
 smaller_other Node16 first end e = absurd cc
@@ -99,7 +99,7 @@ smaller_other Node48 first end e = absurd cc
 smaller_other Node256 first end e = absurd cc
 smaller_other Leaf first end e = end refl
 
--- the kinds beside an inner one are inner ones
+-- the next kinds of an inner one are inner ones
 resized_inner : (kind : NodeType) → kind ≢ Leaf → (smaller_kind kind ≢ Leaf) × (larger_kind kind ≢ Leaf)
 resized_inner Node4 proper = ((λ e. absurd cc), (λ e. absurd cc))
 resized_inner Node16 proper = ((λ e. absurd cc), (λ e. absurd cc))
@@ -113,20 +113,20 @@ smaller_inner kind proper = (resized_inner kind proper).0
 pub larger_inner : (kind : NodeType) → kind ≢ Leaf → larger_kind kind ≢ Leaf
 larger_inner kind proper = (resized_inner kind proper).1
 
--- ---- the leaf at the end of a path goes
+-- ---- the leaf at the end of a path is removed
 
 -- the store's leaves without the one of a name
 pub record LeafGoes {K V : Type 0} (s t : Nodes K V) (n : LeafPtr) (x : LeafNode K V) : Type 0 where
   pub here : get s.leaves n ≡ Some x
   pub leaves : t.leaves ≡ without_leaf s.leaves n x
 
--- The leaf goes, and its parent, which has more children than its kind has at least, stays.
+-- The leaf is removed, and its parent, which has more children than its kind's minimum, stays.
 pub record ParentStays {K V : Type 0} (s t : Nodes K V) (f : Frame OpaqueNodePtr (K × V)) (n : LeafPtr) (x : LeafNode K V) : Type 0 where
   pub goes : LeafGoes s t n x
   pub spare : kind_least f.mark.kind ≤ length (bytes_of (join f.left f.right))
   pub inners : t.inners ≡ change s.inners (as_inner f.mark) (without_child f.byte)
 
--- The leaf goes, and a node of the next smaller kind takes the place of its parent, which has as many children as its kind has at least.
+-- The leaf is removed, and a node of the next smaller kind replaces its parent, which has its kind's minimum of children.
 pub record ParentShrinks {K V : Type 0} (s t : Nodes K V) (f : Frame OpaqueNodePtr (K × V)) (fs : List (Frame OpaqueNodePtr (K × V))) (n : LeafPtr)
     (x : LeafNode K V) (q : InnerPtr) (node : Inner) : Type 0 where
   pub goes : LeafGoes s t n x
@@ -207,7 +207,7 @@ module _ {K V : Type 0} {bytes : K × V → List ℕ} {P : ℕ} {s : Nodes K V} 
   pub leaf_among : get s.leaves n ≡ Some x → LeafAmong s (plug fs (with_leaf_in f n x)) (leaves_before (f ∷ fs)) (leaves_after (f ∷ fs)) n x
   leaf_among here = record { list = leaf_names-plug (f ∷ fs) (leaf (leaf_name n) (pair_of x)) ∙ append_assoc (leaves_before (f ∷ fs)) (leaf_name n ∷ []) (leaves_after (f ∷ fs)); here = here }
 
-  -- and the leaves beside it are there
+  -- and its neighbours are in the store
   pub links_there : get s.leaves n ≡ Some x → IsThere s.leaves x.previous × IsThere s.leaves x.next
   links_there here = (before_there old.laid.holds old.laid.linked (leaf_among here), after_there old.laid.holds old.laid.linked (leaf_among here))
 
@@ -288,7 +288,7 @@ module _ {K V : Type 0} {bytes : K × V → List ℕ} {P : ℕ} {s : Nodes K V} 
         let beside = length-beside x.next x.previous in
         touches_at_most s t 0 1 3 (leaves_touched stays.goes) inners_touched tt tt (parent_is.0, tt) (omega arith) (omega arith) (omega arith)
 
-  -- ---- a smaller node takes the place of the parent
+  -- ---- a smaller node replaces the parent
 
   module _ {t : Nodes K V} {q : InnerPtr} {node : Inner} (shrinks : ParentShrinks s t f fs n x q node) where
     -- the inner nodes when the smaller node is placed

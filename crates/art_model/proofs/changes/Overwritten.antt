@@ -1,4 +1,4 @@
--- A leaf takes the place of all that is in the hole.
+-- A leaf replaces all that is in the hole.
 use Rattle.std.proofs.Common.{◌≡◌, ℕ, List, [], ◌∷◌, sym, ◌∙◌, subst, Option, Some, None, ◌⊎◌}
 use Rattle.art_model.specs.Trees.{Tree, leaf}
 use Rattle.art_model.specs.Radix.{pairs_of}
@@ -17,7 +17,7 @@ use Rattle.art_model.proofs.stores.Canonical.{IsLaidOut}
 use Rattle.art_model.proofs.changes.Regrown.{leaf_regrown}
 use Rattle.art_model.proofs.changes.Replaced.{replaced}
 
--- All in the hole gave way to one leaf, which has an old name or one that was free.
+-- All in the hole was replaced by one leaf, which has an old name or one that was free.
 pub record LeafAlone {N A : Type 0} (bytes : A → List ℕ) (P : ℕ) (at to : N → Option (Node N A)) (links : N → Option (Links N))
     (fs : List (Frame N A)) (place : List ℕ) (t : Tree N A) (n : N) (new : A) : Type 0 where
   pub hole : IsHole bytes P fs place t (bytes new)
@@ -30,7 +30,7 @@ pub record LeafAlone {N A : Type 0} (bytes : A → List ℕ) (P : ℕ) (at to : 
 module _ {N A : Type 0} {bytes : A → List ℕ} {P : ℕ} {at to : N → Option (Node N A)} {before links : N → Option (Links N)} {fs : List (Frame N A)}
     {place : List ℕ} {t : Tree N A} {n : N} {new : A} {root : N} {pairs : List A}
     (old : IsLaidOut bytes P at before root pairs (plug fs t)) (is : LeafAlone bytes P at to links fs place t n new) where
-  -- the root is canonical for what an operation makes of the pairs that leaves the new one alone in the hole
+  -- the root is canonical for the result of an operation that leaves only the new pair in the hole
   pub leaf_alone : (F : List A → List A) → IsLocal bytes (bytes new) F → F (pairs_of t) ≡ new ∷ [] → IsLaidOut bytes P to links (root_with fs root n) (F pairs) (plug fs (leaf n new))
   leaf_alone F local its = replaced old (record {
     path = is.hole.path;
@@ -41,11 +41,11 @@ module _ {N A : Type 0} {bytes : A → List ℕ} {P : ℕ} {at to : N → Option
     linked = is.linked;
   }) (bytes new) F local is.hole.front (sym its)
 
-  -- and inner nodes that stay keep their names
+  -- inner nodes that stay keep their names
   pub leaf_alone_keeps : KeepNames (inner_nodes bytes 0 (plug fs t)) (inner_nodes bytes 0 (plug fs (leaf n new)))
   leaf_alone_keeps = kept bytes P fs place t (leaf n new) is.hole.path is.hole.radix is.hole.front (λ e f i j. absurd j)
 
-  -- and keys that stay keep their leaves' names, where those in the hole do
+  -- keys that stay keep their leaves' names, where those in the hole do
   pub leaf_alone_keeps_leaves : (F : List A → List A) → IsLocal bytes (bytes new) F → F (pairs_of t) ≡ new ∷ [] →
       KeepLeaves bytes P (entries_of t) (entries_of (leaf n new)) → KeepLeaves bytes P (entries_of (plug fs t)) (entries_of (plug fs (leaf n new)))
   leaf_alone_keeps_leaves F local its kept_here = kept_leaves bytes P fs t (leaf n new) old.radix (leaf_alone F local its).radix kept_here

@@ -1,4 +1,4 @@
--- The nodes and names of each change: what stands in the hole afterwards is held, under distinct names that are old ones or were free.
+-- The nodes and names of each change: what is in the hole afterwards is held, under distinct names that are old ones or were free.
 use Rattle.std.proofs.Common.{◌≡◌, ◌≢◌, ℕ, List, [], ◌∷◌, ◌++◌, ap, sym, ◌∙◌, subst, append_assoc, append-nil, Option, Some, None, true, false, Bool, cond, ltb, ◌⊎◌, inl, inr}
 use Rattle.std.specs.List.{AllByRecursion as Each}
 use Rattle.art_model.specs.Trees.{Tree, leaf, inner, Subtrees, child, no_child, NodeHeader}
@@ -16,13 +16,13 @@ use Rattle.art_model.proofs.stores.Stores.{SameBut, Regrown, HoldsBelow-join, Ho
 module _ {N A : Type 0} (at to : N → Option (Node N A)) where
   -- ---- one leaf
 
-  -- a leaf alone, under an old name or a new one
+  -- a single leaf, under an old name or a new one
   pub leaf_regrown : (t : Tree N A) (n : N) (new : A) → IsIn n (names_of t) ⊎ (at n ≡ None) → to n ≡ Some (leaf_node new) → Regrown at to t (leaf n new)
   leaf_regrown t n new named there = record { holds = there; distinct = (tt, tt); old_or_free = (named, tt) }
 
   -- ---- a branch: a subtree and a new leaf below a new node
 
-  -- the tree `u`, which has the names of `t`, stands beside a new leaf below a new node
+  -- the tree `u`, which has the names of `t`, is below a new node whose other child is a new leaf
   pub record IsBranch (t u : Tree N A) (m n : N) (h : NodeHeader) (b c : ℕ) (new : A) : Type 0 where
     pub same_names : names_of u ≡ names_of t
     pub node_was_free : at m ≡ None
@@ -172,9 +172,9 @@ module _ {N A : Type 0} (at to : N → Option (Node N A)) (fs : List (Frame N A)
           );
         }
 
-  -- ---- the one child that is left takes its parent's place
+  -- ---- the one child that is left replaces its parent
 
-  -- the tree `u`, which has the names of the child that is left, takes the node's place
+  -- the tree `u`, which has the names of the child that is left, replaces the node
   pub lifted_regrown : (c : ℕ) (v u : Tree N A) → join l r ≡ child c v no_child → names_of u ≡ names_of v → Holds to u → Regrown at to (inner m h (join l (join old r))) u
   lifted_regrown c v u one same_names held =
       let left : names_below l ++ names_below r ≡ names_of u = sym (names_below-join l r) ∙ ap names_below one ∙ append-nil (names_of v) ∙ sym same_names in

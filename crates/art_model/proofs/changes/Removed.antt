@@ -1,4 +1,4 @@
--- Deletions from store to store: a leaf goes from a node that keeps two or more children, or of which one child is left.
+-- Deletions from store to store: a leaf is removed from a node that keeps two or more children, or of which one child is left.
 use Rattle.std.proofs.Common.{◌≡◌, ℕ, ◌+◌, ◌≤◌, List, [], ◌∷◌, ◌++◌, length, length-append, arith, refl, ap, sym, ◌∙◌, subst, append-nil, Option, Some, None, ◌⊎◌, inl, inr}
 use Rattle.art_model.specs.Trees.{Tree, leaf, inner, Subtrees, child, no_child, NodeHeader, canonical_header, kind_of}
 use Rattle.art_model.specs.Radix.{IsRadix, bytes_of, join, pairs_of}
@@ -21,7 +21,7 @@ use Rattle.art_model.proofs.changes.Regrown.{children_regrown, lifted_regrown, l
 use Rattle.art_model.proofs.changes.Replaced.{replaced, linked_in_hole}
 
 module _ {N A : Type 0} (bytes : A → List ℕ) (P : ℕ) (at to : N → Option (Node N A)) (before links : N → Option (Links N)) (fs : List (Frame N A)) (place : List ℕ) where
-  -- The node in the hole loses a leaf and keeps two or more children: it stays, or a smaller node takes its place.
+  -- The node in the hole loses a leaf and keeps two or more children: it stays, or a smaller node replaces it.
   pub record ChildRemoved (m node n : N) (h : NodeHeader) (l r : Subtrees N A) (b : ℕ) (x : A) : Type 0 where
     pub hole : IsHole bytes P fs place (inner m h (join l (child b (leaf n x) r))) (bytes x)
     pub two : 2 ≤ length (bytes_of (join l r))
@@ -32,7 +32,7 @@ module _ {N A : Type 0} (bytes : A → List ℕ) (P : ℕ) (at to : N → Option
     pub same : SameBut at to fs (m ∷ n ∷ [])
     pub relinked : Relinked before links (leaves_before fs ++ leaf_names_below l) [] (leaf_names_below r ++ leaves_after fs)
 
-  -- The node in the hole loses a leaf, and `v` is its one child that is left: `u`, which has the names of `v`, takes the node's place.
+  -- The node in the hole loses a leaf, and `v` is its one child that is left: `u`, which has the names of `v`, replaces the node.
   pub record NodeRemoved (m n : N) (h : NodeHeader) (l r : Subtrees N A) (b c : ℕ) (x : A) (v u : Tree N A) : Type 0 where
     pub hole : IsHole bytes P fs place (inner m h (join l (child b (leaf n x) r))) (bytes x)
     pub one : join l r ≡ child c v no_child
@@ -45,7 +45,7 @@ module _ {N A : Type 0} (bytes : A → List ℕ) (P : ℕ) (at to : N → Option
     pub same : SameBut at to fs (names_of (inner m h (join l (child b (leaf n x) r))))
     pub relinked : Relinked before links (leaves_before fs ++ leaf_names_below l) [] (leaf_names_below r ++ leaves_after fs)
 
--- the leaves that are left are among those that were there
+-- the leaves that are left are among the old ones
 fewer : {N A : Type 0} (l r : Subtrees N A) (b : ℕ) (n : N) (x : A) (e : A × N) → IsIn e (entries_below (join l r)) → IsIn e (entries_below (join l (child b (leaf n x) r)))
 fewer l r b n x e i =
     subst (IsIn e) (sym (entries_below-three l (child b (leaf n x) no_child) r)) (in_around e (entries_below l) ((x, n) ∷ []) (entries_below r) (subst (IsIn e) (entries_below-join l r) i))
@@ -74,7 +74,7 @@ module _ {N A : Type 0} {bytes : A → List ℕ} {P : ℕ} {at to : N → Option
           old.distinct old.linked (leaf_names_below-three l (child b (leaf n x) no_child) r) (leaf_names_below-three l no_child r) is.relinked;
     }) (bytes x) (remove_key bytes (bytes x)) (remove_key-between bytes (bytes x)) is.hole.front without_leaf.1
 
-    -- and inner nodes that stay keep their names
+    -- inner nodes that stay keep their names
     pub child_removed_keeps : KeepNames (inner_nodes bytes 0 (plug fs (inner m h (join l (child b (leaf n x) r)))))
         (inner_nodes bytes 0 (plug fs (inner node (canonical_header P is.hole.radix.0 (length (bytes_of (join l r)))) (join l r))))
     unfolding without_leaf child_removed
@@ -82,7 +82,7 @@ module _ {N A : Type 0} {bytes : A → List ℕ} {P : ℕ} {at to : N → Option
         (kept_children bytes P place m node h (canonical_header P is.hole.radix.0 (length (bytes_of (join l r)))) (join l (child b (leaf n x) r)) (join l r)
         is.hole.radix without_leaf.0 refl (λ d. sym (inner_nodes-leaf bytes P d l r b n x)) is.same_kind)
 
-    -- and keys that stay keep their leaves' names
+    -- keys that stay keep their leaves' names
     pub child_removed_keeps_leaves : KeepLeaves bytes P (entries_of (plug fs (inner m h (join l (child b (leaf n x) r)))))
         (entries_of (plug fs (inner node (canonical_header P is.hole.radix.0 (length (bytes_of (join l r)))) (join l r))))
     child_removed_keeps_leaves =
@@ -106,18 +106,18 @@ module _ {N A : Type 0} {bytes : A → List ℕ} {P : ℕ} {at to : N → Option
     }) (bytes x) (remove_key bytes (bytes x)) (remove_key-between bytes (bytes x)) is.hole.front
         (same_pairs_of v u is.same_entries ∙ (child_left bytes P place is.hole.radix.0 l r b c n x v is.hole.radix.3 is.hole.radix.4 is.one).1)
 
-    -- and inner nodes that stay keep their names
+    -- inner nodes that stay keep their names
     pub node_removed_keeps : KeepNames (inner_nodes bytes 0 (plug fs (inner m h (join l (child b (leaf n x) r))))) (inner_nodes bytes 0 (plug fs u))
     node_removed_keeps =
         kept bytes P fs place (inner m h (join l (child b (leaf n x) r))) u is.hole.path is.hole.radix is.radix (kept_lifted bytes P place m n h l r b c x v u is.hole.radix is.one is.same_inners)
 
-    -- and keys that stay keep their leaves' names
+    -- keys that stay keep their leaves' names
     pub node_removed_keeps_leaves : KeepLeaves bytes P (entries_of (plug fs (inner m h (join l (child b (leaf n x) r))))) (entries_of (plug fs u))
     node_removed_keeps_leaves =
         kept_leaves bytes P fs (inner m h (join l (child b (leaf n x) r))) u old.radix node_removed.radix (kept_leaves_fewer bytes P (inner m h (join l (child b (leaf n x) r))) u place is.hole.radix
         (λ e i. fewer l r b n x e (subst (IsIn e) (sym (ap entries_below is.one ∙ append-nil (entries_of v) ∙ sym is.same_entries)) i)))
 
-  -- ---- which child is left: a leaf, which is raised, or an inner node, which takes its parent's prefix and its own byte in front
+  -- ---- which child is left: a leaf, which is raised, or an inner node, which gets its parent's prefix and its own byte prepended
 
   module _ (hole : IsHole bytes P fs place (inner m h (join l (child b (leaf n x) r))) (bytes x))
       (relinked : Relinked before links (leaves_before fs ++ leaf_names_below l) [] (leaf_names_below r ++ leaves_after fs)) where

@@ -1,4 +1,4 @@
--- How many bytes two keys share in front, and where they part.
+-- The length of the common prefix of two keys, and where they differ.
 use Rattle.std.proofs.Common.{◌≡◌, ◌≢◌, ℕ, suc, zero, ◌<◌, ◌≤◌, List, [], ◌∷◌, ◌++◌, length, drop, refl, ap, ap₂, sym, ◌∙◌, arith, append_assoc, append-nil, length-append, eqb, eq-eqb, eqb-true, cond, Bool, true, false, ◌⊎◌, inl, inr}
 use Rattle.std.proofs.lemmas.Bool.{cases_lt, true≢false}
 use Rattle.art_model.specs.Keys.{are_related, common_front, IsFront}
@@ -21,7 +21,7 @@ shared_end zero (x ∷ a) (y ∷ b) (inr h) = absurd (omega arith)
 shared_end (suc i) (x ∷ a) (y ∷ b) (inl h) = shared_end i a b (inl (omega arith))
 shared_end (suc i) (x ∷ a) (y ∷ b) (inr h) = shared_end i a b (inr (omega arith))
 
--- a key all of whose bytes are shared is a front
+-- a key all of whose bytes are shared is a prefix
 pub shared_whole : (a b : List ℕ) → length a ≤ length (common_front a b) → IsFront a b
 shared_whole [] b h = (b, refl)
 shared_whole (x ∷ a) [] h = absurd (omega arith)
@@ -31,7 +31,7 @@ shared_whole (x ∷ a) (y ∷ b) h = go (λ k. shared_whole a b (omega arith)) (
     go ih true e k = let (r, f) = ih k in (r, ap₂ (λ z s. z ∷ s) (sym (eqb-true x y e)) f)
     go ih false e k = absurd (omega arith)
 
--- a front shares all its bytes
+-- a prefix shares all its bytes
 pub whole_shared : (a b : List ℕ) → IsFront a b → length (common_front a b) ≡ length a
 whole_shared [] b h = refl
 whole_shared (x ∷ a) [] (r, e) = absurd cc
@@ -45,14 +45,14 @@ front_right a b h = go (common_front_left a b) (common_front_right a b)
     go (r, e) ([], f) = (r, e ∙ ap (λ l. l ++ r) (sym (f ∙ append-nil (common_front a b))))
     go (r, e) (x ∷ s, f) = absurd (let l = ap length f in omega (arith, simp length-append at l))
 
--- what stands in front of both keys does not make them related
+-- a common prefix does not make keys related
 pub related_after : (front a b : List ℕ) → are_related (front ++ a) (front ++ b) ≡ are_related a b
 related_after [] a b = refl
 related_after (x ∷ front) a b = rw (eq-eqb x x refl) (related_after front a b)
 
--- ---- keys that part
+-- ---- keys that differ
 
--- After the bytes that they share the keys go on with different ones.
+-- After the bytes that they share the keys continue with different ones.
 pub record ArePart (a b : List ℕ) : Type 0 where
   pub front : List ℕ
   pub is_shared : front ≡ common_front a b
@@ -64,7 +64,7 @@ pub record ArePart (a b : List ℕ) : Type 0 where
   pub b_is : b ≡ front ++ y ∷ s
   pub differ : x ≢ y
 
--- keys part where neither has ended
+-- keys differ where neither has ended
 pub part_where : (a b : List ℕ) → length (common_front a b) < length a → length (common_front a b) < length b → ArePart a b
 part_where a b h k = go (common_front_left a b) (common_front_right a b)
   where

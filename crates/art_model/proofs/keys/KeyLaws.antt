@@ -28,7 +28,7 @@ relation_is_decided a b = (either (is_front a b) refl, go)
 pub sameness_is_decided : SamenessIsDecided
 sameness_is_decided a b = ((λ h. sym (same_equal a b h)), λ e. rw (← e) (front_same a))
 
--- one more byte in front of both keys
+-- one more byte before both keys
 longer : (x y : ℕ) (a b : List ℕ) → x ≡ y → IsProperFront a b ⊎ HasSmallerByte a b → IsProperFront (x ∷ a) (y ∷ b) ⊎ HasSmallerByte (x ∷ a) (y ∷ b)
 longer x y a b e (inl (byte, rest, f)) = inl (byte, rest, ap₂ (λ z s. z ∷ s) (sym e) f)
 longer x y a b e (inr (front, c, d, r, s, f, g, less)) = inr (x ∷ front, c, d, r, s, ap (λ z. x ∷ z) f, ap₂ (λ z t. z ∷ t) (sym e) g, less)
@@ -50,7 +50,7 @@ order_is_decided a b = (before_parts a b, go)
     go (inl (y, s, e)) = rw e (ap (λ z. is_lt (slice_cmp nat_cmp z (a ++ y ∷ s))) (sym (append-nil a)) ∙ ap is_lt (cmp-append a [] (y ∷ s)))
     go (inr (front, x, y, r, s, e, f, less)) = rw (e, f, cmp-append front (x ∷ r) (y ∷ s), lt-ltb x y less) refl
 
--- what the test for a lesser key tells
+-- what the test for a lesser key decides
 pub before_less : (o : Ordering) → is_lt o ≡ true → o ≡ Less
 before_less Less h = refl
 before_less Equal h = absurd (false≢true h)

@@ -22,7 +22,7 @@ precedes-append p a b h = (rw (cmp-append p a b) h.0, rw (is_front-append p a b,
 pub precedes_rest : (p a b : List ℕ) → Precedes (p ++ a) (p ++ b) → Precedes a b
 precedes_rest p a b h = (rw (cmp-append p a b) at h.0, rw (is_front-append p a b, is_front-append p b a) at h.1)
 
--- keys that part at a byte
+-- keys that differ at a byte
 pub precedes_at : (front : List ℕ) (b c : ℕ) (k l x y : List ℕ) → x ≡ front ++ b ∷ k → y ≡ front ++ c ∷ l → b < c → Precedes x y
 precedes_at front b c k l x y e f h = rw (e, f) (precedes-append front (b ∷ k) (c ∷ l) (rw (lt-ltb b c h) refl, rw (ne_eqb b c (λ p. omega arith), ne_eqb c b (λ p. omega arith)) refl))
 
@@ -37,7 +37,7 @@ first_byte b c k l h = go (cases_order b c)
 pub precedes_byte : (front : List ℕ) (b c : ℕ) (k l x y : List ℕ) → x ≡ front ++ b ∷ k → y ≡ front ++ c ∷ l → Precedes x y → b ≤ c
 precedes_byte front b c k l x y e f h = first_byte b c k l (precedes_rest front (b ∷ k) (c ∷ l) (rw (e, f) at h))
 
--- keys of a map end at no common front
+-- keys of a map end at no common prefix
 pub parts_left : (front k x y : List ℕ) → x ≡ front ++ [] → y ≡ front ++ k → Precedes x y → ⊥
 parts_left front k x y e f h = let p = precedes_rest front [] k (rw (e, f) at h) in true≢false p.1
 

@@ -40,7 +40,7 @@ goes_within (a ∷ w) c r (b ∷ t) end e = go (goes_within w c r t end rest)
     go (inl (same, mark)) = inl (ap₂ (λ z l. z ∷ l) first same, mark)
     go (inr (s, f)) = inr (s, ap₂ (λ z l. z ∷ l) first f)
 
--- the end byte stands at the end alone
+-- the end byte is only at the end
 pub mark_ends : (w r t : List ℕ) (end : ℕ) → Each (λ byte. end < byte) t → t ++ end ∷ [] ≡ (w ++ end ∷ []) ++ r → t ≡ w
 mark_ends w r t end above e = go (goes_within w end r t end e)
   where

@@ -1,4 +1,4 @@
--- The chain where a leaf comes between two others of a store, or goes.
+-- The chain where a leaf is inserted between two others of a store, or removed.
 use Rattle.std.proofs.Common.{◌≡◌, ◌≢◌, List, [], ◌∷◌, ◌++◌, Option, Some, None, refl, ap, sym, ◌∙◌, subst, inl, inr}
 use Rattle.std.specs.Option.{option_map, option_and_then}
 use Rattle.std.specs.FinMap.{get}
@@ -45,7 +45,7 @@ module _ {K V : Type 0} where
       go None = refl
       go (Some i) = refl
 
--- Between the leaves of `xs` and those of `zs` come the leaves of `ns`; of the former only the last one, and of the latter only the first one, has another link.
+-- Between the leaves of `xs` and those of `zs` the leaves of `ns` are inserted; of the former only the last one, and of the latter only the first one, has another link.
 pub record AreBeside {K V : Type 0} (s t : Nodes K V) (xs ns zs : List OpaqueNodePtr) (before after next previous : Option LeafPtr) : Type 0 where
   pub distinct : AreDistinct (xs ++ zs)
   pub before_is : option_map leaf_name before ≡ last_or xs None
@@ -56,7 +56,7 @@ pub record AreBeside {K V : Type 0} (s t : Nodes K V) (xs ns zs : List OpaqueNod
   pub leaves : (p : LeafPtr) → IsIn (leaf_name p) (xs ++ zs) → get t.leaves p ≡ get (with_links_around s.leaves before after next previous) p
 
 module _ {K V : Type 0} {s t : Nodes K V} {xs ns zs : List OpaqueNodePtr} {before after next previous : Option LeafPtr} (is : AreBeside s t xs ns zs before after next previous) where
-  -- then the chain knows it
+  -- then they are a chain
   pub relinked_beside : Relinked (links_at s) (links_at t) xs ns zs
   relinked_beside = record {
     on_left = λ l a b last old.
@@ -86,12 +86,12 @@ module _ {K V : Type 0} {s t : Nodes K V} {xs ns zs : List OpaqueNodePtr} {befor
       both : {a b c d : Option OpaqueNodePtr} → a ≡ b → c ≡ d → ◌≡◌ {A = Option (Links OpaqueNodePtr)} (Some (record { previous = a; next = c })) (Some (record { previous = b; next = d }))
       both e f = cc
 
--- the leaves of the list are there
+-- the leaves of the list are in the store
 abbrev pub AreThere : {K V : Type 0} → Nodes K V → List OpaqueNodePtr → Type 0
 AreThere s ks = (p : LeafPtr) → IsIn (leaf_name p) ks → get s.leaves p ≢ None
 
 module _ {K V : Type 0} (s t : Nodes K V) (xs zs : List OpaqueNodePtr) (n : LeafPtr) (x : LeafNode K V) where
-  -- A new leaf comes between those of `xs` and those of `zs`; others may be gone then.
+  -- A new leaf is inserted between those of `xs` and those of `zs`; others may be removed then.
   pub leaf_comes : AreDistinct (xs ++ zs) → AreThere s (xs ++ zs) → get s.leaves n ≡ None → option_map leaf_name x.previous ≡ last_or xs None → option_map leaf_name x.next ≡ first_or zs None →
       ((p : LeafPtr) → IsIn (leaf_name p) (xs ++ leaf_name n ∷ zs) → get t.leaves p ≡ get (with_leaf s.leaves n x) p) → AreBeside s t xs (leaf_name n ∷ []) zs x.previous x.next (Some n) (Some n)
   leaf_comes distinct are free last first leaves = record {
@@ -116,7 +116,7 @@ module _ {K V : Type 0} (s t : Nodes K V) (xs zs : List OpaqueNodePtr) (n : Leaf
       among : (p : LeafPtr) → IsIn (leaf_name p) (xs ++ zs) → IsIn (leaf_name p) (xs ++ leaf_name n ∷ zs)
       among p i = elim (in_either (leaf_name p) xs zs i) [ inl j ↦ in_left (leaf_name p) xs (leaf_name n ∷ zs) j | inr j ↦ in_right (leaf_name p) xs (leaf_name n ∷ zs) (inr j) ]
 
-  -- The leaf between those of `xs` and those of `zs` goes.
+  -- The leaf between those of `xs` and those of `zs` is removed.
   pub leaf_goes : AreDistinct (xs ++ leaf_name n ∷ zs) → option_map leaf_name x.previous ≡ last_or xs None → option_map leaf_name x.next ≡ first_or zs None →
       ((p : LeafPtr) → IsIn (leaf_name p) (xs ++ zs) → get t.leaves p ≡ get (without_leaf s.leaves n x) p) → AreBeside s t xs [] zs x.previous x.next x.next x.previous
   leaf_goes distinct last first leaves = record {
@@ -136,7 +136,7 @@ module _ {K V : Type 0} (s t : Nodes K V) (xs zs : List OpaqueNodePtr) (n : Leaf
       ]
 
 module _ {K V : Type 0} (s : Nodes K V) where
-  -- the leaves of a layout are there
+  -- the leaves of a layout are in the store
   pub are_there : (t : Tree OpaqueNodePtr (K × V)) → Holds (node_at s) t → AreThere s (leaf_names t)
   are_there t h p i free =
       each_in (IsTaken (node_at s)) (leaf_name p) (leaf_names t) (among takes_leaves (IsTaken (node_at s)) t (all_taken (node_at s) t h)) i
@@ -149,7 +149,7 @@ module _ {K V : Type 0} (s : Nodes K V) where
   pub next_there : (xs zs : List OpaqueNodePtr) (o : Option LeafPtr) → AreThere s (xs ++ zs) → option_map leaf_name o ≡ first_or zs None → IsThere s.leaves o
   next_there xs zs o are e p is = are p (in_right (leaf_name p) xs zs (first_in zs (leaf_name p) (sym e ∙ ap (option_map leaf_name) is)))
 
--- the leaves beside a place are those around it
+-- the neighbours of a place are those around it
 pub beside_place : (xs zs : List OpaqueNodePtr) (next previous : Option LeafPtr) → option_map leaf_name next ≡ first_or zs None → option_map leaf_name previous ≡ last_or xs None →
     (p : LeafPtr) → IsIn p (listed next ++ (listed previous ++ [])) → IsIn (leaf_name p) (xs ++ zs)
 beside_place xs zs next previous first last p i = elim (in_either p (listed next) (listed previous ++ []) i) [

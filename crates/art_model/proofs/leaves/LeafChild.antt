@@ -28,7 +28,7 @@ module _ {N A : Type 0} (l r : Subtrees N A) (b : ℕ) (n : N) (x : A) where
     | inr (inr j) ↦ inl (subst (IsIn k) (sym (names_below-join l r)) (in_right k (names_below l) (names_below r) j))
   ]
 
-  -- the leaf comes
+  -- the leaf is added
   pub names_with_leaf : (m : N) (h g : NodeHeader) → AreNames (names_of (inner m h (join l r))) (names_of (inner m g (join l (child b (leaf n x) r)))) (n ∷ []) [] []
   names_with_leaf m h g = record {
     placed_in = λ k i. elim i [ inl e ↦ inr (leaf_below k e) | inr j ↦ absurd j ];
@@ -38,7 +38,7 @@ module _ {N A : Type 0} (l r : Subtrees N A) (b : ℕ) (n : N) (x : A) where
     new_comes = λ k i. elim i [ inl e ↦ inl (inl e) | inr j ↦ elim (leaf_or_other k j) [ inl o ↦ inl (inr o) | inr e ↦ inr (inl e) ] ];
   }
 
-  -- the leaf comes, and another node takes the place of the one above it
+  -- the leaf is added, and another node replaces the one above it
   pub names_with_both : (m node : N) (h g : NodeHeader) → AreNames (names_of (inner m h (join l r))) (names_of (inner node g (join l (child b (leaf n x) r)))) (n ∷ node ∷ []) (m ∷ []) []
   names_with_both m node h g = record {
     placed_in = λ k i. elim i [ inl e ↦ inr (leaf_below k e) | inr (inl e) ↦ inl e | inr (inr j) ↦ absurd j ];

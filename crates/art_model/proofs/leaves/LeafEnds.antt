@@ -1,4 +1,4 @@
--- The first and the last leaf of a tree whose inner nodes have children, with the way to each.
+-- The first and the last leaf of a tree whose inner nodes have children, with the path to each.
 use Rattle.std.proofs.Common.{◌≡◌, ◌++◌, ◌≤◌, length, List, [], ◌∷◌, Option, Some, None, refl, ap, sym, ◌∙◌, subst, arith, append-nil, ◌⊎◌, inl, inr}
 use Rattle.art_model.specs.Trees.{Tree, leaf, inner, Subtrees, child, no_child, NodeHeader}
 use Rattle.art_model.specs.Radix.{bytes_of, join, pairs_of, pairs_below, HaveChildren, HaveChildrenBelow}
@@ -89,7 +89,7 @@ module _ {N A : Type 0} where
       })
     ]
 
-  -- the first leaf's name tells the leaf
+  -- the first leaf's name determines the leaf
   pub first_is_there : (t : Tree N A) (n : N) → HaveChildren 1 t → first_or (leaf_names t) None ≡ Some n → HasFirstLeaf t n
   first_is_there t n full e =
       let found = first_leaf t full [] in

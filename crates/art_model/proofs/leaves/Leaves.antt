@@ -1,4 +1,4 @@
--- A leaf comes between two others, or goes: what the map of leaves has under each name then, and which names are touched.
+-- A leaf is inserted between two others, or removed: what the map of leaves has under each name then, and which names are touched.
 use Rattle.std.proofs.Common.{◌≡◌, ◌≢◌, ℕ, List, [], ◌∷◌, ◌++◌, length, ◌≤◌, arith, Option, Some, None, refl, ap, sym, ◌∙◌, ◌⊎◌, inl, inr}
 use Rattle.std.proofs.lemmas.Bool.{cases_eq}
 use Rattle.std.specs.Option.{option_map}
@@ -59,7 +59,7 @@ module _ {K V : Type 0} where
       kept None = refl
       kept (Some x) = ap Some (keeps x)
 
-  -- ---- the leaves beside a place
+  -- ---- the neighbours of a place
 
   module _ (m : Leaves K V) (before after next previous : Option LeafPtr) where
     -- the leaf before the place
@@ -75,17 +75,17 @@ module _ {K V : Type 0} where
     pub joined_elsewhere : (q : LeafPtr) → (before ≡ Some q → ⊥) → (after ≡ Some q → ⊥) → get (with_links_around m before after next previous) q ≡ get m q
     joined_elsewhere q off non = change_some_elsewhere (change_some m before (with_next next)) after (with_previous previous) q non ∙ change_some_elsewhere m before (with_next next) q off
 
-    -- what comes of a name depends on what was there
+    -- what a name holds afterwards depends on what it held
     pub with_links_around-cong : (other : Leaves K V) (q : LeafPtr) → get other q ≡ get m q →
         get (with_links_around other before after next previous) q ≡ get (with_links_around m before after next previous) q
     with_links_around-cong other q e =
         change_some-cong (change_some other before (with_next next)) (change_some m before (with_next next)) after (with_previous previous) q (change_some-cong other m before (with_next next) q e)
 
-    -- the pairs are what they were
+    -- the pairs are unchanged
     pub joined_pair : (q : LeafPtr) → option_map pair_of (get (with_links_around m before after next previous) q) ≡ option_map pair_of (get m q)
     joined_pair q = change_some_pair (change_some m before (with_next next)) after (with_previous previous) q (λ _. refl) ∙ change_some_pair m before (with_next next) q (λ _. refl)
 
-  -- ---- a leaf that comes, and a leaf that goes
+  -- ---- an inserted leaf, and a removed leaf
 
   module _ (m : Leaves K V) (n : LeafPtr) (x : LeafNode K V) where
     -- the new leaf
@@ -93,7 +93,7 @@ module _ {K V : Type 0} where
     unfolding with_leaf
     with_leaf_here p q = joined_elsewhere (insert m n x) x.previous x.next (Some n) (Some n) n p q ∙ leaf_here m n x
 
-    -- leaves beside the new one and elsewhere
+    -- leaves next to the new one and elsewhere
     pub with_leaf_elsewhere : (q : LeafPtr) → q ≢ n → get (with_leaf m n x) q ≡ get (with_links_around m x.previous x.next (Some n) (Some n)) q
     unfolding with_leaf
     with_leaf_elsewhere q off = with_links_around-cong m x.previous x.next (Some n) (Some n) (insert m n x) q (leaf_elsewhere m n q x off)
@@ -103,7 +103,7 @@ module _ {K V : Type 0} where
     unfolding with_leaf
     with_leaf_pair q off = joined_pair (insert m n x) x.previous x.next (Some n) (Some n) q ∙ ap (option_map pair_of) (leaf_elsewhere m n q x off)
 
-    -- leaves beside it and elsewhere
+    -- leaves next to it and elsewhere
     pub without_leaf_elsewhere : (q : LeafPtr) → q ≢ n → get (without_leaf m n x) q ≡ get (with_links_around m x.previous x.next x.next x.previous) q
     unfolding without_leaf
     without_leaf_elsewhere q off = leaf_gone_elsewhere (with_links_around m x.previous x.next x.next x.previous) n q off
@@ -125,7 +125,7 @@ in_listed None p i = absurd i
 in_listed (Some q) p (inl e) = ap Some e
 in_listed (Some q) p (inr i) = absurd i
 
--- at most two leaves stand beside a place
+-- a place has at most two neighbours
 pub length-beside : (next previous : Option LeafPtr) → length (listed next ++ (listed previous ++ [])) ≤ 2
 length-beside None None = omega arith
 length-beside None (Some p) = omega arith
@@ -142,7 +142,7 @@ module _ {K V : Type 0} where
   there_changed m None q f h = h
   there_changed m (Some n) q f h = λ p e. still_changed leaf_cmp_total leaf_cmp-IsAntisymmetric m n p f (h p e)
 
-  -- the leaves beside a place change
+  -- the neighbours of a place change
   pub then_joined : {old new : Leaves K V} {placed freed changed : List LeafPtr} → Touched old new placed freed changed →
       (before after next previous : Option LeafPtr) → IsThere old before → IsThere old after → IsThere new before → IsThere new after →
       Touched old (with_links_around new before after next previous) placed freed (listed after ++ (listed before ++ changed))
@@ -150,7 +150,7 @@ module _ {K V : Type 0} where
       then_change_some (then_change_some so_far before (with_next next) was_b is_b) after (with_previous previous) was_a (there_changed new before after (with_next next) is_a)
 
   module _ (m : Leaves K V) (n : LeafPtr) (x : LeafNode K V) (before : IsThere m x.previous) (after : IsThere m x.next) where
-    -- a leaf that comes, and at most two that change
+    -- an inserted leaf, and at most two that change
     pub touched_with_leaf : get m n ≡ None → Touched m (with_leaf m n x) (n ∷ []) [] (listed x.next ++ (listed x.previous ++ []))
     unfolding with_leaf
     touched_with_leaf free =
@@ -158,7 +158,7 @@ module _ {K V : Type 0} where
         then_joined (then_placed leaf_cmp_total leaf_cmp-IsAntisymmetric (touched_none m) n x free (λ i. i)) x.previous x.next (Some n) (Some n)
         before after (still x.previous before) (still x.next after)
 
-    -- a leaf that goes, and at most two that change
+    -- a removed leaf, and at most two that change
     pub touched_without_leaf : get m n ≢ None → (x.previous ≡ Some n → ⊥) → (x.next ≡ Some n → ⊥) → Touched m (without_leaf m n x) [] (n ∷ []) (listed x.next ++ (listed x.previous ++ []))
     unfolding without_leaf
     touched_without_leaf here not_before not_after =

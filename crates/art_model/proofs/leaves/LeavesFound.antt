@@ -1,4 +1,4 @@
--- The leaf that a look-up finds, as it is in the store.
+-- The leaf that a lookup finds, as it is in the store.
 use Rattle.std.proofs.Common.{◌≡◌, ℕ, List, refl, ap, sym, ◌∙◌, subst, Option, Some, None, IfSome, IsSome}
 use Rattle.std.specs.FinMap.{get}
 use Rattle.std.specs.Option.{option_map}
@@ -18,12 +18,12 @@ use Rattle.art_model.proofs.stores.Views.{leaf_there}
 
 module _ {K V : Type 0} (bytes : K × V → List ℕ) (P : ℕ) {s : Nodes K V} {root : OpaqueNodePtr} {pairs : List (K × V)}
     {layout : Tree OpaqueNodePtr (K × V)} (by : IsCanonicalTree bytes P s root pairs layout) where
-  -- a leaf of the tree is there, with its pair
+  -- a leaf of the tree is in the store, with its pair
   pub leaf_found : {p : LeafPtr} {x : K × V} → HasLeaf layout (leaf_name p) x → (node : LeafNode K V) × (get s.leaves p ≡ Some node) × (pair_of node ≡ x)
   leaf_found {p} {x} has =
       leaf_there s p x (path_holds (node_at s) has.path (leaf (leaf_name p) x) (subst (Holds (node_at s)) (sym has.whole) by.stands.0.holds)).1
 
-  -- the leaf that is found is there
+  -- the leaf that is found is in the store
   pub found_is_there : (found : Option LeafPtr) (sought : List (K × V)) → FindsLeaf layout sought found → IfSome found (λ p. IsSome (get s.leaves p))
   found_is_there None sought none = tt
   found_is_there (Some p) sought (x, only, has) = let (node, there, its) = leaf_found has in rw there refl

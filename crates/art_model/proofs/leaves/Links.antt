@@ -1,4 +1,4 @@
--- The chain of leaves: its parts, and what is left of it when the leaves in the middle change.
+-- The chain of leaves: its parts, and the chain after the leaves in the middle change.
 use Rattle.std.proofs.Common.{◌≡◌, ◌≢◌, List, [], ◌∷◌, ◌++◌, refl, ap, sym, ◌∙◌, Option, Some, None, ◌⊎◌, inl, inr, subst, append_assoc}
 use Rattle.std.specs.List.{AllByRecursion as Each}
 use Rattle.art_model.specs.Layouts.{Links, AreLinked, first_or, last_or, AreDistinct}
@@ -99,7 +99,7 @@ module _ {N : Type 0} where
 -- ---- other leaves in the middle
 
 module _ {N : Type 0} where
-  -- Between `xs` and `zs` stand `ns`: they are linked, the leaves beside them know it, and the others have the links that they had.
+  -- Between `xs` and `zs` are `ns`: they are linked, also with their neighbours, and the others have the links that they had.
   pub record Relinked (links to : N → Option (Links N)) (xs ns zs : List N) : Type 0 where
     pub on_left : (l : N) (a b : Option N) → last_or xs None ≡ Some l → links l ≡ Some (record { previous = a; next = b }) →
         to l ≡ Some (record { previous = a; next = first_or ns (first_or zs None) })

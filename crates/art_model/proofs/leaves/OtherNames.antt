@@ -1,4 +1,4 @@
--- A layout under other names: the nodes got these names, and name one another by them.
+-- A renamed layout: the nodes have new names, and name one another by them.
 use Rattle.std.proofs.Common.{◌≡◌, ◌≢◌, ℕ, List, [], ◌∷◌, ◌++◌, map, Option, Some, option_map, refl, ap, ap₂, sym, ◌∙◌, inl, inr}
 use Rattle.std.proofs.lemmas.List.{map-append}
 use Rattle.std.specs.List.{AllByRecursion as Each}
@@ -13,7 +13,7 @@ module _ {N : Type 0} (rename : N → N) where
   abbrev pub slots_renamed : List (ℕ × N) → List (ℕ × N)
   slots_renamed slots = map (λ slot. (slot.0, rename slot.1)) slots
 
-  -- the same leaves beside, by their new names
+  -- the same neighbours, by their new names
   abbrev pub links_renamed : Links N → Links N
   links_renamed links = record { previous = option_map rename links.previous; next = option_map rename links.next }
 
@@ -85,7 +85,7 @@ module _ {N A : Type 0} (rename : N → N) (at to : N → Option (Node N A))
         (holds_renamed t (Each-left Q (leaf_names t) (leaf_names_below cs) same) h.0, holds_below_renamed cs (Each-right Q (leaf_names t) (leaf_names_below cs) same) h.1)
 
 module _ {N : Type 0} (rename : N → N) where
-  -- each of these names got one of its own
+  -- each of these names has a new one of its own
   abbrev pub IsOwn : List N → Type 0
   IsOwn names = (n k : N) → IsIn n names → IsIn k names → rename n ≡ rename k → n ≡ k
 
@@ -104,7 +104,7 @@ module _ {N : Type 0} (rename : N → N) where
   first_or-renamed [] after = refl
   first_or-renamed (n ∷ ns) after = refl
 
-  -- leaves that name those beside them by their new names are linked under these
+  -- leaves that name their neighbours by their new names are linked under these
   pub linked_renamed : (links to : N → Option (Links N)) (names : List N) (before after : Option N) →
       Each (λ n. to (rename n) ≡ option_map (links_renamed rename) (links n)) names → AreLinked links before names after →
       AreLinked to (option_map rename before) (map rename names) (option_map rename after)

@@ -1,4 +1,4 @@
--- A leaf is placed among those of a layout, or taken from them: from the equation of the store's leaves to the chain, the pairs and what is touched.
+-- A leaf is placed among those of a layout, or removed from them: from the equation of the store's leaves to the chain, the pairs and what is touched.
 use Rattle.std.proofs.Common.{◌≡◌, ◌≢◌, List, [], ◌∷◌, ◌++◌, Some, None, refl, ap, sym, ◌∙◌, subst, append_assoc, inl}
 use Rattle.std.specs.Option.{option_map}
 use Rattle.std.specs.FinMap.{get}
@@ -29,7 +29,7 @@ pub record LeafPlaced {K V : Type 0} (s t : Nodes K V) (layout : Tree OpaqueNode
   pub fresh : get s.leaves n ≡ None
   pub leaves : t.leaves ≡ with_leaf s.leaves n x
 
--- A leaf is taken from between those of `xs` and those of `zs`.
+-- A leaf is removed from between those of `xs` and those of `zs`.
 pub record LeafTaken {K V : Type 0} (s t : Nodes K V) (layout : Tree OpaqueNodePtr (K × V)) (xs zs : List OpaqueNodePtr) (n : LeafPtr) (x : LeafNode K V) : Type 0 where
   pub among : LeafAmong s layout xs zs n x
   pub leaves : t.leaves ≡ without_leaf s.leaves n x
@@ -40,7 +40,7 @@ module _ {K V : Type 0} {s t : Nodes K V} {layout : Tree OpaqueNodePtr (K × V)}
     others_there : AreThere s (xs ++ zs)
     others_there = subst (AreThere s) is.list (are_there s layout holds)
 
-    -- the leaves beside it were there
+    -- its neighbours were in the store
     pub placed_after : IsThere s.leaves x.previous
     placed_after = previous_there s xs zs x.previous others_there is.last
 
@@ -56,16 +56,16 @@ module _ {K V : Type 0} {s t : Nodes K V} {layout : Tree OpaqueNodePtr (K × V)}
         node_at-leaf t n ∙ ap (λ o. option_map leaf_node (option_map pair_of o))
         (ap (λ z. get z n) is.leaves ∙ with_leaf_here s.leaves n x (λ e. placed_after n e is.fresh) (λ e. placed_before n e is.fresh))
 
-    -- leaves that were there keep their pairs
+    -- leaves in the store keep their pairs
     pub placed_pairs : (p : LeafPtr) → get s.leaves p ≢ None → option_map pair_of (get t.leaves p) ≡ option_map pair_of (get s.leaves p)
     placed_pairs p used = ap (λ z. option_map pair_of (get z p)) is.leaves ∙ with_leaf_pair s.leaves n x p (λ e. used (ap (get s.leaves) e ∙ is.fresh))
 
-    -- the chain knows it
+    -- they are a chain
     pub placed_relinked : Relinked (links_at s) (links_at t) xs (leaf_name n ∷ []) zs
     placed_relinked =
         relinked_beside (leaf_comes s t xs zs n x (subst AreDistinct is.list (taken_distinct takes_leaves layout distinct)) others_there is.fresh is.last is.first (λ p i. ap (λ z. get z p) is.leaves))
 
-    -- the leaves beside it have names of the layout
+    -- its neighbours have names of the layout
     pub placed_beside : (p : LeafPtr) → IsIn p (listed x.next ++ (listed x.previous ++ [])) → IsIn (leaf_name p) (names_of layout)
     placed_beside p i = taken_in takes_leaves layout (leaf_name p) (subst (IsIn (leaf_name p)) (sym is.list) (beside_place xs zs x.next x.previous is.first is.last p i))
 
@@ -81,11 +81,11 @@ module _ {K V : Type 0} {s t : Nodes K V} {layout : Tree OpaqueNodePtr (K × V)}
     pub taken_pairs : (p : LeafPtr) → p ≢ n → option_map pair_of (get t.leaves p) ≡ option_map pair_of (get s.leaves p)
     taken_pairs p off = ap (λ z. option_map pair_of (get z p)) is.leaves ∙ without_leaf_pair s.leaves n x p off
 
-    -- the chain knows it
+    -- they are a chain
     pub taken_relinked : Relinked (links_at s) (links_at t) xs [] zs
     taken_relinked = relinked_beside (leaf_goes s t xs zs n x list_distinct (previous_is holds linked is.among) (next_is holds linked is.among) (λ p i. ap (λ z. get z p) is.leaves))
 
-    -- and at most the leaves beside it are changed
+    -- and at most its neighbours are changed
     pub taken_touched : Touched s.leaves t.leaves [] (n ∷ []) (listed x.next ++ (listed x.previous ++ []))
     taken_touched = subst (λ z. Touched s.leaves z [] (n ∷ []) (listed x.next ++ (listed x.previous ++ []))) (sym is.leaves)
         (touched_without_leaf s.leaves n x (before_there holds linked is.among) (after_there holds linked is.among) (λ e. absurd (let here = is.among.here in cc))

@@ -1,4 +1,4 @@
--- A canonical root stays canonical where the leaves of its tree got other names.
+-- A canonical root stays canonical when the leaves of its tree are renamed.
 use Rattle.std.proofs.Common.{◌≡◌, ◌≢◌, ℕ, List, [], ◌∷◌, map, Option, Some, None, option_map, option_and_then, IsSomeAnd, refl, ap, sym, ◌∙◌, subst, ◌⊎◌, inl, inr}
 use Rattle.std.specs.List.{AllByRecursion as Each}
 use Rattle.std.specs.FinMap.{get}
@@ -49,7 +49,7 @@ first_named {names} {first} row names_are is =
     optional_leaf_one (first_of_row row) (Some first) (sym (first_or-leaves row) ∙ first_or_of (map leaf_name row) ∙ ap first_of (sym names_are) ∙ is)
 
 module _ {K V : Type 0} (s : Nodes K V) where
-  -- a leaf with these links stands between the leaves that they name
+  -- a leaf with these links is between the leaves that they name
   linked_leaf : (o : Option (LeafNode K V)) (before after : Option LeafPtr) →
       option_and_then links_of (option_map held_leaf o) ≡ Some (record { previous = option_map leaf_name before; next = option_map leaf_name after }) →
       IsSomeAnd o (λ leaf. (leaf.previous ≡ before) × (leaf.next ≡ after))
@@ -59,7 +59,7 @@ module _ {K V : Type 0} (s : Nodes K V) where
       (record { previous = option_map leaf_name before; next = option_map leaf_name after }) = cc in
       (optional_leaf_one leaf.previous before (ap (λ z. z.previous) l), optional_leaf_one leaf.next after (ap (λ z. z.next) l))
 
-  -- Leaves that are linked stand in a row.
+  -- Linked leaves are in a row.
   pub record HasRow (before : Option LeafPtr) (names : List OpaqueNodePtr) : Type 0 where
     pub row : List LeafPtr
     pub is_row : IsRow s.leaves before row
@@ -72,7 +72,7 @@ module _ {K V : Type 0} (s : Nodes K V) where
     | inr off ↦ let none = links_inner s n off in absurd cc
   ]
 
-  -- one leaf more in front
+  -- one more leaf before the others
   row_from : (before : Option LeafPtr) (p : LeafPtr) (ns : List OpaqueNodePtr) →
       links_at s (leaf_name p) ≡ Some (record { previous = option_map leaf_name before; next = first_or ns None }) → HasRow (Some p) ns → HasRow before (leaf_name p ∷ ns)
   row_from before p ns links rest =
@@ -87,7 +87,7 @@ module _ {K V : Type 0} (s : Nodes K V) where
         names_are = ap (λ ks. leaf_name p ∷ ks) rest.names_are;
       }
 
-  -- the row of leaves that are linked, from the one after a leaf on
+  -- the row of linked leaves, from the one after a leaf on
   pub row_of : (before : Option LeafPtr) (names : List OpaqueNodePtr) → AreLinked (links_at s) (option_map leaf_name before) names None → HasRow before names
   row_of before [] h = record { row = []; is_row = tt; names_are = refl }
   row_of before (n ∷ ns) h =
@@ -105,7 +105,7 @@ inner_stays rename Node16 slot off = refl
 inner_stays rename Node48 slot off = refl
 inner_stays rename Node256 slot off = refl
 
--- a leaf beside another one has its new name
+-- a neighbour of a leaf has its new name
 optional_renamed : (rename : LeafPtr → LeafPtr) (o : Option LeafPtr) → option_map leaf_name (option_map rename o) ≡ option_map (child_renamed rename) (option_map leaf_name o)
 optional_renamed rename None = refl
 optional_renamed rename (Some p) = refl
@@ -122,19 +122,19 @@ module _ {K V : Type 0} (rename : LeafPtr → LeafPtr) where
   same_pair None = refl
   same_pair (Some leaf) = refl
 
-  -- and names those beside it by their new names
+  -- and names its neighbours by their new names
   links_of-renamed : (o : Option (LeafNode K V)) → option_and_then links_of (option_map held_leaf (option_map (leaf_renamed rename) o)) ≡
       option_map (links_renamed (child_renamed rename)) (option_and_then links_of (option_map held_leaf o))
   links_of-renamed None = refl
   links_of-renamed (Some leaf) = let before = optional_renamed rename leaf.previous in let after = optional_renamed rename leaf.next in cc
 
 module _ {K V : Type 0} {rename : LeafPtr → LeafPtr} {row : List LeafPtr} {s t : Nodes K V} (are : AreRenamed rename row s t) where
-  -- a leaf is what it was under its new name
+  -- under its new name a leaf is unchanged
   same_leaf_node : (p : LeafPtr) → IsIn p row → node_at t (child_renamed rename (leaf_name p)) ≡ node_at s (leaf_name p)
   same_leaf_node p i = node_at-leaf t (rename p) ∙ ap (λ o. option_map leaf_node (option_map pair_of o)) (are.leaves p i)
       ∙ ap (option_map leaf_node) (same_pair rename (get s.leaves p)) ∙ sym (node_at-leaf s p)
 
-  -- it names those beside it by their new names
+  -- it names its neighbours by their new names
   links_follow : (p : LeafPtr) → IsIn p row → links_at t (child_renamed rename (leaf_name p)) ≡ option_map (links_renamed (child_renamed rename)) (links_at s (leaf_name p))
   links_follow p i = links_leaf t (rename p) _ (are.leaves p i) ∙ links_of-renamed rename (get s.leaves p)
 
@@ -196,7 +196,7 @@ module _ {K V : Type 0} {rename : LeafPtr → LeafPtr} {row : List LeafPtr} {s t
               (each_leaf (λ n. links_at t (f n) ≡ option_map (links_renamed f) (links_at s n)) links_follow) by.linked);
         }
 
-    -- and where nothing was beside the tree, nothing is beside it
+    -- and where nothing was outside the tree, nothing is
     pub none_beside : ((name : OpaqueNodePtr) → (IsIn name (names_of layout) → ⊥) → content_at s name ≡ None) →
         (name : OpaqueNodePtr) → (IsIn name (names_of (renamed (child_renamed rename) layout)) → ⊥) → content_at t name ≡ None
     none_beside none name out = go (leaf_or name)

@@ -27,11 +27,11 @@ module _ {N : Type 0} {links : N → Option (Links N)} where
   pub empty_segment : IsSegment links []
   empty_segment = record { distinct = tt; before = None; after = None; linked = tt }
 
-  -- the names after some in front
+  -- the names after the first ones
   pub segment_rest : (xs ys : List N) → IsSegment links (xs ++ ys) → IsSegment links ys
   segment_rest xs ys is = record { distinct = Pairwise-right ◌≢◌ xs ys is.distinct; before = last_or xs is.before; after = is.after; linked = linked_rest links xs ys is.before is.after is.linked }
 
-  -- the names in front
+  -- the first names
   pub segment_front : (xs ys : List N) → IsSegment links (xs ++ ys) → IsSegment links xs
   segment_front xs ys is = record { distinct = Pairwise-left ◌≢◌ xs ys is.distinct; before = is.before; after = first_or ys is.after; linked = linked_front links xs ys is.before is.after is.linked }
 

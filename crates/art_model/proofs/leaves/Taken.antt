@@ -1,4 +1,4 @@
--- A leaf among those of a layout, before it goes: the leaves beside it.
+-- A leaf among those of a layout, before it is removed: its neighbours.
 use Rattle.std.proofs.Common.{◌≡◌, List, [], ◌∷◌, ◌++◌, ℕ, arith, Option, Some, None, refl, ap, sym, ◌∙◌, subst, append_assoc, inl, inr}
 use Rattle.std.specs.Option.{option_map}
 use Rattle.std.specs.FinMap.{get}
@@ -22,7 +22,7 @@ use Rattle.art_model.proofs.leaves.Chains.{AreThere, are_there, beside_place, li
 
 module _ {K V : Type 0} (s : Nodes K V) where
   mutual
-    -- a leaf of a layout is there, with one of the layout's pairs
+    -- a leaf of a layout is in the store, with one of the layout's pairs
     pub leaf_at : (t : Tree OpaqueNodePtr (K × V)) → Holds (node_at s) t → (p : LeafPtr) → IsIn (leaf_name p) (leaf_names t) → (y : LeafNode K V) ×
         (get s.leaves p ≡ Some y) × IsIn (pair_of y) (pairs_of t)
     leaf_at (leaf k x) h p (inl e) = let (y, got, same) = leaf_there s p x (ap (node_at s) (sym e) ∙ h) in (y, got, inl (sym same))
@@ -50,7 +50,7 @@ pub last_of_some : {N : Type 0} (k : N) (ks : List N) (o : Option N) → (j : N)
 last_of_some k [] o = (k, refl, inl refl)
 last_of_some k (l ∷ ks) o = let (j, e, i) = last_of_some l ks (Some k) in (j, e, inr i)
 
--- The leaf stands between those of `xs` and those of `zs`, which with it are all of the layout's.
+-- The leaf is between those of `xs` and those of `zs`, which with it are all of the layout's.
 pub record LeafAmong {K V : Type 0} (s : Nodes K V) (layout : Tree OpaqueNodePtr (K × V)) (xs zs : List OpaqueNodePtr) (n : LeafPtr) (x : LeafNode K V) : Type 0 where
   pub list : leaf_names layout ≡ xs ++ leaf_name n ∷ zs
   pub here : get s.leaves n ≡ Some x
@@ -74,7 +74,7 @@ module _ {K V : Type 0} {s : Nodes K V} {layout : Tree OpaqueNodePtr (K × V)} {
   others_there : AreThere s (xs ++ zs)
   others_there p i = are_there s layout holds p (others_in (leaf_name p) i)
 
-  -- both are there
+  -- both are in the store
   pub before_there : IsThere s.leaves x.previous
   before_there = previous_there s xs zs x.previous others_there previous_is
 

@@ -1,20 +1,20 @@
--- Lists of what nodes are told by, and their names: an entry that stays keeps its name.
+-- Lists of nodes' keys and names: an entry that stays keeps its name.
 use Rattle.std.proofs.Common.{◌≡◌, ◌≢◌, ℕ, List, [], ◌∷◌, ◌++◌, ap, sym, ◌∙◌, ◌⊎◌, inl, inr}
 use Rattle.art_model.specs.Pairs.{Pairwise}
 use Rattle.art_model.specs.Footprints.{IsIn}
 use Rattle.art_model.proofs.lists.Lists.{each_in, in_left, in_right, in_either}
 
--- what bytes an entry is told by, what name it has, and which entries are of one sort
+-- the bytes by which an entry is identified, its name, and which entries are of one sort
 module _ {E N : Type 0} (told : E → List ℕ) (name : E → N) (Alike : E → E → Type 0) where
-  -- the entries are told by other bytes
+  -- the entries are identified by other bytes
   abbrev pub ToldApart : E → E → Type 0
   ToldApart e f = told e ≢ told f
 
-  -- an entry of the second list that is told by the same bytes as one of the first, and is of its sort, has its name
+  -- an entry of the second list that is identified by the same bytes as one of the first, and is of its sort, has its name
   abbrev pub Keep : List E → List E → Type 0
   Keep old new = (e f : E) → IsIn e old → IsIn f new → Alike e f → told e ≡ told f → name e ≡ name f
 
-  -- of entries that are told apart two with the same bytes are one
+  -- of entries with distinct bytes two with the same bytes are equal
   pub same_entry : (xs : List E) → Pairwise ToldApart xs → (e f : E) → IsIn e xs → IsIn f xs → told e ≡ told f → e ≡ f
   same_entry [] d e f i j same = absurd i
   same_entry (x ∷ xs) d e f (inl i) (inl j) same = sym i ∙ j
@@ -22,7 +22,7 @@ module _ {E N : Type 0} (told : E → List ℕ) (name : E → N) (Alike : E → 
   same_entry (x ∷ xs) d e f (inr i) (inl j) same = absurd (each_in (ToldApart x) e xs d.0 i (ap told j ∙ sym same))
   same_entry (x ∷ xs) d e f (inr i) (inr j) same = same_entry xs d.1 e f i j same
 
-  -- names are kept where all entries are among some that are told apart
+  -- names are kept where all entries are among some with distinct bytes
   pub keep_among : (xs old new : List E) → Pairwise ToldApart xs → ((e : E) → IsIn e old → IsIn e xs) → ((e : E) → IsIn e new → IsIn e xs) → Keep old new
   keep_among xs old new d one two e f i j alike same = ap name (same_entry xs d e f (one e i) (two f j) same)
 

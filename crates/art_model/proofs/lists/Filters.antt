@@ -1,4 +1,4 @@
--- lists after a test, and with one element more
+-- lists after a test, and with one more element
 use Rattle.std.proofs.Common.{◌≡◌, ℕ, ◌+◌, List, [], ◌∷◌, length, filter, refl, ap, sym, ◌∙◌, arith, true, false, cond, Bool, subst, Some}
 use Rattle.std.specs.List.{AllByRecursion as Each}
 use Rattle.std.proofs.lemmas.Bool.{true≢false}
@@ -77,7 +77,7 @@ module _ {A : Type 0} where
   Pairwise-without_last R (x ∷ []) h = tt
   Pairwise-without_last R (x ∷ y ∷ xs) h = (Each-without_last (R x) (y ∷ xs) h.0, Pairwise-without_last R (y ∷ xs) h.1)
 
--- one element more in its place
+-- one more element in its place
 module _ {A : Type 0} (bytes : A → List ℕ) where
   pub Each-add : (P : A → Type 0) (new : A) (xs : List A) → P new → Each P xs → Each P (add_in_order bytes new xs)
   Each-add P new [] p h = (p, tt)

@@ -1,4 +1,4 @@
--- lists: what holds of each element, which elements stand in a list, and fronts
+-- lists: what holds of each element, which elements are in a list, and prefixes
 use Rattle.std.proofs.Common.{filter, ◌≡◌, ℕ, List, [], ◌∷◌, ◌++◌, length, drop, refl, ap, sym, ◌∙◌, append_assoc, drop_at, eqb, eq-eqb, true, false, cond, Bool, ap₂, eqb-true, subst, map, ◌⊎◌, inl, inr}
 use Rattle.std.specs.List.{AllByRecursion as Each}
 use Rattle.art_model.specs.Keys.{IsFront, common_front}
@@ -86,24 +86,24 @@ module _ {X Y : Type 0} (f : X → Y) where
   each_unmap P [] h = tt
   each_unmap P (x ∷ xs) h = (h.0, each_unmap P xs h.1)
 
--- a front of a front
+-- a prefix of a prefix
 pub front_cut : (a b k : List ℕ) → IsFront (a ++ b) k → IsFront a k
 front_cut a b k (r, e) = (b ++ r, e ∙ append_assoc a b r)
 
--- fronts of fronts
+-- prefixes of prefixes
 pub front_trans : (a b c : List ℕ) → IsFront a b → IsFront b c → IsFront a c
 front_trans a b c (r, e) (s, f) = (r ++ s, rw (f, e) (append_assoc a r s))
 
--- what comes after a front
+-- what comes after a prefix
 pub after_front : (a k r : List ℕ) → k ≡ a ++ r → drop (length a) k ≡ r
 after_front a k r e = rw e (drop_at a r (length a) refl)
 
--- a shared front stays in front
+-- a shared prefix stays first
 pub common_front-append : (p a b : List ℕ) → common_front (p ++ a) (p ++ b) ≡ p ++ common_front a b
 common_front-append [] a b = refl
 common_front-append (x ∷ p) a b = rw (eq-eqb x x refl) (ap (λ s. x ∷ s) (common_front-append p a b))
 
--- a common front is a front of both
+-- a common prefix is a prefix of both
 pub common_front_left : (a b : List ℕ) → IsFront (common_front a b) a
 common_front_left [] b = ([], refl)
 common_front_left (x ∷ a) [] = (x ∷ a, refl)

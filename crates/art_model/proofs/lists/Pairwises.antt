@@ -31,21 +31,21 @@ module _ {X : Type 0} (R : X → X → Type 0) where
   Pairwise-without [] ys b h = h.1
   Pairwise-without (x ∷ xs) ys b h = (Each-append (R x) xs ys (Each-left (R x) xs (b ∷ ys) h.0) (Each-right (R x) xs (b ∷ ys) h.0).1, Pairwise-without xs ys b h.1)
 
-  -- one element more, in its place
+  -- one more element, in its place
   pub Pairwise-with : (xs ys : List X) (b : X) → Each (λ x. R x b) xs → Each (R b) ys → Pairwise R (xs ++ ys) → Pairwise R (xs ++ b ∷ ys)
   Pairwise-with [] ys b l r h = (r, h)
   Pairwise-with (x ∷ xs) ys b l r h = (Each-append (R x) xs (b ∷ ys) (Each-left (R x) xs ys h.0) (l.0, Each-right (R x) xs ys h.0), Pairwise-with xs ys b l.1 r h.1)
 
-  -- those before an element stand in the relation to it
+  -- those before an element are related to it
   pub Pairwise-before : (xs ys : List X) (b : X) → Pairwise R (xs ++ b ∷ ys) → Each (λ x. R x b) xs
   Pairwise-before [] ys b h = tt
   Pairwise-before (x ∷ xs) ys b h = ((Each-right (R x) xs (b ∷ ys) h.0).0, Pairwise-before xs ys b h.1)
 
-  -- it stands in the relation to those after it
+  -- it is related to those after it
   pub Pairwise-after : (xs ys : List X) (b : X) → Pairwise R (xs ++ b ∷ ys) → Each (R b) ys
   Pairwise-after [] ys b h = h.0
   Pairwise-after (x ∷ xs) ys b h = Pairwise-after xs ys b h.1
 
-  -- an element of the first part stands in the relation to one of the second
+  -- an element of the first part is related to one of the second
   pub Pairwise-in : (xs ys : List X) (x y : X) → Pairwise R (xs ++ ys) → IsIn x xs → IsIn y ys → R x y
   Pairwise-in xs ys x y h i j = each_in (R x) y ys (each_in (λ z. Each (R z) ys) x xs (Pairwise-across xs ys h) i) j

@@ -9,7 +9,7 @@ use Rattle.art_model.proofs.lists.Filters.{filter_all}
 use Rattle.art_model.proofs.keys.Keys.{precedes_apart, related_sym, same_related}
 
 module _ {A : Type 0} (bytes : A → List ℕ) where
-  -- pairs before and after all that is related to the key stay as they are
+  -- pairs before and after all that is related to the key are unchanged
   abbrev pub IsLocal : List ℕ → (List A → List A) → Type 0
   IsLocal key F = (xs ys zs : List A) → Each (λ x. Precedes (bytes x) key) xs → Each (λ x. Precedes key (bytes x)) zs → F (xs ++ ys ++ zs) ≡ xs ++ F ys ++ zs
 
@@ -17,12 +17,12 @@ module _ {A : Type 0} (bytes : A → List ℕ) where
   add_in_order_first new [] h = refl
   add_in_order_first new (y ∷ ys) h = rw h.0.0
 
-  -- all before the place stay in front
+  -- all before the place stay before
   pub add_in_order-after : (new : A) (xs ys : List A) → Each (λ x. Precedes (bytes x) (bytes new)) xs → add_in_order bytes new (xs ++ ys) ≡ xs ++ add_in_order bytes new ys
   add_in_order-after new [] ys h = refl
   add_in_order-after new (x ∷ xs) ys h = rw (precedes_apart (bytes x) (bytes new) h.0) (ap (λ l. x ∷ l) (add_in_order-after new xs ys h.1))
 
-  -- all after the place stay behind
+  -- all after the place stay after
   pub add_in_order-before : (new : A) (ys zs : List A) → Each (λ x. Precedes (bytes new) (bytes x)) zs → add_in_order bytes new (ys ++ zs) ≡ add_in_order bytes new ys ++ zs
   add_in_order-before new [] zs h = add_in_order_first new zs h
   add_in_order-before new (y ∷ ys) zs h = go (add_in_order-before new ys zs h) (is_before (bytes new) (bytes y))
@@ -47,11 +47,11 @@ module _ {A : Type 0} (bytes : A → List ℕ) where
     high_apart : Each (λ x. are_related key (bytes x) ≡ false) zs
     high_apart = Each-weaker (λ x. Precedes key (bytes x)) (λ x. are_related key (bytes x) ≡ false) (λ x h. h.1) zs high
 
-    -- a pair with the key goes from the middle alone
+    -- a pair with the key is removed only from the middle
     pub remove_key-between : remove_key bytes key (xs ++ ys ++ zs) ≡ xs ++ remove_key bytes key ys ++ zs
     remove_key-between = simp (filter-append, unequal key xs low_apart, unequal key zs high_apart)
 
-    -- and so do those with related keys
+    -- and so are those with related keys
     remove_related-between : remove_related bytes key (xs ++ ys ++ zs) ≡ xs ++ remove_related bytes key ys ++ zs
     remove_related-between = simp (filter-append, unrelated key xs low_apart, unrelated key zs high_apart)
 

@@ -61,7 +61,7 @@ other_way a b h apart = (go (order_is_total a b), related_sym b a ∙ apart)
     go (inr (inl e)) = absurd (true≢false (sym (equal_related a b e) ∙ apart))
     go (inr (inr e)) = e
 
--- fronts of one list are related
+-- prefixes of one list are related
 both_fronts : (a b whole : List ℕ) → IsFront a whole → IsFront b whole → are_related a b ≡ true
 both_fronts [] b whole f g = refl
 both_fronts (x ∷ a) [] whole f g = refl
@@ -127,7 +127,7 @@ module _ {A : Type 0} (bytes : A → List ℕ) where
 
   -- ---- what changes leave
 
-  -- a pair that is related to none comes into a map
+  -- a pair that is related to none is added to a map
   added : (new : A) (xs : List A) → IsMap bytes xs → Unrelated (bytes new) xs → IsMap bytes (add_in_order bytes new xs)
   added new [] map apart = (tt, tt)
   added new (x ∷ xs) map apart = go (added new xs map.1 apart.1) (is_before (bytes new) (bytes x)) refl
@@ -155,7 +155,7 @@ module _ {A : Type 0} (bytes : A → List ℕ) where
       Each-weaker (λ x. not (are_related key (bytes x)) ≡ true) (λ x. are_related key (bytes x) ≡ false)
       (λ x e. not_true (are_related key (bytes x)) e) (remove_related bytes key xs) (filter_passes (λ x. not (are_related key (bytes x))) xs)
 
-  -- a pair in the place of others leaves a map
+  -- a pair in place of others leaves a map
   replaced_map : (new : A) (pairs : List A) → IsMap bytes pairs → is_conflict bytes (bytes new) pairs ≡ false → IsMap bytes (replace_key bytes new pairs)
   replaced_map new pairs map free =
       added new (remove_key bytes (bytes new) pairs) (Pairwise-filter (λ x y. Precedes (bytes x) (bytes y))
@@ -213,7 +213,7 @@ module _ {A : Type 0} (bytes : A → List ℕ) where
           ∙ filter_filter (λ x. are_same key (bytes x)) (λ x. not (are_related (bytes new) (bytes x)))
           (λ x h. not_false (are_related (bytes new) (bytes x)) (subst (λ z. are_related (bytes new) z ≡ false) (sym (same_equal key (bytes x) h)) (related_sym (bytes new) key ∙ r))) pairs
 
-  -- ---- maps that answer alike
+  -- ---- maps with the same answers
 
   own : (x : A) (xs : List A) → with_key bytes (bytes x) (x ∷ xs) ≡ x ∷ with_key bytes (bytes x) xs
   own x xs = rw (front_same (bytes x)) refl
@@ -263,7 +263,7 @@ module _ {A : Type 0} (bytes : A → List ℕ) where
       filter_add bytes (λ x. not (are_same (bytes new) (bytes x))) new (remove_key bytes (bytes new) pairs) (rw (front_same (bytes new)) refl)
       ∙ ap (remove_key bytes (bytes new)) stays ∙ stays
 
-  -- ---- what replies tell
+  -- ---- what replies report
 
   as_reply : (xs : List A) → length xs ≤ 1 → xs ≡ cons_option (first_of xs) []
   as_reply [] h = refl
@@ -302,7 +302,7 @@ module _ {K V : Type 0} (bytes : K → List ℕ) where
   alike : (new : K × V) (pairs : List (K × V)) → bytes (stored new pairs).0 ≡ bytes new.0
   alike new pairs = stored_bytes bytes new pairs
 
-  -- an overwrite of a map puts what is stored in the place of all with related keys
+  -- an overwrite of a map replaces all with related keys by what is stored
   overwrite_is : (new : K × V) (pairs : List (K × V)) → IsMap Of pairs → overwrite Of new pairs ≡ replace_related Of (stored new pairs) pairs
   overwrite_is new pairs map = go (first_of (with_key Of (bytes new.0) pairs)) refl
     where
@@ -357,7 +357,7 @@ module _ {K V : Type 0} (bytes : K → List ℕ) where
       put_is_found (bytes new.0) new pairs ∙ ap (λ b. cond b (stored new pairs ∷ []) (with_key Of (bytes new.0) pairs)) (front_same (bytes new.0)) in
       stored_key_stays new (stored new pairs) (put Of new pairs) found ∙ ap (λ v. ((stored new pairs).0, v)) (sym (stored_value bytes new pairs))
 
-  -- a pair with a stored key comes in the place of the stored one
+  -- a pair with a stored key replaces the stored one
   keys_stay : (new : K × V) (pairs : List (K × V)) (old : K × V) → IsMap Of pairs → first_of (with_key Of (bytes new.0) pairs) ≡ Some old → new.0 ≡ old.0 →
       map (λ x. x.0) (replace_key Of new pairs) ≡ map (λ x. x.0) pairs
   keys_stay new [] old ordered e same = absurd cc
@@ -390,7 +390,7 @@ module _ {K V : Type 0} (bytes : K → List ℕ) where
   pub overwrite_of_key_is_put : OverwriteOfKeyIsPut V bytes
   overwrite_of_key_is_put new pairs has = (overwrite-put Of new pairs has, overwrite_reply-put Of new pairs has)
 
-  -- ---- what replies tell
+  -- ---- what replies report
 
   handed : (f : K × V → K × V) (xs : List (K × V)) → length xs ≤ 1 → map f xs ≡ cons_option (option_map f (first_of xs)) []
   handed f [] h = refl

@@ -64,7 +64,7 @@ module _ {A : Type 0} (bytes : A → List ℕ) (new : A) where
         go false true d e k ih = absurd (true≢false k)
         go false false d e k ih = (e, ih k)
 
-    -- of which a map has one at most
+    -- of which a map has at most one
     pub one_went : (xs : List A) → IsMap bytes xs → only_or_count (with_key bytes key xs) ≡ (first_of (with_key bytes key xs), 0)
     one_went [] map = refl
     one_went (x ∷ xs) map = go (are_same key (bytes x)) refl (one_went xs map.1)
@@ -80,7 +80,7 @@ module _ {A : Type 0} (bytes : A → List ℕ) (new : A) where
             rw none refl
 
 module _ {A : Type 0} (bytes : A → List ℕ) where
-  -- a key that is stored in a map is in no conflict
+  -- a key that is stored in a map does not conflict
   pub stored_is_free : (key : List ℕ) (xs : List A) → IsMap bytes xs → has_key bytes key xs ≡ true → is_conflict bytes key xs ≡ false
   stored_is_free key [] map has = refl
   stored_is_free key (x ∷ xs) map has = go (are_same key (bytes x)) refl has (λ rest. stored_is_free key xs map.1 rest)
@@ -89,7 +89,7 @@ module _ {A : Type 0} (bytes : A → List ℕ) where
       none [] h = refl
       none (y ∷ ys) h = rw h.0 (none ys h.1)
 
-      -- one that comes before the stored key is not related to it
+      -- one before the stored key is not related to it
       earlier : (ys : List A) → Each (λ y. Precedes (bytes x) (bytes y)) ys → has_key bytes key ys ≡ true → are_related key (bytes x) ≡ false
       earlier [] h e = absurd (false≢true e)
       earlier (y ∷ ys) h e = here (are_same key (bytes y)) refl e (λ g. earlier ys h.1 g)

@@ -18,7 +18,7 @@ last_related R [] z rise e = tt
 last_related R (x ∷ []) z rise e = let same : x ≡ z = cc in (inr same, tt)
 last_related R (x ∷ y ∷ xs) z rise e = (inl (last_each (R x) (y ∷ xs) z rise.0 e), last_related R (y ∷ xs) z rise.1 e)
 
--- of two prefixes of a query the one that comes first is a prefix of the other
+-- of two prefixes of a query the first one is a prefix of the other
 front_if_before : (t u query : List ℕ) → is_before t u ≡ true → IsFront t query → IsFront u query → IsFront t u
 front_if_before t u query before f g = go ((order_is_decided t u).0 before)
   where

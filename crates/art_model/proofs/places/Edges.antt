@@ -1,4 +1,4 @@
--- the way down along the first or the last children
+-- the descent along the first or the last children
 use Rattle.std.proofs.Common.{◌≡◌, ◌≢◌, ℕ, suc, ◌-◌, ◌<◌, ◌≤◌, List, [], ◌∷◌, ◌++◌, length, slice_get, refl, ap, sym, ◌∙◌, arith, subst, append-nil, Some, None}
 use Rattle.std.specs.FinMap as map
 use Rattle.art_inner.specs.Inner.{Inner}
@@ -33,12 +33,12 @@ module _ {N A : Type 0} where
   AreLast [] = Unit {0}
   AreLast (f ∷ fs) = (f.right ≡ no_child) × AreLast fs
 
-  -- no leaf stands before the hole, and no pair
+  -- no leaf is before the hole, and no pair
   none_before : (fs : List (Frame N A)) → AreFirst fs → (leaves_before fs ≡ []) × (pairs_before fs ≡ [])
   none_before [] first = (refl, refl)
   none_before (f ∷ fs) first = let above = none_before fs first.1 in (rw (above.0, first.0) refl, rw (above.1, first.0) refl)
 
-  -- none stands after it
+  -- none is after it
   none_after : (fs : List (Frame N A)) → AreLast fs → (leaves_after fs ≡ []) × (pairs_after fs ≡ [])
   none_after [] last = (refl, refl)
   none_after (f ∷ fs) last = let above = none_after fs last.1 in (rw (above.0, last.0) refl, rw (above.1, last.0) refl)
@@ -81,7 +81,7 @@ module _ {N A : Type 0} where
   height_join no_child ds = omega arith
   height_join (child b t cs) ds = let l = height_join cs ds in omega arith
 
--- ---- a way down that keeps to an edge
+-- ---- a descent that keeps to an edge
 
 -- a node of a full tree, where the frames above it keep to a side
 pub record IsAtEdge {K V : Type 0} (side : List (Frame OpaqueNodePtr (K × V)) → Type 0) (s : Nodes K V) (tree : Tree OpaqueNodePtr (K × V)) (name : OpaqueNodePtr) : Type 0 where
@@ -143,7 +143,7 @@ module _ {K V : Type 0} (side : List (Frame OpaqueNodePtr (K × V)) → Type 0) 
             omega arith,
           )
 
--- at a leaf the way ends
+-- at a leaf the path ends
 module _ {K V : Type 0} {side : List (Frame OpaqueNodePtr (K × V)) → Type 0} {s : Nodes K V} {tree : Tree OpaqueNodePtr (K × V)}
     {name : OpaqueNodePtr} {p : LeafPtr} (is : leaf_name p ≡ name) (d : IsAtEdge side s tree name) where
   pub first_leaf : AreFirst d.path → (first_of (leaf_names tree) ≡ Some (leaf_name p)) × ((x : K × V) × (first_of (pairs_of tree) ≡ Some x) × (plug d.path (leaf (leaf_name p) x) ≡ tree))

@@ -55,7 +55,7 @@ module _ {N A : Type 0} (fs : List (Frame N A)) where
     ];
   }
 
-  -- what keeps the name of what was in the hole leaves the root's name
+  -- what keeps the name of what was in the hole keeps the root's name
   pub root_stays : (t : Tree N A) {root : N} → name_of (plug fs t) ≡ root → root_with fs root (name_of t) ≡ root
   root_stays t {root} named = go fs named
     where

@@ -1,4 +1,4 @@
--- a key's way goes below one child at most
+-- at most one child is on a key's path
 use Rattle.std.proofs.Common.{◌≡◌, ◌≢◌, ℕ, ◌+◌, ◌<◌, ◌≤◌, List, [], ◌∷◌, ◌++◌, length, get_or, refl, ap, sym, ◌∙◌, arith, subst, append_assoc, append-nil, length-append, Some, None, Bool, true, false, cond, eqb, eqb-true}
 use Rattle.std.specs.List.{AllByRecursion as Each}
 use Rattle.std.proofs.lemmas.List.Elements.{filter-append}
@@ -23,7 +23,7 @@ is_false true never = absurd (never refl)
 is_false false never = refl
 
 module _ {A : Type 0} (bytes : A → List ℕ) (key : List ℕ) where
-  -- the key is not a front of the query
+  -- the key is not a prefix of the query
   abbrev pub IsOff : A → Type 0
   IsOff x = IsFront (bytes x) key → ⊥
 
@@ -31,15 +31,15 @@ module _ {A : Type 0} (bytes : A → List ℕ) (key : List ℕ) where
   none_match xs off =
       filter_none (λ x. is_front (bytes x) key) xs (Each-weaker IsOff (λ x. is_front (bytes x) key ≡ false) (λ x o. is_false (is_front (bytes x) key) (λ e. o (front_from (bytes x) key e))) xs off)
 
-  -- nothing beside the middle matches
+  -- nothing outside the middle matches
   pub match_between : (xs ys zs : List A) → Each IsOff xs → Each IsOff zs → match_of bytes key (xs ++ ys ++ zs) ≡ match_of bytes key ys
   match_between xs ys zs low high = simp (filter-append, none_match xs low, none_match zs high, append-nil)
 
-  -- what begins so is not a front of a key that doesn't
+  -- a prefix of something else is not a prefix of a key without it
   off_front : (front : List ℕ) → (IsFront front key → ⊥) → (xs : List A) → Each (λ x. IsFront front (bytes x)) xs → Each IsOff xs
   off_front front off xs begin = Each-weaker (λ x. IsFront front (bytes x)) IsOff (λ x f g. off (front_trans front (bytes x) key f g)) xs begin
 
--- the byte after a front
+-- the byte after a prefix
 pub byte_after : (front key : List ℕ) (b : ℕ) → IsFront (front ++ b ∷ []) key → get_or key (length front) 0 ≡ b
 byte_after front key b (r, e) = ap (λ k. get_or k (length front) 0) (e ∙ append_assoc front (b ∷ []) r) ∙ get_or_at front b r 0 (length front) refl
 
@@ -49,7 +49,7 @@ front_byte front key (b ∷ r, e) long =
     let here : get_or key (length front) 0 ≡ b = ap (λ k. get_or k (length front) 0) e ∙ get_or_at front b r 0 (length front) refl in
     (r, e ∙ ap (λ c. front ++ c ∷ r) (sym here) ∙ sym (append_assoc front (get_or key (length front) 0 ∷ []) r))
 
--- the key doesn't go on below these children
+-- the key doesn't continue below these children
 abbrev pub AreAside : {N A : Type 0} → List ℕ → List ℕ → Subtrees N A → Type 0
 AreAside front key cs = Each (λ b. IsFront (front ++ b ∷ []) key → ⊥) (bytes_of cs)
 
@@ -58,7 +58,7 @@ module _ {N A : Type 0} (front key : List ℕ) where
   pub aside_others : (cs : Subtrees N A) → Each (λ b. b ≢ get_or key (length front) 0) (bytes_of cs) → AreAside front key cs
   aside_others cs others = Each-weaker (λ b. b ≢ get_or key (length front) 0) (λ b. IsFront (front ++ b ∷ []) key → ⊥) (λ b o f. o (sym (byte_after front key b f))) (bytes_of cs) others
 
-  -- any bytes will do where the front itself is off
+  -- any bytes will do if the prefix itself differs
   aside_all : (cs : Subtrees N A) → ((b : ℕ) → IsFront (front ++ b ∷ []) key → ⊥) → AreAside front key cs
   aside_all cs off = go (bytes_of cs)
     where
@@ -72,7 +72,7 @@ module _ {N A : Type 0} (front key : List ℕ) where
   pub aside_end : (cs : Subtrees N A) → length key ≤ length front → AreAside front key cs
   aside_end cs end = aside_all cs (λ b f. let l = ap length f.1 in omega (arith, simp length-append at l))
 
--- nothing is on the key's way below children beside it
+-- nothing is on the key's path below the other children
 module _ {N A : Type 0} (bytes : A → List ℕ) (P : ℕ) (front key : List ℕ) where
   pub aside_pairs : (cs : Subtrees N A) → AreRadix bytes P front cs → AreAside front key cs → Each (IsOff bytes key) (pairs_below cs)
   aside_pairs no_child radix aside = tt
@@ -93,7 +93,7 @@ places_below-join bytes d no_child ds = refl
 places_below-join bytes d (child b t cs) ds =
     ap (λ l. places bytes d t ++ l) (places_below-join bytes d cs ds) ∙ sym (append_assoc (places bytes d t) (places_below bytes d cs) (places_below bytes d ds))
 
--- all that is on the key's way is below the child between
+-- all that is on the key's path is below the child between
 module _ {N A : Type 0} (bytes : A → List ℕ) (P : ℕ) (front key : List ℕ) (l : Subtrees N A) (b : ℕ) (t : Tree N A) (r : Subtrees N A)
     (radix : AreRadix bytes P front (join l (child b t r))) (low : AreAside front key l) (high : AreAside front key r) where
   left : AreRadix bytes P front l
@@ -113,7 +113,7 @@ module _ {N A : Type 0} (bytes : A → List ℕ) (P : ℕ) (front key : List ℕ
       ∙ match_between (λ node. node.0) key (places_below bytes d l) (places bytes d t) (places_below bytes d r)
       (aside_places bytes P front key d l deep left low) (aside_places bytes P front key d r deep right high)
 
--- the child that an inner node's slots have under a byte: the others stand under other bytes
+-- the child that an inner node's slots have under a byte: the others are under other bytes
 pub record IsUnder {A : Type 0} (cs : Subtrees OpaqueNodePtr A) (b : ℕ) (name : OpaqueNodePtr) : Type 0 where
   pub left : Subtrees OpaqueNodePtr A
   pub tree : Tree OpaqueNodePtr A

@@ -1,4 +1,4 @@
--- Paths: what stands before the hole, in it and after it, and what a change in the hole makes of the whole tree.
+-- Paths: what is before the hole, in it and after it, and what a change in the hole makes of the whole tree.
 use Rattle.std.proofs.Common.{◌≡◌, ℕ, ◌+◌, ◌<◌, ◌≤◌, List, [], ◌∷◌, ◌++◌, length, refl, ap, sym, ◌∙◌, append_assoc, append-nil, arith, length-append, subst, map, ap₂, false}
 use Rattle.std.specs.List.{AllByRecursion as Each}
 use Rattle.std.proofs.lemmas.List.{map-append}
@@ -208,7 +208,7 @@ module _ {N A : Type 0} (bytes : A → List ℕ) (P : ℕ) where
       let (down, radix) = path_down fs outer f t path node in
       ((outer ++ node.0) ++ f.byte ∷ [], down, radix)
 
--- the tree in the hole of a path is a radix tree at a place that is a front of the key
+-- the tree in the hole of a path is a radix tree at a place that is a prefix of the key
 pub record IsHole {N A : Type 0} (bytes : A → List ℕ) (P : ℕ) (fs : List (Frame N A)) (place : List ℕ) (t : Tree N A) (key : List ℕ) : Type 0 where
   pub path : IsPath bytes P place fs
   pub radix : IsRadix bytes P place t
@@ -221,7 +221,7 @@ hole_of bytes P fs t x radix i =
     let (place, path, own) = radix_plug bytes P fs t radix in
     (place, record { path = path; radix = own; front = each_in (λ y. IsFront place (bytes y)) x (pairs_of t) (radix_way bytes P t place own) i })
 
--- A change in the hole of a path is a change of the whole, where it is a local one at a key that goes on from the hole.
+-- A change in the hole of a path is a change of the whole, where it is a local one at a key that continues from the hole.
 module _ {N A : Type 0} (bytes : A → List ℕ) (P : ℕ) (fs : List (Frame N A)) (place : List ℕ) (path : IsPath bytes P place fs) (t u : Tree N A) (radix : IsRadix bytes P place u) where
   -- the tree is a radix tree again, and its pairs are those of the change
   pub changed_at : (key : List ℕ) (F : List A → List A) → IsLocal bytes key F → IsFront place key → pairs_of u ≡ F (pairs_of t) →

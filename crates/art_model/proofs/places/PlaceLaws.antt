@@ -42,12 +42,12 @@ module _ {N A : Type 0} where
       (rw e radix.1, rw e (radix_below bytes P cs (place ++ radix.0) radix.4))
 
 module _ {N A : Type 0} (bytes : A → List ℕ) (P : ℕ) where
-  -- ---- places rise
+  -- ---- places increase
 
   abbrev Before : (List ℕ × N) → (List ℕ × N) → Type 0
   Before p q = is_before p.0 q.0 ≡ true
 
-  -- a place goes on after a front with a byte of which this holds
+  -- a place continues after a prefix with a byte of which this holds
   abbrev GoesOn : List ℕ → (ℕ → Type 0) → (List ℕ × N) → Type 0
   GoesOn front Q p = (c : ℕ) × Q c × IsFront (front ++ c ∷ []) p.0
 
@@ -117,7 +117,7 @@ module _ {N A : Type 0} (bytes : A → List ℕ) (P : ℕ) where
   abbrev NoLonger : List ℕ → ℕ → (List ℕ × N) → Type 0
   NoLonger key n p = IsFront p.0 key → length p.0 ≤ n
 
-  -- a node on the key's way is its end node, where no place below is longer
+  -- a node on the key's path is its end node, where no place below is longer
   pub ends_at : (key : List ℕ) (fs : List (Frame N A)) (place : List ℕ) (t : Tree N A) → IsPath bytes P place fs → IsRadix bytes P place t →
       IsFront place key → Each (NoLonger key (length place)) (places bytes (length place) t) → IsEndNode bytes (plug fs t) key fs t
   ends_at key fs place t path radix front below =
@@ -140,14 +140,14 @@ module _ {N A : Type 0} (bytes : A → List ℕ) (P : ℕ) where
   off_both Q (child c u cs) b t h q = (h.0, off_both Q cs b t h.1 q)
 
   mutual
-    -- a node on the key's way: its end node is there or below
+    -- a node on the key's path: its end node is there or below
     from_node : (key : List ℕ) (t : Tree N A) (fs : List (Frame N A)) (place : List ℕ) → IsPath bytes P place fs → IsRadix bytes P place t → IsFront place key → End key (plug fs t)
     from_node key (leaf n x) fs place path radix front =
         (fs, leaf n x, ends_at key fs place (leaf n x) path radix front ((λ g. rw (place_is bytes P (leaf n x) place radix) (omega arith)), tt))
     from_node key (inner n h cs) fs place path (part, e, two, up, below) front =
         from_children key n h cs no_child cs refl fs place path part e two up below front tt
 
-    -- the key goes on with none of the children on the left
+    -- the key continues with none of the children on the left
     from_children : (key : List ℕ) (n : N) (h : NodeHeader) (all left cs : Subtrees N A) → join left cs ≡ all → (fs : List (Frame N A)) (place : List ℕ) → IsPath bytes P place fs →
         (part : List ℕ) → h ≡ canonical_header P part (length (bytes_of all)) → 2 ≤ length (bytes_of all) → BytesRise (bytes_of all) → AreRadix bytes P (place ++ part) all →
         IsFront place key → Each (λ b. IsFront ((place ++ part) ++ b ∷ []) key → ⊥) (bytes_of left) → End key (plug fs (inner n h all))
@@ -193,7 +193,7 @@ module _ {N A : Type 0} (bytes : A → List ℕ) (P : ℕ) where
       let d = depth_of fs + f.header.length_of + 1 in
       Each-left Q (places bytes d t) (places_below bytes d f.right) (places_left Q d f.left (child f.byte t f.right) (places_at Q fs (fill f t) h).1)
 
-  -- and so it does of the place of a node
+  -- and so does the place of a node
   pub own_place : (Q : (List ℕ × N) → Type 0) (d : ℕ) (t : Tree N A) → Each Q (places bytes d t) → Q (place_of bytes d t, name_of t)
   own_place Q d (leaf n x) h = h.0
   own_place Q d (inner n h cs) k = k.0

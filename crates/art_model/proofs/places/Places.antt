@@ -12,12 +12,12 @@ use Rattle.art_model.specs.Footprints.{IsIn}
 use Rattle.art_model.proofs.lists.Lists.{each_in, Each-append, Each-left, Each-right, Each-weaker, front_cut, front_trans, after_front}
 use Rattle.art_model.proofs.lists.Pairwises.{Pairwise-before, Pairwise-after}
 
--- a key goes on after a front with one byte
+-- a key continues after a prefix with one byte
 pub one_way : (front : List ℕ) (b c : ℕ) (key : List ℕ) → IsFront (front ++ b ∷ []) key → IsFront (front ++ c ∷ []) key → b ≡ c
 one_way front b c key (r, e) (s, f) =
     let p : b ∷ r ≡ c ∷ s = append_cancel_left front (b ∷ r) (c ∷ s) (sym (append_assoc front (b ∷ []) r) ∙ sym e ∙ f ∙ append_assoc front (c ∷ []) s) in cc
 
--- a front is what is taken of its length
+-- a prefix is what is taken of its length
 pub taken : (place k : List ℕ) → IsFront place k → take (length place) k ≡ place
 taken place k (r, e) = rw e (take_at place r (length place) refl)
 
@@ -26,16 +26,16 @@ pub deeper : (place part : List ℕ) (b n : ℕ) → n ≡ length part → lengt
 deeper place part b n e = simp length-append (omega arith)
 
 module _ {N A E : Type 0} (way : E → List ℕ) where
-  -- the way goes on after the front with the byte of a child
+  -- the path continues after the prefix with the byte of a child
   abbrev pub Under : List ℕ → Subtrees N A → E → Type 0
   Under front cs e = (c : ℕ) × IsIn c (bytes_of cs) × IsFront (front ++ c ∷ []) (way e)
 
-  -- ways below a node begin with its place
+  -- bytes that lead below a node start with its place
   pub under_front : (place part : List ℕ) (cs : Subtrees N A) (es : List E) → Each (Under (place ++ part) cs) es → Each (λ e. IsFront place (way e)) es
   under_front place part cs es below =
       Each-weaker (Under (place ++ part) cs) (λ e. IsFront place (way e)) (λ e u. front_cut place part (way e) (front_cut (place ++ part) (u.0 ∷ []) (way e) u.2)) es below
 
-  -- ways below a first child, and below the others
+  -- bytes that lead below a first child, and below the others
   pub under_child : (front : List ℕ) (b : ℕ) (t : Tree N A) (cs : Subtrees N A) (own others : List E) → Each (λ e. IsFront (front ++ b ∷ []) (way e)) own → Each (Under front cs) others →
       Each (Under front (child b t cs)) (own ++ others)
   under_child front b t cs own others first rest = Each-append (Under front (child b t cs)) own others
@@ -44,7 +44,7 @@ module _ {N A E : Type 0} (way : E → List ℕ) where
 
 module _ {N A : Type 0} (bytes : A → List ℕ) (P : ℕ) where
   mutual
-    -- a place is a front of the least key below it
+    -- a place is a prefix of the least key below it
     pub least_way : (t : Tree N A) (place : List ℕ) → IsRadix bytes P place t → IsFront place (least_key bytes t)
     least_way (leaf n x) place h = h
     least_way (inner n h cs) place (part, e, two, up, below) = front_cut place part (least_below bytes cs) (least_way_below cs (place ++ part) two below)
@@ -64,7 +64,7 @@ module _ {N A : Type 0} (bytes : A → List ℕ) (P : ℕ) where
       let len : h.length_of ≡ length part = ap (λ z. z.length_of) e in
       rw (len, after_front place (least_below bytes cs) (part ++ r) (f ∙ append_assoc place part r)) (take_at part r (length part) refl)
 
-  -- all places below a node begin with its own, and go on with the byte of a child
+  -- all places below a node start with its own, and continue with the byte of a child
   mutual
     pub places_way : (t : Tree N A) (place : List ℕ) → IsRadix bytes P place t → Each (λ p. IsFront place p.0) (places bytes (length place) t)
     places_way (leaf n x) place h = (([], place_is (leaf n x) place h ∙ sym (append-nil place)), tt)
@@ -80,11 +80,11 @@ module _ {N A : Type 0} (bytes : A → List ℕ) (P : ℕ) where
     places_under (child b t cs) front d e h = under_child (λ (p : List ℕ × N). p.0) front b t cs (places bytes d t) (places_below bytes d cs)
         (subst (λ z. Each (λ p. IsFront (front ++ b ∷ []) p.0) (places bytes z t)) (sym (e b)) (places_way t (front ++ b ∷ []) h.0)) (places_under cs front d e h.1)
 
-  -- a place that is a front of the key is no longer than n
+  -- a place that is a prefix of the key is no longer than n
   abbrev NoLonger : List ℕ → ℕ → (List ℕ × N) → Type 0
   NoLonger key n p = IsFront p.0 key → length p.0 ≤ n
 
-  -- children whose bytes the key does not go on with
+  -- children whose bytes the key does not continue with
   pub beside : (cs : Subtrees N A) (front key : List ℕ) (d n : ℕ) → ((b : ℕ) → d ≡ length (front ++ b ∷ [])) → AreRadix bytes P front cs →
       Each (λ b. IsFront (front ++ b ∷ []) key → ⊥) (bytes_of cs) → Each (NoLonger key n) (places_below bytes d cs)
   beside cs front key d n e h off = Each-weaker (Under (λ (p : List ℕ × N). p.0) front cs) (NoLonger key n)
@@ -97,7 +97,7 @@ module _ {N A : Type 0} (bytes : A → List ℕ) (P : ℕ) where
       Each-append Q (places bytes d t) (places_below bytes d (join cs ds)) (Each-left Q (places bytes d t) (places_below bytes d cs) h)
       (places_join cs ds Q d (Each-right Q (places bytes d t) (places_below bytes d cs) h) k)
 
-  -- The search may stop where no child goes on: no place of the whole tree that is a front of the key is longer.
+  -- The search may stop where no child continues: no place of the whole tree that is a prefix of the key is longer.
   pub ended : (fs : List (Frame N A)) (place key : List ℕ) (t : Tree N A) (n : ℕ) → IsPath bytes P place fs → IsRadix bytes P place t →
       IsFront place key → length place ≤ n → Each (NoLonger key n) (places bytes (length place) t) → Each (NoLonger key n) (places bytes 0 (plug fs t))
   ended [] place key t n e h k l q = subst (λ w. Each (NoLonger key n) (places bytes (length w) t)) e q

@@ -19,7 +19,7 @@ use Rattle.art_model.proofs.radix.Radix.{AreRadix-right}
 use Rattle.art_model.proofs.stores.Stores.{HoldsBelow-right}
 
 module _ {A : Type 0} (at : OpaqueNodePtr → Option (Node OpaqueNodePtr A)) (bytes : A → List ℕ) (P : ℕ) where
-  -- A tree of which this one is a part stands at a place, under a name.
+  -- A tree of which this one is a part is at a place, under a name.
   pub record IsSub (whole : Tree OpaqueNodePtr A) (place : List ℕ) (name : OpaqueNodePtr) : Type 0 where
     pub tree : Tree OpaqueNodePtr A
     pub named : name_of tree ≡ name
@@ -28,7 +28,7 @@ module _ {A : Type 0} (at : OpaqueNodePtr → Option (Node OpaqueNodePtr A)) (by
     pub within : (k : OpaqueNodePtr) → IsIn k (names_of tree) → IsIn k (names_of whole)
     pub apart : AreDistinct (names_of whole) → AreDistinct (names_of tree)
 
-  -- where a descent ends at a leaf the key begins with the tree's place, and that of an inner node with its prefix too
+  -- where a descent ends at a leaf the key starts with the tree's place, and that of an inner node with its prefix too
   mutual
     pub descent_front : (t : Tree OpaqueNodePtr A) (place : List ℕ) (ns : List OpaqueNodePtr) (x : A) → Holds at t → IsRadix bytes P place t →
         IsDescent at (name_of t) ns → at (bottom_of (name_of t) ns) ≡ Some (leaf_node x) → IsFront place (bytes x)

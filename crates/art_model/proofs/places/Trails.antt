@@ -1,4 +1,4 @@
--- a way from a root is read in one manner, so that other places have other ways
+-- a path from a root is read in one manner, so that other places have other paths
 use Rattle.std.proofs.Common.{◌≡◌, ◌≢◌, ℕ, List, [], ◌∷◌, ◌++◌, length, take, drop, ap, ap₂, sym, ◌∙◌, arith, subst, Option, Some, inl, inr}
 use Rattle.art_inner.specs.Inner.{child_at}
 use Rattle.art_parts.specs.declared.names.OpaqueNodePtr.{OpaqueNodePtr}
@@ -32,7 +32,7 @@ module _ {A : Type 0} (at : OpaqueNodePtr → Option (Node OpaqueNodePtr A)) whe
         go (inr (l, e)) (inl (m, f)) = absurd (omega arith)
         go (inr (l, (x, (ns, d1, e1), long, e))) (inr (m, (y, (ms, d2, e2), long2, f))) = e ∙ ap (λ z. take h.length_of (drop d (bytes z))) (same_leaf name ns ms x y d1 e1 d2 e2) ∙ sym f
 
-    -- a way is read in one manner
+    -- a path is read in one manner
     same_read : (front : List ℕ) (name : OpaqueNodePtr) (steps others : List (ℕ × OpaqueNodePtr)) (p q : List ℕ) → IsTrail at name steps →
         IsReadAs at bytes P front name steps p → IsTrail at name others → IsReadAs at bytes P front name others q → way_of steps ≡ way_of others → p ≡ q
     same_read front name [] [] p q t r u v e = r ∙ sym v
@@ -47,6 +47,6 @@ module _ {A : Type 0} (at : OpaqueNodePtr → Option (Node OpaqueNodePtr A)) whe
         same_read (front ++ part ++ s.0 ∷ []) s.1 ss os p q trail read (subst (λ n. IsTrail at n os) name_is trail_too)
         (subst (λ n. IsReadAs at bytes P (front ++ part ++ s.0 ∷ []) n os q) name_is (subst (λ f. IsReadAs at bytes P f o.1 os q) (ap₂ (λ z b. front ++ z ++ b ∷ []) part_is byte) read_too)) rest
 
-    -- where the places differ the ways do
+    -- where the places differ the paths do
     pub other_way : (root n m : OpaqueNodePtr) (p q : List ℕ) (one : IsReached at bytes P root p n) (other : IsReached at bytes P root q m) → p ≢ q → way_of one.steps ≢ way_of other.steps
     other_way root n m p q one other off e = off (same_read [] root one.steps other.steps p q one.is_trail one.is_read other.is_trail other.is_read e)

@@ -1,4 +1,4 @@
--- The whole bytes of inner nodes: no two nodes of a tree have the same ones, so names that stay are told by them.
+-- The whole bytes of inner nodes: no two nodes of a tree have the same ones, so names that stay are determined by them.
 use Rattle.std.proofs.Common.{◌≡◌, ◌≢◌, ℕ, ◌+◌, ◌<◌, ◌≤◌, List, [], ◌∷◌, ◌++◌, length, take, refl, ap, ap₂, sym, ◌∙◌, arith, subst, append_assoc, append-nil, length-append, inl, inr}
 use Rattle.std.specs.List.{AllByRecursion as Each}
 use Rattle.art_parts.specs.declared.names.NodeType.{NodeType}
@@ -46,7 +46,7 @@ module _ {N A : Type 0} (bytes : A → List ℕ) (P : ℕ) where
       let l : length place + h.length_of ≡ length (place ++ part) = ap (λ z. length place + z) (ap (λ z. z.length_of) e) ∙ sym (length-append place part) in
       rw l (taken (place ++ part) (least_below bytes cs) (least_way_below bytes P cs (place ++ part) two below))
 
-  -- all begin with the place, and below a node they go on with the byte of a child
+  -- all start with the place, and below a node they continue with the byte of a child
   mutual
     pub whole_way : (t : Tree N A) (place : List ℕ) → IsRadix bytes P place t → Each (λ e. IsFront place e.1) (inner_nodes bytes (length place) t)
     whole_way (leaf n x) place h = tt
@@ -96,7 +96,7 @@ module _ {N A : Type 0} (bytes : A → List ℕ) where
       ap (λ z. inner_nodes bytes d t ++ z) (inner_nodes_below-join d cs ds) ∙ sym (append_assoc (inner_nodes bytes d t) (inner_nodes_below bytes d cs) (inner_nodes_below bytes d ds))
 
 module _ {N A : Type 0} (bytes : A → List ℕ) (P : ℕ) where
-  -- the inner nodes before and after a hole, whatever stands in it
+  -- the inner nodes before and after a hole, whatever is in it
   abbrev pub nodes_before : (fs : List (Frame N A)) (place : List ℕ) → IsPath bytes P place fs → List (Entry N)
   nodes_before [] place p = []
   nodes_before (f ∷ fs) place (outer, part, e, head, two, up, hl, hr, path) =

@@ -56,7 +56,7 @@ module _ {A : Type 0} where
       rw e at g
 
 module _ {A : Type 0} (bytes : A → List ℕ) where
-  -- where the keys go on after a common front: each with a byte
+  -- where the keys continue after a common prefix: each with a byte
   abbrev GoesOn : List ℕ → A → Type 0
   GoesOn front x = (b : ℕ) × (rest : List ℕ) × (bytes x ≡ front ++ b ∷ rest)
 
@@ -72,7 +72,7 @@ module _ {A : Type 0} (bytes : A → List ℕ) where
   all_later front x [] o e f = tt
   all_later front x (y ∷ ys) o e f = (later front x y o.0 e f.0, all_later front x ys o.1 e f.1)
 
-  -- two or more keys of a map go on after every common front
+  -- two or more keys of a map continue after every common prefix
   pub go_on : (front : List ℕ) (x y : A) (xs : List A) → IsMap bytes (x ∷ y ∷ xs) → Each (λ z. IsFront front (bytes z)) (x ∷ y ∷ xs) → Each (GoesOn front) (x ∷ y ∷ xs)
   go_on front x y xs h f = (sooner front x y h.0.0 f.0 f.1.0, all_later front x (y ∷ xs) h.0 f.0 f.1)
 
@@ -91,7 +91,7 @@ module _ {A : Type 0} (bytes : A → List ℕ) where
   sorted_at front [] h f = tt
   sorted_at front (x ∷ xs) h f = (bytes_order front x xs h.0 f.0 f.1, sorted_at front xs h.1 f.1)
 
-  -- a group's keys begin with the front and its byte
+  -- a group's keys start with the prefix and its byte
   pub with_byte : (front : List ℕ) (b : ℕ) (xs : List A) → Each (GoesOn front) xs → Each (λ x. byte_at bytes (length front) x ≡ b) xs → Each (λ x. IsFront (front ++ b ∷ []) (bytes x)) xs
   with_byte front b [] f g = tt
   with_byte front b (x ∷ xs) f g =
@@ -99,7 +99,7 @@ module _ {A : Type 0} (bytes : A → List ℕ) where
       let p : c ≡ b = sym (at_byte front x c r e) ∙ g.0 in
       ((r, e ∙ ap (λ z. front ++ z ∷ r) p ∙ sym (append_assoc front (b ∷ []) r)), with_byte front b xs f.1 g.1)
 
-  -- all keys begin with the place and the shared part
+  -- all keys start with the place and the shared part
   with_part : (place : List ℕ) (s : List ℕ) (xs : List A) → Each (λ x. IsFront place (bytes x)) xs →
       Each (λ x. IsFront s (drop (length place) (bytes x))) xs → Each (λ x. IsFront (place ++ s) (bytes x)) xs
   with_part place s [] h g = tt
@@ -138,7 +138,7 @@ module _ {A : Type 0} (bytes : A → List ℕ) (P : ℕ) where
       node_of bytes f P d xs ≡ Some (inner tt (canonical_header P (shared_part bytes d xs) n) cs)
   node_is f d e n xs cs depth made count = rw (← depth, made, count) refl
 
-  -- pairs whose keys begin with a place have a radix tree there, and grouping gives it
+  -- pairs whose keys start with a place have a radix tree there, and grouping gives it
   abbrev Builds : ℕ → Type 0
   Builds turns = (place : List ℕ) (xs : List A) → IsMap bytes xs → Each (λ x. IsFront place (bytes x)) xs → 1 ≤ length xs → length xs ≤ turns →
       (t : Tree (Unit {0}) A) × (tree_within bytes turns P (length place) xs ≡ Some t) × IsRadix bytes P place t × (pairs_of t ≡ xs)

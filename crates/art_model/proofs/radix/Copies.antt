@@ -19,7 +19,7 @@ AllZip-append R (x ∷ xs) [] zs ws h k = absurd h
 AllZip-append R (x ∷ xs) (y ∷ ys) zs ws h k = (h.0, AllZip-append R xs ys zs ws h.1 k)
 
 module _ {N A : Type 0} (IsClone : A → A → Type 0) where
-  -- copies stand under the same bytes
+  -- copies are under the same bytes
   pub copied_bytes : (cs ds : Subtrees N A) → AreCopies IsClone cs ds → bytes_of ds ≡ bytes_of cs
   copied_bytes no_child no_child h = refl
   copied_bytes no_child (child c u ds) h = absurd h

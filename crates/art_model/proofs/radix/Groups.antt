@@ -21,7 +21,7 @@ module _ {A : Type 0} where
   groups-block byte b x (y ∷ xs) rest gs h e apart = rw (h.0, groups-block byte b y xs rest gs h.1 e apart, eq-eqb b b refl)
 
 module _ {A : Type 0} (bytes : A → List ℕ) where
-  -- the shared part from the end of a common front on
+  -- the shared part from the end of a common prefix on
   pub shared_part-front : (place part : List ℕ) (x : A) (xs : List A) → Each (λ y. IsFront (place ++ part) (bytes y)) (x ∷ xs) →
       shared_part bytes (length place) (x ∷ xs) ≡ part ++ shared_part bytes (length (place ++ part)) (x ∷ xs)
   shared_part-front place part x [] h =
@@ -35,7 +35,7 @@ module _ {A : Type 0} (bytes : A → List ℕ) where
         shared_part-front place part y xs h.1,
       ) (common_front-append part r (shared_part bytes (length (place ++ part)) (y ∷ xs)))
 
-  -- it is a front of what each key has from there on
+  -- it is a prefix of what each key has from there on
   pub shared_part_shared : (d : ℕ) (xs : List A) → Each (λ y. IsFront (shared_part bytes d xs) (drop d (bytes y))) xs
   shared_part_shared d [] = tt
   shared_part_shared d (x ∷ []) = (([], sym (append-nil (drop d (bytes x)))), tt)

@@ -75,7 +75,7 @@ module _ {N A : Type 0} where
         ∙ map-append (λ e. e.1) (filter (λ (e : A × N). test e.0) (entries_of t)) (entries_after fs)
         ∙ ap (λ ns. leaves_where test t ++ ns) (leaves_after-leaves fs)
 
-    -- where none passes beside the hole, those that pass are in it
+    -- where none outside the hole passes, those that pass are in it
     pub where_in_hole : (fs : List (Frame N A)) (t : Tree N A) → Each (λ x. test x ≡ false) (pairs_before fs) → Each (λ x. test x ≡ false) (pairs_after fs) →
         leaves_where test (plug fs t) ≡ leaves_where test t
     where_in_hole fs t before after =
@@ -93,7 +93,7 @@ module _ {N A : Type 0} where
     where_none t none = ap (map (λ (e : A × N). e.1)) (filter_none (λ (e : A × N). test e.0) (entries_of t) (each_entry (λ x. test x ≡ false) t none))
 
 module _ {N A : Type 0} (bytes : A → List ℕ) (P : ℕ) (Q : A → Type 0) where
-  -- what holds of all pairs that begin with the bytes of a child holds of all pairs below the children
+  -- what holds of all pairs that start with the bytes of a child holds of all pairs below the children
   pub each_below : (cs : Subtrees N A) (front : List ℕ) → AreRadix bytes P front cs →
       Each (λ c. (x : A) → IsFront (front ++ c ∷ []) (bytes x) → Q x) (bytes_of cs) → Each Q (pairs_below cs)
   each_below no_child front radix h = tt

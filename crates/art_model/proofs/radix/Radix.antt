@@ -32,7 +32,7 @@ module _ {N A : Type 0} (bytes : A → List ℕ) (P : ℕ) where
   AreRadix-right front (child b t cs) ds h = AreRadix-right front cs ds h.1
 
 module _ {A : Type 0} (bytes : A → List ℕ) where
-  -- a key goes on after a front with a byte below, or above, a given one
+  -- a key continues after a prefix with a byte below, or above, a given one
   abbrev pub PartsBelow : List ℕ → ℕ → A → Type 0
   PartsBelow front b x = (c : ℕ) × (c < b) × IsFront (front ++ c ∷ []) (bytes x)
 

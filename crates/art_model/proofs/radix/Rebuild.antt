@@ -14,7 +14,7 @@ module _ {A : Type 0} (bytes : A → List ℕ) where
   byte_after front b x (r, e) = rw (e, append_assoc front (b ∷ []) r) (get_or_at front b r 0 (length front) refl)
 
 module _ {N A : Type 0} (bytes : A → List ℕ) (P : ℕ) where
-  -- each key below a node begins with the node's place
+  -- each key below a node starts with the node's place
   mutual
     pub radix_way : (t : Tree N A) (place : List ℕ) → IsRadix bytes P place t → Each (λ x. IsFront place (bytes x)) (pairs_of t)
     radix_way (leaf n x) place h = (h, tt)
@@ -76,7 +76,7 @@ two_fronts [] b c k l h f g = refl
 two_fronts (x ∷ s) b c k l h (r, e) (q, f) = let p : b ≡ x = cc in let o : c ≡ x = cc in absurd (omega arith)
 
 module _ {N A : Type 0} (bytes : A → List ℕ) (P : ℕ) where
-  -- the first key below a child, from the end of the front on
+  -- the first key below a child, from the end of the prefix on
   first_below : (t : Tree N A) (front : List ℕ) (b : ℕ) (s : List ℕ) → IsRadix bytes P (front ++ b ∷ []) t →
       Each (λ x. IsFront s (drop (length front) (bytes x))) (pairs_of t) → (k : List ℕ) × IsFront s (b ∷ k)
   first_below t front b s h shared =
@@ -127,7 +127,7 @@ module _ {N A : Type 0} (bytes : A → List ℕ) (P : ℕ) where
         let sum = length-append (pairs_of t) (pairs_below cs) in
         rw (← length-append front (b ∷ []), rebuild t (front ++ b ∷ []) turns h.0 (omega arith), rebuild_below cs front turns h.1 (omega arith)) refl
 
-  -- the same without a bound on the turns
+  -- the same without a bound on the recursion
   rebuild_each : (cs : Subtrees N A) (front : List ℕ) → AreRadix bytes P front cs → children_of (λ group. tree_of bytes group P (length front + 1)) (groups_of bytes P cs) ≡ all_unmarked cs
   rebuild_each no_child front h = refl
   rebuild_each (child b t cs) front h =

@@ -71,7 +71,7 @@ module _ {N A : Type 0} where
   pub have_two_children : HaveTwoChildren N A
   have_two_children bytes P place t h = radix_children bytes P t place h
 
-  -- who has at least two children has at least one
+  -- a node with at least two children has at least one
   mutual
     pub one_child : (t : Tree N A) → HaveChildren 2 t → HaveChildren 1 t
     one_child (leaf n x) h = tt

@@ -1,4 +1,4 @@
--- A canonical tree stays where its own nodes do, so a change of one tree in place leaves those that stand apart from it.
+-- A canonical tree stays where its own nodes do, so a change of one tree in place leaves those that are disjoint from it.
 use Rattle.std.proofs.Common.{◌≡◌, ℕ, List, Option, Some, None, ap, ap₂, sym, subst}
 use Rattle.std.specs.List.{AllByRecursion as Each}
 use Rattle.std.specs.Option.{option_map, option_and_then}
@@ -52,17 +52,17 @@ module _ {K V : Type 0} {bytes : K × V → List ℕ} {P : ℕ} {s : Nodes K V} 
   pub node_in : (k : OpaqueNodePtr) → IsNodeOf bytes P s (Some root) k → IsIn k (names_of layout)
   node_in k (others, other, is, there) = subst (λ l. IsIn k (names_of l)) (has_one_map bytes P s root pairs others layout other by is).1 there
 
-  -- what stands apart from a root has the root apart from it
+  -- what is disjoint from a root has the root disjoint from it
   pub apart_turned : {other : OpaqueNodePtr} {others : List (K × V)} {other_layout : Tree OpaqueNodePtr (K × V)} →
       StandsApart bytes P s (Some root) other others other_layout → StandsApart bytes P s (Some other) root pairs layout
   apart_turned h = record { is = by; apart = λ k n m. h.apart k m n }
 
-  -- beside no root a canonical root stands apart
+  -- a canonical root is disjoint from no root
   pub apart_of_none : StandsApart bytes P s None root pairs layout
   apart_of_none = record { is = by; apart = λ k n m. n }
 
 module _ {K V : Type 0} {bytes : K × V → List ℕ} {P : ℕ} {s t : Nodes K V} where
-  -- a change of some nodes, which are the root's, into others leaves what stands apart from it
+  -- a change of some nodes, which are the root's, into others leaves what is disjoint from it
   pub others_apart : {root new : Option OpaqueNodePtr} (old fresh : List OpaqueNodePtr) → ((k : OpaqueNodePtr) → IsIn k old → IsNodeOf bytes P s root k) →
       ((k : OpaqueNodePtr) → IsNodeOf bytes P t new k → IsIn k fresh) → KeepsOthers s t old fresh → KeepsApart bytes P s t root new
   others_apart old fresh of_root in_fresh kept other others layout h =
@@ -71,7 +71,7 @@ module _ {K V : Type 0} {bytes : K × V → List ℕ} {P : ℕ} {s t : Nodes K V
       let is : IsCanonicalTree bytes P t other others layout = tree_kept h.is (λ k m. kept.beside k (off k m) (comes k m)) in
       record { is = is; apart = λ k n m. comes k (node_in is k m) (in_fresh k n) }
 
-  -- of two trees, the first of which changed, the second is as it was
+  -- of two trees, the first of which changed, the second is unchanged
   pub both_changed : {first new second : Option OpaqueNodePtr} {pairs after others : List (K × V)} → HasBoth bytes P s first second pairs others →
       IsCanonical bytes P t new after → KeepsApart bytes P s t first new → HasBoth bytes P t new second after others
   both_changed {first} {new} {second} {pairs} {after} {others} h becomes kept = go second h.two h.apart
@@ -83,7 +83,7 @@ module _ {K V : Type 0} {bytes : K × V → List ℕ} {P : ℕ} {s t : Nodes K V
           let stays = kept other others layout (record { is = is; apart = apart }) in
           record { one = becomes; two = (layout, stays.is); apart = stays.apart }
 
-  -- two trees that stand apart from a third, which changed, are as they were
+  -- two trees that are disjoint from a third, which changed, are unchanged
   pub both_beside : {root new : Option OpaqueNodePtr} {first second : OpaqueNodePtr} {pairs others : List (K × V)} {one two : Tree OpaqueNodePtr (K × V)} →
       HasBoth bytes P s (Some first) (Some second) pairs others → StandsApart bytes P s root first pairs one → StandsApart bytes P s root second others two →
       KeepsApart bytes P s t root new → HasBoth bytes P t (Some first) (Some second) pairs others
@@ -111,7 +111,7 @@ module _ {K V : Type 0} (bytes : K × V → List ℕ) (P : ℕ) (s t : Nodes K V
   in_tree (Some root) pairs None is k n = absurd is
   in_tree (Some root) pairs (Some layout) is k n = node_in is k n
 
-  -- a change of a root's tree in place leaves what stands apart from it
+  -- a change of a root's tree in place leaves what is disjoint from it
   pub tree_apart : (root new : Option OpaqueNodePtr) (pairs after : List (K × V)) (old fresh : Option (Tree OpaqueNodePtr (K × V))) →
       IsRootOf bytes P s root pairs old → IsRootOf bytes P t new after fresh → KeepsOthers s t (names_in old) (names_in fresh) → KeepsApart bytes P s t root new
   tree_apart root new pairs after old fresh is becomes kept =
@@ -148,7 +148,7 @@ module _ {K V : Type 0} (bytes : K × V → List ℕ) (P : ℕ) (s t : Nodes K V
   same_node None k n = n
   same_node (Some root) k (pairs, layout, is, i) = (pairs, layout, tree_kept is (λ j m. sym (same_held j)), i)
 
-  -- so what stood apart stands apart
+  -- so what was disjoint is disjoint
   pub same_apart : (root : Option OpaqueNodePtr) → KeepsApart bytes P s t root root
   same_apart root other others layout h = record { is = same_tree h.is; apart = λ k n m. h.apart k (same_node root k n) (same_node (Some other) k m) }
 

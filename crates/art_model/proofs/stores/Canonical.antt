@@ -47,7 +47,7 @@ module _ {N A : Type 0} (bytes : A → List ℕ) (P : ℕ) where
       let same : t ≡ unmarked layout = cc in
       (radix_unmarked layout [] (subst (IsRadix bytes P []) same radix), sym (pairs_of-unmarked layout) ∙ ap pairs_of (sym same) ∙ pairs)
 
-  -- A layout seen from inside: a radix tree of the pairs, held in the store under distinct names, with its leaves linked.
+  -- A layout by what holds at each node: a radix tree of the pairs, held in the store under distinct names, with its leaves linked.
   pub record IsLaidOut (at : N → Option (Node N A)) (links : N → Option (Links N)) (root : N) (pairs : List A) (layout : Tree N A) : Type 0 where
     pub named : name_of layout ≡ root
     pub radix : IsRadix bytes P [] layout
@@ -61,13 +61,13 @@ module _ {K V : Type 0} {bytes : K × V → List ℕ} {P : ℕ} {s : Nodes K V} 
   pub tree_radix : IsCanonicalTree bytes P s root pairs layout → IsRadix bytes P [] layout × (pairs_of layout ≡ pairs)
   tree_radix by = radix_from bytes P pairs by.tree layout by.is_map by.is_tree by.stands.1
 
-  -- a canonical root is laid out
+  -- a canonical root has a layout
   pub laid_out : IsCanonicalTree bytes P s root pairs layout → IsLaidOut bytes P (node_at s) (links_at s) root pairs layout
   laid_out by =
       let (radix, is) = tree_radix by in
       record { named = by.stands.0.named; radix = radix; pairs_are = is; holds = by.stands.0.holds; distinct = by.stands.0.distinct; linked = by.linked }
 
-  -- what is laid out makes the root canonical
+  -- a layout makes the root canonical
   pub canonical_from : IsLaidOut bytes P (node_at s) (links_at s) root pairs layout → IsCanonicalTree bytes P s root pairs layout
   canonical_from l = record {
     is_map = subst (IsMap bytes) l.pairs_are (radix_map bytes P layout [] l.radix);

@@ -1,4 +1,4 @@
--- What a check may find is not true of a canonical root.
+-- No fault that a check may find is true of a canonical root.
 use Rattle.std.proofs.Common.{append_assoc, map, ◌≡◌, ◌≢◌, ℕ, ◌+◌, ◌<◌, ◌≤◌, List, [], ◌∷◌, ◌++◌, length, take, refl, ap, ap₂, sym, ◌∙◌, arith, subst, length-append, Option, Some, None, ◌⊎◌, inl, inr}
 use Rattle.std.proofs.lemmas.List.{length-take-le}
 use Rattle.std.proofs.lemmas.Cmp.{nat_list_cmp_total}
@@ -38,7 +38,7 @@ use Rattle.art_model.proofs.stores.Slots.{length-slots_of, kind_of-least}
 use Rattle.art_model.proofs.stores.StoreLaws.{has_one_layout}
 use Rattle.art_model.proofs.places.Subtrees.{IsSub, descent_apart, descent_front, descent_sub, is_held, prefix_front, read_whole, trail_sub}
 
--- a tree's node has as many children as its kind has at least
+-- a tree's node has at least its kind's minimum of children
 enough : (kind : NodeType) (n : ℕ) → kind ≡ kind_of n → 2 ≤ n → n < kind_least kind → ⊥
 enough Node4 n e two few = omega arith
 enough Node16 n e two few = kind_of-least Node16 n (λ f. cc) few e
@@ -48,7 +48,7 @@ enough Leaf n e two few = omega arith
 
 -- ---- a leaf among the leaves of a tree
 module _ {A : Type 0} (at : OpaqueNodePtr → Option (Node OpaqueNodePtr A)) where
-  -- an entry's leaf is there
+  -- an entry's leaf is in the store
   abbrev IsHeldAs : A × OpaqueNodePtr → Type 0
   IsHeldAs e = at e.1 ≡ Some (leaf_node e.0)
 
@@ -79,7 +79,7 @@ module _ {A : Type 0} (at : OpaqueNodePtr → Option (Node OpaqueNodePtr A)) whe
           (entries_of t ++ before, after, ap (λ l. entries_of t ++ l) e ∙ sym (append_assoc (entries_of t) before ((x, k) ∷ after)))
     ]
 
--- ---- ways in a tree
+-- ---- paths in a tree
 module _ {A : Type 0} where
   -- the name is in the tree under this byte
   abbrev IsUnderByte : ℕ → OpaqueNodePtr → Subtrees OpaqueNodePtr A → Type 0
@@ -104,7 +104,7 @@ module _ {A : Type 0} where
   one_byte (child d t ds) b c k apart (inr u) (inr v) = one_byte ds b c k (Pairwise-right ◌≢◌ (names_of t) (names_below ds) apart) u v
 
   module _ (at : OpaqueNodePtr → Option (Node OpaqueNodePtr A)) (bytes : A → List ℕ) (P : ℕ) where
-    -- The first step of a trail from an inner node goes to one of its children, which has a tree.
+    -- The first step of a trail from an inner node leads to one of its children, which has a tree.
     record IsFirst (cs : Subtrees OpaqueNodePtr A) (front : List ℕ) (step : ℕ × OpaqueNodePtr) : Type 0 where
       tree : Tree OpaqueNodePtr A
       left : Subtrees OpaqueNodePtr A
@@ -156,7 +156,7 @@ module _ {A : Type 0} where
         let i = trail_in c.tree ((place ++ radix.0) ++ s.0 ∷ []) ss c.holds c.radix (subst (λ m. IsTrail at m ss) (sym c.named) trail.1) in
         subst (IsUnderByte s.0 (end_of s.1 ss)) (sym c.whole) (under_there c.left s.0 c.tree c.right (end_of s.1 ss) (subst (λ m. IsIn (end_of m ss) (names_of c.tree)) c.named i))
 
-    -- trails in a tree that end at one name have one way
+    -- trails in a tree that end at one name have one path
     one_way : (t : Tree OpaqueNodePtr A) (place : List ℕ) (steps others : List (ℕ × OpaqueNodePtr)) → Holds at t → IsRadix bytes P place t →
         AreDistinct (names_of t) → IsTrail at (name_of t) steps → IsTrail at (name_of t) others → end_of (name_of t) steps ≡ end_of (name_of t) others → way_of steps ≡ way_of others
     one_way t place [] [] holds radix apart one two e = refl
@@ -242,7 +242,7 @@ module _ {K V : Type 0} (bytes : K × V → List ℕ) (P : ℕ) (s : Nodes K V) 
       sym own ∙ links ∙ ap₂ (λ p n. let l : Links OpaqueNodePtr = record { previous = p; next = n } in Some l) (last_or_of before) (first_or_of after) ∙ ap Some (sym wanted) in
       off cc
 
-  -- a node has as many children as its kind has at least
+  -- a node has at least its kind's minimum of children
   pub no_wrong_count : (place : List ℕ) (kind : NodeType) (n : ℕ) → HasWrongCount bytes P s root place kind n → ⊥
   no_wrong_count place kind n (name, h, slots, (reach, there), kind_is, count, few) =
       let node = reached_inner reach there in
@@ -250,7 +250,7 @@ module _ {K V : Type 0} (bytes : K × V → List ℕ) (P : ℕ) (s : Nodes K V) 
       let own : kind ≡ kind_of n = sym kind_is ∙ ap (λ z. z.kind) node.radix.1 ∙ ap kind_of many in
       enough kind n own (subst (λ i. 2 ≤ i) many node.radix.2) few
 
-  -- a name that is reached is there
+  -- a name that is reached is in use
   pub no_dead_node : (place : List ℕ) (name : OpaqueNodePtr) → Reaches bytes P s root place name → node_at s name ≡ None → ⊥
   no_dead_node place name reach gone = let sub = reached_sub reach in is_held (node_at s) bytes P sub.tree sub.holds (ap (node_at s) sub.named ∙ gone)
 
@@ -354,7 +354,7 @@ module _ {K V : Type 0} (bytes : K × V → List ℕ) (P : ℕ) (s : Nodes K V) 
       (subst (λ n. IsTrail (node_at s) n one.steps) (sym laid.named) one.is_trail) (subst (λ n. IsTrail (node_at s) n other.steps) (sym laid.named) other.is_trail)
       (ap (λ n. end_of n one.steps) laid.named ∙ one.ends ∙ sym other.ends ∙ ap (λ n. end_of n other.steps) (sym laid.named)))
 
-  -- of a canonical root no fault is true but the want of memory, which says nothing
+  -- the only fault that is true of a canonical root is out of memory, which reports nothing
   pub no_fault : (fault : Fault) → IsTrueOf bytes P s root fault → fault ≡ out_of_memory
   no_fault (loop_found name first later) is = absurd (no_loop name first later is)
   no_fault (wrong_children_count place kind n) is = absurd (no_wrong_count place kind n is)

@@ -1,4 +1,4 @@
--- A store that gains or loses a tree: what is held under each name then, and how a tree that is gained grows by a child.
+-- A store that gains or loses a tree: what is held under each name then, and how a gained tree grows by a child.
 use Rattle.std.proofs.Common.{◌≡◌, ◌≢◌, ℕ, ◌<◌, List, [], ◌∷◌, ◌++◌, map, Option, Some, None, refl, ap, sym, ◌∙◌, subst, append-nil, append_assoc, inl, inr}
 use Rattle.std.specs.List.{AllByRecursion as Each}
 use Rattle.std.specs.Option.{option_map, option_and_then}
@@ -103,7 +103,7 @@ module _ {K V : Type 0} {s t : Nodes K V} {tree : Tree OpaqueNodePtr (K × V)} (
         ∙ without_in inner_cmp_total inner_cmp-IsAntisymmetric s.inners (map as_inner (inner_names tree)) (as_inner k) (in_map as_inner k (inner_names tree) (inner_among s tree holds k off i)))
   ]
 
-  -- a leaf of another name is as it was
+  -- a leaf of another name is unchanged
   pub leaf_off : (p : LeafPtr) → (IsIn (leaf_name p) (names_of tree) → ⊥) → get t.leaves p ≡ get s.leaves p
   leaf_off p off = ap (λ z. get z p) lost.leaves ∙ without_off leaf_cmp_total leaf_cmp-IsAntisymmetric s.leaves (map as_leaf (leaf_names tree)) p (λ i.
       let (k, j, e) = out_map as_leaf p (leaf_names tree) i in
@@ -117,25 +117,25 @@ module _ {K V : Type 0} {s t : Nodes K V} {tree : Tree OpaqueNodePtr (K × V)} (
       let (m, j, e) = out_map as_inner (as_inner k) (inner_names tree) i in
       off (taken_in takes_inners tree k (subst (λ z. IsIn z (inner_names tree)) (inner_name_one m k e) j)))
 
-  -- under another name is what was there
+  -- under another name is what was before
   pub lost_off : (k : OpaqueNodePtr) → (IsIn k (names_of tree) → ⊥) → content_at t k ≡ content_at s k
   lost_off k off = elim (leaf_or k) [
     | inl (p, e) ↦ subst (λ z. content_at t z ≡ content_at s z) (sym e) (ap (option_map held_leaf) (leaf_off p (λ i. off (subst (λ z. IsIn z (names_of tree)) (sym e) i))))
     | inr kind ↦ held_in_inner t k.kind k.slot kind ∙ ap (option_map held_inner) (inner_off k off) ∙ sym (held_in_inner s k.kind k.slot kind)
   ]
 
-  -- exactly the tree's names go
+  -- exactly the tree's names are removed
   pub lost_others : KeepsOthers s t (names_of tree) []
   lost_others = record { beside = λ k off _. lost_off k off; gone = λ k i _. lost_in k i; taken = λ k i _. absurd i }
 
-  -- and the other way round they come
+  -- and the other way round they are added
   pub came_others : KeepsOthers t s [] (names_of tree)
   came_others = record { beside = λ k _ off. sym (lost_off k off); gone = λ k i _. absurd i; taken = λ k i _. lost_in k i }
 
 inner_now : {K V : Type 0} (t : Nodes K V) (q : InnerPtr) → q.kind ≢ Leaf → (o : Option Inner) → content_at t (inner_name q) ≡ option_map held_inner o → get t.inners q ≡ o
 inner_now {K} {V} t q off o e = same_inner_held K V (get t.inners q) o (sym (held_in_inner t q.kind q.slot off) ∙ e)
 
--- where exactly a tree's names went, the maps are those without them
+-- where exactly a tree's names were removed, the maps are those without them
 module _ {K V : Type 0} {s t : Nodes K V} {tree : Tree OpaqueNodePtr (K × V)} (holds : Holds (node_at s) tree) (freed : Frees (names_of tree) s t) where
   pub frees_lost : ((q : InnerPtr) → q.kind ≡ Leaf → get t.inners q ≡ get s.inners q) → Loses s t tree
   frees_lost improper = record {
@@ -162,7 +162,7 @@ module _ {K V : Type 0} {s t : Nodes K V} {tree : Tree OpaqueNodePtr (K × V)} (
 -- ---- trees that are gained
 
 module _ {K V : Type 0} {old new : Nodes K V} where
-  -- a leaf alone
+  -- a single leaf
   pub gained_leaf : (p : LeafPtr) (x : LeafNode K V) → x.previous ≡ None → x.next ≡ None → get old.leaves p ≡ None →
       new.leaves ≡ insert old.leaves p x → new.inners ≡ old.inners → Gains old new (leaf (leaf_name p) (pair_of x))
   gained_leaf p x first last free leaves inners =
@@ -192,7 +192,7 @@ module _ {N A : Type 0} where
   inner_names_below-join no_child b u = append-nil (inner_names u)
   inner_names_below-join (child c t cs) b u = rw (inner_names_below-join cs b u) (sym (append_assoc (inner_names t) (inner_names_below cs) (inner_names u)))
 
--- a child put behind all others
+-- a child appended to all others
 put_child-last : {A : Type 0} (l : Subtrees OpaqueNodePtr A) (b : ℕ) (t : Tree OpaqueNodePtr A) → Each (λ c. c < b) (bytes_of l) →
     put_child (slots_of l) b (name_of t) ≡ slots_of (join l (child b t no_child))
 put_child-last no_child b t low = refl
@@ -220,14 +220,14 @@ module _ {K V : Type 0} {old mid next new : Nodes K V} {name : OpaqueNodePtr} {h
       each_in (IsTaken (node_at mid)) k (name ∷ names_below cs) (all_taken (node_at mid) (inner name header cs) is.so_far.holds) i
       (ap (option_map (tree_node k.kind)) (lost_in is.more.holds is.more.added k j))
 
-  -- the node's tree is there as it was
+  -- the node's tree is unchanged
   child_held : (k : OpaqueNodePtr) → IsIn k (name ∷ names_below cs) → content_at next k ≡ content_at mid k
   child_held k i = sym (lost_off is.more.holds is.more.added k (child_apart k i))
 
   pub child_seen : (k : OpaqueNodePtr) → IsIn k (name ∷ names_below cs) → node_at next k ≡ node_at mid k
   child_seen k i = ap (option_map (tree_node k.kind)) (child_held k i)
 
-  -- and all but the node are seen as they were once the child is put in
+  -- and all but the node are seen as they were once the child is added
   child_put : (k : OpaqueNodePtr) → k ≢ name → node_at new k ≡ node_at next k
   child_put k off = elim (leaf_or k) [
     | inl (p, e) ↦ subst (λ z. node_at new z ≡ node_at next z) (sym e)

@@ -1,4 +1,4 @@
--- Promises of which less and less is left.
+-- Promises of which ever less is left.
 use Rattle.std.proofs.Common.{◌≡◌, ℕ, zero, suc, Bool, true, false, ◌&&◌, cond, leb, eqb, eqb-true, eq-eqb, Option, Some, None, refl, ◌∙◌, arith}
 use Rattle.std.proofs.lemmas.Bool.{le-leb, leb-true}
 use Rattle.art_nodes.specs.Nodes.{Promise, covers, promises, no_promise, take_leaf, take_inner}

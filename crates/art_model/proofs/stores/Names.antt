@@ -12,7 +12,7 @@ module _ {N : Type 0} where
   pub apart_after : (xs ys : List N) (n : N) → AreDistinct (xs ++ n ∷ ys) → Each (λ k. k ≢ n) ys
   apart_after xs ys n d = Each-weaker (λ k. n ≢ k) (λ k. k ≢ n) (λ k f e. f (sym e)) ys (Pairwise-after ◌≢◌ xs ys n d)
 
-  -- no name stands in both parts of distinct names
+  -- no name is in both parts of distinct names
   pub apart_in : (xs ys : List N) (k : N) → AreDistinct (xs ++ ys) → IsIn k xs → IsIn k ys → ⊥
   apart_in xs ys k d i j = Pairwise-in ◌≢◌ xs ys k k d i j refl
 
@@ -99,7 +99,7 @@ module _ {N A : Type 0} (at : N → Option (Node N A)) where
   abbrev pub OldOrFree : List N → List N → Type 0
   OldOrFree old new = Each (λ k. IsIn k old ⊎ (at k ≡ None)) new
 
-  -- such names in the place of the old ones leave all names distinct
+  -- such names in place of the old ones leave all names distinct
   pub distinct_replaced : (xs old new zs : List N) → AreDistinct (xs ++ old ++ zs) → Each IsTaken xs → Each IsTaken zs → AreDistinct new → OldOrFree old new → AreDistinct (xs ++ new ++ zs)
   distinct_replaced xs old new zs all used_x used_z d on =
       let xo = Pairwise-left ◌≢◌ (xs ++ old) zs all in

@@ -14,7 +14,7 @@ use Rattle.art_model.specs.Layouts.{name_of, slots_of, Holds}
 use Rattle.art_model.specs.Stores.{node_at, header_at, pair_of}
 use Rattle.art_model.proofs.stores.Views.{leaf_there, leaf_name_is, inner_there, inner_name_is}
 
--- the inner node of a layout under this name, as the store shows it
+-- the inner node of a layout under this name, as the store has it
 pub record IsShown {A : Type 0} (t : Tree OpaqueNodePtr A) (p : InnerPtr) (shown : Inner) : Type 0 where
   pub children : Subtrees OpaqueNodePtr A
   pub is : t ≡ inner (inner_name p) (header_at p.kind shown) children
@@ -63,13 +63,13 @@ module _ {K V : Type 0} (s : Nodes K V) where
     pub inner_shown : (t : Tree OpaqueNodePtr (K × V)) → name_of t ≡ inner_name p → Holds (node_at s) t → (shown : Inner) → Some shown ≡ map.get s.inners p → IsShown t p shown
     inner_shown t named held shown there = subst (InnerIs t) (sym there) (inner_is t named held)
 
--- A node that stands in the store under its name.
+-- A node that is in the store under its name.
 pub record IsThere {K V : Type 0} (s : Nodes K V) (node : Tree OpaqueNodePtr (K × V)) (name : OpaqueNodePtr) : Type 0 where
   pub named : name_of node ≡ name
   pub holds : Holds (node_at s) node
 
 module _ {K V : Type 0} {s : Nodes K V} {node : Tree OpaqueNodePtr (K × V)} {name : OpaqueNodePtr} (at : IsThere s node name) where
-  -- what its name leads to is there
+  -- its name is in use
   pub leaf_met : {p : LeafPtr} → leaf_name p ≡ name → None ≡ map.get s.leaves p → ⊥
   leaf_met {p} is gone = no_leaf_gone s p node (at.named ∙ sym is) at.holds gone
 

@@ -1,4 +1,4 @@
--- A layout's children as a store writes them: a child put under a byte, and the kind by their number.
+-- A layout's children as a store writes them: a child set under a byte, and the kind by their number.
 use Rattle.std.proofs.Common.{◌≡◌, ◌≢◌, ℕ, suc, ◌<◌, ◌≤◌, List, [], ◌∷◌, ◌++◌, length, Some, false, refl, ap, sym, arith, leb, eq-eqb, subst, inl, inr}
 use Rattle.std.specs.List.{AllByRecursion as Each}
 use Rattle.std.proofs.lemmas.Bool.{cases_Bool, cases_order, le-ltb, lt-ltb, ne_eqb, le-leb, leb-true, leb-false}
@@ -41,7 +41,7 @@ module _ {A : Type 0} where
   put_child-new no_child r b t low high = put_child-first r b t high
   put_child-new (child c u l) r b t low high = rw (lt-ltb c b low.0) (ap (λ z. (c, name_of u) ∷ z) (put_child-new l r b t low.1 high))
 
-  -- two children put into a node without one
+  -- two children added to a node without one
   pub put_child-two : (b c : ℕ) (t u : Tree OpaqueNodePtr A) → b ≢ c → put_child (put_child [] b (name_of t)) c (name_of u) ≡ slots_of (two_children b t c u)
   put_child-two b c t u off = elim (cases_order b c) [
     | inl e ↦ absurd (off e)
@@ -84,7 +84,7 @@ range_of_kind n = elim (cases_Bool (leb n 4)) [
       ]
 ]
 
--- a node with room keeps its kind when it has one child more
+-- a node with room keeps its kind when it has one more child
 pub kind_of-room : (kind : NodeType) (n : ℕ) → kind ≡ kind_of n → n < kind_capacity kind → kind ≡ kind_of (suc n)
 kind_of-room kind n e room = sym (kind_of-range kind (suc n) (more kind (subst (λ k. IsInRange k n) (sym e) (range_of_kind n)) room))
   where
@@ -95,7 +95,7 @@ kind_of-room kind n e room = sym (kind_of-range kind (suc n) (more kind (subst (
     more Node256 h l = omega arith
     more Leaf h l = absurd h
 
--- a full node changes its kind when it has one child more; a Node256 is never full of fewer than 256 children
+-- a full node changes its kind when it has one more child; a Node256 is never full of fewer than 256 children
 pub kind_of-full : (kind : NodeType) (n : ℕ) → kind ≢ Node256 → kind_capacity kind ≤ n → kind ≢ kind_of (suc n)
 kind_of-full kind n not_last full e = over kind not_last full (subst (λ k. IsInRange k (suc n)) (sym e) (range_of_kind (suc n)))
   where
@@ -106,7 +106,7 @@ kind_of-full kind n not_last full e = over kind not_last full (subst (λ k. IsIn
     over Node256 off f h = off refl
     over Leaf off f h = h
 
--- a node with more children than its kind has at least keeps it when it has one less
+-- a node with more children than its kind's minimum keeps its kind when it has one less
 pub kind_of-spare : (kind : NodeType) (n : ℕ) → kind ≡ kind_of (suc n) → kind_least kind ≤ n → kind ≡ kind_of n
 kind_of-spare kind n e spare = sym (kind_of-range kind n (less kind (subst (λ k. IsInRange k (suc n)) (sym e) (range_of_kind (suc n))) spare))
   where
@@ -117,7 +117,7 @@ kind_of-spare kind n e spare = sym (kind_of-range kind n (less kind (subst (λ k
     less Node256 h l = omega arith
     less Leaf h l = absurd h
 
--- a node with as many children as its kind has at least changes its kind when it has one less; a Node4 then has one child left
+-- a node with its kind's minimum of children changes its kind when it has one less; a Node4 then has one child left
 pub kind_of-least : (kind : NodeType) (n : ℕ) → kind ≢ Node4 → n < kind_least kind → kind ≢ kind_of n
 kind_of-least kind n not_first least e = under kind not_first least (subst (λ k. IsInRange k n) (sym e) (range_of_kind n))
   where

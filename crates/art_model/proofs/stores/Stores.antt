@@ -111,7 +111,7 @@ module _ {N A : Type 0} (at to : N → Option (Node N A)) (fs : List (Frame N A)
   pub hole_taken : (k : N) → IsIn k (names_of t) → at k ≡ None → ⊥
   hole_taken k i = each_in (IsTaken at) k (names_of t) (Each-right (IsTaken at) (names_before fs) (names_of t) (Each-left (IsTaken at) (names_before fs ++ names_of t) (names_after fs) every_taken)) i
 
-  -- no name of the hole is on the path or beside it
+  -- no name of the hole is on the path or before the hole
   pub before_apart : (k : N) → IsIn k (names_before fs) → IsIn k (names_of t) → ⊥
   before_apart k i j = apart_in (names_before fs) (names_of t) k (Pairwise-left ◌≢◌ (names_before fs ++ names_of t) (names_after fs) all_distinct) i j
 
@@ -169,7 +169,7 @@ module _ {N A : Type 0} (at to : N → Option (Node N A)) (g : Frame N A) (gs : 
             (Each-right S (names_below g.right) (names_after gs) same_after) path,
       )
 
--- the replacement law: another tree stands in the hole, the parent knows it, and the rest is as it was
+-- the replacement law: another tree is in the hole, the parent names it, and the rest is unchanged
 module _ {N A : Type 0} (at to : N → Option (Node N A)) where
   -- the whole is a layout again
   pub replace : (fs : List (Frame N A)) (t u : Tree N A) → Holds at (plug fs t) → AreDistinct (names_of (plug fs t)) → ParentHas to fs (name_of u) →

@@ -21,7 +21,7 @@ use Rattle.art_model.specs.Footprints.{IsIn, Footprint, TouchesAtMost}
 use Rattle.art_model.proofs.lists.Lists.{Each-append, Each-weaker, each_in, each_from, in_left, in_right, in_map, each_map}
 use Rattle.art_model.proofs.stores.Views.{held_in_inner, leaf_or}
 
--- The names that came into use between two maps, those that went out of it, and those that may have other values; all others have the values that they had.
+-- The names that came into use between two maps, those that went out of use, and those that may have other values; all others have the values that they had.
 pub record Touched {N X : Type 0} {R : N → N → Ordering} (old new : FinMap R X) (placed freed changed : List N) : Type 0 where
   pub are_placed : Each (λ n. (get old n ≡ None) × (get new n ≢ None)) placed
   pub are_freed : Each (λ n. (get old n ≢ None) × (get new n ≡ None)) freed
@@ -32,7 +32,7 @@ pub record Touched {N X : Type 0} {R : N → N → Ordering} (old new : FinMap R
 pub touched_none : {N X : Type 0} {R : N → N → Ordering} (m : FinMap R X) → Touched m m [] [] []
 touched_none m = record { are_placed = tt; are_freed = tt; are_changed = tt; others = λ n p f c. refl }
 
--- what is there is not absent
+-- what is in the map is not absent
 pub there : {X : Type 0} (o : Option X) → IsSome o → o ≢ None
 there None h e = absurd cc
 there (Some x) h e = absurd cc
@@ -46,7 +46,7 @@ module _ {N X : Type 0} {R : N → N → Ordering} (order : IsTotalOrder R) (sam
   none_or true o h = refl
   none_or false o h = h
 
-  -- a placement or a change leaves what is there
+  -- a placement or a change leaves what is in the map
   pub still_placed : (m : FinMap R X) (n k : N) (x : X) → get m k ≢ None → get (insert m n x) k ≢ None
   still_placed m n k x h = subst (λ o. o ≢ None) (sym (get-insert order m n x k)) (some_or (eq_by_cmp R k n) x (get m k) h)
 
@@ -84,7 +84,7 @@ module _ {N X : Type 0} {R : N → N → Ordering} (order : IsTotalOrder R) (sam
           others = λ k p f c. elsewhere order same new n k x (λ e. p (inl (sym e))) ∙ so_far.others k (λ i. p (inr i)) f c;
         }
 
-    -- a name that is changed: it was there, and is
+    -- a name that is changed: it was in use, and is
     pub then_changed : (n : N) (g : X → X) → get old n ≢ None → get new n ≢ None → Touched old (change new n g) placed freed (n ∷ changed)
     then_changed n g was is = record {
       are_placed =
@@ -100,7 +100,7 @@ module _ {N X : Type 0} {R : N → N → Ordering} (order : IsTotalOrder R) (sam
       others = λ k p f c. changed_elsewhere order same new n k g (λ e. c (inl (sym e))) ∙ so_far.others k p f (λ i. c (inr i));
     }
 
-    -- a name that is freed: it was there at first, and was not changed before
+    -- a name that is freed: it was in use at first, and was not changed before
     pub then_freed : (n : N) → get old n ≢ None → (IsIn n changed → ⊥) → Touched old (remove new n) placed (n ∷ freed) changed
     then_freed n was fresh = record {
       are_placed =

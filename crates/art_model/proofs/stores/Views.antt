@@ -40,7 +40,7 @@ module _ {K V : Type 0} where
   seen_no_leaf kind None x e = cc
   seen_no_leaf kind (Some node) x e = cc
 
--- what is held tells what is there
+-- what is held determines what is in use
 pub same_leaf : {K V : Type 0} (o q : Option (LeafNode K V)) → option_map held_leaf o ≡ option_map held_leaf q → o ≡ q
 same_leaf None None e = refl
 same_leaf None (Some b) e = absurd cc

@@ -1,4 +1,4 @@
--- A map but for some names: what it has under a name, and how such maps come of writes.
+-- A map without some names: what it has under a name, and how such maps result from writes.
 use Rattle.std.proofs.Common.{◌≡◌, List, [], ◌∷◌, ◌++◌, None, refl, ap, sym, ◌∙◌, ◌⊎◌, inl, inr, subst}
 use Rattle.std.specs.Cmp.{IsTotalOrder}
 use Rattle.std.specs.FinMap.{FinMap, IsAntisymmetric, get, insert, remove, same_map}
@@ -27,7 +27,7 @@ module _ {N : Type 0} {R : N → N → Ordering} (order : IsTotalOrder R) (same 
   ]
 
 module _ {N X : Type 0} {R : N → N → Ordering} (order : IsTotalOrder R) (same : IsAntisymmetric R) where
-  -- what is not there is not there without other names
+  -- what is not in the map is not in it without other names
   pub still_none : (m : FinMap R X) (ns : List N) (q : N) → get m q ≡ None → get (without m ns) q ≡ None
   still_none m [] q h = h
   still_none m (n ∷ ns) q h = still_none (remove m n) ns q (still_gone order same m n q h)
@@ -50,7 +50,7 @@ module _ {N X : Type 0} {R : N → N → Ordering} (order : IsTotalOrder R) (sam
     | inr off ↦ rest q off ∙ sym (without_off m ns q off)
   ])
 
-  -- names that are gone one list after the other, in whatever order
+  -- names that are removed one list after the other, in any order
   pub without_both : (a b c : FinMap R X) (ns ks : List N) → a ≡ without b ns → b ≡ without c ks → a ≡ without c (ns ++ ks)
   without_both a b c ns ks e f = is_without c a (ns ++ ks)
       (λ q i. elim (in_either q ns ks i) [

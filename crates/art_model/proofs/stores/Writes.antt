@@ -27,7 +27,7 @@ use Rattle.art_model.proofs.stores.Stores.{IsParent, ParentHas, SameBut}
 use Rattle.art_model.proofs.stores.Touches.{Touched, IsInner, then_changed}
 use Rattle.art_model.proofs.stores.Views.{seen_no_inner, seen_inner, held_in_inner, leaf_or}
 
--- inner nodes' names tell them apart
+-- inner nodes are distinguished by their names
 pub inner_name_one : (k l : OpaqueNodePtr) → as_inner k ≡ as_inner l → k ≡ l
 inner_name_one k l e = λ i. record { kind = (e i).kind; slot = (e i).slot }
 
@@ -63,7 +63,7 @@ module _ {K V : Type 0} (s t : Nodes K V) where
   pub same_inner : (k : OpaqueNodePtr) → k.kind ≢ Leaf → get t.inners (as_inner k) ≡ get s.inners (as_inner k) → node_at t k ≡ node_at s k
   same_inner k off same = node_at-inner t k off (get s.inners (as_inner k)) same ∙ sym (node_at-inner s k off (get s.inners (as_inner k)) refl)
 
-  -- Leaves that keep their pairs, and inner nodes that keep all, but for the parent and the touched ones: nothing else is seen by a tree.
+  -- Leaves that keep their pairs, and inner nodes that are unchanged except for the parent and the touched ones: a tree sees nothing else.
   pub same_but : (fs : List (Frame OpaqueNodePtr (K × V))) (touched : List OpaqueNodePtr) →
       ((p : LeafPtr) → (IsIn (leaf_name p) touched → ⊥) → get s.leaves p ≢ None → option_map pair_of (get t.leaves p) ≡ option_map pair_of (get s.leaves p)) →
       ((k : OpaqueNodePtr) → k.kind ≢ Leaf → (IsParent fs k → ⊥) → (IsIn k touched → ⊥) → node_at s k ≢ None →
@@ -88,7 +88,7 @@ module _ {A : Type 0} where
   with_child_at-elsewhere [] name m k off = refl
   with_child_at-elsewhere (f ∷ fs) name m k off = inner_changed_elsewhere m (as_inner f.mark) (as_inner k) (with_child f.byte name) (λ e. off (inner_name_one k f.mark e))
 
-  -- the parent, where there is one
+  -- the parent, if there is one
   abbrev pub parents : List (Frame OpaqueNodePtr A) → List InnerPtr
   parents [] = []
   parents (f ∷ fs) = as_inner f.mark ∷ []
@@ -106,7 +106,7 @@ module _ {A : Type 0} where
   then_parent so_far (f ∷ fs) name was is = then_changed inner_cmp_total inner_cmp-IsAntisymmetric so_far (as_inner f.mark) (with_child f.byte name) (was f.mark refl) (is f.mark refl)
 
 module _ {K V : Type 0} (bytes : K × V → List ℕ) (P : ℕ) (s : Nodes K V) where
-  -- the parent is there, and has a child under its byte
+  -- the parent is in the store, and has a child under its byte
   pub parent_there : (fs : List (Frame OpaqueNodePtr (K × V))) (hole : OpaqueNodePtr) → HoldsPath (node_at s) hole fs → (k : OpaqueNodePtr) →
       IsParent fs k → (k.kind ≢ Leaf) × (get s.inners (as_inner k) ≢ None)
   parent_there [] hole holds k is = absurd is

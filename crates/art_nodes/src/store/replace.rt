@@ -1,4 +1,4 @@
-//! An inner node gives way to a larger or a smaller one, or to the other of its two children.
+//! Replaces an inner node by a larger or a smaller one, or by the other of its two children.
 ghost use Rattle.std.specs.Prelude.{◌≡◌, ◌≢◌, ◌≤◌, [], ◌∷◌, IsTrue, IsSome, IsSomeAnd, IfSome};
 ghost use Rattle.std.specs.Prelude.{Option, Some, None, length};
 ghost use Rattle.slab.specs.Slab as slab;
@@ -21,7 +21,7 @@ impl<const P: usize> InnerSlabs<P> {
     ghost use Rattle.art_parts.specs.declared.names.NodeType.{NodeType};
     ghost use Rattle.art_parts.specs.declared.names.NodeType.TheVariants.{Node4, Node16, Node48, Node256};
 
-    // Puts a node of the next larger kind, with a child more, in the place of one.
+    // Replaces a node by one of the next larger kind, with a further child.
     pub(super) fn put_larger(&mut self, name: InnerPtr, byte: u8, child: OpaqueNodePtr) -> InnerPtr
         requires kind { name.kind ≢ Node256 }
         requires place { IsSomeAnd (map.get (inners_of self.old) name) (λ node.
@@ -41,7 +41,7 @@ impl<const P: usize> InnerSlabs<P> {
         }
     }
 
-    // Puts a node of the next smaller kind, without the child under a byte, in the place of one.
+    // Replaces a node by one of the next smaller kind, without the child under a byte.
     fn put_smaller(&mut self, name: InnerPtr, byte: u8) -> InnerPtr
         requires kind { name.kind ≢ Node4 }
         requires fit { IsSomeAnd (map.get (inners_of self.old) name) (λ node.
@@ -62,7 +62,7 @@ impl<const P: usize> InnerSlabs<P> {
         }
     }
 
-    // Takes a node out, and drops it.
+    // Removes a node, and drops it.
     fn drop_node(&mut self, name: InnerPtr)
         requires { IsSome (map.get (inners_of self.old) name) }
         ensures nodes { inners_of self.new ≡ map.remove (inners_of self.old) name }
@@ -79,8 +79,8 @@ impl<const P: usize> InnerSlabs<P> {
     }
 }
 
-// Takes a node out of its slot, and puts the grown one, with a child more, into another slab. A call
-// fills the room for its locals with zeros, so that each kind has a call of its own.
+// Removes a node from its slot, and inserts the grown one, with a further child, into another slab. A call fills the
+// room for its locals with zeros, so that each kind has a call of its own.
 #[inline(never)]
 fn grow<N: Grows<P>, const P: usize>(
     from: &mut Slab<N>,
@@ -107,8 +107,7 @@ fn grow<N: Grows<P>, const P: usize>(
     }
 }
 
-// Takes a node out of its slot, and puts the shrunk one, without the child under a byte, into
-// another slab.
+// Removes a node from its slot, and inserts the shrunk one, without the child under a byte, into another slab.
 #[inline(never)]
 fn shrink<N: Shrinks<P>, const P: usize>(
     from: &mut Slab<N>,
@@ -134,7 +133,7 @@ fn shrink<N: Shrinks<P>, const P: usize>(
     }
 }
 
-// Takes a value out of its slot, and drops it.
+// Removes a value from its slot, and drops it.
 #[inline(never)]
 fn drop_from<T: Drop>(slab: &mut Slab<T>, slot: usize)
     requires { ContainsKey slab.old slot }
@@ -173,8 +172,8 @@ impl<K: AsBytes + Drop, V: Drop, const P: usize> NodeStore<K, V, P> {
         smaller
     }
 
-    /// Takes an inner node of two children out, and returns its header, and the child that is not
-    /// under a byte with the byte of that child.
+    /// Removes an inner node with two children. Returns its header, and the byte and the name of the child that is not
+    /// under `byte`.
     pub fn take_other(&mut self, inner: InnerPtr, byte: u8) -> (Header<P>, u8, OpaqueNodePtr)
         requires { IsSomeAnd (map.get self.old.inners inner) (λ node.
             length (without_child byte node).children ≡ 1) }
@@ -194,7 +193,7 @@ impl<K: AsBytes + Drop, V: Drop, const P: usize> NodeStore<K, V, P> {
     }
 }
 
-// The child that is not under a byte, with its byte, of a node that has one such child.
+// The child that is not under a byte, with its byte, of a node with one such child.
 fn other_child<const P: usize>(node: InnerRef<'_, P>, byte: u8) -> (u8, OpaqueNodePtr)
     requires { length (remove_child (ref_view node).children byte) ≡ 1 }
     ensures { remove_child (ref_view node.entry).children byte ≡ result ∷ [] }

@@ -1,4 +1,4 @@
-//! The leaves move to slots in the order of their links.
+//! Moves the leaves to slots in the order of their links.
 ghost use Rattle.std.specs.Prelude.{◌≡◌, ℕ, ◌≤◌, List, [], length, Option, Some, None, OnOk, OnErr};
 ghost use Rattle.std.specs.Option.{option_map};
 ghost use Rattle.slab.specs.Slab as slab;
@@ -19,10 +19,10 @@ use std::alloc::AllocError;
 impl<K: AsBytes + Drop, V: Drop, const P: usize> NodeStore<K, V, P> {
     ghost use Rattle.art_nodes.specs.Nodes.{no_promise};
 
-    /// Moves the leaves of a row, from its first one on, to new slots in its order, and gives all nodes
-    /// that name them the new names. Leaves that are not in the row go. It takes memory for as many leaves
-    /// again, and where there is none, nothing has changed. It costs a step for each leaf and for each
-    /// place of an inner node.
+    /// Moves the leaves of a row, from its first one on, to new slots in its order, and updates their names in all
+    /// nodes. Leaves that are not in the row are freed. Promises are void afterwards. It allocates slots for all leaves
+    /// and a table of the new slots; if an allocation fails, the store is unchanged. It costs a step for each leaf and
+    /// for each place of an inner node.
     pub fn sort_leaves(&mut self, first: LeafPtr) -> Result<(), AllocError>
         requires { (row : List LeafPtr) ×
             IsRow self.old.leaves None row × (first_of_row row ≡ Some first) }
@@ -53,7 +53,7 @@ impl<const P: usize> InnerSlabs<P> {
     ghost use Rattle.art_parts.specs.declared.names.InnerPtr.{InnerPtr};
     ghost use Rattle.art_parts.specs.declared.names.NodeType.{NodeType};
 
-    // Gives the leaves among the children of all nodes the names that a table has for them.
+    // Renames the leaves among the children of all nodes by a table.
     fn rename_leaves(&mut self, table: &[usize])
         ensures nodes { (name : InnerPtr) → map.get (inners_of self.new) name ≡
             option_map (inner_renamed (new_name table.now)) (map.get (inners_of self.old) name) }
@@ -67,7 +67,7 @@ impl<const P: usize> InnerSlabs<P> {
     }
 }
 
-// Moves the leaves of a row into a slab that is empty, and writes into a table the new slot of each under its old one.
+// Moves the leaves of a row into an empty slab, and writes into a table the new slot of each under its old one.
 fn move_row<K: Drop, V: Drop>(
     from: &mut Slab<LeafNode<K, V>>,
     to: &mut Slab<LeafNode<K, V>>,
@@ -91,7 +91,7 @@ fn move_row<K: Drop, V: Drop>(
     }
 }
 
-// Gives the leaves that others name the names that a table has for them.
+// Renames the neighbours of all leaves by a table.
 fn rename_links<K: Drop, V: Drop>(leaves: &mut Slab<LeafNode<K, V>>, table: &[usize])
     ensures { (slot : ℕ) → slab.get leaves.new slot ≡
         option_map (leaf_renamed (new_name table.now)) (slab.get leaves.old slot) }
@@ -103,7 +103,7 @@ fn rename_links<K: Drop, V: Drop>(leaves: &mut Slab<LeafNode<K, V>>, table: &[us
     }
 }
 
-// Gives the leaves beside one the names that a table has for them.
+// Renames the neighbours of a leaf by a table.
 fn rename_beside<K, V>(leaf: &mut LeafNode<K, V>, table: &[usize])
     ensures { leaf.new ≡ leaf_renamed (new_name table.now) leaf.old }
 {
@@ -111,7 +111,7 @@ fn rename_beside<K, V>(leaf: &mut LeafNode<K, V>, table: &[usize])
     leaf.next = leaf.next.map(|beside| new_name(table, beside));
 }
 
-// Gives the leaves among the children of the nodes of a kind the names that a table has for them.
+// Renames the leaves among the children of the nodes of a kind by a table.
 fn rename_children<N: InnerNode<P>, const P: usize>(nodes: &mut Slab<N>, table: &[usize])
     ensures renamed { (slot : ℕ) → option_map N.view_of (slab.get nodes.new slot) ≡
         option_map (λ node. inner_renamed (new_name table.now) (N.view_of node))

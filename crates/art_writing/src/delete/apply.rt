@@ -24,10 +24,10 @@ use art_nodes::store::NodeStore;
 use art_reading::path::{last_step, up};
 
 impl DeletePoint {
-    /// Removes the leaf of the point from the tree. Returns it, and the root of the rest, if there is any.
+    /// Removes the leaf of the point from the tree. Returns it, and the root of the rest, if any.
     ///
-    /// It never fails and takes no memory: a parent of 5, 17 or 49 children is replaced by a smaller node, for which
-    /// the store keeps a slot. It is a constant number of writes.
+    /// It never fails and allocates nothing: a parent of 5, 17 or 49 children is replaced by a smaller node, for which
+    /// the store keeps a slot. It makes a constant number of writes.
     #[inline(always)]
     pub fn apply<K: AsBytes + Drop, V: Drop, const PREFIX_LEN: usize>(
         self,
@@ -81,7 +81,7 @@ impl DeletePoint {
         Ok(self.take_out(store, root))
     }
 
-    // The same, and what is ensured of it in one word.
+    // The same, with all that it ensures as one definition.
     #[inline(always)]
     pub(super) fn take_out<K: AsBytes + Drop, V: Drop, const P: usize>(
         self,
@@ -95,7 +95,7 @@ impl DeletePoint {
             None => None,
             Some((parent, byte)) => {
                 let name = self.take_from_parent(store, root, parent, byte);
-                // Made anew of its parts: what stands between these in memory is not carried on.
+                // Rebuilt from its parts: padding between them is not copied.
                 Some(OpaqueNodePtr {
                     kind: name.kind,
                     slot: name.slot,
@@ -105,7 +105,7 @@ impl DeletePoint {
         self.take_leaf(store, new_root)
     }
 
-    // The parent lets the leaf go: it keeps its kind, shrinks or goes too. Returns the root that is left.
+    // Removes the leaf from its parent, which keeps its kind, shrinks or is removed too. Returns the root that is left.
     #[inline(always)]
     fn take_from_parent<K: AsBytes + Drop, V: Drop, const P: usize>(
         self,
@@ -132,7 +132,7 @@ impl DeletePoint {
         }
     }
 
-    // A node of the next smaller kind, without the leaf, comes in the parent's place.
+    // A node of the next smaller kind, without the leaf, replaces the parent.
     #[inline(always)]
     fn shrink_parent<K: AsBytes + Drop, V: Drop, const P: usize>(
         self,
@@ -152,7 +152,7 @@ impl DeletePoint {
         replace_at(store, up(self.path), root, node.to_opaque())
     }
 
-    // Takes the leaf alone out, when its parent has let it go.
+    // Removes the leaf alone, once it is no longer a child of its parent.
     #[inline(always)]
     fn take_leaf<K: AsBytes + Drop, V: Drop, const P: usize>(
         self,
@@ -170,7 +170,7 @@ impl DeletePoint {
     }
 }
 
-/// Whether a node has more children than its kind has at least.
+/// Whether a node has more children than its kind's minimum.
 #[inline(always)]
 pub(super) fn has_spare_child<const P: usize>(node: InnerRef<'_, P>) -> bool
     ensures { result ≡

@@ -1,4 +1,4 @@
-//! One of the two children of a node goes, a leaf, and the other takes that node's place.
+//! A node with two children is removed with one of them, a leaf, and is replaced by the other.
 ghost use Rattle.std.specs.Prelude.{◌≡◌, ◌≢◌, ◌+◌, ◌≤◌, ℕ, List, ◌∷◌, ◌++◌, length, IsSome, IsSomeAnd, IfSome, Some, cond};
 ghost use Rattle.std.specs.FinMap as map;
 ghost use Rattle.art_inner.specs.InnerChanges.{with_header};
@@ -19,7 +19,7 @@ use art_nodes::store::NodeStore;
 use art_reading::path::up;
 
 impl DeletePoint {
-    /// Takes a leaf's parent out, in whose place the other child comes. Returns the root that is left.
+    /// Removes a leaf's parent, which is replaced by its other child. Returns the root that is left.
     #[inline(always)]
     pub(super) fn compress_parent<K: AsBytes + Drop, V: Drop, const P: usize>(
         self,
@@ -59,8 +59,8 @@ fn leaf_beside<K: AsBytes + Drop, V: Drop, const P: usize>(
     beside
 }
 
-// Puts a prefix and a byte in front of the prefix of a node, where it is an inner node. The lengths have
-// a sum, since the key of a leaf below has all these bytes.
+// Prepends a prefix and a byte to the prefix of a node, if it is an inner node. The lengths have a sum, since the key
+// of a leaf below has all these bytes.
 fn lengthen_prefix<K: AsBytes + Drop, V: Drop, const P: usize>(
     store: &mut NodeStore<K, V, P>,
     name: OpaqueNodePtr,
@@ -92,8 +92,7 @@ fn lengthen_prefix<K: AsBytes + Drop, V: Drop, const P: usize>(
     store.set_header(inner, header);
 }
 
-// The header of a prefix, a byte and the prefix of a node, one behind the other. A key has all these
-// bytes.
+// The header of a prefix, a byte and the prefix of a node, concatenated. A key has all these bytes.
 #[inline(always)]
 fn header_below<const P: usize>(
     front: Header<P>,

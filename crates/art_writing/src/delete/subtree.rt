@@ -1,4 +1,4 @@
-//! All leaves below a node go at once: those whose keys begin with a prefix.
+//! Removes all leaves below a node at once: those whose keys start with a prefix.
 ghost use Rattle.std.specs.Prelude.{◌≡◌, length, IfSome, Some};
 ghost use Rattle.art_model.specs.Apart.{KeepsApart};
 ghost use Rattle.art_model.specs.Canonical.{IsCanonical};
@@ -23,7 +23,7 @@ use art_reading::descent::{End, walk_below, walk_to_end};
 use art_reading::minmax::minimum_unchecked;
 use art_reading::path::{TreePath, last_step};
 
-/// Where a node goes out of a tree with all below it.
+/// Where a node is removed from a tree with its whole subtree.
 #[derive(Clone, Copy, PartialEq, Eq, Debug)]
 pub struct SubtreeDeletePoint {
     /// The nodes right above the node.
@@ -31,19 +31,19 @@ pub struct SubtreeDeletePoint {
     pub node: OpaqueNodePtr,
 }
 
-/// What the deletion of a subtree did.
+/// The result of the deletion of a subtree.
 #[derive(Clone, Copy, PartialEq, Eq, Debug)]
 pub struct SubtreeDeleteResult {
-    /// The root of the tree, if it has a leaf left.
+    /// The root of the tree, if a leaf is left.
     pub new_root: Option<OpaqueNodePtr>,
-    /// How many leaves went.
+    /// How many leaves were removed.
     pub leafs_removed: usize,
 }
 
-/// Returns the point of all keys that begin with a prefix, or `None` where no key does.
+/// Returns the point of all keys that start with a prefix, or `None` where no key does.
 ///
-/// It takes no memory. It goes down to the node below which these keys are, by at most one inner node for
-/// each byte of the prefix, then to the first leaf, and reads its key.
+/// It allocates nothing. It descends to the node below which these keys are, by at most one inner node for each byte of
+/// the prefix, then to the first leaf, and reads its key.
 pub fn search_for_prefix_delete_point<K: AsBytes + Drop, V: Drop, const PREFIX_LEN: usize>(
     store: &NodeStore<K, V, PREFIX_LEN>,
     root: OpaqueNodePtr,
@@ -68,7 +68,7 @@ pub fn search_for_prefix_delete_point<K: AsBytes + Drop, V: Drop, const PREFIX_L
     })
 }
 
-// A tree in which one leaf stands in the place of all below a node.
+// A tree in which one leaf replaces all below a node.
 #[derive(Clone, Copy)]
 struct Collapsed {
     root: OpaqueNodePtr,
@@ -78,11 +78,11 @@ struct Collapsed {
 }
 
 impl SubtreeDeletePoint {
-    /// Removes the node of the point with all below it and frees them. Returns how many leaves were removed, and
-    /// the root of the rest, if there is any.
+    /// Removes the node of the point with its subtree and frees all of it. Returns how many leaves were removed, and
+    /// the root of the rest, if any.
     ///
-    /// It never fails and takes no memory, as `DeletePoint::apply`. It costs a step for each node that is freed,
-    /// and a constant number of writes.
+    /// It never fails and allocates nothing, as `DeletePoint::apply`. It costs a step for each freed node, and a
+    /// constant number of writes.
     pub fn apply<K: AsBytes + Drop, V: Drop, const PREFIX_LEN: usize>(
         self,
         store: &mut NodeStore<K, V, PREFIX_LEN>,
@@ -116,7 +116,7 @@ impl SubtreeDeletePoint {
         }
     }
 
-    // Frees all below the node but the first leaf, which comes in the node's place.
+    // Frees all below the node but the first leaf, which replaces the node.
     fn collapse<K: AsBytes + Drop, V: Drop, const P: usize>(
         self,
         store: &mut NodeStore<K, V, P>,

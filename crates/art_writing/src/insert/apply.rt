@@ -1,4 +1,4 @@
-//! Points, applied.
+//! Applies points of insertion.
 ghost use Rattle.std.specs.Prelude.{◌≡◌, IsOk, IsTrue, IfOk, IfErr, OnOk, OnErr, Some};
 ghost use Rattle.std.specs.Option.{option_map};
 ghost use Rattle.art_nodes.specs.Nodes.{no_promise};
@@ -21,12 +21,12 @@ use art_nodes::node::{AsBytes, LeafNode, NodePtr};
 use art_nodes::store::NodeStore;
 
 impl InsertPoint {
-    /// Puts a pair into the tree at the point of its key. A stored key that is equal stays and gets the value;
-    /// the key that was handed in comes back with the old one.
+    /// Inserts a pair at the point of its key. An equal stored key stays and gets the value; the result then has the
+    /// key that was passed and the old value.
     ///
-    /// Returns the leaf of the key, what gave way, and the root. It is refused only for want of memory: then key and
-    /// value come back, and the nodes are as they were. All memory is taken before the first change, and none where the
-    /// key is stored. It is a constant number of writes, and a way down to a leaf beside the new one.
+    /// Returns the leaf of the key, what was replaced, and the root. Fails only if an allocation fails: then the error
+    /// returns key and value, and the nodes are unchanged. All memory is allocated before the first change, and none if
+    /// the key is stored. It makes a constant number of writes, and a descent to a neighbouring leaf.
     #[inline(always)]
     pub fn apply<K: AsBytes + Drop, V: Drop, const PREFIX_LEN: usize>(
         self,
@@ -69,7 +69,7 @@ impl InsertPoint {
         self.put_pair(store, key, value)
     }
 
-    // The same, and what is ensured of it in one word.
+    // The same, with all that it ensures as one definition.
     #[inline(always)]
     fn put_pair<K: AsBytes + Drop, V: Drop, const P: usize>(
         self,
@@ -106,11 +106,11 @@ impl InsertPoint {
 }
 
 impl PrefixInsertPoint {
-    /// Puts a pair into the tree at the point of its key, in the place of all pairs with related keys. A stored key
-    /// that is equal stays and gets the value; the key that was handed in comes back with the old one.
+    /// Inserts a pair at the point of its key, and removes all pairs with related keys. But an equal stored key stays
+    /// and gets the value; the result then has the key that was passed and the old value.
     ///
-    /// It returns what `apply` of an `InsertPoint` does and how many leaves were freed, and is refused as that is. All
-    /// memory is taken before the first change, and none where the pair takes the place of one other.
+    /// It returns what `apply` of an `InsertPoint` does and how many leaves were freed, and fails as that does. All
+    /// memory is allocated before the first change, and none if the pair replaces exactly one other.
     #[inline(always)]
     pub fn apply<K: AsBytes + Drop, V: Drop, const PREFIX_LEN: usize>(
         self,
@@ -158,7 +158,7 @@ impl PrefixInsertPoint {
         self.put_pair(store, key, value)
     }
 
-    // The same, and what is ensured of it in one word.
+    // The same, with all that it ensures as one definition.
     #[inline(always)]
     fn put_pair<K: AsBytes + Drop, V: Drop, const P: usize>(
         self,
@@ -184,11 +184,11 @@ impl PrefixInsertPoint {
 }
 
 impl OverwritePoint {
-    /// Puts a pair into the tree in the place of all pairs with related keys: a leaf keeps its name and
-    /// gets the pair, and an inner node gives way to a new leaf with all that is below it.
+    /// Inserts a pair and removes all pairs with related keys: a leaf keeps its name and gets the pair, and an inner
+    /// node is replaced by a new leaf, together with its subtree.
     ///
-    /// It returns what `apply` of an `InsertPoint` does and how many leaves were freed, and is refused as that is. All
-    /// memory is taken before the first change, and none where the end node is a leaf.
+    /// It returns what `apply` of an `InsertPoint` does and how many leaves were freed, and fails as that does. All
+    /// memory is allocated before the first change, and none if the end node is a leaf.
     pub fn apply<K: AsBytes + Drop, V: Drop, const PREFIX_LEN: usize>(
         self,
         store: &mut NodeStore<K, V, PREFIX_LEN>,
@@ -235,7 +235,7 @@ impl OverwritePoint {
         self.put_pair(store, key, value)
     }
 
-    // The same, and what is ensured of it in one word.
+    // The same, with all that it ensures as one definition.
     #[inline(always)]
     fn put_pair<K: AsBytes + Drop, V: Drop, const P: usize>(
         self,

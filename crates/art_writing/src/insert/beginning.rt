@@ -1,4 +1,4 @@
-//! How a tree begins.
+//! Begins a tree.
 ghost use Rattle.std.specs.Prelude.{◌≡◌, ◌<◌, ◌∷◌, [], Some, None, IfOk, IfErr, IsOk, OnErr};
 ghost use Rattle.art_parts.specs.Names.{leaf_name};
 ghost use Rattle.art_model.specs.Apart.{KeepsApart};
@@ -11,11 +11,11 @@ use super::Refused;
 use art_nodes::node::{AsBytes, LeafNode, LeafPtr};
 use art_nodes::store::NodeStore;
 
-/// Places the leaf of a pair, with no siblings, and returns its name. That is the root of a tree of its own,
-/// whatever else the store has.
+/// Places the leaf of a pair, with no siblings, and returns its name. It is the root of a tree of its own, whatever
+/// else the store has.
 ///
-/// Where the store's promise covers no leaf, it may be refused for want of memory: then key and value come back,
-/// and the store is as before.
+/// Fails if an allocation fails, which can't happen where the store's promise covers a leaf. The error returns key and
+/// value, and the store is unchanged.
 pub fn plant<K: AsBytes + Drop, V: Drop, const PREFIX_LEN: usize>(
     store: &mut NodeStore<K, V, PREFIX_LEN>,
     key: K,

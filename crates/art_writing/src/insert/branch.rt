@@ -1,4 +1,4 @@
-//! A new node above a leaf and a new one, or above an inner node and a new leaf.
+//! A new inner node above an existing node and a new leaf.
 ghost use Rattle.std.specs.Prelude.{◌≡◌, ℕ, ◌+◌, drop, List, IsSome, IsTrue, Some};
 ghost use Rattle.std.specs.FinMap as map;
 ghost use Rattle.art_parts.specs.Headers.{header_of};
@@ -32,13 +32,12 @@ struct Branch<const P: usize> {
     header: Header<P>,
     old_byte: u8,
     new_byte: u8,
-    // The leaves beside the new one.
+    // The neighbours of the new leaf.
     previous: OptionalLeafPtr,
     next: OptionalLeafPtr,
 }
 
-// What is read before the tree under a name gets a parent with this prefix, and under these bytes it
-// and a new leaf.
+// What is read before the tree of a name gets a parent with this prefix, which has it and a new leaf under these bytes.
 #[inline(always)]
 fn branch_above<K: AsBytes + Drop, V: Drop, const P: usize>(
     store: &NodeStore<K, V, P>,
@@ -146,7 +145,7 @@ impl InsertPoint {
         header
     }
 
-    // Places the leaf of a pair, and a node above it and the old one in the place of the old one.
+    // Places the leaf of a pair, and above it and the old node a new one, which replaces the old one.
     #[inline(always)]
     fn place_branch<K: AsBytes + Drop, V: Drop, const P: usize>(
         self,

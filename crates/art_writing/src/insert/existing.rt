@@ -1,4 +1,4 @@
-//! A new leaf below a node that is there.
+//! A new leaf below an existing node.
 ghost use Rattle.std.specs.Prelude.{◌≡◌, get_or};
 ghost use Rattle.art_model.specs.Pairs.{of_key};
 ghost use Rattle.art_writing.specs.Applied.{IsApplied};
@@ -14,7 +14,7 @@ use art_nodes::store::NodeStore;
 use art_reading::path::TreePath;
 
 impl InsertPoint {
-    /// Puts a leaf of a pair below an inner node, which is replaced by a larger one where it is full.
+    /// Adds a leaf of a pair below an inner node, which is replaced by a larger one if it is full.
     #[inline(always)]
     pub(super) fn add_child<K: AsBytes + Drop, V: Drop, const P: usize>(
         self,
@@ -50,8 +50,7 @@ impl InsertPoint {
         Ok(new_child(leaf_node_ptr, inner_node_ptr, byte, self.root))
     }
 
-    // The kind of the node that takes the place of this one where it is full, and the leaves beside
-    // a new one below it.
+    // The kind of the node that replaces this one if it is full, and the neighbours of a new leaf below it.
     #[inline(always)]
     fn larger_and_links<K: AsBytes + Drop, V: Drop, const P: usize>(
         self,
@@ -96,7 +95,7 @@ ghost use Rattle.art_writing.specs.declared.insert.InsertParentNodeChange.TheVar
 ghost use Rattle.art_writing.specs.ParentWrites.{ComesBetween, HasChild, HasGap};
 ghost use Rattle.art_reading.specs.PathSteps.{last_step, root_with};
 
-// What an insertion did that put a leaf below a node.
+// The result of an insertion that added a leaf below a node.
 #[inline(always)]
 fn new_child<K, V>(
     leaf_node_ptr: LeafPtr,
@@ -122,7 +121,7 @@ fn new_child<K, V>(
     }
 }
 
-// The kind of the node that takes the place of this one when it gets a child more, where it is full.
+// The kind of the node that replaces this one when it gets a further child, if it is full.
 #[inline(always)]
 fn larger_if_full<const P: usize>(node: InnerRef<'_, P>) -> Option<NodeType>
     ensures { result ≡
@@ -136,8 +135,7 @@ fn larger_if_full<const P: usize>(node: InnerRef<'_, P>) -> Option<NodeType>
     }
 }
 
-// Puts a larger node with a child more in the place of one at the end of a path, and returns its name
-// and the root.
+// Replaces the node at the end of a path by a larger one with a further child, and returns its name and the root.
 #[inline(always)]
 fn put_larger<K: AsBytes + Drop, V: Drop, const P: usize>(
     store: &mut NodeStore<K, V, P>,

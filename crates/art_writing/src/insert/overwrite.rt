@@ -1,4 +1,4 @@
-//! A leaf in the place of all below an inner node.
+//! A leaf replaces an inner node with its subtree.
 ghost use Rattle.std.specs.Prelude.{◌≢◌, ℕ, List, Option};
 ghost use Rattle.art_parts.specs.declared.names.LeafPtr.{LeafPtr};
 ghost use Rattle.art_parts.specs.declared.names.OpaqueNodePtr.{OpaqueNodePtr};
@@ -19,7 +19,7 @@ use art_nodes::node::{AsBytes, OptionalLeafPtr};
 use art_nodes::store::NodeStore;
 
 impl OverwritePoint {
-    /// Puts a leaf in the place of an inner node, and frees all that was below it.
+    /// Replaces an inner node by a leaf, and frees its subtree.
     #[inline(always)]
     pub(super) fn overwrite_subtree<K: AsBytes + Drop, V: Drop, const P: usize>(
         self,
@@ -50,7 +50,7 @@ impl OverwritePoint {
         })
     }
 
-    // The leaves beside all that is below an inner node.
+    // The neighbours of the leaves below an inner node.
     #[inline(always)]
     fn links_around<K: AsBytes + Drop, V: Drop, const P: usize>(
         self,

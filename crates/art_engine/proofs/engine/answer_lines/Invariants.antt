@@ -5,7 +5,7 @@ use Rattle.text_lines.proofs.Reading.{IsReadTo}
 use Rattle.art_engine.proofs.Serving.{GoesOn}
 use Rattle.art_engine.proofs.engine.answer_lines.Given as goal
 
--- the root is canonical, and whatever the lines that are left come to, all lines come to
+-- the root is canonical, and the replies to the remaining lines complete those to all lines
 abbrev pub invariant-loop-number : goal.invariant-loop-number
 invariant-loop-number g l =
     IsKept l.tree × IfSome (reader_remaining g.R.Read.remaining l.initial.input) (λ text.

@@ -11,7 +11,7 @@ use Rattle.art_engine.specs.NodeLines.{nodes_text}
 use Rattle.art_engine.proofs.NodeWalks.{IsWritten}
 use Rattle.art_engine.proofs.nodes.write_nodes.Given as goal
 
--- what is left after so many turns stands for trees, there is room for what will be, and the lines of what came are written
+-- what is left after so many steps stands for trees, there is room for what will be, and the lines so far are written
 abbrev pub invariant-loop : goal.invariant-loop
 invariant-loop g l =
     ((root : OpaqueNodePtr) × (turns : ℕ) × (l.pending.items ≡ left_after l.store root turns) × HasRoom l.store root (vec_capacity l.pending) × Each (IsPendingTree l.store) l.pending.items) ×

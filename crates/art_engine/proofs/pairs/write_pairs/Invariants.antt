@@ -7,7 +7,7 @@ use Rattle.art_keeping.specs.KeptKeys.{Key, key_bytes}
 use Rattle.art_engine.proofs.Rows.{IsRow}
 use Rattle.art_engine.proofs.pairs.write_pairs.Given as goal
 
--- the leaves to come are there, and linked, and the pairs that came are written
+-- the remaining leaves are in the store, and linked, and the pairs so far are written
 abbrev pub invariant-loop-written : goal.invariant-loop-written
 invariant-loop-written g l =
     ((names : List OpaqueNodePtr) × IsIteratorOf l.store l.leaves names) ×

@@ -3,7 +3,7 @@ use Rattle.std.specs.Vec.{vec_capacity}
 use Rattle.art_keeping.specs.NodeWalks.{reversed_children}
 use Rattle.art_keeping.proofs.walk.push_children.Given as goal
 
--- what is put on and the children to come are all, and there is room for these
+-- what was pushed and the remaining children are all, and there is room for these
 abbrev pub invariant-loop-byte : goal.invariant-loop-byte
 invariant-loop-byte l =
     (l.pending.items ++ reversed_children l.fn.depth l.byte-iterator.iter ≡ l.fn.pending.items ++ reversed_children l.fn.depth l.fn.children)

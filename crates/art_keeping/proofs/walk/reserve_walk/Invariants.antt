@@ -4,7 +4,7 @@ use Rattle.art_keeping.specs.NodeWalks.{left_after}
 use Rattle.art_keeping.proofs.Walks.{HasRoomTo}
 use Rattle.art_keeping.proofs.walk.reserve_walk.Given as goal
 
--- what is left after so many turns, for which there was room
+-- what is left after so many steps, for which there was room
 abbrev pub invariant-loop : goal.invariant-loop
 invariant-loop g l =
     (turns : ℕ) × (l.pending.items ≡ left_after l.store l.fn.root turns) × HasRoomTo l.store l.fn.root turns (vec_capacity l.pending)

@@ -21,7 +21,7 @@ use Rattle.art_model.specs.Trees.{leaf}
 use Rattle.art_model.proofs.examples.faults_of_small_stores.Goals as goal
 
 module _ (leaves : List (LeafPtr × LeafNode Key ℕ)) (inners : List (InnerPtr × Inner)) where
-  -- what is seen of a leaf
+  -- a leaf as it is seen
   shown_leaf : (slot : ℕ) → T (map.is_sorted leaf_cmp leaves) →
       node_at (store_of leaves inners) (leaf_at slot) ≡ option_map (tree_node Leaf) (option_map held_leaf (map.find leaf_cmp (leaf_in slot) leaves))
   shown_leaf slot sorted = ap (λ o. option_map (tree_node Leaf) (option_map held_leaf o)) (map.get-from_sorted leaf_cmp leaves (leaf_in slot) sorted)
@@ -31,12 +31,12 @@ module _ (leaves : List (LeafPtr × LeafNode Key ℕ)) (inners : List (InnerPtr 
       links_at (store_of leaves inners) (leaf_at slot) ≡ option_and_then links_of (option_map held_leaf (map.find leaf_cmp (leaf_in slot) leaves))
   shown_links slot sorted = ap (λ o. option_and_then links_of (option_map held_leaf o)) (map.get-from_sorted leaf_cmp leaves (leaf_in slot) sorted)
 
-  -- what is seen of an inner node
+  -- an inner node as it is seen
   shown_node : (slot : ℕ) → T (map.is_sorted inner_cmp inners) →
       node_at (store_of leaves inners) (node4 slot) ≡ option_map (tree_node Node4) (option_map held_inner (map.find inner_cmp (record { kind = Node4; slot = slot }) inners))
   shown_node slot sorted = ap (λ o. option_map (tree_node Node4) (option_map held_inner o)) (map.get-from_sorted inner_cmp inners (record { kind = Node4; slot = slot }) sorted)
 
--- the root is reached on no step, at no bytes
+-- the root is reached by no step, at no bytes
 abbrev at_root : (s : Nodes Key ℕ) (root : OpaqueNodePtr) → Reaches bytes_of_pair 2 s root [] root
 at_root s root = record { steps = []; is_trail = tt; ends = refl; is_read = refl }
 

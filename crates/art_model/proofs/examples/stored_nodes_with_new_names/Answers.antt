@@ -62,11 +62,11 @@ module _ (leaves : List (LeafPtr × LeafNode Key ℕ)) (inners : List (InnerPtr 
   inner_held kind slot sorted =
       ap (λ o. option_map held_inner o) (map.get-from_sorted inner_cmp inners (record { kind = kind; slot = slot }) sorted)
 
--- what is there is not nothing
+-- what is in the map is not nothing
 is_there : {node : Held Key ℕ} {there : Option (Held Key ℕ)} → there ≡ Some node → there ≢ None
 is_there some none = absurd cc
 
--- a list is looked through past an entry of another key
+-- a list is searched past an entry of another key
 past : {K X : Type 0} (R : K → K → Ordering) (q : K) (e : K × X) (es : List (K × X)) → (R q e.0 ≡ Equal → ⊥) → map.find R q (e ∷ es) ≡ map.find R q es
 past R q e es apart =
     elim (R q e.0) as (λ o. (o ≡ Equal → ⊥) → cond (is_eq o) (Some e.1) (map.find R q es) ≡ map.find R q es) [

@@ -12,7 +12,7 @@ counted a b i end inv = go (cases_lt i (length a))
     go (inl l) = let none = shared_end i a b (inr (omega arith)) in omega arith
     go (inr l) = let none = shared_end i a b (inl l) in omega arith
 
--- bytes in front that are the same are shared
+-- first bytes that are the same are shared
 shared_after : (n : ℕ) (a b : List ℕ) → n ≤ length a → n ≤ length b → take n a ≡ take n b → length (common_front a b) ≡ n + length (common_front (drop n a) (drop n b))
 shared_after zero a b l m e = omega arith
 shared_after (suc n) [] b l m e = absurd (omega arith)

@@ -24,7 +24,7 @@ children-init g c = record {
   lessened = c.in-Ok.ensures.lessened;
 }
 
--- ---- a node is whole
+-- ---- a node is complete
 
 pub clone_of-done-requires : goal.clone_of-done-requires
 clone_of-done-requires g c =
@@ -143,7 +143,7 @@ children-smaller g c =
     less (ap (left_above s) pushed ∙ left_above-more s c.children.above.items f) in
     rw e falls
 
--- ---- a clone is refused
+-- ---- a clone fails
 
 pub back-init : goal.back-init
 back-init g c = elim c.match-split.branch [

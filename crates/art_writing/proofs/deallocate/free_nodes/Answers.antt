@@ -63,7 +63,7 @@ left-preserved-then-last g c =
       few = c.left.invariant.few;
     }
 
--- ---- the root hangs below its last child
+-- ---- the root is attached below its last child
 
 pub remove_child-requires : goal.remove_child-requires
 remove_child-requires g c =

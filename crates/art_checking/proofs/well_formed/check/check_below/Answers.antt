@@ -30,7 +30,7 @@ below-init g c =
     c.in_ok-children.ensures.entered in
     record { at = started starts first c.requires.proper there c.requires.place c.new-above.ensures.items enters; least = c.in_ok-children.ensures.least }
 
--- ---- a node goes
+-- ---- a node is done
 
 pub returns-in_err-leave-clause-fault : goal.returns-in_err-leave-clause-fault
 returns-in_err-leave-clause-fault g c =
@@ -67,7 +67,7 @@ below-smaller-in_default g c =
     falls_out (left_to_meet c.args.store.now.inners c.below.seen) (left_to_meet c.args.store.now.inners c.below.seen) (length c.below.above.items) (length c.pop.new.self.items)
     (length c.below.children) (length c.in-Some-pop.parent.children) refl one (omega (arith, few, most))
 
--- ---- it is a child's turn
+-- ---- a child is next
 
 pub returns-in_err-meet-clause-fault : goal.returns-in_err-meet-clause-fault
 returns-in_err-meet-clause-fault g c =

@@ -20,6 +20,6 @@ invariant-below g l = record {
   least : IsFirstLeast (of_key g.K.AsBytes.bytes) g.row.P l.store l.least l.children;
 }
 
--- a node that is met takes more than a node that goes, and this more than a child
+-- meeting a node counts more than leaving one, and this more than a child
 abbrev pub decreases-below : goal.decreases-below
 decreases-below g l = 600 * left_to_meet l.store.inners l.seen + 300 * length l.above.items + length l.children

@@ -41,7 +41,7 @@ module _ {K V : Type 0} (bytes : K × V → List ℕ) (P : ℕ) (s : Nodes K V) 
       go None e = tt
       go (Some l) e = (between node.previous node.next, named (between node.previous node.next) refl, inr (refl, ap (option_map leaf_name) e))
 
-  -- what is said of a sibling is true at the leaf
+  -- what is reported of a sibling is true at the leaf
   at_leaf : {T : Type 0} (r : Result T MalformedTreeError) (place : List ℕ) (link : Option LeafPtr) (order : Ordering) {key : List ℕ} → bytes (pair_of node) ≡ key →
       ((root : OpaqueNodePtr) → IfSome link (λ l. HasSibling bytes P s root (leaf_name p) order (leaf_name l))) →
       IfErr r (λ error. (root leaf : OpaqueNodePtr) (x : K × V) → ReachesLeaf bytes P s root place leaf x → bytes x ≡ key →

@@ -61,6 +61,6 @@ returns-then-eq-clause-sibling g c =
     subst (λ o. IfSome o (λ l. IsInOrder bytes g.row.P c.args.store.now l c.args.expected c.args.key.now)) (sym c.in-Some.is)
     (c.in-Some-leaf.node.now, sym c.in-Some-leaf.ensures, ap (λ key. slice_cmp nat_cmp key c.args.key.now) (sym c.as_bytes-sibling_key.ensures) ∙ sym c.order_of-actual.ensures ∙ same)
 
--- a sibling that is not there is never passed
+-- a sibling that is not in the store is never passed
 pub returns-in_default-leaf-clause-sibling : goal.returns-in_default-leaf-clause-sibling
 returns-in_default-leaf-clause-sibling g c = tt

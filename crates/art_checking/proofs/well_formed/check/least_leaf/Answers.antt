@@ -25,7 +25,7 @@ either : (same old : Bool) (q : InnerPtr) {p : InnerPtr} → (same ≡ true → 
 either true old q is e = inl (sym (is refl))
 either false old q is e = inr e
 
--- what was not added was there
+-- what was not added was in it before
 was_old : (b added : Bool) → added ≡ not b → added ≡ false → b ≡ true
 was_old true added e h = refl
 was_old false added e h = absurd (false≢true (sym h ∙ e))

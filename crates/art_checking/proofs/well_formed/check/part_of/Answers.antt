@@ -7,7 +7,7 @@ use Rattle.art_checking.specs.Checked.{IsPartOf}
 use Rattle.art_checking.proofs.Descents.{leaf_at}
 use Rattle.art_checking.proofs.well_formed.check.part_of.Goals as goal
 
--- under a name stands one leaf
+-- there is one leaf under a name
 one_leaf : {A : Type 0} {x y : A} {o : Option (Node OpaqueNodePtr A)} → o ≡ Some (leaf_node x) → o ≡ Some (leaf_node y) → x ≡ y
 one_leaf e f = cc
 

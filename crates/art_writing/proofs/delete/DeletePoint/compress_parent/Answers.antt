@@ -13,7 +13,7 @@ take_other-header-requires g c =
     let (pairs, layout, x, by, leads) = c.requires.answers in
     (search rules, (search rules, one_left (is_one_of_two by leads c.requires.parent c.requires.compressed)))
 
--- ---- when the parent is taken out
+-- ---- when the parent is removed
 
 module _ (g : Over) (c : After-take_other-header g) where
   two : IsOneOfTwo (of_key g.K.AsBytes.bytes) g.row.P c.args.store.now c.args.root c.requires.answers.0 c.requires.answers.1 c.requires.answers.2 c.args.self c.args.parent c.args.byte

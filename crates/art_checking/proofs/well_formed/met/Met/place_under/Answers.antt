@@ -8,7 +8,7 @@ use Rattle.art_checking.specs.declared.well_formed.met.Mark.{Mark}
 use Rattle.art_checking.proofs.Meetings.{eq_same}
 use Rattle.art_checking.proofs.well_formed.met.Met.place_under.Goals as goal
 
--- what a mark tells, by whether it has the name
+-- what a mark returns, by whether it has the name
 told : (bytes : List ℕ) (marks : List Mark) (i : ℕ) (mark : Mark) (name : OpaqueNodePtr) (b : Bool) → i < length marks → mark ≡ get_or marks i mark → same_name mark.name name ≡ b →
     place_under name (slice_get (marked bytes marks) i) ≡ cond b (Some (slice_range bytes mark.from mark.to)) None
 told bytes marks i mark name b inside is same =
