@@ -701,6 +701,7 @@ fn copy_tree<K: AsBytes + Clone + Drop, V: Clone + Drop, const P: usize>(
 }
 
 // Takes the pair of a key out of the tree.
+#[inline(always)]
 fn take_key<Q: KeyQuery, K: AsBytes + Drop, V: Drop, const P: usize>(
     store: &mut NodeStore<K, V, P>,
     root: &mut Option<OpaqueNodePtr>,
@@ -751,6 +752,7 @@ fn take_below<K: AsBytes + Drop, V: Drop, const P: usize>(
 }
 
 // Takes the first pair out of the tree.
+#[inline(always)]
 fn take_first<K: AsBytes + Drop, V: Drop, const P: usize>(
     store: &mut NodeStore<K, V, P>,
     root: &mut Option<OpaqueNodePtr>,
@@ -769,6 +771,7 @@ fn take_first<K: AsBytes + Drop, V: Drop, const P: usize>(
 }
 
 // Takes the last pair out of the tree.
+#[inline(always)]
 fn take_last<K: AsBytes + Drop, V: Drop, const P: usize>(
     store: &mut NodeStore<K, V, P>,
     root: &mut Option<OpaqueNodePtr>,

@@ -24,4 +24,5 @@ pub mod EndNodes
 pub mod Endings
 pub mod TextWays
 pub mod LongestTexts
+pub mod ShortTexts
 pub mod Levels

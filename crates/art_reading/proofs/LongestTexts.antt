@@ -1,5 +1,5 @@
 -- The last of the texts that are prefixes of a query.
-use Rattle.std.proofs.Common.{◌≡◌, ◌≢◌, ℕ, ◌<◌, ◌≤◌, List, [], ◌∷◌, ◌++◌, length, take, filter, refl, ap, ap₂, sym, ◌∙◌, subst, arith, append-nil, append_assoc, length-append, Option, Some, None, Bool, true, false, IfSome, IsSome}
+use Rattle.std.proofs.Common.{◌≡◌, ℕ, ◌≤◌, List, [], ◌∷◌, ◌++◌, length, take, filter, refl, ap, ap₂, sym, ◌∙◌, subst, arith, append-nil, append_assoc, Option, Some, None, Bool, true, false, IfSome, IsSome}
 use Rattle.std.specs.List.{AllByRecursion as Each}
 use Rattle.std.specs.FinMap as map
 use Rattle.std.specs.Option.{option_map}
@@ -22,7 +22,7 @@ use Rattle.art_model.specs.Stores.{node_at, pair_of}
 use Rattle.art_model.specs.Trees.{Tree, leaf}
 use Rattle.art_model.proofs.keys.Fronts.{shared_whole}
 use Rattle.art_model.proofs.keys.KeyLaws.{common_front_is_longest}
-use Rattle.art_model.proofs.keys.Keys.{front_from, front_is, parts_left, precedes_byte}
+use Rattle.art_model.proofs.keys.Keys.{front_from, front_is}
 use Rattle.art_model.proofs.lists.Filters.{Each-both}
 use Rattle.art_model.proofs.lists.Lists.{Each-left, Each-right, Each-weaker, common_front_left, common_front_right, filter_none, front_trans}
 use Rattle.art_model.proofs.lists.Pairwises.{Pairwise-after}
@@ -62,10 +62,10 @@ module _ {K V : Type 0} {s : Nodes K V} {bytes : K × V → List ℕ} {P : ℕ} 
     (by : IsCanonicalTree bytes P s root pairs layout) where
   module _ {n : OpaqueNodePtr} {x : K × V} (has : HasLeaf layout n x) where
     -- the pairs around that of a leaf
-    around : pairs ≡ (pairs_before has.path ++ x ∷ []) ++ pairs_after has.path
+    pub around : pairs ≡ (pairs_before has.path ++ x ∷ []) ++ pairs_after has.path
     around = sym (tree_radix by).1 ∙ ap pairs_of (sym has.whole) ∙ pairs_of-plug has.path (leaf n x)
 
-    at_leaf : (Q : K × V → Type 0) → Each Q pairs → Q x
+    pub at_leaf : (Q : K × V → Type 0) → Each Q pairs → Q x
     at_leaf Q all = (Each-right Q (pairs_before has.path) (x ∷ []) (Each-left Q (pairs_before has.path ++ x ∷ []) (pairs_after has.path) (subst (Each Q) around all))).0
 
   module _ (end : ℕ) (ended : AreEnded bytes end pairs) (query : List ℕ) where
@@ -146,7 +146,7 @@ module _ {K V : Type 0} {s : Nodes K V} {bytes : K × V → List ℕ} {P : ℕ} 
 
   -- what is found has the pair
   module _ (found : List (K × V)) where
-    shown : {name : LeafPtr} {x : K × V} → HasLeaf layout (leaf_name name) x → option_map pair_of (map.get s.leaves name) ≡ Some x
+    pub shown : {name : LeafPtr} {x : K × V} → HasLeaf layout (leaf_name name) x → option_map pair_of (map.get s.leaves name) ≡ Some x
     shown {name} {x} has =
         let (node, there, same) = views.leaf_there s name x (path_holds (node_at s) has.path (leaf (leaf_name name) x) (subst (Holds (node_at s)) (sym has.whole) by.stands.0.holds)).1 in
         ap (option_map pair_of) there ∙ ap Some same

@@ -1,9 +1,7 @@
 -- The descent along a query, with the longest text so far.
-use Rattle.std.proofs.Common.{◌≡◌, ◌≢◌, ℕ, ◌+◌, ◌<◌, ◌≤◌, ◌⊎◌, List, [], ◌∷◌, ◌++◌, length, length-append, append_assoc, get_or, refl, ap, sym, ◌∙◌, subst, arith, append-nil, Option, Some, None, inl, inr}
+use Rattle.std.proofs.Common.{◌≡◌, ◌≢◌, ℕ, ◌+◌, ◌<◌, ◌≤◌, ◌⊎◌, List, [], ◌∷◌, ◌++◌, length, length-append, get_or, refl, ap, sym, ◌∙◌, subst, arith, append-nil, Option, Some, None, inl, inr}
 use Rattle.std.specs.Bool.{⊤}
 use Rattle.std.specs.List.{AllByRecursion as Each}
-use Rattle.std.proofs.Common.{eqb}
-use Rattle.std.proofs.lemmas.Bool.{cases_order}
 use Rattle.art_inner.specs.Inner.{Inner, child_at}
 use Rattle.art_nodes.specs.Nodes.{Nodes}
 use Rattle.art_parts.specs.Names.{inner_name, leaf_name}
@@ -24,18 +22,18 @@ use Rattle.art_model.specs.Stores.{header_at, node_at}
 use Rattle.art_model.specs.Trees.{Tree, leaf, inner, Subtrees, child, no_child, NodeHeader}
 use Rattle.art_model.proofs.lists.Filters.{Each-both}
 use Rattle.art_model.proofs.lists.Lists.{Each-append, Each-left, Each-right, Each-weaker, front_cut, front_trans}
-use Rattle.art_model.proofs.places.OnWay.{byte_after, child_under, front_byte}
+use Rattle.art_model.proofs.places.OnWay.{byte_after, child_under}
 use Rattle.art_model.proofs.places.Places.{prefix_is}
 use Rattle.art_model.proofs.places.Paths.{pairs_of-plug}
 use Rattle.art_model.proofs.radix.Radix.{AreRadix-right}
 use Rattle.art_model.proofs.radix.Rebuild.{radix_some, radix_way}
 use Rattle.art_model.proofs.stores.Canonical.{tree_radix}
-use Rattle.art_model.proofs.stores.Shown.{IsShown, IsThere, leaf_named}
+use Rattle.art_model.proofs.stores.Shown.{IsShown, leaf_named}
 use Rattle.art_model.proofs.stores.Views.{inner_name_is}
 use Rattle.art_reading.specs.PartEnds.{StandsBetween}
 use Rattle.art_reading.proofs.Descents.{IsDescent, start, stands_there, shown_radix, front, front_len, child_there, each_under, down}
 use Rattle.art_model.specs.Texts.{AreEnded, IsEndedBy, text_of}
-use Rattle.art_reading.specs.TextWays.{EndsWalk, IsCovering, IsLeafOr}
+use Rattle.art_reading.specs.TextWays.{EndsWalk, IsLeafOr}
 use Rattle.art_model.proofs.keys.Texts.{ended_text, front_in_text, front_of_fronts, front_short, goes_within, mark_ends}
 
 -- a text was found that continues with this one
@@ -134,7 +132,7 @@ pub record IsBetter {A : Type 0} (bytes : A → List ℕ) (end : ℕ) (query : L
   pub outer : (t : List ℕ) → Covered before t → Covered found t
   pub here : (c : ℕ) → IsIn c cs → c ≡ end → Covered found w
 
-each_top : {A : Type 0} (xs : List A) → Each (λ x. ⊤) xs
+pub each_top : {A : Type 0} (xs : List A) → Each (λ x. ⊤) xs
 each_top [] = tt
 each_top (x ∷ xs) = (tt, each_top xs)
 
@@ -173,7 +171,7 @@ module _ {K V : Type 0} {s : Nodes K V} {bytes : K × V → List ℕ} {P : ℕ} 
 
   module _ (ended : AreEnded bytes end (pairs_of layout)) where
     -- a part of the tree
-    ended_at : {Lower Upper : K × V → Type 0} {name : OpaqueNodePtr} (at : StandsBetween Lower Upper layout name) → AreEnded bytes end (pairs_of at.node)
+    pub ended_at : {Lower Upper : K × V → Type 0} {name : OpaqueNodePtr} (at : StandsBetween Lower Upper layout name) → AreEnded bytes end (pairs_of at.node)
     ended_at at =
         let Q : K × V → Type 0 = λ x. IsEndedBy end (bytes x) in
         let split = subst (AreEnded bytes end) (ap pairs_of (sym at.whole) ∙ pairs_of-plug at.path at.node) ended in
@@ -182,7 +180,7 @@ module _ {K V : Type 0} {s : Nodes K V} {bytes : K × V → List ℕ} {P : ℕ} 
 
     -- a child after a text and its mark is a leaf
     module _ (w : List ℕ) {to : OpaqueNodePtr} (at : StandsBetween (λ x. ⊤) (λ x. ⊤) layout to) (radix : IsRadix bytes P (w ++ end ∷ []) at.node) where
-      marked : {p : LeafPtr} → leaf_name p ≡ to → IsMarked bytes end layout w p
+      pub marked : {p : LeafPtr} → leaf_name p ≡ to → IsMarked bytes end layout w p
       marked {p} named =
           let there = stands_there by at in
           let (x, is) = leaf_named s p at.node (there.named ∙ sym named) there.holds in
@@ -196,7 +194,7 @@ module _ {K V : Type 0} {s : Nodes K V} {bytes : K × V → List ℕ} {P : ℕ} 
             above = subst (Each (λ byte. end < byte)) same e.above;
           }
 
-      not_inner : (to.kind ≢ Leaf) → ⊥
+      pub not_inner : (to.kind ≢ Leaf) → ⊥
       not_inner proper = go at.node (stands_there by at).named (stands_there by at).holds radix (ended_at at)
         where
           go : (t : Tree OpaqueNodePtr (K × V)) → name_of t ≡ to → Holds (node_at s) t → IsRadix bytes P (w ++ end ∷ []) t → AreEnded bytes end (pairs_of t) → ⊥

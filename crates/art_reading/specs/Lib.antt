@@ -13,3 +13,4 @@ pub mod Descents
 pub mod Iterators
 pub mod PartEnds
 pub mod TextWays
+pub mod ShortTexts

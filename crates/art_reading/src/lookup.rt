@@ -9,6 +9,7 @@ ghost use Rattle.art_model.specs.Stores.{pair_of};
 ghost use Rattle.art_reading.specs.Descents.{CountsVisits, asked_of};
 ghost use Rattle.art_reading.specs.declared.matching.PrefixMatchBehavior.TheVariants.{Pessimistic};
 
+mod shortest;
 mod texts;
 
 pub use crate::descent::Visits;
@@ -17,6 +18,7 @@ pub use crate::matching::{Asked, PrefixMatchBehavior};
 pub use crate::query::{EndedQuery, KeyQuery};
 use art_nodes::node::{AsBytes, LeafNode, OpaqueNodePtr, OptionalLeafPtr};
 use art_nodes::store::NodeStore;
+pub use shortest::{shortest_text_unchecked, shortest_text_visiting};
 pub use texts::{longest_text_unchecked, longest_text_visiting};
 
 /// By default a lookup has compared all bytes so far, and no node has been read.

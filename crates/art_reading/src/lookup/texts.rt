@@ -128,7 +128,7 @@ fn walk_to_text<K: AsBytes + Drop, V: Drop, const PREFIX_LEN: usize>(
 
 // The leaf under a byte, or else another one.
 #[inline(always)]
-fn leaf_under_or<const P: usize>(
+pub(super) fn leaf_under_or<const P: usize>(
     node: InnerRef<'_, P>,
     byte: u8,
     other: OptionalLeafPtr,
@@ -146,7 +146,7 @@ fn leaf_under_or<const P: usize>(
 
 // The text of a key: its bytes before the last.
 #[inline(always)]
-fn text_of(key: &[u8]) -> &[u8]
+pub(super) fn text_of(key: &[u8]) -> &[u8]
     ensures { result.now ≡ without_last key.now }
 {
     match key.split_last() {

@@ -1,0 +1,16 @@
+use Rattle.std.proofs.Common.{◌+◌, ◌-◌, ◌≤◌, length}
+use Rattle.art_model.specs.Pairs.{of_key}
+use Rattle.art_model.specs.Roots.{ForTree}
+use Rattle.art_reading.proofs.ShortTexts.{IsShortWay}
+use Rattle.art_reading.proofs.lookup.shortest.walk_to_first.Given as goal
+
+abbrev pub invariant-down : goal.invariant-down
+invariant-down g l = record {
+  within : l.depth ≤ length l.query;
+  few : l.visits ≤ l.fn.visits + l.depth;
+  way : ForTree (of_key g.K.AsBytes.bytes) g.row.PREFIX_LEN l.store l.fn.root
+      (λ pairs layout. IsShortWay (of_key g.K.AsBytes.bytes) g.row.PREFIX_LEN l.end l.query l.at_least layout l.name l.depth);
+}
+
+abbrev pub decreases-down : goal.decreases-down
+decreases-down g l = length l.query - l.depth

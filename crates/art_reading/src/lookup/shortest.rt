@@ -1,0 +1,151 @@
+//! Searches for the shortest text of at least so many bytes that is a prefix of a query, among keys each of which is
+//! a text and the byte that ends it. A text may be a prefix of another.
+ghost use Rattle.std.specs.Prelude.{◌≡◌, ◌+◌, ◌<◌, ◌≤◌, ◌↔◌, length, IsSome, IfSome, IsTrue, None};
+ghost use Rattle.std.specs.FinMap as map;
+ghost use Rattle.art_inner.specs.Inner.{child_at};
+ghost use Rattle.art_inner.specs.Views.{ref_view};
+ghost use Rattle.art_model.specs.Keys.{IsFront};
+ghost use Rattle.art_model.specs.Lookups.{pair_under};
+ghost use Rattle.art_model.specs.Pairs.{first_of, of_key};
+ghost use Rattle.art_model.specs.Roots.{ForTree, IsCanonicalRoot};
+ghost use Rattle.art_model.specs.Texts.{AreEnded};
+ghost use Rattle.art_reading.specs.TextWays.{IsLeafOr};
+ghost use Rattle.art_reading.specs.ShortTexts.{EndsAtFirst, FindsFirst, texts_from};
+
+use super::texts::{leaf_under_or, text_of};
+use crate::descent::Visits;
+use crate::matching::begins_with;
+use art_nodes::node::{AsBytes, InnerRef, NodePtr, OpaqueNodePtr, OptionalLeafPtr};
+use art_nodes::store::NodeStore;
+
+/// Returns the leaf of the shortest text that is a prefix of the query and has at least so many bytes, or `None` if
+/// no text is one.
+///
+/// It is a single descent along the query, which compares no prefix on its way, and one comparison with the query at
+/// its end.
+pub fn shortest_text_unchecked<K: AsBytes + Drop, V: Drop, const PREFIX_LEN: usize>(
+    store: &NodeStore<K, V, PREFIX_LEN>,
+    root: OpaqueNodePtr,
+    query: &[u8],
+    end: u8,
+    at_least: usize,
+) -> OptionalLeafPtr
+    requires root { IsCanonicalRoot (of_key K.bytes) PREFIX_LEN store.now root }
+    requires ended { ForTree (of_key K.bytes) PREFIX_LEN store.now root (λ pairs _.
+        AreEnded (of_key K.bytes) end pairs) }
+    ensures leaf { ForTree (of_key K.bytes) PREFIX_LEN store.now root (λ pairs layout.
+        FindsFirst layout (texts_from (of_key K.bytes) query.now at_least pairs) result) }
+    ensures there { IfSome result (λ leaf. IsSome (map.get store.now.leaves leaf)) }
+    ensures pair { ForTree (of_key K.bytes) PREFIX_LEN store.now root (λ pairs _.
+        pair_under store.now result ≡
+        first_of (texts_from (of_key K.bytes) query.now at_least pairs)) }
+{
+    shortest_text_visiting(store, root, query, end, at_least, &mut Visits::new())
+}
+
+/// Returns what `shortest_text_unchecked` does, and adds one to the counter for each node that it reads: at most one
+/// for each byte of the query, and two more.
+#[inline(always)]
+pub fn shortest_text_visiting<K: AsBytes + Drop, V: Drop, const PREFIX_LEN: usize>(
+    store: &NodeStore<K, V, PREFIX_LEN>,
+    root: OpaqueNodePtr,
+    query: &[u8],
+    end: u8,
+    at_least: usize,
+    visits: &mut Visits,
+) -> OptionalLeafPtr
+    requires root { IsCanonicalRoot (of_key K.bytes) PREFIX_LEN store.now root }
+    requires ended { ForTree (of_key K.bytes) PREFIX_LEN store.now root (λ pairs _.
+        AreEnded (of_key K.bytes) end pairs) }
+    ensures leaf { ForTree (of_key K.bytes) PREFIX_LEN store.now root (λ pairs layout.
+        FindsFirst layout (texts_from (of_key K.bytes) query.now at_least pairs) result) }
+    ensures there { IfSome result (λ leaf. IsSome (map.get store.now.leaves leaf)) }
+    ensures pair { ForTree (of_key K.bytes) PREFIX_LEN store.now root (λ pairs _.
+        pair_under store.now result ≡
+        first_of (texts_from (of_key K.bytes) query.now at_least pairs)) }
+    ensures visits { visits.new ≤ visits.old + length query.now + 2 }
+{
+    let leaf = walk_to_first(store, root, query, end, at_least, visits)?;
+    let Some(node) = store.leaf(leaf) else {
+        unreachable!()
+    };
+    visits.count_one();
+    if is_sought(text_of(node.key.as_bytes()), query, at_least) {
+        return Some(leaf);
+    }
+    None
+}
+
+// Whether a text is a prefix of the query and has at least so many bytes.
+#[inline(always)]
+fn is_sought(text: &[u8], query: &[u8], at_least: usize) -> bool
+    ensures { IsTrue result ↔ (IsFront text.now query.now × (at_least ≤ length text.now)) }
+{
+    at_least <= text.len() && begins_with(query, text)
+}
+
+// Descends along the query to the first leaf that may be the one: its text is a prefix of all that are.
+#[inline(always)]
+fn walk_to_first<K: AsBytes + Drop, V: Drop, const PREFIX_LEN: usize>(
+    store: &NodeStore<K, V, PREFIX_LEN>,
+    root: OpaqueNodePtr,
+    query: &[u8],
+    end: u8,
+    at_least: usize,
+    visits: &mut Visits,
+) -> OptionalLeafPtr
+    requires root { IsCanonicalRoot (of_key K.bytes) PREFIX_LEN store.now root }
+    requires ended { ForTree (of_key K.bytes) PREFIX_LEN store.now root (λ pairs _.
+        AreEnded (of_key K.bytes) end pairs) }
+    ensures ends { ForTree (of_key K.bytes) PREFIX_LEN store.now root (λ pairs layout.
+        EndsAtFirst (of_key K.bytes) query.now at_least pairs layout result) }
+    ensures visits { visits.new ≤ visits.old + length query.now + 1 }
+{
+    let mut name = root;
+    let mut depth = 0;
+    'down: loop {
+        let inner = match name.split() {
+            NodePtr::Inner(inner) => inner,
+            NodePtr::Leaf(leaf) => return Some(leaf),
+        };
+        let Some(node) = store.inner(inner) else {
+            unreachable!()
+        };
+        visits.count_one();
+        let prefix_len = node.prefix_len();
+        if prefix_len > query.len() - depth {
+            return None;
+        }
+        let place = depth + prefix_len;
+        let leaf = leaf_if_long(node, end, place, at_least);
+        if leaf.is_some() {
+            return leaf;
+        }
+        if place == query.len() {
+            return None;
+        }
+        let Some(child) = node.lookup_child(query[place]) else {
+            return None;
+        };
+        name = child;
+        depth = place + 1;
+    }
+}
+
+// The leaf under a byte, if the text of the node's place has so many bytes.
+#[inline(always)]
+fn leaf_if_long<const P: usize>(
+    node: InnerRef<'_, P>,
+    byte: u8,
+    place: usize,
+    at_least: usize,
+) -> OptionalLeafPtr
+    ensures short { place < at_least → result ≡ None }
+    ensures long { at_least ≤ place →
+        IsLeafOr (child_at (ref_view node.entry).children byte) None result }
+{
+    if place < at_least {
+        return None;
+    }
+    leaf_under_or(node, byte, None)
+}
