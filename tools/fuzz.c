@@ -51,7 +51,7 @@ void *fuzz_realloc(void *block, size_t size) {
 
 static text next_text(void) {
     text it = {.len = next_byte()};
-    // Some texts begin as a stored key does.
+    // Some texts start as a stored key does.
     if (it.len & 0x80 && count > 0) {
         entry *stored = &model[next_byte() % count];
         size_t shared = it.len & 0x3f;

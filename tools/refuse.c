@@ -1,8 +1,8 @@
-// Refuses requests for memory of the process that it is preloaded into. REFUSE_AT is the number of
-// the first request that is refused, counted from 1 (0 or unset: none), and REFUSE_FOR how many are refused in a row
-// from it on (0 or unset: all). With REFUSE_WITHIN set it counts requests only from a sign of the process on that the
-// call begins which its test is on: a request for BEGIN bytes. A request for END bytes is a sign that this call is over:
-// no request is counted or refused from then on. At the end it writes 'requests=N refused=M' to the file descriptor
+// Makes allocations fail in the process that it is preloaded into. REFUSE_AT is the number of the first
+// request that fails, counted from 1 (0 or unset: none), and REFUSE_FOR how many fail in a row from it on
+// (0 or unset: all). With REFUSE_WITHIN set it counts requests only after the process signals that the call
+// under test begins, by a request for BEGIN bytes. A request for END bytes signals that this call is over:
+// no request is counted or fails from then on. At the end it writes 'requests=N refused=M' to the file descriptor
 // REFUSE_FD.
 #define _GNU_SOURCE
 #include <errno.h>

@@ -88,7 +88,7 @@ fn node_under<const P: usize>(
     }
 }
 
-/// Returns how many names came into use, went out of it, and have another node. It allocates nothing.
+/// Returns how many names were placed, freed and changed. It allocates nothing.
 pub fn count_touched<const P: usize>(
     store: &NodeStore<Key, u32, P>,
     before: &[Seen],

@@ -176,7 +176,7 @@ module _ {K V : Type 0} {s : Nodes K V} {bytes : K × V → List ℕ} {P : ℕ} 
           subst (IsIteratorOf s None) (sym (ap (each (λ (e : Entry). e.1)) none)) empty_iterator
 
       module _ (on : is_up_to to (bytes (pair_of shown)) ≡ true) where
-        -- the part begins with it
+        -- the part starts with it
         span_first : (rest : List OpaqueNodePtr) × (leaves_where (λ x. is_between from to (bytes x)) layout ≡ leaf_name p ∷ rest)
         span_first =
             let b = begins_with p shown e read in

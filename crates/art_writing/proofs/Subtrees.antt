@@ -482,7 +482,7 @@ count_fits {K} {V} t n y others all here total few = go others refl
 -- ---- the point of a prefix
 
 module _ {A : Type 0} (bytes : A → List ℕ) (prefix : List ℕ) (layout : Tree OpaqueNodePtr A) (end : LastNode) (all : HasAllBelow bytes prefix layout end.name) where
-  -- the keys below the node begin with the prefix
+  -- the keys below the node start with the prefix
   pub these_go : end.path ≡ path_of all.at.path → all.begin ≡ true → HasPrefixBelow bytes prefix layout (record { path = end.path; node = end.name })
   these_go path_is on =
       let test = λ (x : A). is_front prefix (bytes x) in

@@ -246,7 +246,7 @@ fn free_front<const P: usize>(
     Some(pair?.1)
 }
 
-// The values of some leaves, of which each is freed before the next one comes.
+// The values of some leaves, each of which is freed before the next one is read.
 fn freed_in_turn<const P: usize>(
     store: &mut NodeStore<Key, u32, P>,
     leaves: &mut RawIterator,

@@ -14,7 +14,7 @@ use art_test_support::trees::{Key, child, keys_of_three, planted_all, planted_ke
 use std::alloc::{AllocError, Global};
 use std::test::Fail;
 
-/// How many names came into use, went out of it, and have another node.
+/// How many names were placed, freed and changed.
 type Touched = (usize, usize, usize);
 
 // Runs a command, with a second store for the run alone, and returns the root. None if the reply is not the one of the

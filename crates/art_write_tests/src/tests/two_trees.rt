@@ -1,4 +1,4 @@
-//! Two trees in one store: drawn insertions and deletions in both, each beside a `BTreeMap`.
+//! Two trees in one store: drawn insertions and deletions in both, each compared with a `BTreeMap`.
 ghost use Rattle.std.specs.Prelude.{IfSome};
 ghost use Rattle.art_operations.specs.Checks.{IsWellFormed};
 ghost use Rattle.art_model.specs.Pairs.{of_key};

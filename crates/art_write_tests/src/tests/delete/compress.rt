@@ -38,7 +38,7 @@ fn raises_the_other_leaf(rt: HostRuntime) -> Result<(), Fail> {
     as_expected(raise_leaf::<16>(&mut NodeStore::new(rt.alloc())))
 }
 
-// How many names came into use, went out of it, and have another node, and the root that is left.
+// How many names were placed, freed and changed, and the root that is left.
 type Merged = ((usize, usize, usize), Outline);
 
 // Deletes [7, 1, 1, 9] beside two keys with a longer prefix. Returns what is seen, and what is expected.

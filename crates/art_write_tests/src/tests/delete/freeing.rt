@@ -19,7 +19,7 @@ struct Left {
     count: usize,
     // How many leaves and inner nodes there are.
     nodes: (usize, usize),
-    // How many names came into use, went out of it, and have another node.
+    // How many names were placed, freed and changed.
     touched: (usize, usize, usize),
 }
 

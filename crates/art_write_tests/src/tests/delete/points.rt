@@ -51,8 +51,7 @@ pub fn delete<const P: usize>(
     Some((done.new_root, gone_pair(&done.deleted_leaf, key_bytes)))
 }
 
-/// The root before a deletion and the one that is left, and how many names came into use, went out of it, and have
-/// another node.
+/// The root before a deletion and the one that is left, and how many names were placed, freed and changed.
 #[derive(Clone, Copy)]
 pub struct Deletion {
     pub root: OpaqueNodePtr,

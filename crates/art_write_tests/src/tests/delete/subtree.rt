@@ -15,7 +15,7 @@ use art_test_support::trees::{Key, keys_after, planted_all, planted_keys};
 use std::alloc::{AllocError, Global};
 use std::test::Fail;
 
-// How many names came into use, went out of it, and have another node.
+// How many names were placed, freed and changed.
 type Touched = (usize, usize, usize);
 
 // The root that is left, how many leaves were removed, and what was touched.
