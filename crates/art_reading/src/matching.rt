@@ -293,7 +293,7 @@ pub(crate) fn are_equal(a: &[u8], b: &[u8]) -> bool
     a.len() == b.len() && have_same_front(a, b, a.len())
 }
 
-/// Returns whether the bytes start with others.
+/// Returns whether `bytes` starts with `front`.
 #[inline(always)]
 pub fn begins_with(bytes: &[u8], front: &[u8]) -> bool
     ensures { IsTrue result ↔ IsFront front.now bytes.now }

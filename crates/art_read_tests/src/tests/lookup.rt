@@ -194,7 +194,7 @@ fn prefix_lens<const P: usize>(
     Some((node.prefix_len(), node.read_prefix().len()))
 }
 
-// What searches below a prefix of [5, 5] find.
+// What searches in a tree with a prefix of [5, 5] find.
 fn found_below<const P: usize>(
     store: &NodeStore<Key, u32, P>,
     root: OpaqueNodePtr,
