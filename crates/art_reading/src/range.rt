@@ -46,7 +46,7 @@ pub fn prefix_unchecked<K: AsBytes + Drop, V: Drop, const PREFIX_LEN: usize>(
 }
 
 /// Returns what `prefix_unchecked` does, and counts each reading of a node: at least the nodes whose place is a prefix
-/// of these bytes, and at most two for each level of the tree, the leaves being one. A full counter stays full.
+/// of these bytes, and at most two for each level of the tree, the leaves being a level. A full counter stays full.
 #[inline(always)]
 pub fn prefix_visiting<K: AsBytes + Drop, V: Drop, const PREFIX_LEN: usize>(
     store: &NodeStore<K, V, PREFIX_LEN>,
@@ -149,7 +149,7 @@ pub fn first_from_unchecked<K: AsBytes + Drop, V: Drop, const PREFIX_LEN: usize>
 }
 
 /// Returns what `first_from_unchecked` does, and counts each reading of a node: at least the nodes whose place is a
-/// prefix of the bound's key, and at most three for each level of the tree, the leaves being one, and two. A full
+/// prefix of the bound's key, and at most three for each level of the tree, the leaves being a level, and two. A full
 /// counter stays full.
 #[inline(always)]
 pub fn first_from_visiting<K: AsBytes + Drop, V: Drop, const PREFIX_LEN: usize>(

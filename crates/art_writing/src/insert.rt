@@ -203,7 +203,7 @@ pub fn search_for_insert_point<K: AsBytes + Drop, V: Drop, const PREFIX_LEN: usi
 
 /// Returns what `search_for_insert_point` does, and counts each reading of a node: at least the nodes whose place is a
 /// prefix of the key, only these if each prefix is stored whole, and at most three for each level of the tree, the
-/// leaves being one. A full counter stays full.
+/// leaves being a level. A full counter stays full.
 #[inline(always)]
 pub fn search_for_insert_point_visiting<K: AsBytes + Drop, V: Drop, const PREFIX_LEN: usize>(
     store: &NodeStore<K, V, PREFIX_LEN>,
