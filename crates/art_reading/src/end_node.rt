@@ -83,7 +83,7 @@ pub fn walk_to_end_node<K: AsBytes + Drop, V: Drop, const PREFIX_LEN: usize>(
 
 /// Does what `walk_to_end_node` does, and counts each reading of a node: at least the nodes whose place is a prefix of
 /// the key, exactly these if each prefix is stored whole, and at most three for each level of the tree, the leaves
-/// being one. A full counter stays full.
+/// being a level. A full counter stays full.
 #[inline(always)]
 pub fn walk_to_end_node_visiting<K: AsBytes + Drop, V: Drop, const PREFIX_LEN: usize>(
     store: &NodeStore<K, V, PREFIX_LEN>,
