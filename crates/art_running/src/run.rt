@@ -72,7 +72,7 @@ pub enum Reply<K, V> {
     Found(bool),
     /// The length of the stored key that was asked for, if there is one.
     MatchLen(Option<usize>),
-    /// An allocation failed, and nothing was done; with the pair of an insertion.
+    /// An allocation failed, and the tree is unchanged; with the pair of an insertion.
     NoMemory(Option<(K, V)>),
 }
 
@@ -98,7 +98,7 @@ pub struct RunResult<K, V> {
 /// in `first`. Returns the root, the store that it is in, and a reply for each command.
 ///
 /// Fails only if the allocation of the replies fails, before the first command; the error returns the commands. Later
-/// an allocation failure concerns one command: its reply is `NoMemory`, and it changes nothing.
+/// an allocation failure concerns one command: its reply is `NoMemory`, and the tree is unchanged.
 pub fn run<K: AsBytes + Clone + Drop, V: Clone + Drop, const PREFIX_LEN: usize>(
     first: &mut NodeStore<K, V, PREFIX_LEN>,
     second: &mut NodeStore<K, V, PREFIX_LEN>,

@@ -76,8 +76,8 @@ pub fn deallocate_tree<K: AsBytes + Drop, V: Drop, const PREFIX_LEN: usize>(
 // Frees the inner nodes below a name, and the leaves too if asked to; returns how many leaves it freed.
 // An inner node may be without children.
 //
-// It keeps neither a list of what is left nor a stack: the remaining nodes are one tree all the time. Its root is freed
-// once it has one child, and is attached below its last child before.
+// It keeps neither a list of what is left nor a stack: the remaining nodes are one tree all the time. A root with one
+// child is freed, and the child is the root. A root with more is attached below its last child, which is the root then.
 pub(crate) fn free_nodes<K: AsBytes + Drop, V: Drop, const P: usize>(
     store: &mut NodeStore<K, V, P>,
     root: OpaqueNodePtr,
