@@ -13,10 +13,25 @@ use std::hash::{Hash, Hasher};
 use std::marker::Model;
 
 /// A signed number of so many bytes. It is seen as the number, and its bytes have the sign's bit flipped.
-#[derive(Clone, Copy, Debug)]
+#[derive(Clone, Copy)]
 pub struct Signed<const N: usize> {
     bytes: [u8; N],
 }
+
+/// The key of an `i8`.
+pub type I8Key = Signed<1>;
+
+/// The key of an `i16`.
+pub type I16Key = Signed<2>;
+
+/// The key of an `i32`.
+pub type I32Key = Signed<4>;
+
+/// The key of an `i64`.
+pub type I64Key = Signed<8>;
+
+/// The key of an `i128`.
+pub type I128Key = Signed<16>;
 
 impl<const N: usize> Model for Signed<N> {
     ghost use Rattle.std.specs.Prelude.{ℤ};

@@ -14,10 +14,25 @@ use std::hash::{Hash, Hasher};
 use std::marker::Model;
 
 /// A number of so many bytes, the highest first. It is seen as the number.
-#[derive(Clone, Copy, Debug)]
+#[derive(Clone, Copy)]
 pub struct Unsigned<const N: usize> {
     bytes: [u8; N],
 }
+
+/// The key of a `u8`.
+pub type U8Key = Unsigned<1>;
+
+/// The key of a `u16`.
+pub type U16Key = Unsigned<2>;
+
+/// The key of a `u32`.
+pub type U32Key = Unsigned<4>;
+
+/// The key of a `u64`.
+pub type U64Key = Unsigned<8>;
+
+/// The key of a `u128`.
+pub type U128Key = Unsigned<16>;
 
 impl<const N: usize> Model for Unsigned<N> {
     ghost use Rattle.std.specs.Prelude.{ℕ};
