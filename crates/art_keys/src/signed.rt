@@ -5,7 +5,7 @@ ghost use Rattle.art_keys.specs.Numbers.{HasSignedBytes, lifted, lowered, number
 ghost use Rattle.art_keys.specs.Prefixes.{KeepsOrder};
 
 use super::fixed::all_of;
-use super::laws::{CloneBytes, DecodeBytes, NoPrefixesBytes, OrderedBytes, compare};
+use super::laws::{CloneBytes, DecodeBytes, FixedBytes, NoPrefixesBytes, OrderedBytes, compare};
 use art_nodes::node::AsBytes;
 use std::alloc::{AllocError, Global};
 use std::cmp::Ordering;
@@ -260,10 +260,22 @@ impl<const N: usize> DecodeBytes for Signed<N> {
     }
 
     fn from_key_bytes(alloc: Global, bytes: &[u8]) -> Result<Self, AllocError> {
-        Ok(Signed {
-            bytes: all_of(bytes),
-        })
+        Ok(Self::from_fixed_bytes(bytes))
     }
+}
+
+impl<const N: usize> FixedBytes for Signed<N> {
+    ghost use Rattle.art_keys.specs.NumberLaws.{signed_have_length};
+
+    ghost byte_count = { N };
+
+    fn from_fixed_bytes(bytes: &[u8]) -> Self {
+        Signed {
+            bytes: all_of(bytes),
+        }
+    }
+
+    ghost has_count = { signed_have_length N };
 }
 
 impl<const N: usize> CloneBytes for Signed<N> {

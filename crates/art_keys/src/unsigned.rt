@@ -6,7 +6,7 @@ ghost use Rattle.art_keys.specs.Numbers.{HasBytes, number_of};
 ghost use Rattle.art_keys.specs.Prefixes.{KeepsOrder};
 
 use super::fixed::all_of;
-use super::laws::{CloneBytes, DecodeBytes, NoPrefixesBytes, OrderedBytes, compare};
+use super::laws::{CloneBytes, DecodeBytes, FixedBytes, NoPrefixesBytes, OrderedBytes, compare};
 use art_nodes::node::AsBytes;
 use std::alloc::{AllocError, Global};
 use std::cmp::Ordering;
@@ -237,10 +237,22 @@ impl<const N: usize> DecodeBytes for Unsigned<N> {
     }
 
     fn from_key_bytes(alloc: Global, bytes: &[u8]) -> Result<Self, AllocError> {
-        Ok(Unsigned {
-            bytes: all_of(bytes),
-        })
+        Ok(Self::from_fixed_bytes(bytes))
     }
+}
+
+impl<const N: usize> FixedBytes for Unsigned<N> {
+    ghost use Rattle.art_keys.specs.NumberLaws.{numbers_have_length};
+
+    ghost byte_count = { N };
+
+    fn from_fixed_bytes(bytes: &[u8]) -> Self {
+        Unsigned {
+            bytes: all_of(bytes),
+        }
+    }
+
+    ghost has_count = { numbers_have_length N };
 }
 
 impl<const N: usize> CloneBytes for Unsigned<N> {

@@ -1,7 +1,7 @@
 use Rattle.std.proofs.Common.{ap, length, rules, subst, sym, ◌∙◌}
 use Rattle.art_keys.specs.NumberLaws.{length-bytes, number_is}
 use Rattle.art_keys.specs.Numbers.{IsNumber}
-use Rattle.art_keys.proofs.unsigned.UnsignedDecodeBytes.from_key_bytes.Goals as goal
+use Rattle.art_keys.proofs.unsigned.UnsignedFixedBytes.from_fixed_bytes.Goals as goal
 
 pub all_of-requires : goal.all_of-requires
 all_of-requires g c = (search rules, ap length c.requires.is ∙ length-bytes _ _)
