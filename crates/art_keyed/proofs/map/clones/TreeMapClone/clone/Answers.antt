@@ -1,5 +1,5 @@
 use Rattle.art_keyed.proofs.Keyed.{clones_keep}
-use Rattle.art_keyed.proofs.map.TreeMap.clone.Goals as goal
+use Rattle.art_keyed.proofs.map.clones.TreeMapClone.clone.Goals as goal
 
 pub invariant_of-result : goal.invariant_of-result
 invariant_of-result g c =

@@ -3,7 +3,7 @@ use Rattle.std.specs.Iterator.{YieldsThen}
 use Rattle.std.proofs.iter.Next as it
 use Rattle.art_model.specs.Pairs.{of_key, put}
 use Rattle.art_map.proofs.Extended.{put_last}
-use Rattle.art_keyed.proofs.map.TreeMap.extend.Goals as goal
+use Rattle.art_keyed.proofs.map.TreeMap.extend_by_ref.Goals as goal
 
 pub loop-key-init : goal.loop-key-init
 loop-key-init g c = it.begun c.requires.can c.requires.ends refl
