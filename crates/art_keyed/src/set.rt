@@ -13,10 +13,12 @@ use std::marker::Model;
 use thiserror::Error;
 
 mod algebra;
+mod clones;
 mod compared;
 mod extend;
 mod joined;
 mod joined_array;
+mod operators;
 mod ordered;
 mod retain;
 mod strings;

@@ -9,7 +9,10 @@ use art_keys::joined_array::JoinedArray;
 use art_keys::laws::FixedBytes;
 use art_map::set::KeyRange;
 
-impl<A: FixedBytes, B: FixedBytes, const N: usize, const P: usize> TreeSet<JoinedArray<A, B, N>, P> {
+impl<A: FixedBytes, B: FixedBytes, const N: usize, const P: usize> TreeSet<
+    JoinedArray<A, B, N>,
+    P,
+> {
     /// Returns the keys that have this first key, in the order of the bytes of the second ones. It costs
     /// what `with_first` of the map does.
     pub fn with_first(&self, first: &A) -> KeyRange<'_, JoinedArray<A, B, N>, P>
