@@ -1,3 +1,5 @@
+mod arrays;
+mod collected;
 mod drawn;
 mod drawn_set;
 mod entries;
@@ -6,6 +8,7 @@ mod keys;
 mod longest;
 mod map;
 mod memory;
+mod numbers;
 mod set;
 mod short;
 mod texts;

@@ -7,7 +7,7 @@ use Rattle.std.specs.Range.Bound.{bound_map}
 use Rattle.std.specs.declared.cmp.Ordering.{Ordering}
 use Rattle.std.specs.declared.ops.Bound.{Bound}
 use Rattle.std.specs.declared.ops.Bound.TheVariants.{Included, Excluded, Unbounded}
-use Rattle.art_keys.specs.Joins.{AreKeys, joined_bytes}
+use Rattle.art_keys.specs.Joins.{AreKeys, AreKeysOf, joined_bytes}
 use Rattle.art_keys.specs.Prefixes.{BeginsAs, HasNoPrefixes, KeepsOrder}
 use Rattle.art_model.specs.Keys.{IsFront, are_same, is_front}
 use Rattle.art_model.specs.Pairs.{of_key}
@@ -151,3 +151,15 @@ module _ {A B : Type 0} (is_first : A → Type 0) (first : A → List ℕ) (is_s
         without_below (of_key (joined_bytes first second)) (first key) 1 pairs ≡ without_first_with first (first key) pairs
     first_out [] all = refl
     first_out (x ∷ pairs) all = λ i. if begins_first x.0 all.0 i then pairs else x ∷ first_out pairs all.1 i
+
+-- ---- two keys of fixed lengths, of each of which is known what is known of two keys
+
+pub two_keys : {A B : Type 0} (count : ℕ) (is_first : A → Type 0) (first : A → List ℕ) (is_second : B → Type 0) (second : B → List ℕ) (keys : List (A × B)) →
+    Each (AreKeysOf count is_first first is_second second) keys → Each (AreKeys is_first is_second) keys
+two_keys count is_first first is_second second [] all = tt
+two_keys count is_first first is_second second (key ∷ keys) all = (all.0.0, two_keys count is_first first is_second second keys all.1)
+
+pub of_two_keys : {A B V : Type 0} (count : ℕ) (is_first : A → Type 0) (first : A → List ℕ) (is_second : B → Type 0) (second : B → List ℕ) (pairs : List ((A × B) × V)) →
+    HaveKeys (AreKeysOf count is_first first is_second second) pairs → HaveKeys (AreKeys is_first is_second) pairs
+of_two_keys count is_first first is_second second [] all = tt
+of_two_keys count is_first first is_second second (pair ∷ pairs) all = (all.0.0, of_two_keys count is_first first is_second second pairs all.1)

@@ -2,3 +2,4 @@ pub mod KeyedPairs
 pub mod KeyedRefusals
 pub mod KeyedLends
 pub mod Matches
+pub mod SetClones

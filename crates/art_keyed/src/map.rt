@@ -7,7 +7,7 @@ ghost use Rattle.art_map.specs.MapAnswers.{value_at};
 ghost use Rattle.art_map.specs.MapItems.{deref_pair, keys_of, values_of};
 ghost use Rattle.art_keyed.specs.KeyedPairs.{IsNeverInConflict};
 
-use art_keys::laws::{CloneBytes, NoPrefixesBytes};
+use art_keys::laws::NoPrefixesBytes;
 use art_map::map::{
     ByteMap, IntoIter, IntoKeys, IntoValues, Keys, MapInsertError, MapIter, Values,
 };
@@ -17,11 +17,13 @@ use std::marker::Model;
 use std::ops::Index;
 use thiserror::Error;
 
+mod clones;
 mod compared;
 mod each;
 mod entry;
 mod extend;
 mod joined;
+mod joined_array;
 mod matches;
 mod ordered;
 mod retain;
@@ -37,6 +39,13 @@ pub(crate) use ordered::bytes_of;
 pub struct PairRefused<K, V> {
     pub key: K,
     pub value: V,
+}
+
+/// Drops the pair, so that `?` works in a function that fails only if an allocation does.
+impl<K: Drop, V: Drop> From<PairRefused<K, V>> for AllocError {
+    fn from(refused: PairRefused<K, V>) -> Self {
+        AllocError
+    }
 }
 
 /// The pair of an error of a `ByteMap` whose keys are of a type that has no conflicts: what failed is
@@ -318,19 +327,6 @@ impl<K: NoPrefixesBytes + Drop, V: Drop, const P: usize> TreeMap<K, V, P> {
         ensures same { self.new ≡ self.old }
     {
         self.map.compact()
-    }
-}
-
-impl<K: CloneBytes + Drop, V: Clone + Drop, const P: usize> TreeMap<K, V, P> {
-    ghost use Rattle.art_model.specs.Clones.{AreClones};
-
-    /// Returns a map of clones of all pairs, with a store of its own. An `Err` is for want of memory, for a
-    /// node or for the clone of a key or a value.
-    pub fn clone(&self) -> Result<Self, AllocError>
-        ensures { IfOk result (AreClones K.is_clone V.is_clone self.now) }
-    {
-        let map = self.map.clone()?;
-        Ok(TreeMap { map })
     }
 }
 

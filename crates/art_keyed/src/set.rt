@@ -13,9 +13,12 @@ use std::marker::Model;
 use thiserror::Error;
 
 mod algebra;
+mod clones;
 mod compared;
 mod extend;
 mod joined;
+mod joined_array;
+mod operators;
 mod ordered;
 mod retain;
 mod strings;
@@ -25,6 +28,13 @@ mod strings;
 #[error("memory allocation failed")]
 pub struct KeyRefused<K> {
     pub key: K,
+}
+
+/// Drops the key, so that `?` works in a function that fails only if an allocation does.
+impl<K: Drop> From<KeyRefused<K>> for AllocError {
+    fn from(refused: KeyRefused<K>) -> Self {
+        AllocError
+    }
 }
 
 /// A set of keys in the order of their bytes. No key of the type is a prefix of another, so that a key is

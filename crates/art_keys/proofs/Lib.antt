@@ -1,2 +1,3 @@
+mod Backs
 pub mod EndedTests
 mod Writes

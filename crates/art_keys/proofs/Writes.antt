@@ -1,6 +1,6 @@
 -- The string of a key is written to a buffer, byte by byte.
-use Rattle.std.proofs.Common.{◌≡◌, ◌+◌, ◌≤◌, ◌<◌, ◌++◌, ◌∷◌, [], ℕ, List, length, take, set, refl, ap, sym, ◌∙◌, append_assoc, arith, rules}
-use Rattle.std.proofs.lemmas.List.{take_more_set, take-set-le, length-set, take_min}
+use Rattle.std.proofs.Common.{◌≡◌, ◌+◌, ◌≤◌, ◌<◌, ◌++◌, ◌∷◌, [], ℕ, List, length, take, set, ap, sym, ◌∙◌, append_assoc, arith}
+use Rattle.std.proofs.lemmas.List.{take_more_set, take-set-le, length-set}
 use Rattle.art_keys.specs.Escapes.{unescape}
 
 -- what is written from a place on and what is to come make up the string, and the bytes before that place stay

@@ -19,3 +19,12 @@ module _ {K : Type 0} (is_key : K → Type 0) (bytes : K → List ℕ) where
   abbrev pub ComesBack : (List ℕ → K) → (List ℕ → ℕ) → Type 0
   ComesBack key_of length_of =
       (key : K) → is_key key → (key_of (bytes key) ≡ key) × ((rest : List ℕ) → length_of (bytes key ++ rest) ≡ length (bytes key))
+
+  -- each key has so many bytes
+  abbrev pub HaveLength : ℕ → Type 0
+  HaveLength count = (key : K) → is_key key → length (bytes key) ≡ count
+
+  -- these bytes are those of the key that comes back from them
+  pub record AreOwn (key_of : List ℕ → K) (these : List ℕ) : Type 0 where
+    pub of_key : is_key (key_of these)
+    pub is : these ≡ bytes (key_of these)

@@ -6,7 +6,7 @@ use Rattle.std.specs.Ordering.{nat_cmp, ordering_then}
 use Rattle.std.specs.declared.cmp.Ordering.{Ordering}
 use Rattle.std.proofs.Math.Seq.{take-append_seam, drop-append_seam}
 use Rattle.art_keys.specs.Decoded.{ComesBack}
-use Rattle.art_keys.specs.Joins.{AreKeys, joined_bytes, joined_length, pair_cmp, parted}
+use Rattle.art_keys.specs.Joins.{AreKeys, AreKeysOf, joined_bytes, joined_length, pair_cmp, parted}
 use Rattle.art_keys.specs.Prefixes.{HasNoPrefixes, KeepsOrder}
 use Rattle.art_model.specs.Keys.{IsFront}
 
@@ -80,3 +80,7 @@ module _ {A B : Type 0} (is_first : A → Type 0) (first : A → List ℕ) (is_s
               (back_second pair.1 of_pair.1).1 rest,
             )
             (sym (length-append (first pair.0) (second pair.1)))
+
+    -- and so they do where they have so many bytes together
+    pub arrays_come_back : (count : ℕ) → ComesBack (AreKeysOf count is_first first is_second second) (joined_bytes first second) (parted first_of first_length second_of) (joined_length first_length second_length)
+    arrays_come_back count pair of_pair = joins_come_back pair of_pair.0

@@ -1,5 +1,5 @@
 -- Two keys as one, the second after the first.
-use Rattle.std.specs.Prelude.{ℕ, ◌+◌, List, ◌++◌, take, drop}
+use Rattle.std.specs.Prelude.{◌≡◌, ℕ, ◌+◌, List, ◌++◌, length, take, drop}
 use Rattle.std.specs.Ordering.{ordering_then}
 use Rattle.std.specs.declared.cmp.Ordering.{Ordering}
 
@@ -11,6 +11,11 @@ module _ {A B : Type 0} where
   -- the bytes of two keys, one after the other
   abbrev pub joined_bytes : (A → List ℕ) → (B → List ℕ) → A × B → List ℕ
   joined_bytes first second pair = first pair.0 ++ second pair.1
+
+  -- what is known of each of two keys, which have so many bytes together
+  abbrev pub AreKeysOf : ℕ → (A → Type 0) → (A → List ℕ) → (B → Type 0) → (B → List ℕ) → A × B → Type 0
+  AreKeysOf count is_first first is_second second pair =
+      AreKeys is_first is_second pair × (length (joined_bytes first second pair) ≡ count)
 
   -- the order of the first keys, and then of the second ones
   abbrev pub pair_cmp : (A → A → Ordering) → (B → B → Ordering) → A × B → A × B → Ordering

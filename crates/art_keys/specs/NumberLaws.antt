@@ -7,7 +7,7 @@ use Rattle.std.proofs.Math.Nat as nat
 use Rattle.std.specs.Cmp.Lexicographic.{slice_cmp}
 use Rattle.std.specs.Int.{bytes_high_first, byte_at}
 use Rattle.std.specs.Ordering.{nat_cmp, int_cmp, ordering_then}
-use Rattle.art_keys.specs.Decoded.{ComesBack}
+use Rattle.art_keys.specs.Decoded.{ComesBack, HaveLength}
 use Rattle.art_keys.specs.Numbers.{number_of, HasBytes, IsNumber, half, HasSignedBytes, IsSignedNumber, lifted, lowered, signed_bytes}
 use Rattle.art_keys.specs.Prefixes.{HasNoPrefixes, KeepsOrder}
 use Rattle.art_keys.specs.FixedLaws.{fixed_no_prefixes}
@@ -129,3 +129,10 @@ signed_is count z h = record { small = rw (signed_back count z h) h; is = rw (si
 
 pub signed_come_back : (count : ℕ) → ComesBack (HasSignedBytes count) (signed_bytes count) (λ bytes. lowered count (number_of bytes)) (λ bytes. count)
 signed_come_back count z small = (signed_back count z small, λ rest. sym (length-bytes count (lifted count z)))
+
+-- each number has so many bytes
+pub numbers_have_length : (count : ℕ) → HaveLength (HasBytes count) (bytes_high_first count) count
+numbers_have_length count n small = length-bytes count n
+
+pub signed_have_length : (count : ℕ) → HaveLength (HasSignedBytes count) (signed_bytes count) count
+signed_have_length count z small = length-bytes count (lifted count z)

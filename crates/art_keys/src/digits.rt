@@ -1,4 +1,4 @@
-//! Numbers are written as their decimal digits.
+//! Numbers are written as their decimal digits, by `Display` and by `Debug`.
 
 use super::signed::Signed;
 use super::unsigned::Unsigned;
@@ -131,5 +131,115 @@ impl fmt::Display for Signed<16> {
 
     fn fmt<W: fmt::Write>(&self, f: &mut fmt::Formatter<W>) -> fmt::Result {
         i128::from(*self).fmt(f)
+    }
+}
+
+impl fmt::Debug for Unsigned<1> {
+    ghost use Rattle.std.specs.Prelude.{Some};
+    ghost use Rattle.std.specs.Fmt.{decimal};
+
+    ghost debug_output = { λ n. Some (decimal n) };
+
+    fn fmt<W: fmt::Write>(&self, f: &mut fmt::Formatter<W>) -> fmt::Result {
+        fmt::Debug::fmt(&u8::from(*self), f)
+    }
+}
+
+impl fmt::Debug for Unsigned<2> {
+    ghost use Rattle.std.specs.Prelude.{Some};
+    ghost use Rattle.std.specs.Fmt.{decimal};
+
+    ghost debug_output = { λ n. Some (decimal n) };
+
+    fn fmt<W: fmt::Write>(&self, f: &mut fmt::Formatter<W>) -> fmt::Result {
+        fmt::Debug::fmt(&u16::from(*self), f)
+    }
+}
+
+impl fmt::Debug for Unsigned<4> {
+    ghost use Rattle.std.specs.Prelude.{Some};
+    ghost use Rattle.std.specs.Fmt.{decimal};
+
+    ghost debug_output = { λ n. Some (decimal n) };
+
+    fn fmt<W: fmt::Write>(&self, f: &mut fmt::Formatter<W>) -> fmt::Result {
+        fmt::Debug::fmt(&u32::from(*self), f)
+    }
+}
+
+impl fmt::Debug for Unsigned<8> {
+    ghost use Rattle.std.specs.Prelude.{Some};
+    ghost use Rattle.std.specs.Fmt.{decimal};
+
+    ghost debug_output = { λ n. Some (decimal n) };
+
+    fn fmt<W: fmt::Write>(&self, f: &mut fmt::Formatter<W>) -> fmt::Result {
+        fmt::Debug::fmt(&u64::from(*self), f)
+    }
+}
+
+impl fmt::Debug for Unsigned<16> {
+    ghost use Rattle.std.specs.Prelude.{Some};
+    ghost use Rattle.std.specs.Fmt.{decimal};
+
+    ghost debug_output = { λ n. Some (decimal n) };
+
+    fn fmt<W: fmt::Write>(&self, f: &mut fmt::Formatter<W>) -> fmt::Result {
+        fmt::Debug::fmt(&u128::from(*self), f)
+    }
+}
+
+impl fmt::Debug for Signed<1> {
+    ghost use Rattle.std.specs.Prelude.{Some};
+    ghost use Rattle.std.specs.Fmt.{signed_decimal};
+
+    ghost debug_output = { λ n. Some (signed_decimal n) };
+
+    fn fmt<W: fmt::Write>(&self, f: &mut fmt::Formatter<W>) -> fmt::Result {
+        fmt::Debug::fmt(&i8::from(*self), f)
+    }
+}
+
+impl fmt::Debug for Signed<2> {
+    ghost use Rattle.std.specs.Prelude.{Some};
+    ghost use Rattle.std.specs.Fmt.{signed_decimal};
+
+    ghost debug_output = { λ n. Some (signed_decimal n) };
+
+    fn fmt<W: fmt::Write>(&self, f: &mut fmt::Formatter<W>) -> fmt::Result {
+        fmt::Debug::fmt(&i16::from(*self), f)
+    }
+}
+
+impl fmt::Debug for Signed<4> {
+    ghost use Rattle.std.specs.Prelude.{Some};
+    ghost use Rattle.std.specs.Fmt.{signed_decimal};
+
+    ghost debug_output = { λ n. Some (signed_decimal n) };
+
+    fn fmt<W: fmt::Write>(&self, f: &mut fmt::Formatter<W>) -> fmt::Result {
+        fmt::Debug::fmt(&i32::from(*self), f)
+    }
+}
+
+impl fmt::Debug for Signed<8> {
+    ghost use Rattle.std.specs.Prelude.{Some};
+    ghost use Rattle.std.specs.Fmt.{signed_decimal};
+
+    ghost debug_output = { λ n. Some (signed_decimal n) };
+
+    fn fmt<W: fmt::Write>(&self, f: &mut fmt::Formatter<W>) -> fmt::Result {
+        fmt::Debug::fmt(&i64::from(*self), f)
+    }
+}
+
+impl fmt::Debug for Signed<16> {
+    ghost use Rattle.std.specs.Prelude.{Some};
+    ghost use Rattle.std.specs.Fmt.{signed_decimal};
+
+    ghost debug_output = { λ n. Some (signed_decimal n) };
+
+    fn fmt<W: fmt::Write>(&self, f: &mut fmt::Formatter<W>) -> fmt::Result {
+        fmt::Debug::fmt(&i128::from(*self), f)
     }
 }

@@ -1,5 +1,5 @@
 //! Any bytes, escaped so that none is a prefix of another, and in their order.
-ghost use Rattle.std.specs.Prelude.{◌≡◌, ℕ, List, ◌<◌, ◌++◌, [], ◌∷◌, length, IfOk, IfSome, MatchOption, OnOk};
+ghost use Rattle.std.specs.Prelude.{◌≡◌, ℕ, List, ◌<◌, ◌≤◌, ◌++◌, [], ◌∷◌, length, IfOk, IfSome, MatchOption, OnOk};
 ghost use Rattle.std.specs.Bool.{OnFalse, OnTrue};
 ghost use Rattle.std.specs.Cmp.Lexicographic.{slice_cmp};
 ghost use Rattle.std.specs.Ordering.{nat_cmp};
@@ -35,14 +35,15 @@ impl Model for Escaped {
 }
 
 impl Escaped {
-    /// Returns the key of a string. The only error is that an allocation fails.
+    /// Returns the key of a string. It allocates once, for as many bytes as the key has, and fails only if that
+    /// allocation fails.
     pub fn encode(alloc: Global, text: &[u8]) -> Result<Self, AllocError>
         ensures { IfOk result (λ key. key ≡ text.now) }
     {
         if Escaped::is_plain(text) {
             return plain_key(alloc, text);
         }
-        let mut bytes = Vec::new(alloc);
+        let mut bytes = Vec::with_capacity(alloc, escape_len(text))?;
         for byte in text {
             push_escaped(&mut bytes, *byte)?;
         }
@@ -69,11 +70,12 @@ impl Escaped {
         is_plain
     }
 
-    /// Returns the string. The only error is want of memory.
+    /// Returns the string. It allocates once, for as many bytes as the string has, and fails only if that
+    /// allocation fails.
     pub fn decode(&self, alloc: Global) -> Result<Vec<u8>, AllocError>
         ensures { IfOk result (λ text. text.items ≡ self.now) }
     {
-        let mut text = Vec::new(alloc);
+        let mut text = Vec::with_capacity(alloc, self.text_len())?;
         let mut rest = self.bytes.as_slice();
         while let Some((byte, others)) = first_escaped(rest) {
             text.push(byte)?;
@@ -144,6 +146,28 @@ fn first_escaped(bytes: &[u8]) -> Option<(u8, &[u8])>
         [1, 1, rest @ ..] => Some((0, rest)),
         [1, _, rest @ ..] => Some((1, rest)),
         [byte, rest @ ..] => Some((*byte, rest)),
+    }
+}
+
+// Returns the length of the escape of a string.
+fn escape_len(text: &[u8]) -> usize
+    ensures { result ≡ length (escape text.now) }
+{
+    let mut len = 1;
+    for byte in text {
+        len += escape_byte_len(*byte);
+    }
+    len
+}
+
+// Returns the length of the escape of a byte.
+fn escape_byte_len(byte: u8) -> usize
+    ensures len { result ≡ length (escape_byte byte) }
+    ensures small { result ≤ 2 }
+{
+    match byte {
+        0 | 1 => 2,
+        _ => 1,
     }
 }
 

@@ -1,7 +1,7 @@
 //! Arrays of bytes as keys: all of one length.
 ghost use Rattle.std.specs.Prelude.{◌≡◌, length};
 
-use super::laws::{CloneBytes, DecodeBytes, NoPrefixesBytes, OrderedBytes};
+use super::laws::{CloneBytes, DecodeBytes, FixedBytes, NoPrefixesBytes, OrderedBytes};
 use std::alloc::{AllocError, Global};
 
 impl<const N: usize> NoPrefixesBytes for [u8; N] {
@@ -49,8 +49,18 @@ impl<const N: usize> DecodeBytes for [u8; N] {
     }
 
     fn from_key_bytes(alloc: Global, bytes: &[u8]) -> Result<Self, AllocError> {
-        Ok(all_of(bytes))
+        Ok(Self::from_fixed_bytes(bytes))
     }
+}
+
+impl<const N: usize> FixedBytes for [u8; N] {
+    ghost byte_count = { N };
+
+    fn from_fixed_bytes(bytes: &[u8]) -> Self {
+        all_of(bytes)
+    }
+
+    ghost has_count = { λ bytes of_bytes. of_bytes };
 }
 
 // Returns all of the bytes, of which there are so many, as an array.

@@ -1,6 +1,6 @@
 //! What a type of keys promises, proved for each type.
 ghost use Rattle.std.specs.Prelude.{◌≡◌, IfOk, IsOk};
-ghost use Rattle.art_keys.specs.Decoded.{BeginsWithKey, ComesBack, IsOfKey};
+ghost use Rattle.art_keys.specs.Decoded.{BeginsWithKey, ComesBack, HaveLength, IsOfKey};
 ghost use Rattle.art_keys.specs.Prefixes.{BeginsAs, HasNoPrefixes, IsInside, IsKept, KeepsFronts, KeepsOrder};
 ghost use Rattle.art_model.specs.Clones.{KeepBytes};
 
@@ -68,6 +68,23 @@ pub trait DecodeBytes: NoPrefixesBytes {
 
     /// A key comes back from its bytes, and their number from them and whatever stands after them.
     ghost comes_back: { ComesBack Self.is_key Self.bytes key_of length_of };
+}
+
+/// Keys that all have the same number of bytes, and are made of them without an allocation: numbers, arrays of bytes,
+/// and two such keys as one.
+pub trait FixedBytes: DecodeBytes + Copy {
+    ghost use Rattle.std.specs.Prelude.{ℕ};
+
+    /// How many bytes each key has.
+    ghost byte_count: { ℕ };
+
+    /// Returns the key whose bytes these are.
+    fn from_fixed_bytes(bytes: &[u8]) -> Self
+        requires { IsOfKey Self.is_key Self.bytes bytes.now }
+        ensures { result ≡ Self.key_of bytes.now };
+
+    /// Each key has that many bytes.
+    ghost has_count: { HaveLength Self.is_key Self.bytes byte_count };
 }
 
 /// Keys that stand for strings of bytes. The bytes of a key are those of its string, and then a zero; the bytes

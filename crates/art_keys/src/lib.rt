@@ -5,6 +5,7 @@ mod digits;
 pub mod escaped;
 pub mod fixed;
 pub mod joined;
+pub mod joined_array;
 pub mod laws;
 pub mod signed;
 pub mod terminated;

@@ -5,7 +5,7 @@ ghost use Rattle.art_keys.specs.Numbers.{HasSignedBytes, lifted, lowered, number
 ghost use Rattle.art_keys.specs.Prefixes.{KeepsOrder};
 
 use super::fixed::all_of;
-use super::laws::{CloneBytes, DecodeBytes, NoPrefixesBytes, OrderedBytes, compare};
+use super::laws::{CloneBytes, DecodeBytes, FixedBytes, NoPrefixesBytes, OrderedBytes, compare};
 use art_nodes::node::AsBytes;
 use std::alloc::{AllocError, Global};
 use std::cmp::Ordering;
@@ -13,10 +13,25 @@ use std::hash::{Hash, Hasher};
 use std::marker::Model;
 
 /// A signed number of so many bytes. It is seen as the number, and its bytes have the sign's bit flipped.
-#[derive(Clone, Copy, Debug)]
+#[derive(Clone, Copy)]
 pub struct Signed<const N: usize> {
     bytes: [u8; N],
 }
+
+/// The key of an `i8`.
+pub type I8Key = Signed<1>;
+
+/// The key of an `i16`.
+pub type I16Key = Signed<2>;
+
+/// The key of an `i32`.
+pub type I32Key = Signed<4>;
+
+/// The key of an `i64`.
+pub type I64Key = Signed<8>;
+
+/// The key of an `i128`.
+pub type I128Key = Signed<16>;
 
 impl<const N: usize> Model for Signed<N> {
     ghost use Rattle.std.specs.Prelude.{ℤ};
@@ -245,10 +260,22 @@ impl<const N: usize> DecodeBytes for Signed<N> {
     }
 
     fn from_key_bytes(alloc: Global, bytes: &[u8]) -> Result<Self, AllocError> {
-        Ok(Signed {
-            bytes: all_of(bytes),
-        })
+        Ok(Self::from_fixed_bytes(bytes))
     }
+}
+
+impl<const N: usize> FixedBytes for Signed<N> {
+    ghost use Rattle.art_keys.specs.NumberLaws.{signed_have_length};
+
+    ghost byte_count = { N };
+
+    fn from_fixed_bytes(bytes: &[u8]) -> Self {
+        Signed {
+            bytes: all_of(bytes),
+        }
+    }
+
+    ghost has_count = { signed_have_length N };
 }
 
 impl<const N: usize> CloneBytes for Signed<N> {

@@ -6,7 +6,7 @@ ghost use Rattle.art_keys.specs.Numbers.{HasBytes, number_of};
 ghost use Rattle.art_keys.specs.Prefixes.{KeepsOrder};
 
 use super::fixed::all_of;
-use super::laws::{CloneBytes, DecodeBytes, NoPrefixesBytes, OrderedBytes, compare};
+use super::laws::{CloneBytes, DecodeBytes, FixedBytes, NoPrefixesBytes, OrderedBytes, compare};
 use art_nodes::node::AsBytes;
 use std::alloc::{AllocError, Global};
 use std::cmp::Ordering;
@@ -14,10 +14,25 @@ use std::hash::{Hash, Hasher};
 use std::marker::Model;
 
 /// A number of so many bytes, the highest first. It is seen as the number.
-#[derive(Clone, Copy, Debug)]
+#[derive(Clone, Copy)]
 pub struct Unsigned<const N: usize> {
     bytes: [u8; N],
 }
+
+/// The key of a `u8`.
+pub type U8Key = Unsigned<1>;
+
+/// The key of a `u16`.
+pub type U16Key = Unsigned<2>;
+
+/// The key of a `u32`.
+pub type U32Key = Unsigned<4>;
+
+/// The key of a `u64`.
+pub type U64Key = Unsigned<8>;
+
+/// The key of a `u128`.
+pub type U128Key = Unsigned<16>;
 
 impl<const N: usize> Model for Unsigned<N> {
     ghost use Rattle.std.specs.Prelude.{ℕ};
@@ -222,10 +237,22 @@ impl<const N: usize> DecodeBytes for Unsigned<N> {
     }
 
     fn from_key_bytes(alloc: Global, bytes: &[u8]) -> Result<Self, AllocError> {
-        Ok(Unsigned {
-            bytes: all_of(bytes),
-        })
+        Ok(Self::from_fixed_bytes(bytes))
     }
+}
+
+impl<const N: usize> FixedBytes for Unsigned<N> {
+    ghost use Rattle.art_keys.specs.NumberLaws.{numbers_have_length};
+
+    ghost byte_count = { N };
+
+    fn from_fixed_bytes(bytes: &[u8]) -> Self {
+        Unsigned {
+            bytes: all_of(bytes),
+        }
+    }
+
+    ghost has_count = { numbers_have_length N };
 }
 
 impl<const N: usize> CloneBytes for Unsigned<N> {

@@ -136,6 +136,11 @@ impl<K: AsBytes + Drop, V: Drop, const P: usize> ByteMap<K, V, P> {
         }
     }
 
+    /// Returns the allocator that the map takes its memory from.
+    pub fn allocator(&self) -> Global {
+        self.store.alloc()
+    }
+
     /// Returns the number of pairs.
     pub fn len(&self) -> usize
         ensures len { result ≡ length self.now }

@@ -14,6 +14,7 @@ use std::marker::Model;
 use thiserror::Error;
 
 mod algebra;
+mod clones;
 mod compared;
 mod extend;
 mod queried;

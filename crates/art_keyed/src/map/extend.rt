@@ -1,17 +1,52 @@
-//! Pairs of an iterator are put in.
-ghost use Rattle.std.specs.Prelude.{IfErr, OnOk};
+//! Pairs of an iterator are inserted.
+ghost use Rattle.std.specs.Prelude.{◌≡◌, IfErr, OnOk};
 ghost use Rattle.std.specs.Iterator.{IsFinite};
 ghost use Rattle.art_map.specs.MapCalls.{PutsAll};
 ghost use Rattle.art_keyed.specs.KeyedRefusals.{PutsUntilRefused};
 
 use super::{PairRefused, TreeMap};
 use art_keys::laws::NoPrefixesBytes;
+use std::alloc::{AllocError, Global};
+
+/// Inserts the pairs that come, one after another, as `insert` does. It fails only if an allocation fails: the pairs
+/// before that stay in the map.
+impl<K: NoPrefixesBytes + Drop, V: Drop, const P: usize> Extend<(K, V)> for TreeMap<K, V, P> {
+    ghost use Rattle.art_map.specs.MapCalls.{put_all};
+
+    ghost extend_gives = { λ map pairs extended. extended ≡ put_all K.bytes pairs map };
+
+    fn extend<I: IntoIterator<Item = (K, V)>>(&mut self, pairs: I) -> Result<(), AllocError> {
+        for (key, value) in pairs {
+            drop(self.insert(key, value)?);
+        }
+        Ok(())
+    }
+}
+
+/// A map of the pairs that come, inserted one after another: of equal keys the first stays, with the last value.
+impl<K: NoPrefixesBytes + Drop, V: Drop, const P: usize> FromIterator<(K, V)> for TreeMap<K, V, P> {
+    type Alloc = Global;
+
+    ghost use Rattle.std.specs.Prelude.{[]};
+    ghost use Rattle.art_map.specs.MapCalls.{put_all};
+
+    ghost from_iter_gives = { λ pairs map. map ≡ put_all K.bytes pairs [] };
+
+    fn from_iter<I: IntoIterator<Item = (K, V)>>(
+        alloc: Global,
+        pairs: I,
+    ) -> Result<Self, AllocError> {
+        let mut map = TreeMap::new(alloc);
+        map.extend(pairs)?;
+        Ok(map)
+    }
+}
 
 impl<K: NoPrefixesBytes + Drop, V: Drop, const P: usize> TreeMap<K, V, P> {
-    /// Puts in the pairs that come, one after another, as `insert` does. It stops at the first one that is
-    /// refused, for want of memory, which the error hands back: those before it stay in the map, and the
-    /// others stay in the iterator.
-    pub fn extend<I: Iterator<Item = (K, V)>>(
+    /// Does what `extend` does, with an iterator that the caller keeps. It stops at the first pair for which an
+    /// allocation fails, and the error returns that pair: the pairs before it stay in the map, and the others in the
+    /// iterator.
+    pub fn extend_by_ref<I: Iterator<Item = (K, V)>>(
         &mut self,
         pairs: &mut I,
     ) -> Result<(), PairRefused<K, V>>

@@ -1,17 +1,52 @@
-//! Keys of an iterator are put in.
-ghost use Rattle.std.specs.Prelude.{IfErr, OnOk};
+//! Keys of an iterator are inserted.
+ghost use Rattle.std.specs.Prelude.{◌≡◌, IfErr, OnOk};
 ghost use Rattle.std.specs.Iterator.{IsFinite};
 ghost use Rattle.art_map.specs.SetKeys.{AddsAll};
 ghost use Rattle.art_keyed.specs.KeyedRefusals.{AddsUntilRefused};
 
 use super::{KeyRefused, TreeSet};
 use art_keys::laws::NoPrefixesBytes;
+use std::alloc::{AllocError, Global};
+
+/// Inserts the keys that come, one after another, as `insert` does. It fails only if an allocation fails: the keys
+/// before that stay in the set.
+impl<K: NoPrefixesBytes + Drop, const P: usize> Extend<K> for TreeSet<K, P> {
+    ghost use Rattle.art_map.specs.SetKeys.{add_all};
+
+    ghost extend_gives = { λ set keys extended. extended ≡ add_all K.bytes keys set };
+
+    fn extend<I: IntoIterator<Item = K>>(&mut self, keys: I) -> Result<(), AllocError> {
+        for key in keys {
+            self.insert(key)?;
+        }
+        Ok(())
+    }
+}
+
+/// A set of the keys that come, inserted one after another: of equal keys the first stays.
+impl<K: NoPrefixesBytes + Drop, const P: usize> FromIterator<K> for TreeSet<K, P> {
+    type Alloc = Global;
+
+    ghost use Rattle.std.specs.Prelude.{[]};
+    ghost use Rattle.art_map.specs.SetKeys.{add_all};
+
+    ghost from_iter_gives = { λ keys set. set ≡ add_all K.bytes keys [] };
+
+    fn from_iter<I: IntoIterator<Item = K>>(alloc: Global, keys: I) -> Result<Self, AllocError> {
+        let mut set = TreeSet::new(alloc);
+        set.extend(keys)?;
+        Ok(set)
+    }
+}
 
 impl<K: NoPrefixesBytes + Drop, const P: usize> TreeSet<K, P> {
-    /// Puts in the keys that come, one after another, as `insert` does. It stops at the first one that is
-    /// refused, for want of memory, which the error hands back: those before it stay in the set, and the
-    /// others stay in the iterator.
-    pub fn extend<I: Iterator<Item = K>>(&mut self, keys: &mut I) -> Result<(), KeyRefused<K>>
+    /// Does what `extend` does, with an iterator that the caller keeps. It stops at the first key for which an
+    /// allocation fails, and the error returns that key: the keys before it stay in the set, and the others in the
+    /// iterator.
+    pub fn extend_by_ref<I: Iterator<Item = K>>(
+        &mut self,
+        keys: &mut I,
+    ) -> Result<(), KeyRefused<K>>
         requires can { I.can_next keys.old }
         requires ends { IsFinite (I.remaining keys.old) }
         ensures all { OnOk result

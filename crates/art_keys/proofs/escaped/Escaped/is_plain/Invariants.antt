@@ -1,4 +1,4 @@
-use Rattle.std.proofs.Common.{◌≡◌, take}
+use Rattle.std.proofs.Common.{take}
 use Rattle.std.specs.Bool.{OnFalse, OnTrue}
 use Rattle.art_keys.specs.Escapes.{IsPlain}
 use Rattle.art_keys.proofs.escaped.Escaped.is_plain.Given as goal

@@ -1,5 +1,4 @@
-use Rattle.std.proofs.Common.{◌≡◌, ◌+◌, ◌≤◌, ◌++◌, length, take}
-use Rattle.art_keys.specs.Escapes.{unescape}
+use Rattle.std.proofs.Common.{length}
 use Rattle.art_keys.proofs.Writes.{IsWriting}
 use Rattle.art_keys.proofs.escaped.Escaped.write_at.Given as goal
 

@@ -1,0 +1,108 @@
+//! Maps and sets by the traits of std: collected, extended and cloned.
+use super::short::{COUNT, Short};
+use art_keyed::map::TreeMap;
+use art_keyed::set::TreeSet;
+use art_keys::escaped::Escaped;
+use art_keys::signed::I16Key;
+use art_keys::unsigned::U8Key;
+use art_node_support::expected::same;
+use std::alloc::{AllocError, Global};
+use std::collections::BTreeMap;
+use std::test::Fail;
+
+type Days = TreeMap<I16Key, u32, 4>;
+
+// Each number of a range, with its place.
+fn days(alloc: Global, first: i16, last: i16) -> Result<Days, AllocError> {
+    let mut days = TreeMap::new(alloc);
+    let mut place = 0u32;
+    for number in first..last {
+        days.insert(I16Key::from(number), place)?;
+        place = place.saturating_add(1);
+    }
+    Ok(days)
+}
+
+// How many days there are once others have come, and two of their values.
+fn extend(alloc: Global) -> Option<(usize, Option<u32>, Option<u32>)> {
+    let mut map = days(alloc, -10, 10).ok()?;
+    map.extend(days(alloc, 5, 20).ok()?).ok()?;
+    let seen = (
+        map.get(&I16Key::from(-10)).copied(),
+        map.get(&I16Key::from(5)).copied(),
+    );
+    Some((map.len(), seen.0, seen.1))
+}
+
+#[test]
+fn pairs_of_another_map_replace_values(rt: HostRuntime) -> Result<(), Fail> {
+    same(extend(rt.alloc()), Some((30, Some(0), Some(0))))
+}
+
+// Whether a map that is collected of pairs has the pairs of the kit's map that is.
+fn collect(alloc: Global) -> Option<bool> {
+    let days = days(alloc, -40, 40).ok()?;
+    let (mut pairs, mut others) = (Vec::new(alloc), Vec::new(alloc));
+    for (key, value) in &days {
+        pairs.push((*key, *value % 7)).ok()?;
+        others.push((*key, *value % 7)).ok()?;
+    }
+    let map: Days = pairs.into_iter().rev().collect(alloc).ok()?;
+    let model: BTreeMap<I16Key, u32> = others.into_iter().collect(alloc).ok()?;
+    Some(map.iter().eq(model.iter()))
+}
+
+#[test]
+fn a_map_is_collected(rt: HostRuntime) -> Result<(), Fail> {
+    same(collect(rt.alloc()), Some(true))
+}
+
+// How many of the short strings a set has that they are collected into, twice each.
+fn collect_strings(alloc: Global) -> Option<usize> {
+    let mut strings = Vec::new(alloc);
+    for number in 0..COUNT {
+        let string = Short::new(number);
+        strings
+            .push(Escaped::encode(alloc, string.as_slice()).ok()?)
+            .ok()?;
+    }
+    let mut set: TreeSet<Escaped, 2> = strings.clone().ok()?.into_iter().collect(alloc).ok()?;
+    set.extend(strings).ok()?;
+    Some(set.len())
+}
+
+#[test]
+fn a_set_is_collected(rt: HostRuntime) -> Result<(), Fail> {
+    same(collect_strings(rt.alloc()), Some(COUNT))
+}
+
+// Whether a clone is equal to the map, also once the map has changed.
+fn clone_days(alloc: Global) -> Option<[bool; 2]> {
+    let mut map = days(alloc, 0, 300).ok()?;
+    let copy = map.clone().ok()?;
+    let is_equal = copy == map;
+    map.pop_first();
+    Some([is_equal, copy == map])
+}
+
+#[test]
+fn a_clone_stands_by_itself(rt: HostRuntime) -> Result<(), Fail> {
+    same(clone_days(rt.alloc()), Some([true, false]))
+}
+
+// How many keys a set has once those of an iterator came, and how many the iterator still has.
+fn extend_by_ref(alloc: Global) -> Option<(usize, usize)> {
+    let mut set: TreeSet<U8Key, 2> = TreeSet::new(alloc);
+    let mut keys = Vec::new(alloc);
+    for number in 0..9u8 {
+        keys.push(U8Key::from(number / 2)).ok()?;
+    }
+    let mut keys = keys.into_iter();
+    set.extend_by_ref(&mut keys).ok()?;
+    Some((set.len(), keys.count()))
+}
+
+#[test]
+fn a_set_takes_keys_of_an_iterator(rt: HostRuntime) -> Result<(), Fail> {
+    same(extend_by_ref(rt.alloc()), Some((5, 0)))
+}
