@@ -1,5 +1,6 @@
 pub mod Keyed
 pub mod Between
 pub mod Retained
+pub mod Parted
 pub mod Fronts
 pub mod CutTexts

@@ -24,6 +24,7 @@ mod extend;
 mod joined;
 mod matches;
 mod ordered;
+mod parts;
 mod retain;
 mod strings;
 
