@@ -6,6 +6,7 @@ mod keys;
 mod longest;
 mod map;
 mod memory;
+mod parts;
 mod set;
 mod short;
 mod texts;
