@@ -9,6 +9,7 @@ mod longest;
 mod map;
 mod memory;
 mod numbers;
+mod parts;
 mod set;
 mod short;
 mod texts;

@@ -35,17 +35,17 @@ without_keeps P bytes prefix (x ∷ xs) all = go (without_keeps P bytes prefix x
     go ih false e = rw e (all.0, ih)
 
 module _ {K : Type 0} (is_key : K → Type 0) (bytes : K → List ℕ) {order : K → K → Ordering} (keeps : KeepsOrder is_key bytes order) where
-  same_from : (from : Bound K) (key : K) → OnBound is_key from → is_key key → is_from (bound_map bytes from) (bytes key) ≡ is_key_from order from key
+  pub same_from : (from : Bound K) (key : K) → OnBound is_key from → is_key key → is_from (bound_map bytes from) (bytes key) ≡ is_key_from order from key
   same_from (Included bound) key of_bound of_key' = ap (λ o. not (is_lt o)) (keeps key bound of_key' of_bound)
   same_from (Excluded bound) key of_bound of_key' = ap is_lt (keeps bound key of_bound of_key')
   same_from Unbounded key of_bound of_key' = refl
 
-  same_up_to : (to : Bound K) (key : K) → OnBound is_key to → is_key key → is_up_to (bound_map bytes to) (bytes key) ≡ is_key_up_to order to key
+  pub same_up_to : (to : Bound K) (key : K) → OnBound is_key to → is_key key → is_up_to (bound_map bytes to) (bytes key) ≡ is_key_up_to order to key
   same_up_to (Included bound) key of_bound of_key' = ap (λ o. not (is_lt o)) (keeps bound key of_bound of_key')
   same_up_to (Excluded bound) key of_bound of_key' = ap is_lt (keeps key bound of_key' of_bound)
   same_up_to Unbounded key of_bound of_key' = refl
 
-map_twice : {K : Type 0} (bytes : K → List ℕ) (bound : Bound (Bor K)) → bound_map (λ b. bytes b.now) bound ≡ bound_map bytes (bound_map (λ b. b.now) bound)
+pub map_twice : {K : Type 0} (bytes : K → List ℕ) (bound : Bound (Bor K)) → bound_map (λ b. bytes b.now) bound ≡ bound_map bytes (bound_map (λ b. b.now) bound)
 map_twice bytes (Included b) = refl
 map_twice bytes (Excluded b) = refl
 map_twice bytes Unbounded = refl

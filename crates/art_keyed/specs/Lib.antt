@@ -1,5 +1,6 @@
 pub mod KeyedPairs
 pub mod KeyedRefusals
 pub mod KeyedLends
+pub mod KeyedParts
 pub mod Matches
 pub mod SetClones

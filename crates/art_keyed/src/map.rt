@@ -26,6 +26,7 @@ mod joined;
 mod joined_array;
 mod matches;
 mod ordered;
+mod parts;
 mod retain;
 mod strings;
 

@@ -18,6 +18,8 @@ pub mod SetLaws
 pub mod SetMembers
 pub mod SetOrders
 pub mod Extended
+pub mod FirstOut
+pub mod Moved
 pub mod Retained
 pub mod RetainLaws
 pub mod Refusing

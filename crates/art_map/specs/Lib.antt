@@ -7,3 +7,4 @@ pub mod MapCalls
 pub mod SetKeys
 pub mod SetAlgebra
 pub mod MapRetain
+pub mod MapParts

@@ -53,6 +53,7 @@ mod range;
 mod remove;
 mod replace;
 mod retain;
+mod split;
 mod texts;
 
 pub use entry::{Entry, EntryOf};
@@ -61,6 +62,7 @@ pub use owned::{IntoIter, IntoKeys, IntoValues};
 pub use parts::{Keys, KeysOf, Values, ValuesOf};
 pub use range::{Range, RangeOf};
 use remove::take_all_below;
+pub use split::SplitRefused;
 
 /// A pair that was not inserted.
 #[derive(Debug, Drop, Error)]

@@ -9,3 +9,4 @@ mod ranges;
 mod related;
 mod removals;
 mod sets;
+mod splits;

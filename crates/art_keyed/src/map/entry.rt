@@ -3,7 +3,7 @@ ghost use Rattle.std.specs.Prelude.{◌≡◌, false, IfErr, IfOk, OnErr, Some, 
 ghost use Rattle.std.specs.Borrow.{Bor, MutBor, sem};
 ghost use Rattle.std.specs.Fn.{FnOnceReturnsAt};
 ghost use Rattle.std.specs.Option.{UnwrapsOrElse, unwrap_or};
-ghost use Rattle.art_model.specs.Pairs.{has_key, of_key};
+ghost use Rattle.art_model.specs.Pairs.{has_key, of_key, remove_key, remove_reply};
 ghost use Rattle.art_map.specs.MapAnswers.{value_at};
 ghost use Rattle.art_map.specs.MapCalls.{Modifies};
 ghost use Rattle.art_keyed.specs.KeyedLends.{lends_put};
@@ -51,6 +51,18 @@ impl<'a, K: NoPrefixesBytes + Drop, V: Drop, const P: usize> TreeEntryOf<'a, K, 
             f(value);
         }
         TreeEntryOf { map, key }
+    }
+
+    /// Removes the pair of the key, and returns it; `None` where no equal key is stored. It costs what `remove` of the
+    /// map does, and never fails.
+    pub fn remove(self) -> Option<(K, V)>
+        ensures removed { result ≡ remove_reply (of_key K.bytes)
+            (K.bytes self.entry.key) self.entry.map.now }
+        ensures pairs { self.exit.0.now ≡ remove_key (of_key K.bytes)
+            (K.bytes self.entry.key) self.entry.map.now }
+    {
+        let TreeEntryOf { map, key } = self;
+        map.remove(&key)
     }
 
     /// Returns the value of the key, to be written. Where no equal key is stored the pair is put in

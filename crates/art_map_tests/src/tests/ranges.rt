@@ -200,8 +200,8 @@ fn drawn_key(numbers: &mut Numbers) -> Key {
 }
 
 // A bound at a key or at a prefix of it.
-fn drawn_bound<'a>(numbers: &mut Numbers, key: &'a Key) -> Bound<&'a [u8]> {
-    let bytes = &key[..numbers.below(5)];
+pub(super) fn drawn_bound<'a>(numbers: &mut Numbers, key: &'a [u8]) -> Bound<&'a [u8]> {
+    let bytes = &key[..numbers.below(key.len() + 1)];
     match numbers.below(5) {
         0 => Bound::Unbounded,
         1 | 2 => Bound::Included(bytes),
@@ -225,6 +225,10 @@ fn is_up_to(to: Bound<&[u8]>, key: &[u8]) -> bool {
     }
 }
 
+pub(super) fn is_between(from: Bound<&[u8]>, to: Bound<&[u8]>, key: &[u8]) -> bool {
+    is_from(from, key) && is_up_to(to, key)
+}
+
 // What of the pairs is asked for.
 #[derive(Clone, Copy)]
 enum Part<'a> {
@@ -235,7 +239,7 @@ enum Part<'a> {
 fn is_part(part: Part<'_>, key: &[u8]) -> bool {
     match part {
         Part::Below(prefix) => key.starts_with(prefix),
-        Part::Between(from, to) => is_from(from, key) && is_up_to(to, key),
+        Part::Between(from, to) => is_between(from, to, key),
     }
 }
 

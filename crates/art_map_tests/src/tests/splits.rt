@@ -1,0 +1,137 @@
+//! Pairs that are removed by the bounds of their keys, and those that move into another map: drawn beside a
+//! `BTreeMap`, and while every allocation fails.
+use super::beside_btree::{Key, Map, Model, agree_on_pairs, drawn_key};
+use super::ranges::{drawn_bound, is_between};
+use art_operations::map::ByteMap;
+use art_test_support::expected::as_expected;
+use art_test_support::memory::all_memory;
+use art_test_support::numbers::Numbers;
+use std::alloc::Global;
+use std::collections::BTreeMap;
+use std::ops::Bound;
+use std::test::Fail;
+
+// Puts a pair into both.
+fn put_both(map: &mut Map, model: &mut Model, numbers: &mut Numbers) -> bool {
+    let (key, value) = (drawn_key(numbers), numbers.value());
+    map.insert(key, value).is_ok() && model.insert(key, value).is_ok()
+}
+
+fn first_between(model: &Model, from: Bound<&[u8]>, to: Bound<&[u8]>) -> Option<(Key, u32)> {
+    for (key, value) in model.iter() {
+        if is_between(from, to, key) {
+            return Some((*key, *value));
+        }
+    }
+    None
+}
+
+// Whether the same pair is removed from both, the first one between two bounds.
+fn agree_on_pop(map: &mut Map, model: &mut Model, from: Bound<&[u8]>, to: Bound<&[u8]>) -> bool {
+    let first = first_between(model, from, to);
+    if let Some((key, _)) = first {
+        model.remove(&key);
+    }
+    map.pop_first_in((from, to)) == first
+}
+
+// Whether as many pairs between two bounds are removed from both.
+fn agree_on_range(map: &mut Map, model: &mut Model, from: Bound<&[u8]>, to: Bound<&[u8]>) -> bool {
+    let before = model.len();
+    model.retain(|key, _| !is_between(from, to, key));
+    map.remove_range((from, to)) == before.saturating_sub(model.len())
+}
+
+// Whether both are split at a key into the same maps, and are the same once the second part is appended, with a pair
+// that may replace one.
+fn agree_on_split(map: &mut Map, model: &mut Model, numbers: &mut Numbers) -> bool {
+    let key = drawn_key(numbers);
+    let Ok(mut tail) = map.split_off(&key) else {
+        return false;
+    };
+    let Ok(mut rest) = model.split_off(&key) else {
+        return false;
+    };
+    let split = agree_on_pairs(map, model) && agree_on_pairs(&tail, &rest);
+    let put = put_both(&mut tail, &mut rest, numbers);
+    let joined = map.append(&mut tail).is_ok() && model.append(&mut rest).is_ok();
+    split && put && joined && tail.is_empty() && agree_on_pairs(map, model)
+}
+
+// A change of both, and whether they agree.
+fn agree_on_change(map: &mut Map, model: &mut Model, numbers: &mut Numbers) -> bool {
+    let (low, high) = (drawn_key(numbers), drawn_key(numbers));
+    let (from, to) = (drawn_bound(numbers, &low), drawn_bound(numbers, &high));
+    match numbers.below(40) {
+        0..=2 => agree_on_pop(map, model, from, to),
+        3 => agree_on_range(map, model, from, to),
+        4 => agree_on_split(map, model, numbers),
+        _ => put_both(map, model, numbers),
+    }
+}
+
+// The number of the first change after which they differ, if they do.
+fn differ_at(map: &mut Map, model: &mut Model, changes: usize) -> Option<usize> {
+    let mut numbers = Numbers::new(11);
+    for change in 0..changes {
+        if !agree_on_change(map, model, &mut numbers) || !agree_on_pairs(map, model) {
+            return Some(change);
+        }
+    }
+    None
+}
+
+#[test]
+fn drawn_parts_go_as_those_of_a_btree_map(rt: HostRuntime) -> Result<(), Fail> {
+    let alloc = rt.alloc();
+    let seen = differ_at(&mut ByteMap::new(alloc), &mut BTreeMap::new(alloc), 2_000);
+    as_expected(Some((seen, None)))
+}
+
+// Puts the keys [0, 0] to [0, 9] in, with the last byte as value.
+fn fill(map: &mut Map) -> bool {
+    for byte in 0..10u8 {
+        if map.insert([0, byte], byte as u32).is_err() {
+            return false;
+        }
+    }
+    true
+}
+
+// What a split and an append leave while every allocation fails: how many pairs moved, the pair that did not, and how
+// many are left; and the same of the append.
+type Refused = (usize, (Key, u32), usize);
+
+fn split_refused(alloc: Global, map: &mut Map) -> Option<Refused> {
+    let held = all_memory(alloc).ok()?;
+    let refused = match map.split_off(&[0, 4]) {
+        Ok(_) => return None,
+        Err(refused) => refused,
+    };
+    drop(held);
+    Some((refused.moved.len(), (refused.key, refused.value), map.len()))
+}
+
+fn append_refused(alloc: Global, map: &mut Map) -> Option<(bool, usize, usize)> {
+    let mut empty = ByteMap::<Key, u32, 1>::new(alloc);
+    let held = all_memory(alloc).ok()?;
+    let refused = empty.append(map).is_err();
+    drop(held);
+    Some((refused, empty.len(), map.len()))
+}
+
+#[test]
+fn a_split_without_memory_loses_no_pair(rt: HostRuntime) -> Result<(), Fail> {
+    let mut map = ByteMap::new(rt.alloc());
+    let filled = fill(&mut map);
+    let seen = (filled, split_refused(rt.alloc(), &mut map));
+    as_expected(Some((seen, (true, Some((0, ([0, 4], 4), 9))))))
+}
+
+#[test]
+fn an_append_without_memory_loses_no_pair(rt: HostRuntime) -> Result<(), Fail> {
+    let mut map = ByteMap::new(rt.alloc());
+    let filled = fill(&mut map);
+    let seen = (filled, append_refused(rt.alloc(), &mut map));
+    as_expected(Some((seen, (true, Some((true, 0, 9))))))
+}
