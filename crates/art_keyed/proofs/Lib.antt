@@ -5,3 +5,5 @@ pub mod Parted
 pub mod Fronts
 pub mod CutTexts
 pub mod SetClones
+pub mod TextParts
+pub mod LongestOf

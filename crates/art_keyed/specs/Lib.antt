@@ -4,3 +4,5 @@ pub mod KeyedLends
 pub mod KeyedParts
 pub mod Matches
 pub mod SetClones
+pub mod TextCalls
+pub mod TextLends
