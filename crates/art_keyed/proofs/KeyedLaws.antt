@@ -6,11 +6,12 @@ use Rattle.art_keys.specs.Prefixes.{AreInjective}
 use Rattle.art_model.specs.Keys.{Precedes}
 use Rattle.art_model.specs.Pairs.{IsMap, first_of, last_of, of_key, put, put_reply, remove_key, remove_reply, with_key, without_first, without_last}
 use Rattle.art_model.specs.Parts.{below, without_below}
-use Rattle.art_model.proofs.keys.Keys.{front_same, related_sym, same_related}
+use Rattle.art_model.proofs.keys.Keys.{front_same, not_same, related_sym, same_related}
 use Rattle.art_model.proofs.lists.Filters.{Each-filter, last_each}
 use Rattle.art_model.proofs.pairs.MapLaws.{last_is_removed_by_key, removal_counts, removal_tells}
 use Rattle.art_model.proofs.pairs.Puts.{first_has}
-use Rattle.art_map.specs.MapAnswers.{value_at}
+use Rattle.art_map.specs.MapAnswers.{value_at, with_value_at}
+use Rattle.art_map.proofs.CallerLaws.{value_elsewhere, value_left, value_unwritten}
 use Rattle.art_map.proofs.PartsOut.{first_below, nothing_out}
 use Rattle.art_map.proofs.Puts.{as_many, one_more}
 use Rattle.art_map.proofs.Results.{none_found, rest_found}
@@ -64,6 +65,10 @@ module _ {K V : Type 0} (bytes : K → List ℕ) where
       pub other_keys : IfSome removed (λ pair. KeepsOtherKeys is_key bytes pair.0 before after)
       pub len : CountsRemoved removed before after
 
+    -- the same of the pairs that a contract sees
+    pub seen_as : {removed : Option (K × V)} {before seen after : List (K × V)} → before ≡ seen → TellsRemoved removed before after → TellsRemoved removed seen after
+    seen_as {removed} {after = after} same told = subst (λ xs. TellsRemoved removed xs after) same told
+
     removed_pair : (x : K × V) (before after : List (K × V)) → IsMap (of_key bytes) before → is_key x.0 → remove_reply (of_key bytes) (bytes x.0) before ≡ Some x →
         after ≡ remove_key (of_key bytes) (bytes x.0) before → TellsRemoved (Some x) before after
     removed_pair x before after rising of_x reply left = record {
@@ -105,3 +110,17 @@ module _ {K V : Type 0} (bytes : K → List ℕ) where
         go None e = let none = none_last before e in removed_none before after (left ∙ ap without_last none ∙ sym none)
         go (Some x) e =
             removed_pair x before after rising (last_each (λ y. is_key y.0) before x keys e) (last_reply before x rising e) (left ∙ sym (last_is_removed_by_key (of_key bytes) x before rising e))
+
+module _ {K V : Type 0} (bytes : K → List ℕ) (is_key : K → Type 0) (law : AreInjective is_key bytes) (key : K) (of_key' : is_key key) where
+  -- a put, a write and a removal keep the values of the other keys
+  pub others_by_put : (value : V) (pairs : List (K × V)) → KeepsOtherKeys is_key bytes key pairs (put (of_key bytes) (key, value) pairs)
+  others_by_put value pairs = other_keys_kept bytes is_key law key pairs (put (of_key bytes) (key, value) pairs) of_key'
+      (λ other off. value_elsewhere bytes other key value pairs (not_same other (bytes key) off))
+
+  pub others_by_write : (value : V) (pairs : List (K × V)) → KeepsOtherKeys is_key bytes key pairs (with_value_at bytes (bytes key) value pairs)
+  others_by_write value pairs = other_keys_kept bytes is_key law key pairs (with_value_at bytes (bytes key) value pairs) of_key'
+      (λ other off. value_unwritten bytes other (bytes key) value pairs (not_same other (bytes key) off))
+
+  pub others_by_removal : (pairs : List (K × V)) → KeepsOtherKeys is_key bytes key pairs (remove_key (of_key bytes) (bytes key) pairs)
+  others_by_removal pairs = other_keys_kept bytes is_key law key pairs (remove_key (of_key bytes) (bytes key) pairs) of_key'
+      (λ other off. value_left bytes other (bytes key) pairs (not_same other (bytes key) off))

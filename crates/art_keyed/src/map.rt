@@ -17,6 +17,7 @@ use std::marker::Model;
 use std::ops::Index;
 use thiserror::Error;
 
+mod both;
 mod compared;
 mod each;
 mod entry;
@@ -27,6 +28,7 @@ mod ordered;
 mod retain;
 mod strings;
 
+pub use both::BothRefused;
 pub use entry::{TreeEntry, TreeEntryOf};
 pub use matches::{Matches, MatchesOf, Nested};
 pub(crate) use ordered::bytes_of;

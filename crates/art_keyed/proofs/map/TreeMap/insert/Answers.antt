@@ -1,6 +1,7 @@
 use Rattle.std.proofs.Common.{sym, ◌∙◌}
 use Rattle.std.proofs.lemmas.Bool.{true≢false}
 use Rattle.art_keyed.proofs.Keyed.{never_in_conflict, put_keeps}
+use Rattle.art_keyed.proofs.KeyedLaws.{other_keys_kept, put_counted}
 use Rattle.art_keyed.proofs.map.TreeMap.insert.Goals as goal
 use Rattle.art_keyed.proofs.map.TreeMap.insert.Goals.{in-Ok, in-Err-Memory}
 
@@ -15,3 +16,11 @@ invariant_of-self g c =
       | in-Ok w ↦ rw w.in-Ok.ensures.pairs (put_keeps g.row.V.Denot _ g.K.AsBytes.bytes c.args.key c.args.value c.self.inside.map c.as_key.ensures c.self.invariant)
       | in-Err-Memory w ↦ rw w.in-Err-Memory.ensures.kept c.self.invariant
     ]
+
+pub returns-in-Ok-clause-other_keys : goal.returns-in-Ok-clause-other_keys
+returns-in-Ok-clause-other_keys g c =
+    other_keys_kept g.K.AsBytes.bytes _ g.met.K.NoPrefixesBytes.injective c.args.key c.args.self.now c.insert.new.self c.as_key.ensures (rw (← c.self.view_is) c.in-Ok.ensures.others)
+
+pub returns-in-Ok-clause-len : goal.returns-in-Ok-clause-len
+returns-in-Ok-clause-len g c =
+    rw (← c.self.view_is) (put_counted g.K.AsBytes.bytes c.args.key c.args.value c.self.inside.map c.insert.new.self c.in-Ok.ensures.was_sorted c.in-Ok.replaced c.in-Ok.ensures.replaced c.in-Ok.ensures.pairs)
