@@ -37,6 +37,8 @@ impl<K: OrderedBytes + Drop, V: Drop, const P: usize> TreeMap<K, V, P> {
     fn between(&self, from: Bound<&K>, to: Bound<&K>) -> Range<'_, K, V, P>
         ensures pairs { result ≡ keys_between K.order (bound_map (λ b. b.now) from.entry)
             (bound_map (λ b. b.now) to.entry) self.now }
+        ensures known { HaveKeys K.is_key self.now }
+        ensures rises { RiseBy K.order self.now }
         ensures sorted { IsMap (of_key K.bytes) self.now }
         ensures fits { length result < 2 ^ 64 }
     {

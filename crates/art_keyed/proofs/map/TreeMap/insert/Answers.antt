@@ -17,10 +17,18 @@ invariant_of-self g c =
       | in-Err-Memory w ↦ rw w.in-Err-Memory.ensures.kept c.self.invariant
     ]
 
-pub returns-in-Ok-clause-other_keys : goal.returns-in-Ok-clause-other_keys
-returns-in-Ok-clause-other_keys g c =
-    other_keys_kept g.K.AsBytes.bytes _ g.met.K.NoPrefixesBytes.injective c.args.key c.args.self.now c.insert.new.self c.as_key.ensures (rw (← c.self.view_is) c.in-Ok.ensures.others)
+pub returns-clause-other_keys : goal.returns-clause-other_keys
+returns-clause-other_keys g c =
+    elim c.match-insert.branch [
+      | in-Ok w ↦ rw w.result-is (rw (← c.self.view_is)
+          (other_keys_kept g.K.AsBytes.bytes _ g.met.K.NoPrefixesBytes.injective c.args.key c.self.inside.map c.insert.new.self c.as_key.ensures w.in-Ok.ensures.others))
+      | in-Err-Memory w ↦ rw w.result-is tt
+    ]
 
-pub returns-in-Ok-clause-len : goal.returns-in-Ok-clause-len
-returns-in-Ok-clause-len g c =
-    rw (← c.self.view_is) (put_counted g.K.AsBytes.bytes c.args.key c.args.value c.self.inside.map c.insert.new.self c.in-Ok.ensures.was_sorted c.in-Ok.replaced c.in-Ok.ensures.replaced c.in-Ok.ensures.pairs)
+pub returns-clause-len : goal.returns-clause-len
+returns-clause-len g c =
+    elim c.match-insert.branch [
+      | in-Ok w ↦ rw w.result-is (rw (← c.self.view_is)
+          (put_counted g.K.AsBytes.bytes c.args.key c.args.value c.self.inside.map c.insert.new.self w.in-Ok.ensures.was_sorted w.in-Ok.replaced w.in-Ok.ensures.replaced w.in-Ok.ensures.pairs))
+      | in-Err-Memory w ↦ rw w.result-is tt
+    ]
