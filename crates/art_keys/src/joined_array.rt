@@ -99,6 +99,7 @@ impl<A: FixedBytes, B: FixedBytes, const N: usize> AsBytes for JoinedArray<A, B,
 impl<A: FixedBytes, B: FixedBytes, const N: usize> NoPrefixesBytes for JoinedArray<A, B, N> {
     ghost use Rattle.art_keys.specs.Joins.{AreKeysOf};
     ghost use Rattle.art_keys.specs.JoinLaws.{joins_no_prefixes};
+    ghost use Rattle.art_keys.specs.InjectiveLaws.{joins_injective};
 
     ghost is_key = { AreKeysOf N A.is_key A.bytes B.is_key B.bytes };
 
@@ -108,6 +109,9 @@ impl<A: FixedBytes, B: FixedBytes, const N: usize> NoPrefixesBytes for JoinedArr
 
     ghost no_prefixes = { λ x y of_x of_y. joins_no_prefixes A.is_key A.bytes B.is_key B.bytes
         A.no_prefixes B.no_prefixes x y of_x.0 of_y.0 };
+
+    ghost injective = { λ x y of_x of_y same. joins_injective A.is_key A.bytes B.is_key B.bytes
+        A.key_of A.length_of B.key_of B.length_of A.comes_back B.comes_back x y of_x.0 of_y.0 same };
 }
 
 impl<A: FixedBytes + OrderedBytes, B: FixedBytes + OrderedBytes, const N: usize> OrderedBytes

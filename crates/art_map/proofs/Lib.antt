@@ -14,6 +14,7 @@ pub mod LeafOf
 pub mod Changed
 pub mod Entered
 pub mod SetClones
+pub mod Reserving
 pub mod SetLaws
 pub mod SetMembers
 pub mod SetOrders

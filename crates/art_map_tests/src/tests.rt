@@ -1,5 +1,6 @@
 mod beside_btree;
 mod beside_btree_set;
+mod both;
 mod calls;
 mod compact;
 mod entries;
