@@ -31,27 +31,26 @@ pub fn place(user: u64, time: i64) -> Place
 }
 
 /// Inserts an event. It fails only if an allocation fails.
-pub fn put_event(index: &mut Index, user: u64, time: i64, event: u32) -> Result<(), AllocError>
-    ensures { OnOk result
-        (index.new ≡ put (of_key place_bytes) ((user, time), event) index.old) }
+pub fn put_event(index: &mut Index, at: Place, event: u32) -> Result<(), AllocError>
+    ensures { OnOk result (index.new ≡ put (of_key place_bytes) (at, event) index.old) }
 {
-    index.insert(place(user, time), event)?;
+    index.insert(at, event)?;
     Ok(())
 }
 
 /// Returns the event of a user at a time, if any. It allocates nothing.
-pub fn event_at(index: &Index, user: u64, time: i64) -> Option<u32>
-    ensures { result ≡ value_at place_bytes (place_bytes (user, time)) index.now }
+pub fn event_at(index: &Index, at: Place) -> Option<u32>
+    ensures { result ≡ value_at place_bytes (place_bytes at) index.now }
 {
-    index.get(&place(user, time)).copied()
+    index.get(&at).copied()
 }
 
-/// Returns how many events a user has from one time up to another, which is not one of them. It allocates nothing.
-pub fn count_between(index: &Index, user: u64, from: i64, to: i64) -> usize
-    ensures { result ≡ length (keys_between (pair_cmp nat_cmp int_cmp)
-        (Included (user, from)) (Excluded (user, to)) index.now) }
+/// Returns how many events are from one user and time up to another, which is not one of them. It allocates nothing.
+pub fn count_between(index: &Index, from: Place, to: Place) -> usize
+    ensures { result ≡ length
+        (keys_between (pair_cmp nat_cmp int_cmp) (Included from) (Excluded to) index.now) }
 {
-    index.range(place(user, from)..place(user, to)).count()
+    index.range(from..to).count()
 }
 
 /// Returns two maps, the given one and a clone of it. It fails only if an allocation fails.
