@@ -179,6 +179,13 @@ pub struct Refused<K, V> {
     pub value: V,
 }
 
+/// Drops the pair, so that `?` works in a function that fails only if an allocation does.
+impl<K: Drop, V: Drop> From<Refused<K, V>> for AllocError {
+    fn from(refused: Refused<K, V>) -> Self {
+        AllocError
+    }
+}
+
 /// Returns the point of a key in the tree of a canonical root. It is an error where an unequal stored key is related to
 /// the key: one of the two is a prefix of the other. The error has the key's bytes, or is for want of memory for them.
 ///
