@@ -1,5 +1,5 @@
 -- Sets that are made of clones of keys.
-use Rattle.std.proofs.Common.{◌≡◌, ℕ, List, [], ◌∷◌, ◌++◌, Option, Some, None, Bor, map, ap, sym, ◌∙◌}
+use Rattle.std.proofs.Common.{◌≡◌, ℕ, List, [], ◌∷◌, ◌++◌, Bor, map, ap, sym, ◌∙◌}
 use Rattle.std.specs.List.{AllZip, AllByRecursion as Each}
 use Rattle.std.specs.Iterator.{Drains}
 use Rattle.art_keys.specs.Prefixes.{IsKept}

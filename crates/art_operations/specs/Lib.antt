@@ -56,6 +56,7 @@ pub use Rattle.art_keys.specs.Joins
 pub use Rattle.art_keyed.specs.KeyedPairs
 pub use Rattle.art_keyed.specs.KeyedRefusals
 pub use Rattle.art_keyed.specs.KeyedValues
+pub use Rattle.art_keyed.specs.SetClones
 pub use Rattle.art_keyed.specs.KeyedLends
 pub use Rattle.art_keyed.specs.Matches
 -- runs of commands

@@ -178,6 +178,13 @@ pub struct Refused<K, V> {
     pub value: V,
 }
 
+/// Drops the pair, so that `?` works in a function that fails only if an allocation does.
+impl<K: Drop, V: Drop> From<Refused<K, V>> for AllocError {
+    fn from(refused: Refused<K, V>) -> Self {
+        AllocError
+    }
+}
+
 /// Returns the point of a key in the tree of a canonical root. Fails if an unequal stored key conflicts with it: one of
 /// the two is a prefix of the other. The error has the key's bytes, or reports that the allocation for them failed.
 ///

@@ -2,3 +2,4 @@ pub mod Longest
 pub mod Inventory
 pub mod Leases
 pub mod Events
+pub mod Indexes

@@ -12,7 +12,7 @@ ghost use Rattle.art_operations.specs.KeyedPairs.{RiseBy, keys_between};
 ghost use Rattle.art_operations.specs.MapAnswers.{value_at};
 ghost use Rattle.uses.specs.Events.{event_bytes, of_user};
 
-use art_operations::keys::{Escaped, Joined, Terminated, Unsigned};
+use art_operations::keys::{Escaped, Joined, Terminated, U16Key, U32Key, U64Key};
 use art_operations::tree_map::TreeMap;
 use std::alloc::{AllocError, Global};
 
@@ -30,10 +30,8 @@ pub fn put_word(
     ensures kept { OnErr result (words.new ≡ words.old) }
 {
     let key = Escaped::encode(alloc, word)?;
-    match words.insert(key, number) {
-        Ok(_) => Ok(()),
-        Err(_) => Err(AllocError),
-    }
+    words.insert(key, number)?;
+    Ok(())
 }
 
 /// Does nothing, and tells that the words rise as their bytes do, and not as their escapes.
@@ -51,17 +49,17 @@ pub fn number_of_name(names: &TreeMap<Terminated, u64, 16>, name: &str) -> Optio
 }
 
 /// Inserts three days by their temperatures and returns the coldest, or `None` if an allocation fails.
-pub fn coldest(alloc: Global) -> Option<Option<(Unsigned<2>, u32)>>
+pub fn coldest(alloc: Global) -> Option<Option<(U16Key, u32)>>
     ensures { IfSome result (λ told. told ≡ Some (272, 2)) }
 {
-    let mut days: TreeMap<Unsigned<2>, u32, 4> = TreeMap::new(alloc);
-    let Ok(_) = days.insert(Unsigned::from(281), 1) else {
+    let mut days: TreeMap<U16Key, u32, 4> = TreeMap::new(alloc);
+    let Ok(_) = days.insert(U16Key::from(281), 1) else {
         return None;
     };
-    let Ok(_) = days.insert(Unsigned::from(272), 2) else {
+    let Ok(_) = days.insert(U16Key::from(272), 2) else {
         return None;
     };
-    let Ok(_) = days.insert(Unsigned::from(290), 3) else {
+    let Ok(_) = days.insert(U16Key::from(290), 3) else {
         return None;
     };
     Some(days.pop_first())
@@ -69,7 +67,7 @@ pub fn coldest(alloc: Global) -> Option<Option<(Unsigned<2>, u32)>>
 
 /// What users did, by the number of the user and the time. The events of one user stand together, in the
 /// order of their times.
-pub type Events = TreeMap<Joined<Unsigned<4>, Unsigned<8>>, u32, 4>;
+pub type Events = TreeMap<Joined<U32Key, U64Key>, u32, 4>;
 
 /// Puts an event in. The only error is want of memory.
 pub fn put_event(
@@ -83,11 +81,9 @@ pub fn put_event(
         (events.new ≡ put (of_key event_bytes) ((user, time), event) events.old) }
     ensures kept { OnErr result (events.new ≡ events.old) }
 {
-    let key = Joined::join(alloc, &Unsigned::from(user), &Unsigned::from(time))?;
-    match events.insert(key, event) {
-        Ok(_) => Ok(()),
-        Err(_) => Err(AllocError),
-    }
+    let key = Joined::join(alloc, &U32Key::from(user), &U64Key::from(time))?;
+    events.insert(key, event)?;
+    Ok(())
 }
 
 /// Returns how many events a user has from one time up to another, which is not one of them. The only error is
@@ -102,9 +98,9 @@ pub fn count_between(
     ensures { IfOk result (λ count. count ≡ length (keys_between (pair_cmp nat_cmp nat_cmp)
         (Included (user, from)) (Excluded (user, to)) events.now)) }
 {
-    let user = Unsigned::from(user);
-    let from = Joined::join(alloc, &user, &Unsigned::from(from))?;
-    let to = Joined::join(alloc, &user, &Unsigned::from(to))?;
+    let user = U32Key::from(user);
+    let from = Joined::join(alloc, &user, &U64Key::from(from))?;
+    let to = Joined::join(alloc, &user, &U64Key::from(to))?;
     Ok(events.range(from..to).count())
 }
 
@@ -117,7 +113,7 @@ pub fn first_event(
     ensures { IfOk result (λ first. first ≡
         option_map (λ event. (event.0.1, event.1)) (first_of (of_user user events.now))) }
 {
-    let Some((key, event)) = events.with_first(&Unsigned::from(user)).next() else {
+    let Some((key, event)) = events.with_first(&U32Key::from(user)).next() else {
         return Ok(None);
     };
     let time = key.second(alloc)?;

@@ -25,6 +25,7 @@ use art_operations::visitor::{Visitor, visit_with};
 
 pub mod counts;
 pub mod given;
+pub mod index;
 pub mod inventory;
 pub mod keys;
 pub mod leases;

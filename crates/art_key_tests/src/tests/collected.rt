@@ -1,4 +1,6 @@
 //! Maps and sets by the traits of std: collected, extended and cloned.
+ghost use Rattle.std.specs.Prelude.{◌<◌};
+
 use super::short::{COUNT, Short};
 use art_keyed::map::TreeMap;
 use art_keyed::set::TreeSet;
@@ -105,4 +107,63 @@ fn extend_by_ref(alloc: Global) -> Option<(usize, usize)> {
 #[test]
 fn a_set_takes_keys_of_an_iterator(rt: HostRuntime) -> Result<(), Fail> {
     same(extend_by_ref(rt.alloc()), Some((5, 0)))
+}
+
+// A set of the multiples of a number below 60.
+fn multiples(alloc: Global, of: u8) -> Result<TreeSet<U8Key, 2>, AllocError>
+    requires { 0 < of }
+{
+    let mut set = TreeSet::new(alloc);
+    for number in 0..60u8 {
+        if number % of == 0 {
+            set.insert(U8Key::from(number))?;
+        }
+    }
+    Ok(set)
+}
+
+type Numbers = TreeSet<U8Key, 2>;
+
+// How many keys a set has, and their sum.
+fn sum(set: &Numbers) -> (usize, u32) {
+    let mut sum = 0u32;
+    for key in set {
+        sum = sum.saturating_add(key.get() as u32);
+    }
+    (set.len(), sum)
+}
+
+// The same of the four sets that two make.
+fn combine(twos: &Numbers, threes: &Numbers) -> Option<[(usize, u32); 4]> {
+    let either = sum(&(twos | threes).ok()?);
+    let both = sum(&(twos & threes).ok()?);
+    let first = sum(&(twos - threes).ok()?);
+    let one = sum(&(twos ^ threes).ok()?);
+    Some([either, both, first, one])
+}
+
+// The same of the multiples of 2 and of 3.
+fn combine_multiples(alloc: Global) -> Option<[(usize, u32); 4]> {
+    let (twos, threes) = (multiples(alloc, 2).ok()?, multiples(alloc, 3).ok()?);
+    combine(&twos, &threes)
+}
+
+#[test]
+fn two_sets_are_combined(rt: HostRuntime) -> Result<(), Fail> {
+    let seen = combine_multiples(rt.alloc());
+    same(seen, Some([(40, 1170), (10, 270), (20, 600), (30, 900)]))
+}
+
+// Whether a clone of a set is equal to it, also once the set has changed.
+fn clone_set(alloc: Global) -> Option<[bool; 2]> {
+    let mut set = multiples(alloc, 1).ok()?;
+    let copy = set.clone().ok()?;
+    let is_equal = copy == set;
+    set.pop_last();
+    Some([is_equal, copy == set])
+}
+
+#[test]
+fn a_clone_of_a_set_stands_by_itself(rt: HostRuntime) -> Result<(), Fail> {
+    same(clone_set(rt.alloc()), Some([true, false]))
 }

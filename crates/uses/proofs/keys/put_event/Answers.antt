@@ -3,7 +3,7 @@ use Rattle.art_model.specs.Pairs.{of_key, put}
 use Rattle.uses.specs.Events.{event_bytes}
 use Rattle.uses.proofs.keys.put_event.Goals as goal
 
-pub returns-in-Ok-clause-pairs : goal.returns-in-Ok-clause-pairs
-returns-in-Ok-clause-pairs c =
-    c.in-Ok.ensures.pairs
+pub returns-clause-pairs : goal.returns-clause-pairs
+returns-clause-pairs c =
+    c.in_ok-insert.ensures.pairs
     ∙ ap (λ key. put (of_key event_bytes) (key, c.args.event) c.args.events.now) (c.in_ok-key.ensures ∙ ap₂ (λ user time. (user, time)) c.from.ensures c.from-2.ensures)

@@ -1,6 +1,5 @@
 use Rattle.std.proofs.Common.{subst, ◌∙◌}
 use Rattle.std.proofs.lemmas.Result.{IfOk-weaker}
-use Rattle.art_map.specs.SetAlgebra.{union}
 use Rattle.art_keyed.specs.SetClones.{AreAddedClones}
 use Rattle.art_keyed.proofs.SetClones.{all_came}
 use Rattle.art_keyed.proofs.set.operators.RefTreeSetBitOr.bitor.Goals as goal

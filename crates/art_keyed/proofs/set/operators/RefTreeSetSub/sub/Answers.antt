@@ -1,6 +1,5 @@
 use Rattle.std.proofs.Common.{subst, ◌∙◌}
 use Rattle.std.proofs.lemmas.Result.{IfOk-weaker}
-use Rattle.art_map.specs.SetAlgebra.{difference}
 use Rattle.art_keyed.specs.SetClones.{AreAddedClones}
 use Rattle.art_keyed.proofs.SetClones.{all_came}
 use Rattle.art_keyed.proofs.set.operators.RefTreeSetSub.sub.Goals as goal
