@@ -1,5 +1,5 @@
 -- Pairs that go out of a map whose keys are never in conflict.
-use Rattle.std.specs.Prelude.{◌≡◌, ℕ, not, ◌&&◌, false, List, [], ◌∷◌, ◌++◌, filter}
+use Rattle.std.specs.Prelude.{◌≡◌, ℕ, not, ◌&&◌, false, List, ◌∷◌, ◌++◌, filter}
 use Rattle.std.specs.declared.cmp.Ordering.{Ordering}
 use Rattle.std.specs.declared.ops.Bound.{Bound}
 use Rattle.art_model.specs.Pairs.{has_key, of_key}

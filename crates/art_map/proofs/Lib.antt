@@ -26,4 +26,5 @@ pub mod RetainLaws
 pub mod Refusing
 pub mod Compacted
 pub mod SetSides
+pub mod SetParts
 pub mod Copied

@@ -1,6 +1,6 @@
 -- What the calls of a set do and return, by its keys.
 use Rattle.std.specs.Fn.{CalledAt, Mut}
-use Rattle.std.specs.Prelude.{◌≡◌, ℕ, Bool, true, false, if◌then◌else◌, List, [], ◌∷◌, map, Option, Some, None}
+use Rattle.std.specs.Prelude.{◌≡◌, ℕ, Bool, true, false, if◌then◌else◌, List, [], ◌∷◌, ◌++◌, map, Option, Some, None}
 use Rattle.std.specs.Box.{boxed_slice_items}
 use Rattle.std.specs.Iterator.{YieldsThen}
 use Rattle.art_model.specs.Pairs.{add_in_order, has_key, is_conflict}
@@ -47,3 +47,8 @@ module _ {I K : Type 0} (steps : I → Option K → I → Type 0) (bytes : K →
   abbrev pub AddsUntil : I → List K → SetInsertError K → I → List K → Type 0
   AddsUntil from before error to after =
       (ks : List K) × (k : K) × YieldsThen steps from ks (Some k) to × (after ≡ add_all bytes ks before) × IsKeyRefusal bytes k after error
+
+-- some of the given keys were added, in their order; the next one was refused, and the others are left
+abbrev pub AddsSome : {K : Type 0} → (K → List ℕ) → List K → List K → SetInsertError K → List K → List K → Type 0
+AddsSome {K} bytes before given error after left =
+    (ks : List K) × (k : K) × (given ≡ ks ++ k ∷ left) × (after ≡ add_all bytes ks before) × IsKeyRefusal bytes k after error

@@ -20,12 +20,14 @@ mod extend;
 mod queried;
 mod range;
 mod retain;
+mod split;
 
 pub use algebra::{
     Difference, HasKey, Intersection, MergedOf, SelectedOf, SymmetricDifference, Union,
     keys_of_two_sets,
 };
 pub use range::{KeyRange, KeyRangeOf};
+pub use split::SetSplitRefused;
 
 /// A key that was not inserted.
 #[derive(Debug, Drop, Error)]

@@ -3,7 +3,7 @@ ghost use Rattle.std.specs.Prelude.{◌≡◌, false, IfErr, IfOk, Ok, OnOk, Som
 ghost use Rattle.std.specs.Borrow.{Bor, MutBor, sem};
 ghost use Rattle.std.specs.Fn.{FnOnceReturnsAt};
 ghost use Rattle.std.specs.Option.{UnwrapsOrElse, unwrap_or};
-ghost use Rattle.art_model.specs.Pairs.{has_key, is_conflict, of_key};
+ghost use Rattle.art_model.specs.Pairs.{has_key, is_conflict, of_key, remove_key, remove_reply};
 ghost use Rattle.art_map.specs.MapAnswers.{IsRefusalOf, IsRefusalOfMade, value_at};
 ghost use Rattle.art_map.specs.MapCalls.{IsMakeRefusal, Modifies};
 ghost use Rattle.art_map.specs.MapLends.{lends_put};
@@ -52,6 +52,18 @@ impl<'a, K: AsBytes + Drop, V: Drop, const P: usize> EntryOf<'a, K, ByteMap<K, V
         let EntryOf { map, key, leaf: _ } = self;
         let leaf = map.modify(key.as_bytes(), f);
         EntryOf { map, key, leaf }
+    }
+
+    /// Removes the pair of the key, and returns it; `None` where no equal key is stored. It costs what `remove` of the
+    /// map does, and never fails.
+    pub fn remove(self) -> Option<(K, V)>
+        ensures removed { result ≡ remove_reply (of_key K.bytes)
+            (K.bytes self.entry.key) self.entry.map.now }
+        ensures pairs { self.exit.0.now ≡ remove_key (of_key K.bytes)
+            (K.bytes self.entry.key) self.entry.map.now }
+    {
+        let EntryOf { map, key, leaf: _ } = self;
+        map.remove_by(key.as_bytes())
     }
 
     /// Returns the value of the key, to be written. Where no equal key is stored the pair is put in

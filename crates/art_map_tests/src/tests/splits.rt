@@ -29,7 +29,8 @@ fn first_between(model: &Model, from: Bound<&[u8]>, to: Bound<&[u8]>) -> Option<
 // Whether the same pair is removed from both, the first one between two bounds.
 fn agree_on_pop(map: &mut Map, model: &mut Model, from: Bound<&[u8]>, to: Bound<&[u8]>) -> bool {
     let first = first_between(model, from, to);
-    if let Some((key, _)) = first {
+    if let Some(pair) = first {
+        let key = pair.0;
         model.remove(&key);
     }
     map.pop_first_in((from, to)) == first
@@ -109,7 +110,8 @@ fn split_refused(alloc: Global, map: &mut Map) -> Option<Refused> {
         Err(refused) => refused,
     };
     drop(held);
-    Some((refused.moved.len(), (refused.key, refused.value), map.len()))
+    let (key, value) = (refused.key, refused.value);
+    Some((refused.moved.len(), (key, value), map.len()))
 }
 
 fn append_refused(alloc: Global, map: &mut Map) -> Option<(bool, usize, usize)> {

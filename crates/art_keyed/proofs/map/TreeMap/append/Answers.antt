@@ -1,4 +1,4 @@
-use Rattle.std.proofs.Common.{◌≡◌, refl, ap, ap₂, sym, ◌∙◌, arith, Some, [], ◌∷◌, ◌++◌, append_assoc, append-nil, length}
+use Rattle.std.proofs.Common.{◌≡◌, refl, ap, ap₂, sym, ◌∙◌, arith, [], ◌∷◌, ◌++◌, append_assoc, append-nil, length}
 use Rattle.art_model.specs.Pairs.{of_key, put, without_first}
 use Rattle.art_model.proofs.pairs.Puts.{first_none}
 use Rattle.art_map.specs.MapCalls.{put_all}
