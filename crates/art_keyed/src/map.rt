@@ -26,10 +26,12 @@ mod matches;
 mod ordered;
 mod retain;
 mod strings;
+mod texts;
 
 pub use entry::{TreeEntry, TreeEntryOf};
 pub use matches::{Matches, MatchesOf, Nested};
 pub(crate) use ordered::bytes_of;
+pub use texts::TextRefused;
 
 /// A pair that was not put in, for want of memory.
 #[derive(Debug, Drop, Error)]

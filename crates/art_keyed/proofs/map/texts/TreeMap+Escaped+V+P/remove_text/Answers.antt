@@ -2,7 +2,7 @@ use Rattle.std.proofs.Common.{ap, sym, ◌∙◌}
 use Rattle.art_model.specs.Pairs.{of_key, remove_key, remove_reply}
 use Rattle.art_keys.specs.Escapes.{escape}
 use Rattle.art_keys.specs.EscapeLaws.{escape-plain}
-use Rattle.art_keyed.proofs.map.strings.TreeMap+Escaped+V+P.remove_text.Goals as goal
+use Rattle.art_keyed.proofs.map.texts.TreeMap+Escaped+V+P.remove_text.Goals as goal
 
 pub returns-clause-pairs : goal.returns-clause-pairs
 returns-clause-pairs g c =

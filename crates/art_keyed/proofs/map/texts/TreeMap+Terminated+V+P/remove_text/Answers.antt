@@ -2,7 +2,7 @@ use Rattle.std.proofs.Common.{[], ◌∷◌, ◌++◌, subst, sym}
 use Rattle.art_keys.specs.Ended.{HasNoZero, ended}
 use Rattle.art_keyed.specs.KeyedPairs.{HaveKeys}
 use Rattle.art_keyed.proofs.Keyed.{remove_keeps}
-use Rattle.art_keyed.proofs.map.strings.TreeMap+Terminated+V+P.remove_text.Goals as goal
+use Rattle.art_keyed.proofs.map.texts.TreeMap+Terminated+V+P.remove_text.Goals as goal
 
 pub invariant_of-self : goal.invariant_of-self
 invariant_of-self g c =

@@ -2,7 +2,7 @@ use Rattle.std.proofs.Common.{ap, sym, ◌∙◌}
 use Rattle.art_keys.specs.Escapes.{escape}
 use Rattle.art_keys.specs.EscapeLaws.{escape-plain}
 use Rattle.art_map.specs.MapAnswers.{value_at}
-use Rattle.art_keyed.proofs.map.strings.TreeMap+Escaped+V+P.get_text.Goals as goal
+use Rattle.art_keyed.proofs.map.texts.TreeMap+Escaped+V+P.get_text.Goals as goal
 
 pub returns-clause-value : goal.returns-clause-value
 returns-clause-value g c =

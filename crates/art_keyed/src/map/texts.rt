@@ -1,0 +1,260 @@
+//! Maps of strings by a text, of which no key is made.
+ghost use Rattle.std.specs.Prelude.{◌≡◌, ◌<◌, ◌^◌, length, false, IfErr, IfOk, IsOk, OnErr, OnOk, option_copied};
+ghost use Rattle.std.specs.Borrow.{sem};
+ghost use Rattle.std.specs.Option.{option_copied_mut, option_map, unwrap_or};
+ghost use Rattle.art_keys.specs.Ended.{HasNoZero, ended};
+ghost use Rattle.art_keys.specs.Escapes.{IsPlain, escape};
+ghost use Rattle.art_model.specs.Pairs.{IsMap, first_of, has_key, last_of, of_key, remove_key, remove_reply, with_key};
+ghost use Rattle.art_map.specs.MapAnswers.{value_at};
+ghost use Rattle.art_map.specs.MapItems.{deref_pair};
+ghost use Rattle.art_keyed.specs.KeyedPairs.{strings_below, strings_in_front, strings_not_below};
+ghost use Rattle.art_keyed.specs.TextCalls.{IsTextRefusal};
+ghost use Rattle.art_keyed.specs.TextLends.{lends_text, lends_text_put};
+
+use super::{PairRefused, TreeMap};
+use art_keys::escaped::Escaped;
+use art_keys::terminated::{Terminated, has_zero};
+use art_map::map::Range;
+use art_nodes::node::AsBytes;
+use art_reading::lookup::EndedQuery;
+use std::alloc::{AllocError, Global};
+use std::ops::Bound;
+use thiserror::Error;
+
+/// A value that was not inserted under a text, which is returned.
+#[derive(Debug, Drop, Error)]
+pub enum TextRefused<V> {
+    /// A zero stands in the text, which no key of the type has.
+    #[error("a zero byte stands among the bytes of the text")]
+    InnerZero { value: V },
+    /// An allocation failed.
+    #[error("memory allocation failed")]
+    Memory { value: V },
+}
+
+/// Calls by a text, of which no key is made. They cost what the calls by key do, and take no memory.
+impl<V: Drop, const P: usize> TreeMap<Terminated, V, P> {
+    /// Returns the value of a text's key, or `None`.
+    pub fn get_text(&self, text: &[u8]) -> Option<&V>
+        ensures { option_copied result ≡ value_at ended (ended text.now) self.now }
+    {
+        self.map.get_by(EndedQuery { text, end: 0 })
+    }
+
+    /// Returns whether a text's key is stored.
+    pub fn contains_text(&self, text: &[u8]) -> bool
+        ensures { result ≡ has_key (of_key ended) (ended text.now) self.now }
+    {
+        self.map.contains_key_by(EndedQuery { text, end: 0 })
+    }
+
+    /// Removes the pair of a text's key, and returns it.
+    pub fn remove_text(&mut self, text: &[u8]) -> Option<(Terminated, V)>
+        ensures pairs { self.new ≡ remove_key (of_key ended) (ended text.now) self.old }
+        ensures removed { result ≡ remove_reply (of_key ended) (ended text.now) self.old }
+    {
+        self.map.remove_by(EndedQuery { text, end: 0 })
+    }
+
+    /// Returns the pair with the longest string that is a prefix of a text, or the same, or `None`. It costs what
+    /// `longest_match_key` does.
+    pub fn longest_match(&self, text: &[u8]) -> Option<(&Terminated, &V)>
+        ensures { option_map deref_pair result ≡
+            last_of (strings_in_front (λ text. text) text.now self.now) }
+    {
+        self.map.longest_text(text, 0)
+    }
+
+    /// Returns the pair of a text's key, or `None`.
+    pub fn get_key_value_text(&self, text: &[u8]) -> Option<(&Terminated, &V)>
+        ensures { option_map deref_pair result ≡
+            first_of (with_key (of_key ended) (ended text.now) self.now) }
+    {
+        self.map.get_key_value_by(EndedQuery { text, end: 0 })
+    }
+
+    /// Returns the value of a text's key, to be written, or `None`.
+    pub fn get_text_mut(&mut self, text: &[u8]) -> Option<&mut V>
+        ensures* writes_back { sem 𝓛 (lends_text V.row P.row self.entry text.now result) }
+        ensures value { option_copied_mut result ≡ value_at ended (ended text.now) self.old }
+    {
+        self.map.get_mut_by(EndedQuery { text, end: 0 })
+    }
+
+    /// Returns the value of a text's key, to be written. Where no equal key is stored, the pair is inserted first:
+    /// only then is the text copied, and the key's descent is made twice more. A key that is stored stays, with its
+    /// value.
+    ///
+    /// The error is `InnerZero` where a zero stands in the text, and `Memory` where an allocation fails. Both return
+    /// the value, and the map is unchanged.
+    pub fn get_text_or_insert(
+        &mut self,
+        alloc: Global,
+        text: &[u8],
+        value: V,
+    ) -> Result<&mut V, TextRefused<V>>
+        ensures* writes_back { sem 𝓛 (lends_text_put V.row P.row self.entry text.now result) }
+        ensures value { IfOk result (λ lent.
+            lent.now ≡ unwrap_or (value_at ended (ended text.now) self.old) value) }
+        ensures returned { IfErr result (IsTextRefusal text.now value) }
+        ensures refused { OnErr result (has_key (of_key ended) (ended text.now) self.old ≡ false) }
+    {
+        if self.contains_text(text) {
+            return Ok(self.get_text_mut(text).unwrap());
+        }
+        let key = match Terminated::encode(alloc, text) {
+            Ok(Some(key)) => key,
+            Ok(None) => return Err(TextRefused::InnerZero { value }),
+            Err(_) => return Err(TextRefused::Memory { value }),
+        };
+        match self.get_or_insert(key, value) {
+            Ok(lent) => Ok(lent),
+            Err(PairRefused { value, .. }) => Err(TextRefused::Memory { value }),
+        }
+    }
+
+    /// Returns the pairs whose strings start with a text, in the order of their keys. It costs what `prefix` does.
+    pub fn prefix_text(&self, text: &[u8]) -> Range<'_, Terminated, V, P>
+        ensures pairs { result ≡ strings_below (λ string. string) text.now self.now }
+        ensures sorted { IsMap (of_key ended) self.now }
+        ensures fits { length result < 2 ^ 64 }
+    {
+        if has_zero(text) {
+            return self
+                .map
+                .range((Bound::Included(text), Bound::Excluded(text)));
+        }
+        self.map.prefix(text)
+    }
+
+    /// Removes all pairs whose strings start with a text, at once, and returns how many. It never fails.
+    pub fn remove_prefix_text(&mut self, text: &[u8]) -> usize
+        ensures pairs { self.new ≡ strings_not_below (λ string. string) text.now self.old }
+        ensures removed { result ≡ length (strings_below (λ string. string) text.now self.old) }
+    {
+        if has_zero(text) {
+            return 0;
+        }
+        self.map.remove_prefix(text)
+    }
+}
+
+/// Calls by a text. They take memory only where a byte 0 or 1 stands in the text, for its key, and the only error
+/// is that an allocation fails.
+impl<V: Drop, const P: usize> TreeMap<Escaped, V, P> {
+    /// Returns the value of a text's key, or `None`.
+    pub fn get_text(&self, alloc: Global, text: &[u8]) -> Result<Option<&V>, AllocError>
+        ensures value { IfOk result (λ found.
+            option_copied found ≡ value_at escape (escape text.now) self.now) }
+        ensures refused { OnErr result (¬ IsPlain text.now) }
+    {
+        if !Escaped::is_plain(text) {
+            let key = Escaped::encode(alloc, text)?;
+            return Ok(self.get(&key));
+        }
+        Ok(self.map.get_by(EndedQuery { text, end: 0 }))
+    }
+
+    /// Removes the pair of a text's key, and returns it.
+    pub fn remove_text(
+        &mut self,
+        alloc: Global,
+        text: &[u8],
+    ) -> Result<Option<(Escaped, V)>, AllocError>
+        ensures pairs { OnOk result
+            (self.new ≡ remove_key (of_key escape) (escape text.now) self.old) }
+        ensures removed { IfOk result (λ removed.
+            removed ≡ remove_reply (of_key escape) (escape text.now) self.old) }
+        ensures refused { OnErr result (¬ IsPlain text.now) }
+        ensures kept { OnErr result (self.new ≡ self.old) }
+    {
+        if !Escaped::is_plain(text) {
+            let key = Escaped::encode(alloc, text)?;
+            return Ok(self.map.remove_by(key.as_bytes()));
+        }
+        Ok(self.map.remove_by(EndedQuery { text, end: 0 }))
+    }
+
+    /// Returns the pair with the longest string that is a prefix of a text, or the same, or `None`. It costs what
+    /// `longest_match_key` does.
+    pub fn longest_match(
+        &self,
+        alloc: Global,
+        text: &[u8],
+    ) -> Result<Option<(&Escaped, &V)>, AllocError>
+        ensures pair { IfOk result (λ found. option_map deref_pair found ≡
+            last_of (strings_in_front (λ text. text) text.now self.now)) }
+        ensures refused { OnErr result (¬ IsPlain text.now) }
+    {
+        if !Escaped::is_plain(text) {
+            let key = Escaped::encode(alloc, text)?;
+            return Ok(self.longest_match_key(&key));
+        }
+        Ok(self.map.longest_text(text, 0))
+    }
+
+    /// Returns whether a text's key is stored.
+    pub fn contains_text(&self, alloc: Global, text: &[u8]) -> Result<bool, AllocError>
+        ensures found { IfOk result (λ found.
+            found ≡ has_key (of_key escape) (escape text.now) self.now) }
+        ensures refused { OnErr result (¬ IsPlain text.now) }
+    {
+        if !Escaped::is_plain(text) {
+            let key = Escaped::encode(alloc, text)?;
+            return Ok(self.contains_key(&key));
+        }
+        Ok(self.map.contains_key_by(EndedQuery { text, end: 0 }))
+    }
+
+    /// Returns the pair of a text's key, or `None`.
+    pub fn get_key_value_text(
+        &self,
+        alloc: Global,
+        text: &[u8],
+    ) -> Result<Option<(&Escaped, &V)>, AllocError>
+        ensures pair { IfOk result (λ found. option_map deref_pair found ≡
+            first_of (with_key (of_key escape) (escape text.now) self.now)) }
+        ensures refused { OnErr result (¬ IsPlain text.now) }
+    {
+        if !Escaped::is_plain(text) {
+            let key = Escaped::encode(alloc, text)?;
+            return Ok(self.get_key_value(&key));
+        }
+        Ok(self.map.get_key_value_by(EndedQuery { text, end: 0 }))
+    }
+
+    /// Returns the pairs whose strings start with a text, in the order of their keys. It costs what `prefix` does.
+    pub fn prefix_text(
+        &self,
+        alloc: Global,
+        text: &[u8],
+    ) -> Result<Range<'_, Escaped, V, P>, AllocError>
+        ensures pairs { IfOk result (λ pairs.
+            pairs ≡ strings_below (λ string. string) text.now self.now) }
+        ensures sorted { IfOk result (λ pairs. IsMap (of_key escape) self.now) }
+        ensures fits { IfOk result (λ pairs. length pairs < 2 ^ 64) }
+        ensures refused { OnErr result (¬ IsPlain text.now) }
+    {
+        if !Escaped::is_plain(text) {
+            let key = Escaped::encode(alloc, text)?;
+            return Ok(self.prefix(&key));
+        }
+        Ok(self.map.prefix(text))
+    }
+
+    /// Removes all pairs whose strings start with a text, at once, and returns how many.
+    pub fn remove_prefix_text(&mut self, alloc: Global, text: &[u8]) -> Result<usize, AllocError>
+        ensures pairs { OnOk result
+            (self.new ≡ strings_not_below (λ string. string) text.now self.old) }
+        ensures removed { IfOk result (λ removed.
+            removed ≡ length (strings_below (λ string. string) text.now self.old)) }
+        ensures refused { OnErr result (¬ IsPlain text.now) }
+        ensures kept { OnErr result (self.new ≡ self.old) }
+    {
+        if !Escaped::is_plain(text) {
+            let key = Escaped::encode(alloc, text)?;
+            return Ok(self.remove_prefix(&key));
+        }
+        Ok(self.map.remove_prefix(text))
+    }
+}
