@@ -1,5 +1,5 @@
 -- Parts of a map by the order of its keys, and by their strings.
-use Rattle.std.proofs.Common.{◌≡◌, ℕ, List, [], ◌∷◌, Bool, true, false, ◌&&◌, ◌++◌, not, eqb, eqb-true, eq-eqb, length, if◌then◌else◌, Result, Ok, Err, IfOk, OnOk, OnErr, refl, ap, ap₂, sym, subst, ◌∙◌}
+use Rattle.std.proofs.Common.{◌≡◌, ℕ, List, [], ◌∷◌, Bool, true, false, ◌&&◌, ◌++◌, not, eqb, eqb-true, eq-eqb, if◌then◌else◌, refl, ap, ap₂, sym, ◌∙◌}
 use Rattle.std.specs.Prelude.{filter}
 use Rattle.std.specs.List.{AllByRecursion as Each}
 use Rattle.std.specs.Ordering.{is_lt}

@@ -1,5 +1,5 @@
 -- Strings that are prefixes of another are the texts of keys that end with a zero.
-use Rattle.std.proofs.Common.{◌≡◌, ◌≢◌, ℕ, ◌<◌, List, [], ◌∷◌, ◌++◌, arith, refl, ap, sym, ◌∙◌}
+use Rattle.std.proofs.Common.{◌≡◌, ◌≢◌, ℕ, ◌<◌, List, arith, refl, ap, ◌∙◌}
 use Rattle.std.specs.List.{AllByRecursion as Each}
 use Rattle.art_keys.specs.Ended.{HasNoZero, ended}
 use Rattle.art_keys.specs.Prefixes.{IsInside, KeepsFronts}

@@ -3,3 +3,4 @@ pub mod Between
 pub mod Retained
 pub mod Fronts
 pub mod CutTexts
+pub mod TextParts

@@ -6,6 +6,7 @@ ghost use Rattle.art_keys.specs.Ended.{HasNoZero, ended};
 ghost use Rattle.art_keys.specs.Escapes.{IsPlain, escape};
 ghost use Rattle.art_model.specs.Pairs.{IsMap, first_of, has_key, last_of, of_key, remove_key, remove_reply, with_key};
 ghost use Rattle.art_map.specs.MapAnswers.{value_at};
+ghost use Rattle.art_map.specs.MapChanges.{put_new};
 ghost use Rattle.art_map.specs.MapItems.{deref_pair};
 ghost use Rattle.art_keyed.specs.KeyedPairs.{strings_below, strings_in_front, strings_not_below};
 ghost use Rattle.art_keyed.specs.TextCalls.{IsTextRefusal};
@@ -81,12 +82,12 @@ impl<V: Drop, const P: usize> TreeMap<Terminated, V, P> {
         self.map.get_mut_by(EndedQuery { text, end: 0 })
     }
 
-    /// Returns the value of a text's key, to be written. Where no equal key is stored, the pair is inserted first:
-    /// only then is the text copied, and the key's descent is made twice more. A key that is stored stays, with its
-    /// value.
+    /// Returns the value of a text's key, to be written. Where no equal key is stored, a copy of the text is inserted
+    /// with this value first. A key that is stored stays, with its value. It costs two look-ups, and where the text is
+    /// new an insertion.
     ///
-    /// The error is `InnerZero` where a zero stands in the text, and `Memory` where an allocation fails. Both return
-    /// the value, and the map is unchanged.
+    /// The error is `InnerZero` if a zero stands in the text, and `Memory` if an allocation fails. Both return the
+    /// value, and the map is unchanged.
     pub fn get_text_or_insert(
         &mut self,
         alloc: Global,
@@ -99,16 +100,35 @@ impl<V: Drop, const P: usize> TreeMap<Terminated, V, P> {
         ensures returned { IfErr result (IsTextRefusal text.now value) }
         ensures refused { OnErr result (has_key (of_key ended) (ended text.now) self.old ≡ false) }
     {
+        match self.store_text(alloc, text, value) {
+            Ok(()) => {}
+            Err(error) => return Err(error),
+        }
+        let Some(lent) = self.get_text_mut(text) else {
+            unreachable!()
+        };
+        Ok(lent)
+    }
+
+    // Inserts a copy of a text with a value, unless an equal key is stored.
+    fn store_text(&mut self, alloc: Global, text: &[u8], value: V) -> Result<(), TextRefused<V>>
+        ensures pairs { OnOk result (self.new ≡ put_new ended (text.now, value) self.old) }
+        ensures sorted { IsMap (of_key ended) self.old }
+        ensures returned { IfErr result (IsTextRefusal text.now value) }
+        ensures refused { OnErr result (has_key (of_key ended) (ended text.now) self.old ≡ false) }
+        ensures kept { OnErr result (self.new ≡ self.old) }
+    {
+        self.len();
         if self.contains_text(text) {
-            return Ok(self.get_text_mut(text).unwrap());
+            return Ok(());
         }
         let key = match Terminated::encode(alloc, text) {
             Ok(Some(key)) => key,
             Ok(None) => return Err(TextRefused::InnerZero { value }),
             Err(_) => return Err(TextRefused::Memory { value }),
         };
-        match self.get_or_insert(key, value) {
-            Ok(lent) => Ok(lent),
+        match self.insert(key, value) {
+            Ok(_) => Ok(()),
             Err(PairRefused { value, .. }) => Err(TextRefused::Memory { value }),
         }
     }
@@ -132,6 +152,7 @@ impl<V: Drop, const P: usize> TreeMap<Terminated, V, P> {
         ensures pairs { self.new ≡ strings_not_below (λ string. string) text.now self.old }
         ensures removed { result ≡ length (strings_below (λ string. string) text.now self.old) }
     {
+        self.as_byte_map();
         if has_zero(text) {
             return 0;
         }

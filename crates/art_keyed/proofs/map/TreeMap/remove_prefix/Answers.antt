@@ -1,5 +1,4 @@
 use Rattle.std.proofs.Common.{ap, length, ◌∙◌}
-use Rattle.art_model.specs.Pairs.{of_key}
 use Rattle.art_keyed.proofs.Between.{below_strings, not_below_strings, others_keep}
 use Rattle.art_keyed.proofs.map.TreeMap.remove_prefix.Goals as goal
 
