@@ -1,18 +1,20 @@
--- The texts in front of a query, the longest first.
-use Rattle.std.proofs.Common.{◌≡◌, ℕ, ◌+◌, ◌-◌, ◌<◌, ◌≤◌, ◌⊎◌, List, [], ◌∷◌, ◌++◌, length, length-append, length-take, append-nil, append_assoc, take, filter, arith, refl, ap, ap₂, sym, subst, ◌∙◌, Option, Some, None, Bool, true, false, inl, inr, reverse}
+-- The texts in front of a query, as they come from both ends.
+use Rattle.std.proofs.Common.{◌≡◌, ℕ, ◌+◌, ◌-◌, ◌<◌, ◌≤◌, ◌⊎◌, List, [], ◌∷◌, ◌++◌, length, length-append, length-take, append-nil, append_assoc, take, filter, arith, refl, ap, ap₂, sym, subst, ◌∙◌, Option, Some, None, Bool, true, false, inl, inr, cond, leb}
 use Rattle.std.specs.List.{AllByRecursion as Each}
-use Rattle.std.proofs.lemmas.Bool.{cases_lt}
-use Rattle.std.proofs.lemmas.List.{reverse-append, take-append-drop}
+use Rattle.std.proofs.lemmas.Bool.{cases_lt, le-leb, leb-true, lt-leb}
+use Rattle.std.proofs.lemmas.List.{take-append-drop}
 use Rattle.std.proofs.lemmas.List.Elements.{filter-append}
 use Rattle.art_model.specs.Keys.{IsFront, Precedes, is_front}
-use Rattle.art_model.specs.Pairs.{IsMap, last_of, of_key, without_last}
+use Rattle.art_model.specs.Pairs.{IsMap, Pairwise, first_of, last_of, of_key, without_last}
 use Rattle.art_model.proofs.keys.Keys.{front_from, front_is, parts_left, precedes_byte}
 use Rattle.art_model.proofs.leaves.Segments.{but_last}
 use Rattle.art_model.proofs.lists.Filters.{Each-both, Each-filter, Pairwise-filter, filter_all, filter_filter, filter_passes}
-use Rattle.art_model.proofs.lists.Lists.{Each-left, Each-right, Each-weaker, filter_none, front_trans}
+use Rattle.art_model.proofs.lists.Lists.{Each-append, Each-left, Each-right, Each-weaker, filter_none, front_trans}
 use Rattle.art_model.proofs.lists.Pairwises.{Pairwise-before}
 use Rattle.art_model.specs.Texts.{AreEnded, IsEndedBy, texts_in_front, text_of}
 use Rattle.art_model.proofs.keys.Texts.{ended_text, front_of_fronts, front_short, fronts_first, not_front, true_front}
+use Rattle.art_model.proofs.pairs.Puts.{first_has}
+use Rattle.art_reading.specs.ShortTexts.{texts_from}
 use Rattle.art_keyed.specs.Matches.{matches_left}
 
 -- bytes cut to so many are a front
@@ -113,37 +115,145 @@ module _ {A : Type 0} (bytes : A → List ℕ) (end : ℕ) (q : List ℕ) where
         let t = ap length (ap without_last last_ended.is ∙ ended_text last_ended.text end) in
         omega (arith, simp length-append at l)
 
-module _ {K V : Type 0} (bytes : K → List ℕ) (q : List ℕ) (pairs : List (K × V)) (rise : IsMap (of_key bytes) pairs) (ended : AreEnded (of_key bytes) 0 pairs) where
-  -- no match is left
-  pub none_came : None ≡ last_of (texts_in_front (of_key bytes) q pairs) → matches_left bytes (Some q) pairs ≡ []
-  none_came none = ap reverse (empty (texts_in_front (of_key bytes) q pairs) none)
-    where
-      empty : (xs : List (K × V)) → None ≡ last_of xs → xs ≡ []
-      empty [] e = refl
-      empty (x ∷ xs) e = let s = but_last x xs in some x xs e
-        where
-          some : (x : K × V) (xs : List (K × V)) → None ≡ last_of (x ∷ xs) → x ∷ xs ≡ []
-          some x [] e = absurd cc
-          some x (y ∷ ys) e = absurd (any y ys e)
-            where
-              any : (y : K × V) (ys : List (K × V)) → None ≡ last_of (y ∷ ys) → ⊥
-              any y [] e = absurd cc
-              any y (z ∷ zs) e = any z zs e
+  -- ---- those of at least so many bytes
 
-  -- the longest match came, and the shorter ones are left
-  pub one_came : (x : K × V) → Some x ≡ last_of (texts_in_front (of_key bytes) q pairs) → (left : Option (List ℕ)) → (length (bytes x.0) ≤ 1 → left ≡ None) → (1 < length (bytes x.0) → left ≡ Some (take (length (bytes x.0) - 2) q)) →
-      matches_left bytes (Some q) pairs ≡ x ∷ matches_left bytes left pairs
-  one_came x found left empty longer = go (cases_lt 1 (length (bytes x.0)))
+  abbrev long : ℕ → A → Bool
+  long n x = leb n (length (text_of bytes x))
+
+  -- the texts get longer
+  abbrev GetLonger : List A → Type 0
+  GetLonger xs = Pairwise (λ x y. length (text_of bytes x) < length (text_of bytes y)) xs
+
+  -- what is known of a text in front of the query
+  abbrev InFront : A → Type 0
+  InFront x = IsEndedBy end (bytes x) × IsFront (text_of bytes x) q
+
+  get_longer : (xs : List A) → IsMap bytes xs → Each InFront xs → GetLonger xs
+  get_longer [] rise known = tt
+  get_longer (x ∷ xs) rise known = (
+    Each-both (λ y. Precedes (bytes x) (bytes y)) InFront (λ y. length (text_of bytes x) < length (text_of bytes y)) (λ y before of_y. less x y before known.0.0 of_y.0 known.0.1 of_y.1) xs rise.0 known.1,
+    get_longer xs rise.1 known.1,
+  )
+
+  -- the first of those that are long enough, and then the longer ones
+  first_longer : (xs : List A) → GetLonger xs → (n : ℕ) (x : A) → first_of (filter (long n) xs) ≡ Some x →
+      filter (long n) xs ≡ x ∷ filter (long (length (text_of bytes x) + 1)) xs
+  first_longer [] up n x e = absurd cc
+  first_longer (y ∷ ys) up n x e = go (first_longer ys up.1 n x) (long n y) refl e
     where
+      all_long : (m : ℕ) → m ≤ length (text_of bytes y) + 1 → filter (long m) ys ≡ ys
+      all_long m few = filter_all (long m) ys (Each-weaker (λ z. length (text_of bytes y) < length (text_of bytes z)) (λ z. long m z ≡ true) (λ z l. le-leb m (length (text_of bytes z)) (omega arith)) ys up.0)
+
+      go : (first_of (filter (long n) ys) ≡ Some x → filter (long n) ys ≡ x ∷ filter (long (length (text_of bytes x) + 1)) ys) → (b : Bool) → long n y ≡ b →
+          first_of (cond b (y ∷ filter (long n) ys) (filter (long n) ys)) ≡ Some x →
+          cond b (y ∷ filter (long n) ys) (filter (long n) ys) ≡ x ∷ filter (long (length (text_of bytes x) + 1)) (y ∷ ys)
+      go ih true is f =
+          let same : y ≡ x = cc in
+          let enough = leb-true n (length (text_of bytes y)) is in
+          ap (λ zs. y ∷ zs) (all_long n (omega arith) ∙ sym (all_long (length (text_of bytes y) + 1) (omega arith)) ∙ sym (rw (lt-leb (length (text_of bytes y) + 1) (length (text_of bytes y)) (omega arith)) refl))
+          ∙ ap (λ z. z ∷ filter (long (length (text_of bytes z) + 1)) (y ∷ ys)) same
+      go ih false is f =
+          let more = first_has (λ z. length (text_of bytes y) < length (text_of bytes z)) (filter (long n) ys) x (Each-filter (λ z. length (text_of bytes y) < length (text_of bytes z)) (long n) ys up.0) f in
+          ih f ∙ ap (λ zs. x ∷ zs) (sym (rw (lt-leb (length (text_of bytes x) + 1) (length (text_of bytes y)) (omega arith)) refl))
+
+  module _ (xs : List A) (rise : IsMap bytes xs) (ended : AreEnded bytes end xs) where
+    known_front : Each InFront (texts_in_front bytes q xs)
+    known_front =
+        Each-both (λ x. IsEndedBy end (bytes x)) (λ x. is_front (text_of bytes x) q ≡ true) InFront (λ x i f. (i, front_from (text_of bytes x) q f)) (texts_in_front bytes q xs)
+        (Each-filter (λ x. IsEndedBy end (bytes x)) (λ x. is_front (text_of bytes x) q) xs ended) (filter_passes (λ x. is_front (text_of bytes x) q) xs)
+
+    front_longer : GetLonger (texts_in_front bytes q xs)
+    front_longer = get_longer (texts_in_front bytes q xs) (Pairwise-filter (λ x y. Precedes (bytes x) (bytes y)) (λ x. is_front (text_of bytes x) q) xs rise) known_front
+
+    pub first_and_longer : (n : ℕ) (x : A) → first_of (texts_from bytes q n xs) ≡ Some x → texts_from bytes q n xs ≡ x ∷ texts_from bytes q (length (text_of bytes x) + 1) xs
+    first_and_longer n x e = first_longer (texts_in_front bytes q xs) front_longer n x e
+
+    -- the text of the first is one, so that its key has one byte more
+    pub first_len : (n : ℕ) (x : A) → first_of (texts_from bytes q n xs) ≡ Some x → length (bytes x) ≡ length (text_of bytes x) + 1
+    first_len n x e =
+        let of_x : InFront x = first_has InFront (texts_from bytes q n xs) x (Each-filter InFront (long n) (texts_in_front bytes q xs) known_front) e in
+        let l = ap length of_x.0.is in
+        let t = ap length (ap without_last of_x.0.is ∙ ended_text of_x.0.text end) in
+        omega (arith, simp length-append at l)
+
+    module _ (last : A) (e : last_of (texts_in_front bytes q xs) ≡ Some last) where
+      -- the longest text is too short, and so are all
+      pub all_short : (n : ℕ) → length (text_of bytes last) < n → texts_from bytes q n xs ≡ []
+      all_short n short =
+          ap (filter (long n)) (split xs rise ended last e)
+          ∙ filter_append_none (without_last (texts_in_front bytes q xs)) last
+          (Each-weaker (λ x. (length (text_of bytes x) < length (text_of bytes last)) × IsFront (text_of bytes x) q) (λ x. long n x ≡ false) (λ x (l, f). lt-leb n (length (text_of bytes x)) (omega arith)) (without_last (texts_in_front bytes q xs)) (others xs rise ended last e))
+          (lt-leb n (length (text_of bytes last)) short)
+        where
+          filter_append_none : (ys : List A) (z : A) → Each (λ y. long n y ≡ false) ys → long n z ≡ false → filter (long n) (ys ++ z ∷ []) ≡ []
+          filter_append_none ys z off last_off = filter_none (long n) (ys ++ z ∷ []) (Each-append (λ y. long n y ≡ false) ys (z ∷ []) off (last_off, tt))
+
+      -- the longest text is long enough
+      module _ (n : ℕ) (enough : n ≤ length (text_of bytes last)) where
+        here : filter (long n) (last ∷ []) ≡ last ∷ []
+        here = rw (le-leb n (length (text_of bytes last)) enough) refl
+
+        pub only_from : length (text_of bytes last) ≡ 0 → texts_from bytes q n xs ≡ last ∷ []
+        only_from none = ap (filter (long n)) (only xs rise ended last e none) ∙ here
+
+        pub cut_from : (m : ℕ) → length (text_of bytes last) ≡ m + 1 → texts_from bytes q n xs ≡ texts_from bytes (take m q) n xs ++ last ∷ []
+        cut_from m is =
+            ap (filter (long n)) (cut xs rise ended last e m is) ∙ filter-append (long n) (texts_in_front bytes (take m q) xs) (last ∷ [])
+            ∙ ap (λ ys. filter (long n) (texts_in_front bytes (take m q) xs) ++ ys) here
+
+-- a list without a first or a last element is empty
+no_last : {A : Type 0} (xs : List A) → None ≡ last_of xs → xs ≡ []
+no_last [] e = refl
+no_last {A} (x ∷ xs) e = absurd (any x xs e)
+  where
+    any : (x : A) (xs : List A) → None ≡ last_of (x ∷ xs) → ⊥
+    any x [] e = absurd cc
+    any x (y ∷ ys) e = any y ys e
+
+no_first : {A : Type 0} (xs : List A) → None ≡ first_of xs → xs ≡ []
+no_first [] e = refl
+no_first (x ∷ xs) e = absurd cc
+
+module _ {K V : Type 0} (bytes : K → List ℕ) (q : List ℕ) (n : ℕ) (pairs : List (K × V)) where
+  pub none_first : None ≡ first_of (texts_from (of_key bytes) q n pairs) → matches_left bytes (Some q) n pairs ≡ []
+  none_first none = no_first (texts_from (of_key bytes) q n pairs) none
+
+  pub none_last : None ≡ last_of (texts_in_front (of_key bytes) q pairs) → matches_left bytes (Some q) n pairs ≡ []
+  none_last none = ap (filter (λ x. leb n (length (text_of (of_key bytes) x)))) (no_last (texts_in_front (of_key bytes) q pairs) none)
+
+  module _ (rise : IsMap (of_key bytes) pairs) (ended : AreEnded (of_key bytes) 0 pairs) (x : K × V) where
+    -- the shortest match came, and the longer ones are left
+    pub first_came : Some x ≡ first_of (texts_from (of_key bytes) q n pairs) → (m : ℕ) → m ≡ length (bytes x.0) → matches_left bytes (Some q) n pairs ≡ x ∷ matches_left bytes (Some q) m pairs
+    first_came found m is =
+        first_and_longer (of_key bytes) 0 q pairs rise ended n x (sym found)
+        ∙ ap (λ k. x ∷ texts_from (of_key bytes) q k pairs) (sym (is ∙ first_len (of_key bytes) 0 q pairs rise ended n x (sym found)))
+
+    module _ (found : Some x ≡ last_of (texts_in_front (of_key bytes) q pairs)) where
       len : length (bytes x.0) ≡ length (text_of (of_key bytes) x) + 1
       len = text_len (of_key bytes) 0 q pairs rise ended x (sym found)
 
-      go : (1 < length (bytes x.0)) ⊎ (length (bytes x.0) ≤ 1) → matches_left bytes (Some q) pairs ≡ x ∷ matches_left bytes left pairs
-      go (inr o) =
-          let l = len in
-          ap reverse (only (of_key bytes) 0 q pairs rise ended x (sym found) (omega arith)) ∙ ap (λ o. x ∷ matches_left bytes o pairs) (sym (empty o))
-      go (inl l) =
-          let k = len in
-          ap reverse (cut (of_key bytes) 0 q pairs rise ended x (sym found) (length (bytes x.0) - 2) (omega arith))
-          ∙ reverse-append (texts_in_front (of_key bytes) (take (length (bytes x.0) - 2) q) pairs) (x ∷ [])
-          ∙ ap (λ o. x ∷ matches_left bytes o pairs) (sym (longer l))
+      -- the longest match is too short
+      pub too_short : length (bytes x.0) ≤ n → matches_left bytes (Some q) n pairs ≡ []
+      too_short short = let l = len in all_short (of_key bytes) 0 q pairs rise ended x (sym found) n (omega arith)
+
+      -- the longest match came, and the shorter ones are left
+      pub last_came : n < length (bytes x.0) → (left : Option (List ℕ)) → (length (bytes x.0) ≤ 1 → left ≡ None) → (1 < length (bytes x.0) → left ≡ Some (take (length (bytes x.0) - 2) q)) →
+          matches_left bytes (Some q) n pairs ≡ matches_left bytes left n pairs ++ x ∷ []
+      last_came enough left empty longer = go (cases_lt 1 (length (bytes x.0)))
+        where
+          go : (1 < length (bytes x.0)) ⊎ (length (bytes x.0) ≤ 1) → matches_left bytes (Some q) n pairs ≡ matches_left bytes left n pairs ++ x ∷ []
+          go (inr o) =
+              let l = len in
+              only_from (of_key bytes) 0 q pairs rise ended x (sym found) n (omega arith) (omega arith) ∙ ap (λ o. matches_left bytes o n pairs ++ x ∷ []) (sym (empty o))
+          go (inl o) =
+              let l = len in
+              cut_from (of_key bytes) 0 q pairs rise ended x (sym found) n (omega arith) (length (bytes x.0) - 2) (omega arith)
+              ∙ ap (λ o. matches_left bytes o n pairs ++ x ∷ []) (sym (longer o))
+
+-- all have no byte at least
+pub from_none : {A : Type 0} (bytes : A → List ℕ) (q : List ℕ) (xs : List A) → texts_from bytes q 0 xs ≡ texts_in_front bytes q xs
+from_none {A} bytes q xs = filter_all (λ x. leb 0 (length (text_of bytes x))) (texts_in_front bytes q xs) (all (texts_in_front bytes q xs))
+  where
+    all : (ys : List A) → Each (λ y. leb 0 (length (text_of bytes y)) ≡ true) ys
+    all [] = tt
+    all (y ∷ ys) = (le-leb 0 (length (text_of bytes y)) (omega arith), all ys)

@@ -67,6 +67,14 @@ pub keys_longest : {K V : Type 0} (bytes : K → List ℕ) (query : List ℕ) (p
     last_of (texts_in_front bytes query (keys_of pairs)) ≡ option_map (λ x. x.0) (last_of (texts_in_front (of_key bytes) query pairs))
 keys_longest bytes query pairs = ap last_of (keys_where (λ k. is_front (text_of bytes k) query) pairs) ∙ keys_last (texts_in_front (of_key bytes) query pairs)
 
+-- and so is the shortest one of at least so many bytes
+pub keys_shortest : {K V : Type 0} (bytes : K → List ℕ) (query : List ℕ) (at_least : ℕ) (pairs : List (K × V)) →
+    first_of (texts_from bytes query at_least (keys_of pairs)) ≡ option_map (λ x. x.0) (first_of (texts_from (of_key bytes) query at_least pairs))
+keys_shortest bytes query at_least pairs =
+    let is_long = λ k. leb at_least (length (text_of bytes k)) in
+    ap (λ ks. first_of (filter is_long ks)) (keys_where (λ k. is_front (text_of bytes k) query) pairs) ∙ ap first_of (keys_where is_long (texts_in_front (of_key bytes) query pairs))
+    ∙ keys_first (texts_from (of_key bytes) query at_least pairs)
+
 pub flipped : (b d : Bool) → b ≡ not d → d ≡ not b
 flipped b true e = rw e refl
 flipped b false e = rw e refl

@@ -1,34 +1,66 @@
-//! The strings of a map that are prefixes of another one, the longest first.
-ghost use Rattle.std.specs.Prelude.{◌≡◌, ◌+◌, ◌-◌, ◌<◌, ◌≤◌, List, length, take, IfSome, None, Some};
+//! The strings of a map that are prefixes of another one.
+ghost use Rattle.std.specs.Prelude.{◌≡◌, ◌+◌, ◌-◌, ◌<◌, ◌≤◌, List, length, take, IfSome, None, Some, ⊤};
 ghost use Rattle.std.specs.Iterator.{UpTo, at_most};
 ghost use Rattle.std.specs.Iterator.SizeHint.{IsWithinCount};
 ghost use Rattle.std.specs.Option.{option_map};
-ghost use Rattle.art_map.specs.MapItems.{TakesFirst};
-ghost use Rattle.art_keyed.specs.Matches.{matches_left, matches_of};
+ghost use Rattle.art_model.specs.Pairs.{first_of};
+ghost use Rattle.art_map.specs.MapItems.{TakesFirst, TakesLast, deref_pair};
+ghost use Rattle.art_keyed.specs.KeyedPairs.{strings_in_front};
+ghost use Rattle.art_keyed.specs.Matches.{matches_left};
 
 use super::TreeMap;
 use art_keys::laws::StringBytes;
 use art_keys::terminated::Terminated;
 use art_nodes::node::AsBytes;
+use std::alloc::AllocError;
+use std::iter::FusedIterator;
 use std::marker::Model;
 
-/// A map whose longest matches are found.
+/// A map whose matches are found: the strings that are prefixes of another one.
 pub trait Nested<K: AsBytes, V> {
     ghost pairs: { Self → List (K × V) };
 
-    /// Returns the pair with the longest string of those that are left, or `None`, and leaves the shorter ones.
-    fn next_match<'q>(&self, left: &mut Option<&'q [u8]>) -> Option<(&K, &V)>
+    /// Returns the pair with the shortest string of those that are left, or `None`, and leaves the longer ones.
+    fn next_match<'q>(&self, left: &mut Option<&'q [u8]>, at_least: &mut usize) -> Option<(&K, &V)>
         ensures { TakesFirst
-            (matches_left K.bytes (option_map (λ b. b.now) left.old) (pairs self.now)) result
-            (matches_left K.bytes (option_map (λ b. b.now) left.new) (pairs self.now)) };
+            (matches_left K.bytes (option_map (λ b. b.now) left.old) at_least.old (pairs self.now)) result
+            (matches_left K.bytes (option_map (λ b. b.now) left.new) at_least.new (pairs self.now)) };
+
+    /// Returns the pair with the longest string of those that are left, or `None`, and leaves the shorter ones.
+    fn next_back_match<'q>(
+        &self,
+        left: &mut Option<&'q [u8]>,
+        at_least: usize,
+    ) -> Option<(&K, &V)>
+        ensures { TakesLast
+            (matches_left K.bytes (option_map (λ b. b.now) left.old) at_least (pairs self.now)) result
+            (matches_left K.bytes (option_map (λ b. b.now) left.new) at_least (pairs self.now)) };
 }
 
 impl<K: StringBytes + Drop, V: Drop, const P: usize> Nested<K, V> for TreeMap<K, V, P> {
     ghost pairs = { λ pairs. pairs };
 
-    fn next_match<'q>(&self, left: &mut Option<&'q [u8]>) -> Option<(&K, &V)> {
+    fn next_match<'q>(
+        &self,
+        left: &mut Option<&'q [u8]>,
+        at_least: &mut usize,
+    ) -> Option<(&K, &V)> {
+        let query = (*left)?;
+        let pair = self.as_byte_map().shortest_text(query, 0, *at_least)?;
+        *at_least = pair.0.as_bytes().len();
+        Some(pair)
+    }
+
+    fn next_back_match<'q>(
+        &self,
+        left: &mut Option<&'q [u8]>,
+        at_least: usize,
+    ) -> Option<(&K, &V)> {
         let query = (*left)?;
         let pair = self.as_byte_map().longest_text(query, 0)?;
+        if pair.0.as_bytes().len() <= at_least {
+            return None;
+        }
         *left = shorter(query, pair.0.as_bytes());
         Some(pair)
     }
@@ -47,12 +79,14 @@ fn shorter<'q>(query: &'q [u8], key: &[u8]) -> Option<&'q [u8]>
     Some(&query[..key.len() - 2])
 }
 
-/// The pairs of a map whose strings are prefixes of another one, the longest first, seen as the list of those that
-/// have not come yet. Each step costs what `longest_match` does.
+/// The pairs of a map whose strings are prefixes of another one, the shortest first, seen as the list of those that
+/// have not come yet. A step from the front is one descent from the root, and a step from the back costs what
+/// `longest_match` does; neither takes memory.
 #[derive(Drop)]
 pub struct MatchesOf<'a, 'q, K: AsBytes, V, M: Nested<K, V>> {
     map: &'a M,
     left: Option<&'q [u8]>,
+    at_least: usize,
     // None: it names the lifetime of what is lent.
     nothing: Option<(&'a K, &'a V)>,
 }
@@ -71,7 +105,22 @@ impl<'a, 'q, K: AsBytes, V, M: Nested<K, V>> Model for MatchesOf<'a, 'q, K, V, M
     ghost coded = { coded_list (coded× K.code V.code) };
 
     ghost view = { λ m.
-        matches_left K.bytes (option_map (λ b. b.now) m.left) (M.pairs m.map.now) };
+        matches_left K.bytes (option_map (λ b. b.now) m.left) m.at_least (M.pairs m.map.now) };
+}
+
+impl<'a, 'q, K: AsBytes, V, M: Nested<K, V>> Clone for MatchesOf<'a, 'q, K, V, M> {
+    ghost is_clone = { λ iterator copy. copy ≡ iterator };
+
+    ghost is_infallible = { λ iterator. ⊤ };
+
+    fn clone(&self) -> Result<Self, AllocError> {
+        Ok(MatchesOf {
+            map: self.map,
+            left: self.left,
+            at_least: self.at_least,
+            nothing: None,
+        })
+    }
 }
 
 impl<'a, 'q, K: AsBytes, V, M: Nested<K, V>> Iterator for MatchesOf<'a, 'q, K, V, M> {
@@ -82,7 +131,7 @@ impl<'a, 'q, K: AsBytes, V, M: Nested<K, V>> Iterator for MatchesOf<'a, 'q, K, V
     ghost remaining = { λ s. at_most (length s) };
 
     fn next(&mut self) -> Option<(&'a K, &'a V)> {
-        self.map.next_match(&mut self.left)
+        self.map.next_match(&mut self.left, &mut self.at_least)
     }
 
     fn size_hint(&self) -> (usize, Option<usize>)
@@ -93,31 +142,62 @@ impl<'a, 'q, K: AsBytes, V, M: Nested<K, V>> Iterator for MatchesOf<'a, 'q, K, V
     }
 }
 
+impl<'a, 'q, K: AsBytes, V, M: Nested<K, V>> DoubleEndedIterator for MatchesOf<'a, 'q, K, V, M> {
+    ghost next_back_gives = { TakesLast };
+
+    fn next_back(&mut self) -> Option<(&'a K, &'a V)> {
+        self.map.next_back_match(&mut self.left, self.at_least)
+    }
+}
+
+impl<'a, 'q, K: AsBytes, V, M: Nested<K, V>> FusedIterator for MatchesOf<'a, 'q, K, V, M> {}
+
 impl<K: StringBytes + Drop, V: Drop, const P: usize> TreeMap<K, V, P> {
-    /// Returns the pairs whose strings are prefixes of that of a key, or the same, the longest first. It takes no
-    /// memory.
+    /// Returns the pairs whose strings are prefixes of that of a key, or the same, the shortest first, from both ends.
+    /// It takes no memory.
     pub fn matches_key<'a, 'q>(&'a self, query: &'q K) -> Matches<'a, 'q, K, V, P>
-        ensures { result ≡ matches_of K.text (K.text query.now) self.now }
+        ensures { result ≡ strings_in_front K.text (K.text query.now) self.now }
     {
         self.as_byte_map();
         MatchesOf {
             map: self,
             left: Some(query.beginning()),
+            at_least: 0,
             nothing: None,
         }
+    }
+
+    /// Returns the pair with the shortest string that is a prefix of that of a key, or the same, or `None`. It is one
+    /// descent along the key's string, and takes no memory.
+    pub fn shortest_match_key(&self, query: &K) -> Option<(&K, &V)>
+        ensures { option_map deref_pair result ≡
+            first_of (strings_in_front K.text (K.text query.now) self.now) }
+    {
+        self.map.shortest_text(query.beginning(), 0, 0)
     }
 }
 
 impl<V: Drop, const P: usize> TreeMap<Terminated, V, P> {
-    /// Returns the pairs whose strings are prefixes of a text, or the same, the longest first. It takes no memory.
+    /// Returns the pairs whose strings are prefixes of a text, or the same, the shortest first, from both ends. It
+    /// takes no memory.
     pub fn matches<'a, 'q>(&'a self, text: &'q [u8]) -> Matches<'a, 'q, Terminated, V, P>
-        ensures { result ≡ matches_of (λ text. text) text.now self.now }
+        ensures { result ≡ strings_in_front (λ string. string) text.now self.now }
     {
         self.as_byte_map();
         MatchesOf {
             map: self,
             left: Some(text),
+            at_least: 0,
             nothing: None,
         }
+    }
+
+    /// Returns the pair with the shortest string that is a prefix of a text, or the same, or `None`. It is one descent
+    /// along the text, and takes no memory.
+    pub fn shortest_match(&self, text: &[u8]) -> Option<(&Terminated, &V)>
+        ensures { option_map deref_pair result ≡
+            first_of (strings_in_front (λ string. string) text.now self.now) }
+    {
+        self.map.shortest_text(text, 0, 0)
     }
 }

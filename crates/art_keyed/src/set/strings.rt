@@ -1,6 +1,6 @@
 //! Sets of strings, by texts of which no key is made.
 ghost use Rattle.std.specs.Prelude.{◌≡◌, option_copied};
-ghost use Rattle.art_model.specs.Pairs.{has_key, last_of, match_of, remove_key};
+ghost use Rattle.art_model.specs.Pairs.{first_of, has_key, last_of, match_of, remove_key};
 ghost use Rattle.art_keys.specs.Ended.{ended};
 
 use super::TreeSet;
@@ -29,5 +29,13 @@ impl<const P: usize> TreeSet<Terminated, P> {
         ensures { option_copied result ≡ last_of (match_of (λ string. string) text.now self.now) }
     {
         self.set.longest_text(text, 0)
+    }
+
+    /// Returns the shortest string that is a prefix of a text, or the same, or `None`. It costs what `shortest_match`
+    /// of the map does.
+    pub fn shortest_match(&self, text: &[u8]) -> Option<&Terminated>
+        ensures { option_copied result ≡ first_of (match_of (λ string. string) text.now self.now) }
+    {
+        self.set.shortest_text(text, 0, 0)
     }
 }

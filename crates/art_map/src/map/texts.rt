@@ -1,13 +1,14 @@
-//! Longest matches among keys each of which is a text and the byte that ends it.
+//! Matches among keys each of which is a text and the byte that ends it.
 ghost use Rattle.std.specs.Prelude.{◌≡◌};
 ghost use Rattle.std.specs.Option.{option_map};
-ghost use Rattle.art_model.specs.Pairs.{IsMap, last_of, of_key};
+ghost use Rattle.art_model.specs.Pairs.{IsMap, first_of, last_of, of_key};
 ghost use Rattle.art_model.specs.Texts.{AreEnded, texts_in_front};
 ghost use Rattle.art_map.specs.MapItems.{deref_pair};
+ghost use Rattle.art_reading.specs.ShortTexts.{texts_from};
 
 use super::{ByteMap, pair_at};
 use art_nodes::node::AsBytes;
-use art_reading::lookup::longest_text_unchecked;
+use art_reading::lookup::{longest_text_unchecked, shortest_text_unchecked};
 
 impl<K: AsBytes + Drop, V: Drop, const P: usize> ByteMap<K, V, P> {
     /// Returns the pair with the longest text that is a prefix of the query, or `None`. Each key has to be a text
@@ -22,6 +23,20 @@ impl<K: AsBytes + Drop, V: Drop, const P: usize> ByteMap<K, V, P> {
         ensures sorted { IsMap (of_key K.bytes) self.now }
     {
         let leaf = longest_text_unchecked(&self.store, self.root?, query, end)?;
+        Some(pair_at(&self.store, leaf))
+    }
+
+    /// Returns the pair with the shortest text that is a prefix of the query and has at least so many bytes, or
+    /// `None`. It asks for what `longest_text` does.
+    ///
+    /// It is a single descent along the query, and takes no memory.
+    pub fn shortest_text(&self, query: &[u8], end: u8, at_least: usize) -> Option<(&K, &V)>
+        requires { AreEnded (of_key K.bytes) end self.now }
+        ensures pair { option_map deref_pair result ≡
+            first_of (texts_from (of_key K.bytes) query.now at_least self.now) }
+        ensures sorted { IsMap (of_key K.bytes) self.now }
+    {
+        let leaf = shortest_text_unchecked(&self.store, self.root?, query, end, at_least)?;
         Some(pair_at(&self.store, leaf))
     }
 }

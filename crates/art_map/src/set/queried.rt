@@ -1,7 +1,8 @@
 //! Calls of a set by a key that is not made, as by a text and the byte that ends it.
 ghost use Rattle.std.specs.Prelude.{◌≡◌, option_copied};
-ghost use Rattle.art_model.specs.Pairs.{has_key, last_of, remove_key};
+ghost use Rattle.art_model.specs.Pairs.{first_of, has_key, last_of, remove_key};
 ghost use Rattle.art_model.specs.Texts.{AreEnded, texts_in_front};
+ghost use Rattle.art_reading.specs.ShortTexts.{texts_from};
 
 use super::ByteSet;
 use art_nodes::node::AsBytes;
@@ -30,6 +31,19 @@ impl<K: AsBytes + Drop, const P: usize> ByteSet<K, P> {
         ensures { option_copied result ≡ last_of (texts_in_front K.bytes query.now self.now) }
     {
         match self.map.longest_text(query, end) {
+            Some((key, _)) => Some(key),
+            None => None,
+        }
+    }
+
+    /// Returns the key with the shortest text that is a prefix of the query and has at least so many bytes, or `None`.
+    /// It asks for what `longest_text` of the map does, and costs what `shortest_text` of the map does.
+    pub fn shortest_text(&self, query: &[u8], end: u8, at_least: usize) -> Option<&K>
+        requires { AreEnded K.bytes end self.now }
+        ensures { option_copied result ≡
+            first_of (texts_from K.bytes query.now at_least self.now) }
+    {
+        match self.map.shortest_text(query, end, at_least) {
             Some((key, _)) => Some(key),
             None => None,
         }
