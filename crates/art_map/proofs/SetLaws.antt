@@ -1,5 +1,5 @@
 -- What a map's calls do to the keys alone.
-use Rattle.std.proofs.Common.{◌≡◌, List, [], ◌∷◌, Bool, Option, Some, None, ℕ, suc, ◌||◌, ◌&&◌, cond, filter, length, refl, ap, sym, ◌∙◌, true, false, not, is_some}
+use Rattle.std.proofs.Common.{◌≡◌, List, [], ◌∷◌, Bool, Option, Some, None, ℕ, suc, ◌||◌, ◌&&◌, cond, filter, leb, length, refl, ap, sym, ◌∙◌, true, false, not, is_some}
 use Rattle.std.proofs.lemmas.Bool.{false≢true}
 use Rattle.std.specs.List.{AllByRecursion as Each}
 use Rattle.std.specs.Option.{option_map}
@@ -9,6 +9,7 @@ use Rattle.art_model.specs.Pairs.{IsMap, add_in_order, first_of, has_key, is_con
 use Rattle.art_model.specs.Parts.{below, between}
 use Rattle.art_model.specs.Texts.{texts_in_front, text_of}
 use Rattle.art_model.proofs.pairs.Puts.{any_is_first, has_is_stored, put-new}
+use Rattle.art_reading.specs.ShortTexts.{texts_from}
 use Rattle.art_map.specs.declared.map.MapInsertError.{MapInsertError}
 use Rattle.art_map.specs.declared.map.MapInsertError.TheVariants.{Conflict, Memory}
 use Rattle.art_map.specs.MapAnswers.{IsRefusalOf, with_value_at}
@@ -70,8 +71,8 @@ keys_longest bytes query pairs = ap last_of (keys_where (λ k. is_front (text_of
 -- and so is the shortest one of at least so many bytes
 pub keys_shortest : {K V : Type 0} (bytes : K → List ℕ) (query : List ℕ) (at_least : ℕ) (pairs : List (K × V)) →
     first_of (texts_from bytes query at_least (keys_of pairs)) ≡ option_map (λ x. x.0) (first_of (texts_from (of_key bytes) query at_least pairs))
-keys_shortest bytes query at_least pairs =
-    let is_long = λ k. leb at_least (length (text_of bytes k)) in
+keys_shortest {K} bytes query at_least pairs =
+    let is_long : K → Bool = λ k. leb at_least (length (text_of bytes k)) in
     ap (λ ks. first_of (filter is_long ks)) (keys_where (λ k. is_front (text_of bytes k) query) pairs) ∙ ap first_of (keys_where is_long (texts_in_front (of_key bytes) query pairs))
     ∙ keys_first (texts_from (of_key bytes) query at_least pairs)
 

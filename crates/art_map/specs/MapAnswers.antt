@@ -1,13 +1,9 @@
 -- What the calls of a map answer, by its pairs.
-use Rattle.std.specs.Prelude.{◌≡◌, ℕ, ◌==◌, true, false, if◌then◌else◌, List, [], ◌∷◌, ◌++◌, length, map, Option, Some, None}
+use Rattle.std.specs.Prelude.{◌≡◌, ℕ, true, false, if◌then◌else◌, List, map, Option}
 use Rattle.std.specs.Box.{boxed_slice_items}
-use Rattle.std.specs.List.{dedup}
 use Rattle.std.specs.Option.{option_map}
-use Rattle.art_model.specs.Footprints.{IsIn}
 use Rattle.art_model.specs.Keys.{are_same}
-use Rattle.art_model.specs.Pairs.{of_key, first_of, last_of, without_first, without_last, with_key, has_key, is_conflict}
-use Rattle.art_model.specs.Parts.{below}
-use Rattle.art_model.specs.Trees.{byte_at}
+use Rattle.art_model.specs.Pairs.{of_key, first_of, with_key, has_key, is_conflict}
 use Rattle.art_map.specs.declared.map.MapInsertError.{MapInsertError}
 use Rattle.art_map.specs.declared.map.MapInsertError.TheVariants.{Conflict, Memory}
 
