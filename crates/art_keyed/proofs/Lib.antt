@@ -4,3 +4,4 @@ pub mod Retained
 pub mod Fronts
 pub mod CutTexts
 pub mod TextParts
+pub mod LongestOf

@@ -4,6 +4,7 @@ use Rattle.std.specs.Borrow.{Fml, RattleType, MutBor}
 use Rattle.art_keys.specs.Ended.{HasNoZero, ended}
 use Rattle.art_keys.specs.contracts.terminated.Terminated.{the_row as TerminatedRow}
 use Rattle.art_keyed.specs.KeyedLends.{lends_put, lends_value}
+use Rattle.art_keyed.specs.TextCalls.{longest_key}
 
 module _ (V P : RattleType) (s : MutBor (List (List ℕ × V.Denot))) where
   -- once the borrow r ends, the text's key has the last value written through r; at `None` the pairs stay as they are
@@ -13,3 +14,7 @@ module _ (V P : RattleType) (s : MutBor (List (List ℕ × V.Denot))) where
   -- once the borrow r ends, the text was put with the last value written through r; at `Err` the pairs stay as they are
   abbrev pub lends_text_put : {E : Type 0} → List ℕ → Result (MutBor V.Denot) E → Fml
   lends_text_put text r = lends_put TerminatedRow V P (record { bytes = ended; is_key = HasNoZero }) s text r
+
+  -- once the borrow r ends, the longest string that is a prefix of the text has the last value written through r
+  abbrev pub lends_longest : List ℕ → Option (MutBor V.Denot) → Fml
+  lends_longest text r = lends_value TerminatedRow V P (record { bytes = ended; is_key = HasNoZero }) s (longest_key ended (λ string. string) text s.now) r

@@ -9,8 +9,8 @@ ghost use Rattle.art_map.specs.MapAnswers.{value_at};
 ghost use Rattle.art_map.specs.MapChanges.{put_new};
 ghost use Rattle.art_map.specs.MapItems.{deref_pair};
 ghost use Rattle.art_keyed.specs.KeyedPairs.{strings_below, strings_in_front, strings_not_below};
-ghost use Rattle.art_keyed.specs.TextCalls.{IsTextRefusal};
-ghost use Rattle.art_keyed.specs.TextLends.{lends_text, lends_text_put};
+ghost use Rattle.art_keyed.specs.TextCalls.{IsTextRefusal, without_longest};
+ghost use Rattle.art_keyed.specs.TextLends.{lends_longest, lends_text, lends_text_put};
 
 use super::{PairRefused, TreeMap};
 use art_keys::escaped::Escaped;
@@ -131,6 +131,35 @@ impl<V: Drop, const P: usize> TreeMap<Terminated, V, P> {
             Ok(_) => Ok(()),
             Err(PairRefused { value, .. }) => Err(TextRefused::Memory { value }),
         }
+    }
+
+    /// Returns the value of the longest string that is a prefix of a text, or the same, to be written, or `None`. It
+    /// costs what `longest_match` and `get_text` do together.
+    pub fn longest_match_mut(&mut self, text: &[u8]) -> Option<&mut V>
+        ensures* writes_back { sem 𝓛 (lends_longest V.row P.row self.entry text.now result) }
+        ensures value { option_copied_mut result ≡
+            option_map (λ pair. pair.1) (last_of (strings_in_front (λ string. string) text.now self.old)) }
+    {
+        self.len();
+        let (key, _) = self.longest_match(text)?;
+        let len = key.as_bytes_without_end().len();
+        let Some(lent) = self.get_text_mut(&text[..len]) else {
+            unreachable!()
+        };
+        Some(lent)
+    }
+
+    /// Removes the pair with the longest string that is a prefix of a text, or the same, and returns it. It never
+    /// fails, and costs what `longest_match` and `remove_text` do together.
+    pub fn remove_longest_match(&mut self, text: &[u8]) -> Option<(Terminated, V)>
+        ensures pairs { self.new ≡ without_longest ended (λ string. string) text.now self.old }
+        ensures removed { result ≡
+            last_of (strings_in_front (λ string. string) text.now self.old) }
+    {
+        self.len();
+        let (key, _) = self.longest_match(text)?;
+        let len = key.as_bytes_without_end().len();
+        self.remove_text(&text[..len])
     }
 
     /// Returns the pairs whose strings start with a text, in the order of their keys. It costs what `prefix` does.
