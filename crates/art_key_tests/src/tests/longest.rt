@@ -2,7 +2,7 @@
 ghost use Rattle.std.specs.Prelude.{◌<◌};
 
 use super::short::{COUNT, Short};
-use art_keyed::map::TreeMap;
+use art_keyed::map::{TextRefused, TreeMap};
 use art_keys::escaped::Escaped;
 use art_keys::terminated::Terminated;
 use art_node_support::expected::same;
@@ -207,34 +207,75 @@ fn draw<const P: usize>(
     Some(())
 }
 
-// The lengths of the strings of a list that are prefixes of a query, the longest first, as a number to the base 64.
-fn code_of_list(list: &[Vec<u8>], query: &[u8]) -> u64 {
-    let mut code = 0u64;
-    for len in (0..query.len().saturating_add(1)).rev() {
+// The lengths of the strings of a list that are prefixes of a query, as they rise.
+fn lengths_of_list(alloc: Global, list: &[Vec<u8>], query: &[u8]) -> Option<Vec<u32>> {
+    let mut lengths = Vec::new(alloc);
+    for len in 0..query.len().saturating_add(1) {
         for string in list {
             if string.len() == len && query.starts_with(string.as_slice()) {
-                code = code
-                    .wrapping_mul(64)
-                    .wrapping_add(len as u64)
-                    .wrapping_add(1);
+                lengths.push(u32::try_from(len).ok()?).ok()?;
             }
         }
     }
-    code
+    Some(lengths)
 }
 
-// The same of a map, by its values.
-fn code_of_map<const P: usize>(map: &Bytes<P>, query: &Escaped) -> u64
+// The same of a map, by its values, from the front.
+fn lengths_from_front<const P: usize>(
+    alloc: Global,
+    map: &Bytes<P>,
+    query: &Escaped,
+) -> Option<Vec<u32>>
     requires { P < 256 }
 {
-    let mut code = 0u64;
+    let mut lengths = Vec::new(alloc);
     for (_, len) in map.matches_key(query) {
-        code = code
-            .wrapping_mul(64)
-            .wrapping_add(u64::from(*len))
-            .wrapping_add(1);
+        lengths.push(*len).ok()?;
     }
-    code
+    Some(lengths)
+}
+
+// The same from the back.
+fn lengths_from_back<const P: usize>(
+    alloc: Global,
+    map: &Bytes<P>,
+    query: &Escaped,
+) -> Option<Vec<u32>>
+    requires { P < 256 }
+{
+    let mut lengths = Vec::new(alloc);
+    let mut matches = map.matches_key(query);
+    for _ in 0..COUNT {
+        if let Some((_, len)) = matches.next_back() {
+            lengths.push(*len).ok()?;
+        }
+    }
+    lengths.reverse();
+    Some(lengths)
+}
+
+// The same from both ends in turn.
+fn lengths_from_ends<const P: usize>(
+    alloc: Global,
+    map: &Bytes<P>,
+    query: &Escaped,
+) -> Option<Vec<u32>>
+    requires { P < 256 }
+{
+    let mut lengths = Vec::new(alloc);
+    let mut back = Vec::new(alloc);
+    let mut matches = map.matches_key(query);
+    for _ in 0..COUNT {
+        if let Some((_, len)) = matches.next() {
+            lengths.push(*len).ok()?;
+        }
+        if let Some((_, len)) = matches.next_back() {
+            back.push(*len).ok()?;
+        }
+    }
+    back.reverse();
+    lengths.extend_from_slice(&back).ok()?;
+    Some(lengths)
 }
 
 // The longest length of a list's strings that are prefixes of a query.
@@ -261,7 +302,13 @@ fn agree<const P: usize>(
     let by_text = map.longest_match(alloc, query).ok()?.map(|pair| *pair.1);
     let by_key = map.longest_match_key(&key).map(|pair| *pair.1);
     let is_longest = [by_text, by_key] == [longest_in_list(list, query); 2];
-    Some(is_longest && code_of_map(map, &key) == code_of_list(list, query))
+    let expected = lengths_of_list(alloc, list, query)?;
+    let shortest = map.shortest_match_key(&key).map(|pair| *pair.1);
+    let is_shortest = shortest == expected.first().copied();
+    let front = lengths_from_front(alloc, map, &key)? == expected;
+    let back = lengths_from_back(alloc, map, &key)? == expected;
+    let ends = lengths_from_ends(alloc, map, &key)? == expected;
+    Some(is_longest && is_shortest && front && back && ends)
 }
 
 // On how many drawn queries they agree.
@@ -307,5 +354,162 @@ fn drawn_strings_are_matched_as_in_a_list(rt: HostRuntime) -> Result<(), Fail> {
             agreed::<16>(alloc, 4, 9),
         ],
         [Some(COUNT); 4],
+    )
+}
+
+// The values of the matches of a text, from the front, as digits, and that of the shortest one.
+fn digits<const P: usize>(map: &Texts<P>, text: &[u8]) -> (u32, Option<u32>)
+    requires { P < 256 }
+{
+    let mut digits = 0u32;
+    for (_, value) in map.matches(text) {
+        digits = digits.wrapping_mul(10).wrapping_add(*value);
+    }
+    (digits, map.shortest_match(text).map(|pair| *pair.1))
+}
+
+fn mounts_of<const P: usize>(map: &mut Texts<P>, alloc: Global) -> Option<[(u32, Option<u32>); 5]>
+    requires { P < 256 }
+{
+    put_all(map, alloc, &MOUNTS)?;
+    Some([
+        digits(map, b"/home/alice/projects/deep/directory/inner/file"),
+        digits(map, b"/home/alice/projects/deep/dirXctory/inner/file"),
+        digits(map, b"/home\0/alice"),
+        digits(map, b"home"),
+        digits(map, b""),
+    ])
+}
+
+#[test]
+fn all_mounts_of_a_path_come_in_order(rt: HostRuntime) -> Result<(), Fail> {
+    let alloc = rt.alloc();
+    let expected = [
+        (12345, Some(1)),
+        (123, Some(1)),
+        (12, Some(1)),
+        (1, Some(1)),
+        (1, Some(1)),
+    ];
+    same(
+        [
+            mounts_of::<0>(&mut TreeMap::new(alloc), alloc),
+            mounts_of::<2>(&mut TreeMap::new(alloc), alloc),
+            mounts_of::<16>(&mut TreeMap::new(alloc), alloc),
+        ],
+        [Some(expected), Some(expected), Some(expected)],
+    )
+}
+
+// Counts a word.
+fn count_word<const P: usize>(map: &mut Texts<P>, alloc: Global, word: &[u8]) -> Option<()>
+    requires { P < 256 }
+{
+    let Ok(count) = map.get_text_or_insert(alloc, word, 0) else {
+        return None;
+    };
+    *count = count.wrapping_add(1);
+    Some(())
+}
+
+// Whether an insertion by a text with a zero returns its value.
+fn is_zero_told<const P: usize>(map: &mut Texts<P>, alloc: Global) -> bool
+    requires { P < 256 }
+{
+    match map.get_text_or_insert(alloc, b"a\0b", 7) {
+        Err(TextRefused::InnerZero { value }) => value == 7,
+        _ => false,
+    }
+}
+
+// Adds to the value of the longest match of a text.
+fn add_to_longest<const P: usize>(map: &mut Texts<P>, text: &[u8], more: u32) -> Option<()>
+    requires { P < 256 }
+{
+    let value = map.longest_match_mut(text)?;
+    *value = value.wrapping_add(more);
+    Some(())
+}
+
+// The counts of words, what is left of parts, and of longest matches.
+fn words<const P: usize>(map: &mut Texts<P>, alloc: Global) -> Option<([u32; 8], bool)>
+    requires { P < 256 }
+{
+    for word in [b"to", b"be", b"to", b"or", b"to"] {
+        count_word(map, alloc, word.as_slice())?;
+    }
+    let is_told = is_zero_told(map, alloc);
+    let counts = [
+        map.get_text(b"to").copied()?,
+        map.get_text(b"be").copied()?,
+        u32::try_from(map.len()).ok()?,
+    ];
+    add_to_longest(map, b"total", 10)?;
+    let missed = add_to_longest(map, b"t", 10).is_none();
+    let more = map.get_text(b"to").copied()?;
+    if let Some(value) = map.get_text_mut(b"or") {
+        *value = 5;
+    }
+    let removed = map.remove_longest_match(b"ordinary")?.1;
+    let left = u32::try_from(map.len()).ok()?;
+    put(map, alloc, "top", 2)?;
+    let below = u32::try_from(map.prefix_text(b"to").count()).ok()?;
+    let gone = map.remove_prefix_text(b"to");
+    let answers = [
+        counts[0],
+        counts[1],
+        counts[2],
+        more,
+        removed,
+        left,
+        below,
+        u32::try_from(gone).ok()?,
+    ];
+    Some((
+        answers,
+        is_told && missed && map.prefix_text(b"be\0").count() == 0,
+    ))
+}
+
+#[test]
+fn words_are_counted_by_their_texts(rt: HostRuntime) -> Result<(), Fail> {
+    let alloc = rt.alloc();
+    let expected = ([3, 1, 3, 13, 5, 2, 2, 2], true);
+    same(
+        [
+            words::<0>(&mut TreeMap::new(alloc), alloc),
+            words::<8>(&mut TreeMap::new(alloc), alloc),
+        ],
+        [Some(expected), Some(expected)],
+    )
+}
+
+// What is found, and removed, by texts with bytes 0 and 1.
+fn escaped_parts(map: &mut Bytes<4>, alloc: Global) -> Option<([bool; 4], [usize; 4])> {
+    for text in [b"a\0", b"a\x01", b"ab", b"b\0"] {
+        let _ = map
+            .insert(Escaped::encode(alloc, text.as_slice()).ok()?, 1)
+            .ok()?;
+    }
+    let found = [
+        map.contains_text(alloc, b"a\0").ok()?,
+        map.contains_text(alloc, b"ab").ok()?,
+        map.contains_text(alloc, b"a").ok()?,
+        map.get_key_value_text(alloc, b"b\0").ok()?.is_some(),
+    ];
+    let below = [
+        map.prefix_text(alloc, b"a").ok()?.count(),
+        map.prefix_text(alloc, b"b\0").ok()?.count(),
+    ];
+    let gone = map.remove_prefix_text(alloc, b"a").ok()?;
+    Some((found, [below[0], below[1], gone, map.len()]))
+}
+
+#[test]
+fn texts_of_any_bytes_are_found_by_their_parts(rt: HostRuntime) -> Result<(), Fail> {
+    let alloc = rt.alloc();
+    same(
+        escaped_parts(&mut TreeMap::new(alloc), alloc),
+        Some(([true, true, false, true], [3, 1, 3, 1])),
     )
 }
