@@ -1,12 +1,12 @@
 -- The texts in front of a query, as they come from both ends.
-use Rattle.std.proofs.Common.{◌≡◌, ℕ, ◌+◌, ◌-◌, ◌<◌, ◌≤◌, ◌⊎◌, List, [], ◌∷◌, ◌++◌, length, length-append, length-take, append-nil, append_assoc, take, filter, arith, refl, ap, ap₂, sym, subst, ◌∙◌, Option, Some, None, Bool, true, false, inl, inr, cond, leb}
+use Rattle.std.proofs.Common.{◌≡◌, ℕ, ◌+◌, ◌-◌, ◌<◌, ◌≤◌, ◌⊎◌, List, [], ◌∷◌, ◌++◌, length, length-append, length-take, append-nil, take, filter, arith, refl, ap, ap₂, sym, subst, ◌∙◌, Option, Some, None, Bool, true, false, inl, inr, cond, leb}
 use Rattle.std.specs.List.{AllByRecursion as Each}
 use Rattle.std.proofs.lemmas.Bool.{cases_lt, le-leb, leb-true, lt-leb}
 use Rattle.std.proofs.lemmas.List.{take-append-drop}
 use Rattle.std.proofs.lemmas.List.Elements.{filter-append}
 use Rattle.art_model.specs.Keys.{IsFront, Precedes, is_front}
 use Rattle.art_model.specs.Pairs.{IsMap, Pairwise, first_of, last_of, of_key, without_last}
-use Rattle.art_model.proofs.keys.Keys.{front_from, front_is, parts_left, precedes_byte}
+use Rattle.art_model.proofs.keys.Keys.{front_from}
 use Rattle.art_model.proofs.leaves.Segments.{but_last}
 use Rattle.art_model.proofs.lists.Filters.{Each-both, Each-filter, Pairwise-filter, filter_all, filter_filter, filter_passes}
 use Rattle.art_model.proofs.lists.Lists.{Each-append, Each-left, Each-right, Each-weaker, filter_none, front_trans}

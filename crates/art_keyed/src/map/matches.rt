@@ -27,11 +27,7 @@ pub trait Nested<K: AsBytes, V> {
             (matches_left K.bytes (option_map (λ b. b.now) left.new) at_least.new (pairs self.now)) };
 
     /// Returns the pair with the longest string of those that are left, or `None`, and leaves the shorter ones.
-    fn next_back_match<'q>(
-        &self,
-        left: &mut Option<&'q [u8]>,
-        at_least: usize,
-    ) -> Option<(&K, &V)>
+    fn next_back_match<'q>(&self, left: &mut Option<&'q [u8]>, at_least: usize) -> Option<(&K, &V)>
         ensures { TakesLast
             (matches_left K.bytes (option_map (λ b. b.now) left.old) at_least (pairs self.now)) result
             (matches_left K.bytes (option_map (λ b. b.now) left.new) at_least (pairs self.now)) };

@@ -1,4 +1,4 @@
-use Rattle.std.proofs.Common.{rules, ◌≡◌, length, ap, subst, sym, ◌∙◌, None, Some}
+use Rattle.std.proofs.Common.{rules, ◌≡◌, ◌∷◌, length, ap, subst, sym, ◌∙◌, None, Some}
 use Rattle.std.specs.Option.{option_map}
 use Rattle.art_model.specs.Pairs.{IsMap, first_of, of_key}
 use Rattle.art_map.specs.MapItems.{deref_pair}
@@ -31,5 +31,5 @@ returns g c =
     let found : Some (deref_pair c.in_ok-pair.pair) ≡ first_of (texts_from (of_key g.K.AsBytes.bytes) c.in_ok-query.query.now c.args.at_least.now c.args.self.now) =
     c.in_ok-pair.ensures.pair ∙ ap (λ pairs. first_of (texts_from (of_key g.K.AsBytes.bytes) c.in_ok-query.query.now c.args.at_least.now pairs)) c.as_byte_map.ensures.pairs in
     ap (λ o. matches_left g.K.AsBytes.bytes (option_map (λ b. b.now) o) c.args.at_least.now c.args.self.now) c.in_ok-query.was
-    ∙ first_came g.K.AsBytes.bytes c.in_ok-query.query.now c.args.at_least.now c.args.self.now rise ended (deref_pair c.in_ok-pair.pair) found c.len.result (c.len.ensures ∙ ap length c.as_bytes.ensures)
-    ∙ ap (λ o. deref_pair c.in_ok-pair.pair ∷ matches_left g.K.AsBytes.bytes (option_map (λ b. b.now) o) c.len.result c.args.self.now) (sym c.in_ok-query.was)
+    ∙ first_came g.K.AsBytes.bytes c.in_ok-query.query.now c.args.at_least.now c.args.self.now rise ended (deref_pair c.in_ok-pair.pair) found (length c.as_bytes.result.now) (ap length c.as_bytes.ensures)
+    ∙ ap (λ o. deref_pair c.in_ok-pair.pair ∷ matches_left g.K.AsBytes.bytes (option_map (λ b. b.now) o) (length c.as_bytes.result.now) c.args.self.now) (sym c.in_ok-query.was)
