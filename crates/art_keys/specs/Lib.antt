@@ -10,4 +10,5 @@ pub mod Numbers
 pub mod NumberLaws
 pub mod Joins
 pub mod JoinLaws
+pub mod InjectiveLaws
 pub mod HashLaws

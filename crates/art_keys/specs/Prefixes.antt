@@ -11,6 +11,10 @@ module _ {K : Type 0} (is_key : K → Type 0) (bytes : K → List ℕ) where
   abbrev pub HasNoPrefixes : Type 0
   HasNoPrefixes = (a b : K) → is_key a → is_key b → IsFront (bytes a) (bytes b) → bytes a ≡ bytes b
 
+  -- keys with the same bytes are the same
+  abbrev pub AreInjective : Type 0
+  AreInjective = (a b : K) → is_key a → is_key b → bytes a ≡ bytes b → a ≡ b
+
   -- the bytes of keys compare as the keys do
   abbrev pub KeepsOrder : (K → K → Ordering) → Type 0
   KeepsOrder order = (a b : K) → is_key a → is_key b → slice_cmp nat_cmp (bytes a) (bytes b) ≡ order a b

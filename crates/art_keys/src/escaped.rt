@@ -178,12 +178,15 @@ impl AsBytes for Escaped {
 impl NoPrefixesBytes for Escaped {
     ghost use Rattle.std.specs.Prelude.{⊤};
     ghost use Rattle.art_keys.specs.EscapeLaws.{escape_no_prefixes};
+    ghost use Rattle.art_keys.specs.InjectiveLaws.{escape_injective};
 
     ghost is_key = { λ text. ⊤ };
 
     fn as_key(&self) {}
 
     ghost no_prefixes = { escape_no_prefixes };
+
+    ghost injective = { escape_injective };
 }
 
 impl OrderedBytes for Escaped {

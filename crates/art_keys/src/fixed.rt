@@ -6,12 +6,15 @@ use std::alloc::{AllocError, Global};
 
 impl<const N: usize> NoPrefixesBytes for [u8; N] {
     ghost use Rattle.art_keys.specs.FixedLaws.{fixed_no_prefixes};
+    ghost use Rattle.art_keys.specs.InjectiveLaws.{fixed_injective};
 
     ghost is_key = { λ bytes. length bytes ≡ N };
 
     fn as_key(&self) {}
 
     ghost no_prefixes = { fixed_no_prefixes N };
+
+    ghost injective = { fixed_injective N };
 }
 
 impl<const N: usize> OrderedBytes for [u8; N] {

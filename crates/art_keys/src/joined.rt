@@ -102,6 +102,7 @@ impl<A: DecodeBytes, B: DecodeBytes> AsBytes for Joined<A, B> {
 impl<A: DecodeBytes, B: DecodeBytes> NoPrefixesBytes for Joined<A, B> {
     ghost use Rattle.art_keys.specs.Joins.{AreKeys};
     ghost use Rattle.art_keys.specs.JoinLaws.{joins_no_prefixes};
+    ghost use Rattle.art_keys.specs.InjectiveLaws.{joins_injective};
 
     ghost is_key = { AreKeys A.is_key B.is_key };
 
@@ -110,6 +111,9 @@ impl<A: DecodeBytes, B: DecodeBytes> NoPrefixesBytes for Joined<A, B> {
     }
 
     ghost no_prefixes = { joins_no_prefixes A.is_key A.bytes B.is_key B.bytes A.no_prefixes B.no_prefixes };
+
+    ghost injective = { joins_injective A.is_key A.bytes B.is_key B.bytes
+        A.key_of A.length_of B.key_of B.length_of A.comes_back B.comes_back };
 }
 
 impl<A: DecodeBytes + OrderedBytes, B: DecodeBytes + OrderedBytes> OrderedBytes for Joined<A, B> {

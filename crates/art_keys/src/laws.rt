@@ -1,7 +1,7 @@
 //! What a type of keys promises, proved for each type.
 ghost use Rattle.std.specs.Prelude.{◌≡◌, IfOk, IsOk};
 ghost use Rattle.art_keys.specs.Decoded.{BeginsWithKey, ComesBack, IsOfKey};
-ghost use Rattle.art_keys.specs.Prefixes.{BeginsAs, HasNoPrefixes, IsInside, IsKept, KeepsFronts, KeepsOrder};
+ghost use Rattle.art_keys.specs.Prefixes.{AreInjective, BeginsAs, HasNoPrefixes, IsInside, IsKept, KeepsFronts, KeepsOrder};
 ghost use Rattle.art_model.specs.Clones.{KeepBytes};
 
 use art_nodes::node::AsBytes;
@@ -19,6 +19,9 @@ pub trait NoPrefixesBytes: AsBytes {
 
     /// A key whose bytes are a prefix of another's has the same bytes.
     ghost no_prefixes: { HasNoPrefixes is_key Self.bytes };
+
+    /// Keys with the same bytes are equal, as contracts see them.
+    ghost injective: { AreInjective is_key Self.bytes };
 }
 
 /// Keys whose bytes are in the order of the type.

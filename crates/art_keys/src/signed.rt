@@ -208,6 +208,7 @@ impl<const N: usize> AsBytes for Signed<N> {
 impl<const N: usize> NoPrefixesBytes for Signed<N> {
     ghost use Rattle.art_keys.specs.Numbers.{HasSignedBytes};
     ghost use Rattle.art_keys.specs.NumberLaws.{signed_no_prefixes};
+    ghost use Rattle.art_keys.specs.InjectiveLaws.{signed_injective};
 
     ghost is_key = { HasSignedBytes N };
 
@@ -216,6 +217,8 @@ impl<const N: usize> NoPrefixesBytes for Signed<N> {
     }
 
     ghost no_prefixes = { signed_no_prefixes N };
+
+    ghost injective = { signed_injective N };
 }
 
 impl<const N: usize> OrderedBytes for Signed<N> {

@@ -176,6 +176,7 @@ impl AsBytes for Terminated {
 
 impl NoPrefixesBytes for Terminated {
     ghost use Rattle.art_keys.specs.EndedLaws.{ended_no_prefixes};
+    ghost use Rattle.art_keys.specs.InjectiveLaws.{ended_injective};
 
     ghost is_key = { HasNoZero };
 
@@ -184,6 +185,8 @@ impl NoPrefixesBytes for Terminated {
     }
 
     ghost no_prefixes = { ended_no_prefixes };
+
+    ghost injective = { ended_injective };
 }
 
 impl OrderedBytes for Terminated {

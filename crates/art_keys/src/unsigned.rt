@@ -185,6 +185,7 @@ impl<const N: usize> AsBytes for Unsigned<N> {
 impl<const N: usize> NoPrefixesBytes for Unsigned<N> {
     ghost use Rattle.art_keys.specs.Numbers.{HasBytes};
     ghost use Rattle.art_keys.specs.NumberLaws.{numbers_no_prefixes};
+    ghost use Rattle.art_keys.specs.InjectiveLaws.{numbers_injective};
 
     ghost is_key = { HasBytes N };
 
@@ -193,6 +194,8 @@ impl<const N: usize> NoPrefixesBytes for Unsigned<N> {
     }
 
     ghost no_prefixes = { numbers_no_prefixes N };
+
+    ghost injective = { numbers_injective N };
 }
 
 impl<const N: usize> OrderedBytes for Unsigned<N> {
