@@ -13,6 +13,7 @@ pub mod Written
 pub mod LeafOf
 pub mod Changed
 pub mod Entered
+pub mod Reserving
 pub mod SetLaws
 pub mod SetMembers
 pub mod SetOrders

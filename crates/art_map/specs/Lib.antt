@@ -4,6 +4,8 @@ pub mod MapChanges
 pub mod MapItems
 pub mod MapLends
 pub mod MapCalls
+pub mod MapBoth
+pub mod Reserved
 pub mod SetKeys
 pub mod SetAlgebra
 pub mod MapRetain

@@ -38,6 +38,7 @@ use std::marker::Model;
 use std::ops::{Bound, Index, RangeBounds};
 use thiserror::Error;
 
+mod both;
 mod compact;
 mod compared;
 mod each;
@@ -55,6 +56,7 @@ mod replace;
 mod retain;
 mod texts;
 
+pub use both::BothInsertError;
 pub use entry::{Entry, EntryOf};
 pub use iter::{Leaves, MapIter, MapIterOf};
 pub use owned::{IntoIter, IntoKeys, IntoValues};
@@ -407,6 +409,7 @@ impl<K: AsBytes + Drop, V: Drop, const P: usize> ByteMap<K, V, P> {
         ensures succeeds { IsOk result }
         ensures pairs { self.new ≡ without_first self.old }
         ensures removed { IfOk result (λ removed. removed ≡ first_of self.old) }
+        ensures was_sorted { IsMap (of_key K.bytes) self.old }
     {
         Ok(take_first(&mut self.store, &mut self.root, &mut self.len))
     }
@@ -416,6 +419,7 @@ impl<K: AsBytes + Drop, V: Drop, const P: usize> ByteMap<K, V, P> {
         ensures succeeds { IsOk result }
         ensures pairs { self.new ≡ without_last self.old }
         ensures removed { IfOk result (λ removed. removed ≡ last_of self.old) }
+        ensures was_sorted { IsMap (of_key K.bytes) self.old }
     {
         Ok(take_last(&mut self.store, &mut self.root, &mut self.len))
     }
@@ -424,6 +428,7 @@ impl<K: AsBytes + Drop, V: Drop, const P: usize> ByteMap<K, V, P> {
     pub fn pop_first_below(&mut self, prefix: &[u8]) -> Option<(K, V)>
         ensures pairs { self.new ≡ without_below (of_key K.bytes) prefix.now 1 self.old }
         ensures removed { result ≡ first_of (below (of_key K.bytes) prefix.now self.old) }
+        ensures was_sorted { IsMap (of_key K.bytes) self.old }
     {
         take_below(&mut self.store, &mut self.root, &mut self.len, prefix)
     }

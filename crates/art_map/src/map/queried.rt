@@ -51,6 +51,7 @@ impl<K: AsBytes + Drop, V: Drop, const P: usize> ByteMap<K, V, P> {
     pub fn remove_by<Q: KeyQuery>(&mut self, query: Q) -> Option<(K, V)>
         ensures pairs { self.new ≡ remove_key (of_key K.bytes) (Q.key query) self.old }
         ensures removed { result ≡ remove_reply (of_key K.bytes) (Q.key query) self.old }
+        ensures was_sorted { IsMap (of_key K.bytes) self.old }
     {
         take_key(&mut self.store, &mut self.root, &mut self.len, query)
     }

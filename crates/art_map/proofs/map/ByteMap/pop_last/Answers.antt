@@ -1,6 +1,7 @@
 use Rattle.std.proofs.Common.{refl}
-use Rattle.art_model.specs.Pairs.{last_of, without_last}
+use Rattle.art_model.specs.Pairs.{last_of, of_key, without_last}
 use Rattle.art_map.proofs.Results.{taken_holds, tells_taken}
+use Rattle.art_map.proofs.Views.{view_sorted}
 use Rattle.art_map.proofs.map.ByteMap.pop_last.Goals as goal
 
 pub invariant_of-self : goal.invariant_of-self
@@ -9,4 +10,4 @@ invariant_of-self g c = taken_holds g.K.AsBytes.bytes g.row.P _ _ _ _ last_of wi
 pub returns : goal.returns
 returns g c =
     let (left, removed) = tells_taken g.K.AsBytes.bytes g.row.P _ _ _ _ last_of without_last c.take_last.result c.take_last.ensures c.self.view_is in
-    record { succeeds = refl; pairs = left; removed = removed }
+    record { succeeds = refl; pairs = left; removed = removed; was_sorted = view_sorted (of_key g.K.AsBytes.bytes) g.row.P c.self.inside.store c.self.invariant c.self.view_is }
