@@ -1,4 +1,5 @@
 pub mod Keyed
+pub mod KeyedLaws
 pub mod Between
 pub mod Retained
 pub mod Fronts

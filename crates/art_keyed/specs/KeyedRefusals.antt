@@ -1,12 +1,15 @@
 -- What is handed back of what was not put in.
-use Rattle.std.specs.Prelude.{◌≡◌, ℕ, false, List, Option, Some}
+use Rattle.std.specs.Prelude.{◌≡◌, ◌⊎◌, ℕ, false, List, Option, Some}
 use Rattle.std.specs.Iterator.{YieldsThen}
 use Rattle.art_model.specs.Pairs.{has_key, of_key}
 use Rattle.art_map.specs.MapCalls.{put_all}
 use Rattle.art_map.specs.SetKeys.{add_all}
+use Rattle.art_map.specs.declared.map.both.BothInsertError.{BothInsertError}
+use Rattle.art_map.specs.declared.map.both.BothInsertError.TheVariants.{First, Second}
 use Rattle.art_map.specs.declared.map.MapInsertError.{MapInsertError}
 use Rattle.art_map.specs.declared.map.MapInsertError.TheVariants.{Conflict, Memory}
 use Rattle.art_keyed.specs.declared.map.PairRefused.{PairRefused}
+use Rattle.art_keyed.specs.declared.map.both.BothRefused.{BothRefused}
 use Rattle.art_keyed.specs.declared.set.KeyRefused.{KeyRefused}
 
 -- the pair of an error
@@ -26,3 +29,18 @@ module _ {I K : Type 0} (steps : I → Option K → I → Type 0) (bytes : K →
   abbrev pub AddsUntilRefused : I → List K → KeyRefused K → I → List K → Type 0
   AddsUntilRefused from before refused to after =
       (ks : List K) × YieldsThen steps from ks (Some refused.key) to × (after ≡ add_all bytes ks before) × (has_key bytes (bytes refused.key) after ≡ false)
+
+-- the pair of an error
+abbrev pub refused_pair : {K V : Type 0} → MapInsertError K V → K × V
+refused_pair (Conflict key value error) = (key, value)
+refused_pair (Memory key value) = (key, value)
+
+-- the pairs of an error
+abbrev pub AreHandedBack : {K V L W : Type 0} → BothInsertError K V L W → BothRefused K V L W → Type 0
+AreHandedBack (First error pair) refused = (refused.pair ≡ refused_pair error) × (refused.other ≡ pair)
+AreHandedBack (Second pair error) refused = (refused.pair ≡ pair) × (refused.other ≡ refused_pair error)
+
+-- one of two keys is not stored in its map
+abbrev pub IsOneNew : {K V L W : Type 0} → (K → List ℕ) → K → List (K × V) → (L → List ℕ) → L → List (L × W) → Type 0
+IsOneNew bytes key pairs other_bytes other others =
+    (has_key (of_key bytes) (bytes key) pairs ≡ false) ⊎ (has_key (of_key other_bytes) (other_bytes other) others ≡ false)

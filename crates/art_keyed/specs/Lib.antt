@@ -1,4 +1,5 @@
 pub mod KeyedPairs
+pub mod KeyedValues
 pub mod KeyedRefusals
 pub mod KeyedLends
 pub mod Matches

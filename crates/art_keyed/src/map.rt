@@ -1,5 +1,5 @@
 //! An ordered map whose keys are never in conflict. Its contracts speak of lists of pairs alone.
-ghost use Rattle.std.specs.Prelude.{◌≡◌, ◌≢◌, ◌↔◌, ◌<◌, ◌^◌, ℕ, List, [], length, false, IsOk, IfOk, IfErr, IsSome, IsTrue, OnOk, OnErr, Some, None, option_copied};
+ghost use Rattle.std.specs.Prelude.{◌≡◌, ◌≢◌, ◌↔◌, ◌<◌, ◌^◌, ℕ, List, [], length, false, IsOk, IfOk, IfErr, IfSome, IsSome, IsTrue, OnOk, OnErr, Some, None, option_copied};
 ghost use Rattle.std.specs.Borrow.{Bor, sem};
 ghost use Rattle.std.specs.Fn.{FnOnceReturnsAt};
 ghost use Rattle.std.specs.Option.{UnwrapsOrElse, option_copied_mut, option_map, unwrap_or};
@@ -17,6 +17,7 @@ use std::marker::Model;
 use std::ops::Index;
 use thiserror::Error;
 
+mod both;
 mod compared;
 mod each;
 mod entry;
@@ -27,6 +28,7 @@ mod ordered;
 mod retain;
 mod strings;
 
+pub use both::BothRefused;
 pub use entry::{TreeEntry, TreeEntryOf};
 pub use matches::{Matches, MatchesOf, Nested};
 pub(crate) use ordered::bytes_of;
@@ -80,6 +82,7 @@ impl<K: NoPrefixesBytes + Drop, V: Drop, const P: usize> TreeMap<K, V, P> {
     ghost use Rattle.art_model.specs.Pairs.{IsMap, first_of, has_key, last_of, of_key, put, put_reply, remove_key, remove_reply, with_key, without_first, without_last};
     ghost use Rattle.art_keyed.specs.KeyedPairs.{HaveKeys};
     ghost use Rattle.art_keyed.specs.KeyedLends.{lends_put, lends_value};
+    ghost use Rattle.art_keyed.specs.KeyedValues.{CountsPut, CountsRemoved, KeepsOtherKeys, value_of};
 
     /// Returns an empty map, and takes no memory.
     pub fn new(alloc: Global) -> Self
@@ -148,6 +151,7 @@ impl<K: NoPrefixesBytes + Drop, V: Drop, const P: usize> TreeMap<K, V, P> {
     /// Returns the pairs in the order of the bytes of their keys, from both ends. A step of the walk goes down no tree.
     pub fn iter(&self) -> MapIter<'_, K, V, P>
         ensures pairs { result ≡ self.now }
+        ensures known { HaveKeys K.is_key self.now }
         ensures sorted { IsMap (of_key K.bytes) self.now }
         ensures fits { length result < 2 ^ 64 }
     {
@@ -188,14 +192,16 @@ impl<K: NoPrefixesBytes + Drop, V: Drop, const P: usize> TreeMap<K, V, P> {
 
     /// Returns the first pair, or `None`. It reads one inner node for each level.
     pub fn first_key_value(&self) -> Option<(&K, &V)>
-        ensures { option_map deref_pair result ≡ first_of self.now }
+        ensures pair { option_map deref_pair result ≡ first_of self.now }
+        ensures known { HaveKeys K.is_key self.now }
     {
         self.map.first_key_value()
     }
 
     /// Returns the last pair, or `None`. It reads one inner node for each level.
     pub fn last_key_value(&self) -> Option<(&K, &V)>
-        ensures { option_map deref_pair result ≡ last_of self.now }
+        ensures pair { option_map deref_pair result ≡ last_of self.now }
+        ensures known { HaveKeys K.is_key self.now }
     {
         self.map.last_key_value()
     }
@@ -211,6 +217,9 @@ impl<K: NoPrefixesBytes + Drop, V: Drop, const P: usize> TreeMap<K, V, P> {
             (value_at K.bytes (K.bytes key) self.new ≡ Some value) }
         ensures others { OnOk result ((other : List ℕ) → other ≢ K.bytes key →
             value_at K.bytes other self.new ≡ value_at K.bytes other self.old) }
+        ensures other_keys { OnOk result
+            (KeepsOtherKeys K.is_key K.bytes key self.old self.new) }
+        ensures len { IfOk result (λ replaced. CountsPut replaced self.old self.new) }
         ensures sorted { IsMap (of_key K.bytes) self.new }
 
         ensures handed_back { IfErr result (λ refused.
@@ -285,7 +294,10 @@ impl<K: NoPrefixesBytes + Drop, V: Drop, const P: usize> TreeMap<K, V, P> {
         ensures gone { value_at K.bytes (K.bytes key.now) self.new ≡ None }
         ensures others { (other : List ℕ) → other ≢ K.bytes key.now →
             value_at K.bytes other self.new ≡ value_at K.bytes other self.old }
+        ensures other_keys { KeepsOtherKeys K.is_key K.bytes key.now self.old self.new }
+        ensures len { CountsRemoved result self.old self.new }
     {
+        key.as_key();
         self.map.remove_by(key.as_bytes())
     }
 
@@ -293,6 +305,13 @@ impl<K: NoPrefixesBytes + Drop, V: Drop, const P: usize> TreeMap<K, V, P> {
     pub fn pop_first(&mut self) -> Option<(K, V)>
         ensures pairs { self.new ≡ without_first self.old }
         ensures removed { result ≡ first_of self.old }
+        ensures key { IfSome result (λ pair. K.is_key pair.0) }
+        ensures stored { IfSome result (λ pair.
+            value_of K.bytes pair.0 self.old ≡ Some pair.1) }
+        ensures gone { IfSome result (λ pair. value_of K.bytes pair.0 self.new ≡ None) }
+        ensures other_keys { IfSome result (λ pair.
+            KeepsOtherKeys K.is_key K.bytes pair.0 self.old self.new) }
+        ensures len { CountsRemoved result self.old self.new }
     {
         self.map.pop_first().unwrap()
     }
@@ -301,6 +320,13 @@ impl<K: NoPrefixesBytes + Drop, V: Drop, const P: usize> TreeMap<K, V, P> {
     pub fn pop_last(&mut self) -> Option<(K, V)>
         ensures pairs { self.new ≡ without_last self.old }
         ensures removed { result ≡ last_of self.old }
+        ensures key { IfSome result (λ pair. K.is_key pair.0) }
+        ensures stored { IfSome result (λ pair.
+            value_of K.bytes pair.0 self.old ≡ Some pair.1) }
+        ensures gone { IfSome result (λ pair. value_of K.bytes pair.0 self.new ≡ None) }
+        ensures other_keys { IfSome result (λ pair.
+            KeepsOtherKeys K.is_key K.bytes pair.0 self.old self.new) }
+        ensures len { CountsRemoved result self.old self.new }
     {
         self.map.pop_last().unwrap()
     }

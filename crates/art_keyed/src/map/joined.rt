@@ -1,8 +1,9 @@
 //! Maps whose keys are two keys as one.
-ghost use Rattle.std.specs.Prelude.{◌≡◌, ◌<◌, ◌^◌, length, IsOk, IfOk, OnOk};
+ghost use Rattle.std.specs.Prelude.{◌≡◌, ◌<◌, ◌^◌, length, IfSome, None, Some};
 ghost use Rattle.art_model.specs.Pairs.{IsMap, first_of, of_key};
-ghost use Rattle.art_keys.specs.Joins.{joined_bytes};
-ghost use Rattle.art_keyed.specs.KeyedPairs.{pairs_with_first, pairs_without_first, without_first_with};
+ghost use Rattle.art_keys.specs.Joins.{AreKeys, joined_bytes};
+ghost use Rattle.art_keyed.specs.KeyedValues.{CountsRemoved, KeepsOtherKeys, value_of};
+ghost use Rattle.art_keyed.specs.KeyedPairs.{HaveKeys, pairs_with_first, pairs_without_first, without_first_with};
 
 use super::TreeMap;
 use art_keys::joined::Joined;
@@ -18,6 +19,7 @@ impl<A: DecodeBytes + Drop, B: DecodeBytes + Drop, V: Drop, const P: usize> Tree
     /// costs what `prefix` of a `ByteMap` does, and takes no memory.
     pub fn with_first(&self, first: &A) -> Range<'_, Joined<A, B>, V, P>
         ensures pairs { result ≡ pairs_with_first A.bytes (A.bytes first.now) self.now }
+        ensures known { HaveKeys (AreKeys A.is_key B.is_key) self.now }
         ensures sorted { IsMap (of_key (joined_bytes A.bytes B.bytes)) self.now }
         ensures fits { length result < 2 ^ 64 }
     {
@@ -40,6 +42,15 @@ impl<A: DecodeBytes + Drop, B: DecodeBytes + Drop, V: Drop, const P: usize> Tree
         ensures pairs { self.new ≡ without_first_with A.bytes (A.bytes first.now) self.old }
         ensures removed { result ≡
             first_of (pairs_with_first A.bytes (A.bytes first.now) self.old) }
+        ensures key { IfSome result (λ pair. AreKeys A.is_key B.is_key pair.0) }
+        ensures stored { IfSome result (λ pair.
+            value_of (joined_bytes A.bytes B.bytes) pair.0 self.old ≡ Some pair.1) }
+        ensures gone { IfSome result (λ pair.
+            value_of (joined_bytes A.bytes B.bytes) pair.0 self.new ≡ None) }
+        ensures other_keys { IfSome result (λ pair.
+            KeepsOtherKeys (AreKeys A.is_key B.is_key) (joined_bytes A.bytes B.bytes) pair.0
+            self.old self.new) }
+        ensures len { CountsRemoved result self.old self.new }
     {
         first.as_key();
         self.map.pop_first_below(first.as_bytes())

@@ -5,7 +5,7 @@ ghost use Rattle.std.specs.Range.Bound.{bound_map};
 ghost use Rattle.std.specs.declared.ops.Bound.TheVariants.{Unbounded};
 ghost use Rattle.art_model.specs.Pairs.{IsMap, first_of, last_of, of_key};
 ghost use Rattle.art_map.specs.MapItems.{deref_pair};
-ghost use Rattle.art_keyed.specs.KeyedPairs.{OnBound, RiseBy, keys_between};
+ghost use Rattle.art_keyed.specs.KeyedPairs.{HaveKeys, OnBound, RiseBy, keys_between};
 
 use super::TreeMap;
 use art_keys::laws::OrderedBytes;
@@ -25,6 +25,8 @@ impl<K: OrderedBytes + Drop, V: Drop, const P: usize> TreeMap<K, V, P> {
     pub fn range<R: RangeBounds<K> + Drop>(&self, range: R) -> Range<'_, K, V, P>
         ensures pairs { R.has_bounds range → result ≡
             keys_between K.order (R.start_bound range) (R.end_bound range) self.now }
+        ensures known { HaveKeys K.is_key self.now }
+        ensures rises { RiseBy K.order self.now }
         ensures sorted { IsMap (of_key K.bytes) self.now }
         ensures fits { length result < 2 ^ 64 }
     {
@@ -35,6 +37,8 @@ impl<K: OrderedBytes + Drop, V: Drop, const P: usize> TreeMap<K, V, P> {
     fn between(&self, from: Bound<&K>, to: Bound<&K>) -> Range<'_, K, V, P>
         ensures pairs { result ≡ keys_between K.order (bound_map (λ b. b.now) from.entry)
             (bound_map (λ b. b.now) to.entry) self.now }
+        ensures known { HaveKeys K.is_key self.now }
+        ensures rises { RiseBy K.order self.now }
         ensures sorted { IsMap (of_key K.bytes) self.now }
         ensures fits { length result < 2 ^ 64 }
     {

@@ -1,5 +1,5 @@
 //! Maps whose keys stand for strings of bytes.
-ghost use Rattle.std.specs.Prelude.{◌≡◌, ◌<◌, ◌^◌, length, IsOk, IfOk, OnOk, OnErr, option_copied};
+ghost use Rattle.std.specs.Prelude.{◌≡◌, ◌<◌, ◌^◌, length, IfSome, IsOk, None, Some, IfOk, OnOk, OnErr, option_copied};
 ghost use Rattle.std.specs.Option.{option_map};
 ghost use Rattle.art_model.specs.Pairs.{IsMap, first_of, has_key, last_of, of_key, remove_key, remove_reply};
 ghost use Rattle.art_model.specs.Parts.{without_below};
@@ -7,6 +7,7 @@ ghost use Rattle.art_map.specs.MapAnswers.{value_at};
 ghost use Rattle.art_map.specs.MapItems.{deref_pair};
 ghost use Rattle.art_keys.specs.Ended.{ended};
 ghost use Rattle.art_keys.specs.Escapes.{IsPlain, escape};
+ghost use Rattle.art_keyed.specs.KeyedValues.{CountsRemoved, KeepsOtherKeys, value_of};
 ghost use Rattle.art_keyed.specs.KeyedPairs.{strings_below, strings_in_front, strings_not_below};
 
 use super::TreeMap;
@@ -41,6 +42,13 @@ impl<K: StringBytes + Drop, V: Drop, const P: usize> TreeMap<K, V, P> {
     pub fn pop_first_below(&mut self, prefix: &K) -> Option<(K, V)>
         ensures pairs { self.new ≡ without_below (of_key K.text) (K.text prefix.now) 1 self.old }
         ensures removed { result ≡ first_of (strings_below K.text (K.text prefix.now) self.old) }
+        ensures key { IfSome result (λ pair. K.is_key pair.0) }
+        ensures stored { IfSome result (λ pair.
+            value_of K.bytes pair.0 self.old ≡ Some pair.1) }
+        ensures gone { IfSome result (λ pair. value_of K.bytes pair.0 self.new ≡ None) }
+        ensures other_keys { IfSome result (λ pair.
+            KeepsOtherKeys K.is_key K.bytes pair.0 self.old self.new) }
+        ensures len { CountsRemoved result self.old self.new }
     {
         self.map.pop_first_below(prefix.beginning())
     }
