@@ -42,6 +42,7 @@ pub use Rattle.art_map.specs.MapAnswers
 pub use Rattle.art_map.specs.MapItems
 pub use Rattle.art_map.specs.MapLends
 pub use Rattle.art_map.specs.MapCalls
+pub use Rattle.art_map.specs.MapBoth
 pub use Rattle.art_map.specs.MapRetain
 pub use Rattle.art_map.specs.SetKeys
 pub use Rattle.art_map.specs.SetAlgebra
@@ -54,6 +55,7 @@ pub use Rattle.art_keys.specs.Numbers
 pub use Rattle.art_keys.specs.Joins
 pub use Rattle.art_keyed.specs.KeyedPairs
 pub use Rattle.art_keyed.specs.KeyedRefusals
+pub use Rattle.art_keyed.specs.KeyedValues
 pub use Rattle.art_keyed.specs.KeyedLends
 pub use Rattle.art_keyed.specs.Matches
 -- runs of commands
