@@ -13,7 +13,10 @@ use Rattle.std.proofs.lemmas.Bool.{true≢false}
 use Rattle.art_map.specs.MapAnswers.{IsRefusalOf, with_value_at}
 use Rattle.art_map.specs.declared.map.MapInsertError.{MapInsertError}
 use Rattle.art_map.specs.declared.map.MapInsertError.TheVariants.{Conflict, Memory}
-use Rattle.art_keyed.specs.KeyedRefusals.{IsHandedBack}
+use Rattle.art_map.specs.MapBoth.{IsRefusalOfBoth}
+use Rattle.art_map.specs.declared.map.both.BothInsertError.{BothInsertError}
+use Rattle.art_map.specs.declared.map.both.BothInsertError.TheVariants.{First, Second}
+use Rattle.art_keyed.specs.KeyedRefusals.{IsHandedBack, IsOneNew}
 use Rattle.art_keyed.specs.declared.map.PairRefused.{PairRefused}
 use Rattle.art_model.proofs.keys.Keys.{front_same}
 use Rattle.art_model.proofs.keys.KeyLaws.{relation_is_decided, before_less}
@@ -57,6 +60,12 @@ module _ {K : Type 0} (V : Type 0) (is_key : K → Type 0) (bytes : K → List �
       ((refused.key ≡ key) × (refused.value ≡ value)) × (has_key (of_key bytes) (bytes key) pairs ≡ false)
   refusal_told law key value pairs of_key' all (Conflict k v error) told refused back = absurd (true≢false (sym told.3 ∙ never_in_conflict law key pairs of_key' all))
   refusal_told law key value pairs of_key' all (Memory k v) told refused back = ((back.0 ∙ told.0, back.1 ∙ told.1), told.2)
+
+  -- and the key is not stored
+  pub refused_is_new : HasNoPrefixes is_key bytes → (key : K) (value : V) (pairs : List (K × V)) → is_key key → HaveKeys is_key pairs →
+      (error : MapInsertError K V) → IsRefusalOf bytes key value pairs error → has_key (of_key bytes) (bytes key) pairs ≡ false
+  refused_is_new law key value pairs of_key' all (Conflict k v error) told = absurd (true≢false (sym told.3 ∙ never_in_conflict law key pairs of_key' all))
+  refused_is_new law key value pairs of_key' all (Memory k v) told = told.2
 
   -- ---- what stays
 
@@ -138,3 +147,12 @@ module _ {K : Type 0} (V : Type 0) (is_key : K → Type 0) (bytes : K → List �
       each : (others : List K) → Each is_key others → Each (λ y. Precedes (bytes x) (bytes y)) others → Each (λ y. order x y ≡ Less) others
       each [] of_others h = tt
       each (y ∷ others) of_others h = (sym (keeps x y all.0 of_others.0) ∙ before_less _ h.0.0, each others of_others.1 h.1)
+
+-- of two pairs that were not inserted, one has a key that is not stored
+pub one_is_new : {K V L W : Type 0} (is_key : K → Type 0) (bytes : K → List ℕ) (is_other : L → Type 0) (other_bytes : L → List ℕ) → HasNoPrefixes is_key bytes → HasNoPrefixes is_other other_bytes →
+    (pair : K × V) (pairs : List (K × V)) (other : L × W) (others : List (L × W)) → is_key pair.0 → HaveKeys is_key pairs → is_other other.0 → HaveKeys is_other others →
+    (error : BothInsertError K V L W) → IsRefusalOfBoth bytes other_bytes pair pairs other others error → IsOneNew bytes pair.0 pairs other_bytes other.0 others
+one_is_new {K} {V} {L} {W} is_key bytes is_other other_bytes law other_law pair pairs other others of_key' all of_other all_others (First error back) told =
+    inl (refused_is_new V is_key bytes law pair.0 pair.1 pairs of_key' all error told.0)
+one_is_new {K} {V} {L} {W} is_key bytes is_other other_bytes law other_law pair pairs other others of_key' all of_other all_others (Second back error) told =
+    inr (refused_is_new W is_other other_bytes other_law other.0 other.1 others of_other all_others error told.1)

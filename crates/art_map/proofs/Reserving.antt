@@ -1,7 +1,7 @@
 -- What is known of a place that was reserved for a key, or was not.
-use Rattle.std.proofs.Common.{◌≡◌, ℕ, List, Option, refl, ap, ◌∙◌, true, false}
+use Rattle.std.proofs.Common.{◌≡◌, ℕ, List, Option, refl, ap, ◌∙◌, true}
 use Rattle.art_nodes.specs.Nodes.{Nodes}
-use Rattle.art_model.specs.Pairs.{IsMap, has_key, is_conflict, of_key}
+use Rattle.art_model.specs.Pairs.{IsMap, is_conflict, of_key}
 use Rattle.art_reading.specs.declared.end_node.InsertKind.{InsertKind}
 use Rattle.art_reading.specs.declared.end_node.InsertKind.TheVariants.{Exact, IntoExisting, MismatchPrefix, SplitLeaf}
 use Rattle.art_writing.specs.Inserted.{placed_for}

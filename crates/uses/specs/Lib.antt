@@ -3,3 +3,5 @@ pub mod Inventory
 pub mod Leases
 pub mod Events
 pub mod Indexes
+pub mod Tally
+pub mod Sessions

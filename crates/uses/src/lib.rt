@@ -31,6 +31,8 @@ pub mod keys;
 pub mod leases;
 pub mod months;
 pub mod parts;
+pub mod sessions;
+pub mod tally;
 
 /// Puts a pair in, and returns the root. `None` where the key is related to an unequal stored one, or for
 /// want of memory; then the root stands for what it stood for.

@@ -1,0 +1,35 @@
+//! Words, and how often each was added.
+ghost use Rattle.std.specs.Prelude.{◌≡◌, ◌≢◌, ◌+◌, ◌-◌, ◌^◌, ℕ, List, min, IfOk, OnErr, OnOk};
+ghost use Rattle.uses.specs.Tally.{count_of};
+
+use art_operations::keys::Escaped;
+use art_operations::tree_map::TreeMap;
+use std::alloc::{AllocError, Global};
+
+/// How often each word was added. A word is any string of bytes.
+pub type Tally = TreeMap<Escaped, u64, 16>;
+
+/// Counts a word once more; a count stays at the greatest number. It fails only if an allocation fails, and then nothing
+/// is counted.
+pub fn add(tally: &mut Tally, alloc: Global, word: &[u8]) -> Result<(), AllocError>
+    ensures counted { OnOk result (count_of word.now tally.new ≡
+        min (count_of word.now tally.old + 1) (2 ^ 64 - 1)) }
+    ensures others { OnOk result ((other : List ℕ) → other ≢ word.now →
+        count_of other tally.new ≡ count_of other tally.old) }
+    ensures kept { OnErr result (tally.new ≡ tally.old) }
+{
+    let key = Escaped::encode(alloc, word)?;
+    let count = tally.get(&key).copied().unwrap_or(0);
+    let Ok(_) = tally.insert(key, count.saturating_add(1)) else {
+        return Err(AllocError);
+    };
+    Ok(())
+}
+
+/// Returns how often a word was added.
+pub fn count(tally: &Tally, alloc: Global, word: &[u8]) -> Result<u64, AllocError>
+    ensures { IfOk result (λ count. count ≡ count_of word.now tally.now) }
+{
+    let found = tally.get_text(alloc, word)?;
+    Ok(found.copied().unwrap_or(0))
+}
