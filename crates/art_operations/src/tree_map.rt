@@ -1,5 +1,5 @@
 //! An ordered map of keys that never conflict.
 pub use art_keyed::map::{
-    BothRefused, Matches, MatchesOf, Nested, PairRefused, TextRefused, TreeEntry, TreeEntryOf, TreeMap,
-    keys_are_never_in_conflict,
+    BothRefused, Matches, MatchesOf, Nested, PairRefused, TextRefused, TreeEntry, TreeEntryOf,
+    TreeMap, keys_are_never_in_conflict,
 };
