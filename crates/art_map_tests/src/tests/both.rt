@@ -3,6 +3,7 @@ use art_operations::map::{BothInsertError, ByteMap, MapInsertError};
 use std::alloc::Global;
 
 type Words = ByteMap<Vec<u8>, u32, 4>;
+
 type Codes = ByteMap<[u8; 2], u32, 4>;
 
 fn word(alloc: Global, text: &[u8]) -> Option<Vec<u8>> {
@@ -26,9 +27,24 @@ fn insert(
 fn three(alloc: Global) -> Option<([Option<u32>; 6], usize, usize, Option<u32>, Option<u32>)> {
     let mut words: Words = ByteMap::new(alloc);
     let mut codes: Codes = ByteMap::new(alloc);
-    let first = insert(&mut words, &mut codes, (word(alloc, b"car")?, 1), ([7, 7], 2))?;
-    let second = insert(&mut words, &mut codes, (word(alloc, b"bus")?, 3), ([7, 8], 4))?;
-    let third = insert(&mut words, &mut codes, (word(alloc, b"car")?, 5), ([7, 8], 6))?;
+    let first = insert(
+        &mut words,
+        &mut codes,
+        (word(alloc, b"car")?, 1),
+        ([7, 7], 2),
+    )?;
+    let second = insert(
+        &mut words,
+        &mut codes,
+        (word(alloc, b"bus")?, 3),
+        ([7, 8], 4),
+    )?;
+    let third = insert(
+        &mut words,
+        &mut codes,
+        (word(alloc, b"car")?, 5),
+        ([7, 8], 6),
+    )?;
     let told = [first.0, first.1, second.0, second.1, third.0, third.1];
     let (car, code) = (words.get(b"car").copied(), codes.get(&[7, 8]).copied());
     Some((told, words.len(), codes.len(), car, code))
@@ -36,7 +52,13 @@ fn three(alloc: Global) -> Option<([Option<u32>; 6], usize, usize, Option<u32>, 
 
 #[test]
 fn a_pair_comes_into_each_map(rt: HostRuntime) {
-    let want = ([None, None, None, None, Some(1), Some(4)], 2, 2, Some(5), Some(6));
+    let want = (
+        [None, None, None, None, Some(1), Some(4)],
+        2,
+        2,
+        Some(5),
+        Some(6),
+    );
     assert_eq!(rt; three(rt.alloc()), Some(want));
 }
 
@@ -46,10 +68,12 @@ fn refused_first(alloc: Global) -> Option<(bool, usize, usize)> {
     let mut codes: Codes = ByteMap::new(alloc);
     words.insert(word(alloc, b"car")?, 1).ok()?;
     let refused = match words.insert_both((word(alloc, b"cart")?, 2), &mut codes, ([1, 1], 3)) {
-        Err(BothInsertError::First {
-            error: MapInsertError::Conflict { value, .. },
-            pair,
-        }) => value == 2 && pair.1 == 3,
+        Err(
+            BothInsertError::First {
+                error: MapInsertError::Conflict { value, .. },
+                pair,
+            },
+        ) => value == 2 && pair.1 == 3,
         _ => false,
     };
     Some((refused, words.len(), codes.len()))
@@ -61,10 +85,12 @@ fn refused_second(alloc: Global) -> Option<(bool, usize, usize)> {
     let mut codes: Codes = ByteMap::new(alloc);
     words.insert(word(alloc, b"cart")?, 1).ok()?;
     let refused = match codes.insert_both(([1, 1], 3), &mut words, (word(alloc, b"car")?, 2)) {
-        Err(BothInsertError::Second {
-            pair,
-            error: MapInsertError::Conflict { value, .. },
-        }) => value == 2 && pair.1 == 3,
+        Err(
+            BothInsertError::Second {
+                pair,
+                error: MapInsertError::Conflict { value, .. },
+            },
+        ) => value == 2 && pair.1 == 3,
         _ => false,
     };
     Some((refused, words.len(), codes.len()))

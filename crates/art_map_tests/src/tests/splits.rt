@@ -123,7 +123,7 @@ fn append_refused(alloc: Global, map: &mut Map) -> Option<(bool, usize, usize)> 
 }
 
 #[test]
-fn a_split_without_memory_loses_no_pair(rt: HostRuntime) -> Result<(), Fail> {
+fn without_memory_a_split_loses_no_pair(rt: HostRuntime) -> Result<(), Fail> {
     let mut map = ByteMap::new(rt.alloc());
     let filled = fill(&mut map);
     let seen = (filled, split_refused(rt.alloc(), &mut map));
@@ -131,7 +131,7 @@ fn a_split_without_memory_loses_no_pair(rt: HostRuntime) -> Result<(), Fail> {
 }
 
 #[test]
-fn an_append_without_memory_loses_no_pair(rt: HostRuntime) -> Result<(), Fail> {
+fn without_memory_an_append_loses_no_pair(rt: HostRuntime) -> Result<(), Fail> {
     let mut map = ByteMap::new(rt.alloc());
     let filled = fill(&mut map);
     let seen = (filled, append_refused(rt.alloc(), &mut map));
