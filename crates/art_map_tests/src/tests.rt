@@ -1,6 +1,5 @@
 mod beside_btree;
 mod beside_btree_set;
-mod both;
 mod calls;
 mod compact;
 mod entries;
