@@ -175,8 +175,8 @@ fn is_ended(bytes: &[u8], text: &[u8], end: u8) -> bool
     }
 }
 
-// Whether the bytes are a prefix of a text and its end, or the whole.
-#[inline(always)]
+// Whether the bytes are a prefix of a text and its end, or the whole. A lookup asks for the whole alone, and is inlined
+// as long as this is not.
 fn is_front_of_ended(bytes: &[u8], text: &[u8], end: u8) -> bool
     ensures { IsTrue result ↔ IsFront bytes.now (text.now ++ end ∷ []) }
 {
