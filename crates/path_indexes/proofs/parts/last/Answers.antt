@@ -4,7 +4,7 @@ use Rattle.path_indexes.proofs.PathParts.{last_key}
 use Rattle.path_indexes.proofs.parts.last.Goals as goal
 
 pub returns-in-Some : goal.returns-in-Some
-returns-in-Some c = ap (option_map (λ x. x.0)) c.in-Some.ensures ∙ last_key c.args.index.now
+returns-in-Some c = ap (option_map (λ x. x.0)) c.in-Some.ensures.pair ∙ last_key c.args.index.now
 
 pub returns-in-None : goal.returns-in-None
-returns-in-None c = ap (option_map (λ x. x.0)) c.in-None.ensures ∙ last_key c.args.index.now
+returns-in-None c = ap (option_map (λ x. x.0)) c.in-None.ensures.pair ∙ last_key c.args.index.now
