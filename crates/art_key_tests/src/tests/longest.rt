@@ -501,7 +501,7 @@ fn escaped_parts(map: &mut Bytes<4>, alloc: Global) -> Option<([bool; 4], [usize
         map.prefix_text(alloc, b"a").ok()?.count(),
         map.prefix_text(alloc, b"b\0").ok()?.count(),
     ];
-    let gone = map.remove_prefix_text(alloc, b"a").ok()?;
+    let gone = map.remove_prefix(&Escaped::encode(alloc, b"a").ok()?);
     Some((found, [below[0], below[1], gone, map.len()]))
 }
 

@@ -205,26 +205,6 @@ impl<V: Drop, const P: usize> TreeMap<Escaped, V, P> {
         Ok(self.map.get_by(EndedQuery { text, end: 0 }))
     }
 
-    /// Removes the pair of a text's key, and returns it.
-    pub fn remove_text(
-        &mut self,
-        alloc: Global,
-        text: &[u8],
-    ) -> Result<Option<(Escaped, V)>, AllocError>
-        ensures pairs { OnOk result
-            (self.new ≡ remove_key (of_key escape) (escape text.now) self.old) }
-        ensures removed { IfOk result (λ removed.
-            removed ≡ remove_reply (of_key escape) (escape text.now) self.old) }
-        ensures refused { OnErr result (¬ IsPlain text.now) }
-        ensures kept { OnErr result (self.new ≡ self.old) }
-    {
-        if !Escaped::is_plain(text) {
-            let key = Escaped::encode(alloc, text)?;
-            return Ok(self.map.remove_by(key.as_bytes()));
-        }
-        Ok(self.map.remove_by(EndedQuery { text, end: 0 }))
-    }
-
     /// Returns the pair with the longest string that is a prefix of a text, or the same, or `None`. It costs what
     /// `longest_match_key` does.
     pub fn longest_match(
@@ -290,21 +270,5 @@ impl<V: Drop, const P: usize> TreeMap<Escaped, V, P> {
             return Ok(self.prefix(&key));
         }
         Ok(self.map.prefix(text))
-    }
-
-    /// Removes all pairs whose strings start with a text, at once, and returns how many.
-    pub fn remove_prefix_text(&mut self, alloc: Global, text: &[u8]) -> Result<usize, AllocError>
-        ensures pairs { OnOk result
-            (self.new ≡ strings_not_below (λ string. string) text.now self.old) }
-        ensures removed { IfOk result (λ removed.
-            removed ≡ length (strings_below (λ string. string) text.now self.old)) }
-        ensures refused { OnErr result (¬ IsPlain text.now) }
-        ensures kept { OnErr result (self.new ≡ self.old) }
-    {
-        if !Escaped::is_plain(text) {
-            let key = Escaped::encode(alloc, text)?;
-            return Ok(self.remove_prefix(&key));
-        }
-        Ok(self.map.remove_prefix(text))
     }
 }
