@@ -18,7 +18,7 @@ pub struct Pair {
     pub key_len: usize,
 }
 
-/// How many pairs were written, and the length of a next key that is too long for the space.
+/// How many pairs were written, and the length of the next key if that is too long for the space.
 #[repr(C)]
 #[derive(Clone, Copy)]
 pub struct Given {
@@ -60,7 +60,7 @@ pub fn next_pairs(
     fill(range, is_backward, buffer, pairs, given)
 }
 
-// Returns a bound of a kind.
+// Returns the bound of this kind, with this key.
 fn bound_of(kind: u32, key: &Escaped) -> Bound<&Escaped>
     ensures { bound_map (λ b. b.now) result ≡ bound_at kind key.now }
 {
@@ -104,7 +104,7 @@ fn fill(
     FULL
 }
 
-// Returns the next pair in this direction.
+// Returns the next pair in this direction, or `None` if none is left.
 fn step<'a>(
     left: &mut Range<'a, Escaped, u64, 16>,
     is_backward: bool,
