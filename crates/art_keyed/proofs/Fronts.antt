@@ -33,7 +33,7 @@ module _ {K : Type 0} (is_key : K → Type 0) (bytes text : K → List ℕ) (ins
 no_zero_ended : (text : List ℕ) → HasNoZero text → IsEndedBy 0 (ended text)
 no_zero_ended text none = record { text = text; is = refl; above = Each-weaker (λ byte. byte ≢ 0) (λ byte. 0 < byte) (λ byte off. omega arith) text none }
 
--- the same of keys alone
+-- the same for keys alone
 pub keys_are_ended : (keys : List (List ℕ)) → Each HasNoZero keys → AreEnded ended 0 keys
 keys_are_ended keys known = Each-weaker HasNoZero (λ text. IsEndedBy 0 (ended text)) no_zero_ended keys known
 

@@ -65,7 +65,7 @@ module _ {K V : Type 0} (bytes : K → List ℕ) where
       pub other_keys : IfSome removed (λ pair. KeepsOtherKeys is_key bytes pair.0 before after)
       pub len : CountsRemoved removed before after
 
-    -- the same of the pairs that a contract sees
+    -- the same for the pairs that a contract sees
     pub seen_as : {removed : Option (K × V)} {before seen after : List (K × V)} → before ≡ seen → TellsRemoved removed before after → TellsRemoved removed seen after
     seen_as {removed} {after = after} same told = subst (λ xs. TellsRemoved removed xs after) same told
 

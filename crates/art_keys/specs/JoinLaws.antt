@@ -83,6 +83,6 @@ module _ {A B : Type 0} (is_first : A → Type 0) (first : A → List ℕ) (is_s
             )
             (sym (length-append (first pair.0) (second pair.1)))
 
-    -- the same of two keys that have so many bytes together
+    -- the same for two keys that have so many bytes together
     pub arrays_come_back : (count : ℕ) → ComesBack (AreKeysOf count is_first first is_second second) (joined_bytes first second) (parted first_of first_length second_of) (joined_length first_length second_length)
     arrays_come_back count pair of_pair = joins_come_back pair of_pair.0

@@ -204,7 +204,7 @@ module _ {K V : Type 0} {s : Nodes K V} {bytes : K × V → List ℕ} {P : ℕ} 
               (λ c i less x leads t e. off_here c i (λ f. let n = next_byte c f in omega arith) t (below c x leads t e))
               (λ c i more x leads t e. off_here c i (λ f. let n = next_byte c f in omega arith) t (below c x leads t e))
 
--- ---- what the leaf at the end of the way is
+-- ---- the leaf at the end of the path
 
 module _ {A : Type 0} (bytes : A → List ℕ) (query : List ℕ) (at_least : ℕ) where
   abbrev is_long : A → Bool

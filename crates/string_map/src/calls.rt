@@ -1,5 +1,5 @@
-//! Calls for one key, and for the whole map. Each returns a code. On a map that was freed each returns `FREED` and does
-//! nothing.
+//! Calls for one key, and for the whole map. All but `new` return a code; on a map that was freed they return `FREED`
+//! and do nothing.
 ghost use Rattle.std.specs.Prelude.{◌≡◌, ◌≢◌, ◌<◌, ◌≤◌, [], length, Some, None};
 ghost use Rattle.std.specs.Option.{option_map};
 ghost use Rattle.art_keyed.specs.KeyedPairs.{strings_below, strings_in_front};

@@ -26,12 +26,13 @@ pub struct Given {
     pub key_len: usize,
 }
 
-/// Writes the pairs whose keys are between two bounds, by rising keys, or backward by falling keys: as many as there is
-/// space for. Their keys are one after another at the front of the buffer; what follows them there is not specified.
+/// Writes the pairs whose keys are between two bounds, in ascending order, or in descending order if `is_backward`: as
+/// many as there is space for. Their keys are one after another at the front of the buffer; what follows them there is
+/// not specified.
 ///
 /// A bound is a kind and a key: `UNBOUNDED` (the key is ignored), `INCLUDED` or `EXCLUDED`. Returns `DONE` when all
-/// pairs are written, `FULL` when `pairs` is full, and `TOO_LONG` when the next key is longer than the rest of the
-/// buffer. To continue, call it again with the last key as an excluded bound.
+/// pairs are written, `FULL` when `pairs` is full, `TOO_LONG` when the next key is longer than the rest of the buffer,
+/// and `NO_MEMORY` if an allocation fails. To continue, call it again with the last key as an excluded bound.
 pub fn next_pairs(
     map: &StringMap,
     from: &[u8],

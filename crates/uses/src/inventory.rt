@@ -65,7 +65,7 @@ pub fn take(stock: &mut Stock, code: [u8; 4], count: u32) -> Result<u32, TakeErr
     Ok(left)
 }
 
-/// Returns how many goods there are in all.
+/// Returns how many goods there are in all. The stock must have at most 2^32 codes.
 pub fn total(stock: &Stock) -> u64
     requires { length stock.now ≤ 2 ^ 32 }
     ensures { result ≡ total_of stock.now }

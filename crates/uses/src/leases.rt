@@ -64,7 +64,7 @@ fn begin_tree<K: AsBytes + Drop, V: Drop, const P: usize>(
 }
 
 /// Inserts a lease by its id and by the time at which it ends, and returns the roots. Fails if a key conflicts with a
-/// stored one or an allocation fails: then the leases by their ids are unchanged.
+/// stored one or an allocation fails: the error returns the roots, and the leases by their ids are unchanged.
 pub fn begin<K: AsBytes + Drop, V: Drop, const P: usize>(
     store: &mut NodeStore<K, V, P>,
     roots: Roots,

@@ -35,7 +35,7 @@ pub fn build_and_remove(alloc: Global) -> Option<(usize, Option<u32>)>
     Some((removed, first_value(map.prefix(&[]))))
 }
 
-/// Returns the number of pairs with a prefix in any map: a `usize` can count them.
+/// Counts the pairs with a prefix in any map. The count does not overflow: a `usize` can count all pairs of a map.
 pub fn count_below<K: AsBytes + Drop, V: Drop, const P: usize>(
     map: &ByteMap<K, V, P>,
     prefix: &[u8],

@@ -1,4 +1,4 @@
-//! Two keys of fixed lengths as one, in an array.
+//! Two keys of fixed lengths joined into one, in an array.
 use art_keyed::map::TreeMap;
 use art_keyed::set::TreeSet;
 use art_keys::joined::Joined;

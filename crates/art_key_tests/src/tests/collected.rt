@@ -133,7 +133,7 @@ fn sum(set: &Numbers) -> (usize, u32) {
     (set.len(), sum)
 }
 
-// The same of the union, the intersection, the difference and the symmetric difference of two sets.
+// The same for the union, the intersection, the difference and the symmetric difference of two sets.
 fn combine(twos: &Numbers, threes: &Numbers) -> Option<[(usize, u32); 4]> {
     let either = sum(&(twos | threes).ok()?);
     let both = sum(&(twos & threes).ok()?);
@@ -142,7 +142,7 @@ fn combine(twos: &Numbers, threes: &Numbers) -> Option<[(usize, u32); 4]> {
     Some([either, both, first, one])
 }
 
-// The same of the multiples of 2 and of 3.
+// The same for the multiples of 2 and of 3.
 fn combine_multiples(alloc: Global) -> Option<[(usize, u32); 4]> {
     let (twos, threes) = (multiples(alloc, 2).ok()?, multiples(alloc, 3).ok()?);
     combine(&twos, &threes)

@@ -102,7 +102,7 @@ fn answers(map: &Map, key: Escaped) -> (Option<u32>, usize, usize) {
     (found, begin, map.range(key..).count())
 }
 
-// The same of a string.
+// The same for a string.
 fn expected_answers(model: &Model, string: &[u8]) -> (Option<u32>, usize, usize) {
     let (mut begin, mut follow) = (0usize, 0usize);
     for (other, _) in model.iter() {

@@ -21,7 +21,7 @@ fn changed(set: &mut Set, alloc: Global, string: Short, inserts: bool) -> Option
     Some(set.remove(&key))
 }
 
-// The same of the other set.
+// The same for the other set.
 fn expected_change(model: &mut Model, alloc: Global, string: Short, inserts: bool) -> Option<bool> {
     if inserts {
         let bytes = string.as_slice().to_vec(alloc).ok()?;
@@ -49,7 +49,7 @@ fn answers(set: &Set, key: Escaped) -> (bool, [usize; 3]) {
     (found, [begin, set.range(..key).count(), set.iter().count()])
 }
 
-// The same of a string.
+// The same for a string.
 fn expected_answers(model: &Model, string: &[u8]) -> (bool, [usize; 3]) {
     let (mut begin, mut before) = (0usize, 0usize);
     for other in model.iter() {

@@ -124,7 +124,7 @@ fn word_and_array(alloc: Global, left: &Left) -> Option<(bool, [u8; 2])> {
     Some((text.as_bytes_without_end() == b"car".as_slice(), array))
 }
 
-// The same of both keys, and whether the right one is recovered.
+// The same for both keys, and whether the right one is recovered.
 fn both_apart(
     alloc: Global,
     both: &Joined<Left, Right>,

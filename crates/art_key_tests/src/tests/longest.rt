@@ -43,7 +43,7 @@ fn longest<const P: usize>(map: &Texts<P>, text: &str) -> u32 {
     }
 }
 
-// The same of each of nine texts.
+// The same for each of nine texts.
 fn longest_of<const P: usize>(
     mut map: Texts<P>,
     alloc: Global,
@@ -220,7 +220,7 @@ fn lengths_of_list(alloc: Global, list: &[Vec<u8>], query: &[u8]) -> Option<Vec<
     Some(lengths)
 }
 
-// The same of a map, by its values, from the front.
+// The same for a map, by its values, from the front.
 fn lengths_from_front<const P: usize>(
     alloc: Global,
     map: &Bytes<P>,

@@ -181,7 +181,7 @@ fn count_part(map: &TreeMap<Signed<4>, u32, 8>) -> (usize, usize, Option<u32>, O
     )
 }
 
-// The same of a map of four numbers.
+// The same for a map of four numbers.
 fn parts(map: &mut TreeMap<Signed<4>, u32, 8>) -> Option<(usize, usize, Option<u32>, Option<u32>)> {
     plant_numbers(map)?;
     Some(count_part(map))

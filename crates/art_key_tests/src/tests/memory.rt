@@ -10,7 +10,7 @@ use art_node_support::memory::all_memory;
 use std::alloc::Global;
 use std::test::Fail;
 
-// How many bytes the error returns if there is no memory for their end.
+// How many bytes the error returns if the allocation for their end fails.
 fn left(full: Vec<u8>) -> Option<usize> {
     match Terminated::new(full) {
         Ok(_key) => None,

@@ -9,7 +9,7 @@ use art_keys::laws::NoPrefixesBytes;
 use std::alloc::{AllocError, Global};
 
 /// Inserts the pairs of an iterator one by one, as `insert` does. Fails only if an allocation fails: the pairs that
-/// were inserted before stay in the map.
+/// were inserted before stay in the map, and the pair that was not is dropped.
 impl<K: NoPrefixesBytes + Drop, V: Drop, const P: usize> Extend<(K, V)> for TreeMap<K, V, P> {
     ghost use Rattle.art_map.specs.MapCalls.{put_all};
 

@@ -16,7 +16,7 @@ use std::alloc::AllocError;
 use std::iter::FusedIterator;
 use std::marker::Model;
 
-/// A map in which matches are searched: the strings that are prefixes of a query.
+/// A map in which matches are looked up: the strings that are prefixes of a query.
 pub trait Nested<K: AsBytes, V> {
     ghost pairs: { Self → List (K × V) };
 

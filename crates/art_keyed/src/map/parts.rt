@@ -57,7 +57,7 @@ impl<K: OrderedBytes + Drop, V: Drop, const P: usize> TreeMap<K, V, P> {
 }
 
 impl<K: NoPrefixesBytes + Drop, V: Drop, const P: usize> TreeMap<K, V, P> {
-    /// Moves the pair with this key and those after it into a new map, and returns that map.
+    /// Moves the pair with this key, if it is stored, and those after it into a new map, and returns that map.
     ///
     /// Each pair that moves costs a removal and an insertion. Fails only if an allocation fails: then the error has a
     /// `ByteMap` of the pairs that moved and the pair that was next, and the others stay. No pair is lost.

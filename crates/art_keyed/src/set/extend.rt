@@ -9,7 +9,7 @@ use art_keys::laws::NoPrefixesBytes;
 use std::alloc::{AllocError, Global};
 
 /// Inserts the keys of an iterator one by one, as `insert` does. Fails only if an allocation fails: the keys that were
-/// inserted before stay in the set.
+/// inserted before stay in the set, and the key that was not is dropped.
 impl<K: NoPrefixesBytes + Drop, const P: usize> Extend<K> for TreeSet<K, P> {
     ghost use Rattle.art_map.specs.SetKeys.{add_all};
 

@@ -21,7 +21,7 @@ use art_nodes::store::NodeStore;
 /// Returns the leaf of the shortest text that is a prefix of the query and has at least so many bytes, or `None` if
 /// there is none.
 ///
-/// It is a single descent along the query. It compares no prefix on its way, and one text with the query at its end.
+/// It is a single descent along the query. It compares no prefix on the way, and one text with the query at the end.
 pub fn shortest_text_unchecked<K: AsBytes + Drop, V: Drop, const PREFIX_LEN: usize>(
     store: &NodeStore<K, V, PREFIX_LEN>,
     root: OpaqueNodePtr,
@@ -84,7 +84,7 @@ fn is_sought(text: &[u8], query: &[u8], at_least: usize) -> bool
 }
 
 // Descends along the query to the first leaf that may be the one: its text is a prefix of all texts that are searched
-// for. `None` if there is none.
+// for. Returns `None` if there is none.
 #[inline(always)]
 fn walk_to_first<K: AsBytes + Drop, V: Drop, const PREFIX_LEN: usize>(
     store: &NodeStore<K, V, PREFIX_LEN>,
@@ -132,7 +132,7 @@ fn walk_to_first<K: AsBytes + Drop, V: Drop, const PREFIX_LEN: usize>(
     }
 }
 
-// The leaf under a byte, if the node's place and prefix have at least so many bytes.
+// The leaf under a byte, if at least so many bytes lead to the node and through its prefix.
 #[inline(always)]
 fn leaf_if_long<const P: usize>(
     node: InnerRef<'_, P>,
