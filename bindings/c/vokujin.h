@@ -36,14 +36,14 @@ typedef struct {
     size_t key_len;
 } vokujin_pair;
 
-/* How many pairs were written, and the length of a next key that is too long for the space. */
+/* How many pairs were written, and the length of the next key if that is too long for the space. */
 typedef struct {
     size_t count;
     size_t key_len;
 } vokujin_given;
 
 enum {
-    /* The call did what was asked. Where it looks something up, that was found and is written. */
+    /* The call succeeded. If it looks something up, that was found and is written. */
     VOKUJIN_DONE = 0,
     /* What was looked up is not stored. An insertion has inserted a new pair. */
     VOKUJIN_ABSENT = 1,
@@ -55,11 +55,11 @@ enum {
     VOKUJIN_FULL = 4,
     /* The map has been freed. */
     VOKUJIN_FREED = 5,
-    /* A range without this bound. */
+    /* The range has no bound on this side. */
     VOKUJIN_UNBOUNDED = 0,
-    /* A range whose bound is one of its keys, if that is stored. */
+    /* The bound is a key of the range, if it is stored. */
     VOKUJIN_INCLUDED = 1,
-    /* A range whose bound is not one of its keys. */
+    /* The bound is not a key of the range. */
     VOKUJIN_EXCLUDED = 2,
 };
 

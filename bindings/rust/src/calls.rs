@@ -15,7 +15,7 @@ pub struct Pair {
     pub key_len: usize,
 }
 
-/// How many pairs were written, and the length of a next key that is too long for the space.
+/// How many pairs were written, and the length of the next key if that is too long for the space.
 #[repr(C)]
 #[derive(Clone, Copy, Default)]
 pub struct Given {

@@ -1,4 +1,4 @@
-//! Tests of keys that are never in conflict, and of the map of them, by public calls. There is nothing here but tests.
+//! Tests of keys that never conflict, and of maps and sets of them, by public calls. There is nothing here but tests.
 #![tactic(auto)]
 
 #[cfg(test)]

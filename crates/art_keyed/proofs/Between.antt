@@ -16,7 +16,7 @@ use Rattle.art_model.proofs.lists.Filters.{Each-filter}
 use Rattle.art_keyed.specs.KeyedPairs.{HaveKeys, OnBound, is_key_from, is_key_up_to, keys_between, pairs_with_first, pairs_without_first, set_below, set_between, set_with_first, strings_below, strings_not_below, without_first_with}
 use denote.Ref.{Bor}
 
--- two tests that agree on each element leave the same
+-- two tests that agree on each element select the same elements
 pub filter_same : {A : Type 0} (P : A → Type 0) (test other : A → Bool) → ((x : A) → P x → test x ≡ other x) → (xs : List A) → Each P xs → filter test xs ≡ filter other xs
 filter_same P test other same [] all = refl
 filter_same P test other same (x ∷ xs) all = go (filter_same P test other same xs all.1) (other x) refl
@@ -25,7 +25,7 @@ filter_same P test other same (x ∷ xs) all = go (filter_same P test other same
     go ih true e = rw (same x all.0 ∙ e, e) (ap (λ ys. x ∷ ys) ih)
     go ih false e = rw (same x all.0 ∙ e, e) ih
 
--- what is left without the first element below a prefix is known as before
+-- what holds for all elements holds for those without the first one with a prefix
 without_keeps : {A : Type 0} (P : A → Type 0) (bytes : A → List ℕ) (prefix : List ℕ) (xs : List A) → Each P xs → Each P (without_below bytes prefix 1 xs)
 without_keeps P bytes prefix [] all = tt
 without_keeps P bytes prefix (x ∷ xs) all = go (without_keeps P bytes prefix xs all.1) (is_front prefix (bytes x)) refl
@@ -51,7 +51,7 @@ map_twice bytes (Excluded b) = refl
 map_twice bytes Unbounded = refl
 
 module _ {K : Type 0} (is_key : K → Type 0) (bytes : K → List ℕ) where
-  -- whatever has a key is between two bounds where the bytes of its key are between those of the bounds
+  -- an element is between two bounds exactly if the bytes of its key are between those of the bounds
   between_by : {A : Type 0} (key_of : A → K) {order : K → K → Ordering} → KeepsOrder is_key bytes order → (from to : Bound (Bor K)) (low high : Bound (List ℕ)) →
       low ≡ bound_map (λ b. bytes b.now) from → high ≡ bound_map (λ b. bytes b.now) to →
       OnBound is_key (bound_map (λ b. b.now) from) → OnBound is_key (bound_map (λ b. b.now) to) → (xs : List A) → Each (λ x. is_key (key_of x)) xs →
@@ -62,7 +62,7 @@ module _ {K : Type 0} (is_key : K → Type 0) (bytes : K → List ℕ) where
       (filter_same (λ x. is_key (key_of x)) _ _
       (λ x of_x. ap₂ (λ a b. a && b) (same_from is_key bytes keeps (bound_map (λ b. b.now) from) (key_of x) of_from of_x) (same_up_to is_key bytes keeps (bound_map (λ b. b.now) to) (key_of x) of_to of_x)) xs all)
 
-  -- strings begin with another where the bytes of their keys do
+  -- strings start with another one exactly if the bytes of their keys do
   below_by : {A : Type 0} (key_of : A → K) (text : K → List ℕ) (key : K) (beginning : List ℕ) → BeginsAs is_key bytes text key beginning → (xs : List A) → Each (λ x. is_key (key_of x)) xs →
       below (λ x. bytes (key_of x)) beginning xs ≡ filter (λ x. is_front (text key) (text (key_of x))) xs
   below_by key_of text key beginning begins xs all = filter_same (λ x. is_key (key_of x)) _ _ (λ x of_x. begins (key_of x) of_x) xs all
@@ -80,12 +80,12 @@ module _ {K : Type 0} (is_key : K → Type 0) (bytes : K → List ℕ) where
         below (of_key bytes) beginning pairs ≡ strings_below text (text key) pairs
     below_strings = below_by (λ x. x.0)
 
-    -- the other pairs are those whose strings don't begin so
+    -- the other pairs are those whose strings don't start so
     pub not_below_strings : (text : K → List ℕ) (key : K) (beginning : List ℕ) → BeginsAs is_key bytes text key beginning → (pairs : List (K × V)) → HaveKeys is_key pairs →
         not_below (of_key bytes) beginning pairs ≡ strings_not_below text (text key) pairs
     not_below_strings text key beginning begins pairs all = filter_same (λ x. is_key x.0) _ _ (λ x of_x. ap not (begins x.0 of_x)) pairs all
 
-    -- the first pair whose string begins so is the first one whose key does
+    -- the first pair whose string starts so is the first one whose key does
     pub without_string : (text : K → List ℕ) (key : K) (beginning : List ℕ) → BeginsAs is_key bytes text key beginning → (pairs : List (K × V)) → HaveKeys is_key pairs →
         without_below (of_key bytes) beginning 1 pairs ≡ without_below (of_key text) (text key) 1 pairs
     without_string text key beginning begins [] all = refl
@@ -95,7 +95,7 @@ module _ {K : Type 0} (is_key : K → Type 0) (bytes : K → List ℕ) where
     pub first_out_keeps : (beginning : List ℕ) (pairs : List (K × V)) → HaveKeys is_key pairs → HaveKeys is_key (without_below (of_key bytes) beginning 1 pairs)
     first_out_keeps beginning pairs all = without_keeps (λ x. is_key x.0) (of_key bytes) beginning pairs all
 
-    -- what is left of keys is keys
+    -- a part of keys is keys
     pub others_keep : (beginning : List ℕ) (pairs : List (K × V)) → HaveKeys is_key pairs → HaveKeys is_key (not_below (of_key bytes) beginning pairs)
     others_keep beginning pairs all = Each-filter (λ x. is_key x.0) _ pairs all
 
@@ -113,7 +113,7 @@ module _ {K : Type 0} (is_key : K → Type 0) (bytes : K → List ℕ) where
 
 -- ---- two keys as one
 
--- what begins two strings one after the other is the first of them, where neither is a proper prefix of the other
+-- a prefix of two strings, one after the other, is the first of them, if neither is a proper prefix of the other
 front_of_joined : (a x y : List ℕ) → (IsFront a x → a ≡ x) → (IsFront x a → x ≡ a) → is_front a (x ++ y) ≡ are_same a x
 front_of_joined [] [] y f g = refl
 front_of_joined [] (z ∷ x) y f g = let e : [] ≡ z ∷ x = f (z ∷ x, refl) in absurd cc
@@ -131,7 +131,7 @@ front_of_joined (c ∷ a) (z ∷ x) y f g = go (front_of_joined a x y) (eqb c z)
     go ih false e = rw e refl
 
 module _ {A B : Type 0} (is_first : A → Type 0) (first : A → List ℕ) (is_second : B → Type 0) (second : B → List ℕ) (apart : HasNoPrefixes is_first first) (key : A) (of_key' : is_first key) where
-  -- the bytes of a first key begin those of the keys that have it, and no others
+  -- the bytes of a first key are a prefix of those of the keys that have it, and of no others
   begins_first : (both : A × B) → AreKeys is_first is_second both → is_front (first key) (first both.0 ++ second both.1) ≡ are_same (first key) (first both.0)
   begins_first both of_both = front_of_joined (first key) (first both.0) (second both.1) (apart key both.0 of_key' of_both.0) (apart both.0 key of_both.0 of_key')
 
@@ -152,7 +152,7 @@ module _ {A B : Type 0} (is_first : A → Type 0) (first : A → List ℕ) (is_s
     first_out [] all = refl
     first_out (x ∷ pairs) all = λ i. if begins_first x.0 all.0 i then pairs else x ∷ first_out pairs all.1 i
 
--- ---- two keys of fixed lengths, of each of which is known what is known of two keys
+-- ---- two keys of fixed lengths: what holds for two keys holds for each of these
 
 pub two_keys : {A B : Type 0} (count : ℕ) (is_first : A → Type 0) (first : A → List ℕ) (is_second : B → Type 0) (second : B → List ℕ) (keys : List (A × B)) →
     Each (AreKeysOf count is_first first is_second second) keys → Each (AreKeys is_first is_second) keys

@@ -1,4 +1,4 @@
--- The texts in front of a query, as they come from both ends.
+-- The texts that are prefixes of a query, as an iterator returns them from both ends.
 use Rattle.std.proofs.Common.{◌≡◌, ℕ, ◌+◌, ◌-◌, ◌<◌, ◌≤◌, ◌⊎◌, List, [], ◌∷◌, ◌++◌, length, length-append, length-take, append-nil, take, filter, arith, refl, ap, ap₂, sym, subst, ◌∙◌, Option, Some, None, Bool, true, false, inl, inr, cond, leb}
 use Rattle.std.specs.List.{AllByRecursion as Each}
 use Rattle.std.proofs.lemmas.Bool.{cases_lt, le-leb, leb-true, lt-leb}
@@ -17,7 +17,7 @@ use Rattle.art_model.proofs.pairs.Puts.{first_has}
 use Rattle.art_reading.specs.ShortTexts.{texts_from}
 use Rattle.art_keyed.specs.Matches.{matches_left}
 
--- bytes cut to so many are a front
+-- the first so many bytes are a prefix
 cut_front : (n : ℕ) (q : List ℕ) → IsFront (take n q) q
 cut_front n q = (_, sym (take-append-drop n q))
 
@@ -31,7 +31,7 @@ but_the_last [] z e = absurd cc
 but_the_last (x ∷ xs) z e = but_last x xs z e
 
 module _ {A : Type 0} (bytes : A → List ℕ) (end : ℕ) (q : List ℕ) where
-  -- of two texts in front of a query the one that comes first is shorter
+  -- of two texts that are prefixes of a query the first one is shorter
   less : (x last : A) → Precedes (bytes x) (bytes last) → IsEndedBy end (bytes x) → IsEndedBy end (bytes last) → IsFront (text_of bytes x) q → IsFront (text_of bytes last) q →
       length (text_of bytes x) < length (text_of bytes last)
   less x last before of_x of_last f g = go (cases_lt (length (text_of bytes x)) (length (text_of bytes last)))
@@ -58,14 +58,14 @@ module _ {A : Type 0} (bytes : A → List ℕ) (end : ℕ) (q : List ℕ) where
     marks : AreEnded bytes end (without_last (texts_in_front bytes q xs) ++ last ∷ [])
     marks = subst (AreEnded bytes end) split (Each-filter (λ x. IsEndedBy end (bytes x)) (λ x. is_front (text_of bytes x) q) xs ended)
 
-    -- the last text is in front of the query
+    -- the last text is a prefix of the query
     pub last_in_front : IsFront (text_of bytes last) q
     last_in_front = front_from (text_of bytes last) q (Each-right (λ x. is_front (text_of bytes x) q ≡ true) (without_last (texts_in_front bytes q xs)) (last ∷ []) passes).0
 
     pub last_ended : IsEndedBy end (bytes last)
     last_ended = (Each-right (λ x. IsEndedBy end (bytes x)) (without_last (texts_in_front bytes q xs)) (last ∷ []) marks).0
 
-    -- the others are in front too, and shorter
+    -- the others are prefixes too, and shorter
     others : Each (λ x. (length (text_of bytes x) < length (text_of bytes last)) × IsFront (text_of bytes x) q) (without_last (texts_in_front bytes q xs))
     others =
         let up = Pairwise-before (λ x y. Precedes (bytes x) (bytes y)) (without_last (texts_in_front bytes q xs)) [] last
@@ -76,13 +76,13 @@ module _ {A : Type 0} (bytes : A → List ℕ) (end : ℕ) (q : List ℕ) where
         (Each-left (λ x. IsEndedBy end (bytes x)) (without_last (texts_in_front bytes q xs)) (last ∷ []) marks)
         (Each-left (λ x. is_front (text_of bytes x) q ≡ true) (without_last (texts_in_front bytes q xs)) (last ∷ []) passes))
 
-    -- where the last text is empty there is no other one
+    -- if the last text is empty, there is no other one
     pub only : length (text_of bytes last) ≡ 0 → texts_in_front bytes q xs ≡ last ∷ []
     only none =
         split ∙ ap (λ ys. ys ++ last ∷ [])
         (none_left (without_last (texts_in_front bytes q xs)) (Each-weaker (λ x. (length (text_of bytes x) < length (text_of bytes last)) × IsFront (text_of bytes x) q) (λ x. ⊥) (λ x (l, f). omega arith) (without_last (texts_in_front bytes q xs)) others))
 
-    -- the others are those in front of the query cut by one byte less than the last text has
+    -- the others are the prefixes of the query cut to one byte less than the last text has
     pub cut : (n : ℕ) → length (text_of bytes last) ≡ n + 1 → texts_in_front bytes q xs ≡ texts_in_front bytes (take n q) xs ++ last ∷ []
     cut n long =
         let test : A → Bool = λ x. is_front (text_of bytes x) (take n q) in
@@ -101,7 +101,7 @@ module _ {A : Type 0} (bytes : A → List ℕ) (end : ℕ) (q : List ℕ) where
         ∙ append-nil (without_last (texts_in_front bytes q xs)) in
         split ∙ ap (λ ys. ys ++ last ∷ []) (sym same)
 
-    -- the key is no longer than the query and its mark
+    -- the key is no longer than the query and the end byte
     pub key_short : length (bytes last) ≤ length q + 1
     key_short =
         let l = ap length last_ended.is in
@@ -124,7 +124,7 @@ module _ {A : Type 0} (bytes : A → List ℕ) (end : ℕ) (q : List ℕ) where
   abbrev GetLonger : List A → Type 0
   GetLonger xs = Pairwise (λ x y. length (text_of bytes x) < length (text_of bytes y)) xs
 
-  -- what is known of a text in front of the query
+  -- what is known of a text that is a prefix of the query
   abbrev InFront : A → Type 0
   InFront x = IsEndedBy end (bytes x) × IsFront (text_of bytes x) q
 
@@ -135,7 +135,7 @@ module _ {A : Type 0} (bytes : A → List ℕ) (end : ℕ) (q : List ℕ) where
     get_longer xs rise.1 known.1,
   )
 
-  -- the first of those that are long enough, and then the longer ones
+  -- the first text that is long enough, and then the longer ones
   first_longer : (xs : List A) → GetLonger xs → (n : ℕ) (x : A) → first_of (filter (long n) xs) ≡ Some x →
       filter (long n) xs ≡ x ∷ filter (long (length (text_of bytes x) + 1)) xs
   first_longer [] up n x e = absurd cc
@@ -168,7 +168,7 @@ module _ {A : Type 0} (bytes : A → List ℕ) (end : ℕ) (q : List ℕ) where
     pub first_and_longer : (n : ℕ) (x : A) → first_of (texts_from bytes q n xs) ≡ Some x → texts_from bytes q n xs ≡ x ∷ texts_from bytes q (length (text_of bytes x) + 1) xs
     first_and_longer n x e = first_longer (texts_in_front bytes q xs) front_longer n x e
 
-    -- the text of the first is one, so that its key has one byte more
+    -- the first key is a text and an end byte, so it has one byte more
     pub first_len : (n : ℕ) (x : A) → first_of (texts_from bytes q n xs) ≡ Some x → length (bytes x) ≡ length (text_of bytes x) + 1
     first_len n x e =
         let of_x : InFront x = first_has InFront (texts_from bytes q n xs) x (Each-filter InFront (long n) (texts_in_front bytes q xs) known_front) e in
@@ -177,7 +177,7 @@ module _ {A : Type 0} (bytes : A → List ℕ) (end : ℕ) (q : List ℕ) where
         omega (arith, simp length-append at l)
 
     module _ (last : A) (e : last_of (texts_in_front bytes q xs) ≡ Some last) where
-      -- the longest text is too short, and so are all
+      -- the longest text is too short, and so are all others
       pub all_short : (n : ℕ) → length (text_of bytes last) < n → texts_from bytes q n xs ≡ []
       all_short n short =
           ap (filter (long n)) (split xs rise ended last e)
@@ -222,7 +222,7 @@ module _ {K V : Type 0} (bytes : K → List ℕ) (q : List ℕ) (n : ℕ) (pairs
   none_last none = ap (filter (λ x. leb n (length (text_of (of_key bytes) x)))) (no_last (texts_in_front (of_key bytes) q pairs) none)
 
   module _ (rise : IsMap (of_key bytes) pairs) (ended : AreEnded (of_key bytes) 0 pairs) (x : K × V) where
-    -- the shortest match came, and the longer ones are left
+    -- the shortest match is returned, and the longer ones are left
     pub first_came : Some x ≡ first_of (texts_from (of_key bytes) q n pairs) → (m : ℕ) → m ≡ length (bytes x.0) → matches_left bytes (Some q) n pairs ≡ x ∷ matches_left bytes (Some q) m pairs
     first_came found m is =
         first_and_longer (of_key bytes) 0 q pairs rise ended n x (sym found)
@@ -236,7 +236,7 @@ module _ {K V : Type 0} (bytes : K → List ℕ) (q : List ℕ) (n : ℕ) (pairs
       pub too_short : length (bytes x.0) ≤ n → matches_left bytes (Some q) n pairs ≡ []
       too_short short = let l = len in all_short (of_key bytes) 0 q pairs rise ended x (sym found) n (omega arith)
 
-      -- the longest match came, and the shorter ones are left
+      -- the longest match is returned, and the shorter ones are left
       pub last_came : n < length (bytes x.0) → (left : Option (List ℕ)) → (length (bytes x.0) ≤ 1 → left ≡ None) → (1 < length (bytes x.0) → left ≡ Some (take (length (bytes x.0) - 2) q)) →
           matches_left bytes (Some q) n pairs ≡ matches_left bytes left n pairs ++ x ∷ []
       last_came enough left empty longer = go (cases_lt 1 (length (bytes x.0)))
@@ -250,7 +250,7 @@ module _ {K V : Type 0} (bytes : K → List ℕ) (q : List ℕ) (n : ℕ) (pairs
               cut_from (of_key bytes) 0 q pairs rise ended x (sym found) n (omega arith) (length (bytes x.0) - 2) (omega arith)
               ∙ ap (λ o. matches_left bytes o n pairs ++ x ∷ []) (sym (longer o))
 
--- all have no byte at least
+-- each text has at least no bytes
 pub from_none : {A : Type 0} (bytes : A → List ℕ) (q : List ℕ) (xs : List A) → texts_from bytes q 0 xs ≡ texts_in_front bytes q xs
 from_none {A} bytes q xs = filter_all (λ x. leb 0 (length (text_of bytes x))) (texts_in_front bytes q xs) (all (texts_in_front bytes q xs))
   where

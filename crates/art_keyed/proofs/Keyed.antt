@@ -1,4 +1,4 @@
--- Keys that are never in conflict stay so, and stand in the order of their type.
+-- Keys of a type never conflict, and are in the order of their type.
 use Rattle.std.proofs.Common.{◌≡◌, ℕ, List, [], ◌∷◌, Bool, true, false, ◌||◌, ◌&&◌, if◌then◌else◌, not, ◌⊎◌, inl, inr, Option, Some, None, refl, sym, ◌∙◌}
 use Rattle.std.specs.List.{AllByRecursion as Each}
 use Rattle.std.specs.declared.cmp.Ordering.{Ordering}
@@ -26,7 +26,7 @@ use Rattle.art_model.proofs.pairs.Puts.{first_has}
 module _ {K : Type 0} (V : Type 0) (is_key : K → Type 0) (bytes : K → List ℕ) where
   -- ---- conflicts
 
-  -- related keys have the same bytes
+  -- conflicting keys of a type have the same bytes
   related_same : HasNoPrefixes is_key bytes → (a b : K) → is_key a → is_key b → are_related (bytes a) (bytes b) ≡ true → are_same (bytes a) (bytes b) ≡ true
   related_same law a b of_a of_b related = go ((relation_is_decided (bytes a) (bytes b)).0 related)
     where
@@ -37,7 +37,7 @@ module _ {K : Type 0} (V : Type 0) (is_key : K → Type 0) (bytes : K → List �
       go (inl f) = same (law a b of_a of_b f)
       go (inr f) = same (sym (law b a of_b of_a f))
 
-  -- whatever has a key is in conflict with no key
+  -- an element with a key conflicts with no element with one
   none_in_conflict : {A : Type 0} (key_of : A → K) → HasNoPrefixes is_key bytes → (key : K) (xs : List A) → is_key key → Each (λ x. is_key (key_of x)) xs →
       is_conflict (λ x. bytes (key_of x)) (bytes key) xs ≡ false
   none_in_conflict key_of law key [] of_key all = refl
@@ -54,7 +54,7 @@ module _ {K : Type 0} (V : Type 0) (is_key : K → Type 0) (bytes : K → List �
   pub key_never_in_conflict : HasNoPrefixes is_key bytes → (key : K) (keys : List K) → is_key key → Each is_key keys → is_conflict bytes (bytes key) keys ≡ false
   key_never_in_conflict = none_in_conflict (λ key. key)
 
-  -- so a refusal is for want of memory
+  -- so an insertion fails only if an allocation fails
   pub refusal_told : HasNoPrefixes is_key bytes → (key : K) (value : V) (pairs : List (K × V)) → is_key key → HaveKeys is_key pairs →
       (error : MapInsertError K V) → IsRefusalOf bytes key value pairs error → (refused : PairRefused K V) → IsHandedBack error refused →
       ((refused.key ≡ key) × (refused.value ≡ value)) × (has_key (of_key bytes) (bytes key) pairs ≡ false)

@@ -1,4 +1,4 @@
--- What changes leave under the keys of a map, where keys with the same bytes are the same.
+-- The values of a map's keys after changes, if keys with the same bytes are equal.
 use Rattle.std.proofs.Common.{◌≡◌, ◌≢◌, ◌+◌, ℕ, List, [], ◌∷◌, length, Option, Some, None, IfSome, refl, ap, sym, ◌∙◌, subst, arith}
 use Rattle.std.specs.List.{cons_option}
 use Rattle.std.specs.Option.{option_map}
@@ -20,13 +20,13 @@ use Rattle.art_keyed.specs.KeyedPairs.{HaveKeys}
 use Rattle.art_keyed.specs.KeyedValues.{CountsPut, CountsRemoved, KeepsOtherKeys, value_of}
 
 module _ {K V : Type 0} (bytes : K → List ℕ) where
-  -- a put adds a pair, or none where one was replaced
+  -- an insertion adds a pair, or none if one was replaced
   pub put_counted : (key : K) (value : V) (before after : List (K × V)) → IsMap (of_key bytes) before → (replaced : Option (K × V)) → replaced ≡ put_reply (of_key bytes) (key, value) before →
       after ≡ put (of_key bytes) (key, value) before → CountsPut replaced before after
   put_counted key value before after rising None is put_is = ap length put_is ∙ one_more bytes (key, value) before rising (sym is)
   put_counted key value before after rising (Some x) is put_is = ap length put_is ∙ as_many bytes (key, value) before rising x (sym is)
 
-  -- a removal takes a pair, or none where there was none
+  -- a removal removes a pair, or none if none has the key
   pub removal_counted : (key : List ℕ) (before after : List (K × V)) → IsMap (of_key bytes) before → (removed : Option (K × V)) → removed ≡ remove_reply (of_key bytes) key before →
       after ≡ remove_key (of_key bytes) key before → CountsRemoved removed before after
   removal_counted key before after rising removed is left = go removed (ap length (removal_tells (of_key bytes) key before rising ∙ ap (λ o. cons_option o []) (sym is)))
@@ -38,7 +38,7 @@ module _ {K V : Type 0} (bytes : K → List ℕ) where
       go None none = ap length left ∙ (let c = counts in omega arith)
       go (Some x) one = ap (λ n. n + 1) (ap length left) ∙ (let c = counts in omega arith)
 
-  -- the last pair is found under its key
+  -- the last pair is found by its key
   last_reply : (pairs : List (K × V)) (z : K × V) → IsMap (of_key bytes) pairs → last_of pairs ≡ Some z → remove_reply (of_key bytes) (bytes z.0) pairs ≡ Some z
   last_reply [] z rising e = absurd cc
   last_reply (x ∷ []) z rising e = let is : x ≡ z = cc in rw (is, front_same (bytes z.0)) refl
@@ -52,12 +52,12 @@ module _ {K V : Type 0} (bytes : K → List ℕ) where
   none_last (x ∷ y ∷ xs) e = let none = none_last (y ∷ xs) e in absurd cc
 
   module _ (is_key : K → Type 0) (law : AreInjective is_key bytes) where
-    -- what is kept of the bytes of other keys is kept of these
+    -- what holds for the bytes of other keys holds for the keys
     pub other_keys_kept : (key : K) (before after : List (K × V)) → is_key key → ((other : List ℕ) → other ≢ bytes key → value_at bytes other after ≡ value_at bytes other before) →
         KeepsOtherKeys is_key bytes key before after
     other_keys_kept key before after of_key' others other of_other off = others (bytes other) (λ same. off (law other key of_other of_key' same))
 
-    -- What a caller is told of a pair that was taken out.
+    -- What contracts state of a pair that was removed.
     pub record TellsRemoved (removed : Option (K × V)) (before after : List (K × V)) : Type 0 where
       pub key : IfSome removed (λ pair. is_key pair.0)
       pub stored : IfSome removed (λ pair. value_of bytes pair.0 before ≡ Some pair.1)
@@ -65,7 +65,7 @@ module _ {K V : Type 0} (bytes : K → List ℕ) where
       pub other_keys : IfSome removed (λ pair. KeepsOtherKeys is_key bytes pair.0 before after)
       pub len : CountsRemoved removed before after
 
-    -- the same of the pairs that a contract sees
+    -- the same for the pairs that a contract sees
     pub seen_as : {removed : Option (K × V)} {before seen after : List (K × V)} → before ≡ seen → TellsRemoved removed before after → TellsRemoved removed seen after
     seen_as {removed} {after = after} same told = subst (λ xs. TellsRemoved removed xs after) same told
 
@@ -112,7 +112,7 @@ module _ {K V : Type 0} (bytes : K → List ℕ) where
             removed_pair x before after rising (last_each (λ y. is_key y.0) before x keys e) (last_reply before x rising e) (left ∙ sym (last_is_removed_by_key (of_key bytes) x before rising e))
 
 module _ {K V : Type 0} (bytes : K → List ℕ) (is_key : K → Type 0) (law : AreInjective is_key bytes) (key : K) (of_key' : is_key key) where
-  -- a put, a write and a removal keep the values of the other keys
+  -- an insertion, a write and a removal keep the values of the other keys
   pub others_by_put : (value : V) (pairs : List (K × V)) → KeepsOtherKeys is_key bytes key pairs (put (of_key bytes) (key, value) pairs)
   others_by_put value pairs = other_keys_kept bytes is_key law key pairs (put (of_key bytes) (key, value) pairs) of_key'
       (λ other off. value_elsewhere bytes other key value pairs (not_same other (bytes key) off))

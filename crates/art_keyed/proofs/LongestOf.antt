@@ -9,13 +9,13 @@ use Rattle.art_model.proofs.keys.Keys.{front_from, front_same, related_sym, same
 use Rattle.art_model.proofs.lists.Filters.{Each-filter, filter_passes, last_each}
 use Rattle.art_model.proofs.pairs.Puts.{first_has}
 
--- the last of a list is its first, or the last of the others
+-- the last element of a list is its first one, or the last one of the others
 last_of_cons : {A : Type 0} (y : A) (zs : List A) (x : A) → last_of (y ∷ zs) ≡ Some x → (y ≡ x) ⊎ (last_of zs ≡ Some x)
 last_of_cons y [] x e = inl cc
 last_of_cons y (z ∷ zs) x e = inr e
 
 module _ {K V : Type 0} (bytes : K → List ℕ) where
-  -- a pair that is the last of some is found under its own key
+  -- a pair that is the last one of a part is found by its own key
   pub found_own : (test : K × V → Bool) (pairs : List (K × V)) → IsMap (of_key bytes) pairs → (x : K × V) → last_of (filter test pairs) ≡ Some x → first_of (with_key (of_key bytes) (bytes x.0) pairs) ≡ Some x
   found_own test [] rise x e = absurd cc
   found_own test (y ∷ ys) rise x e = go (found_own test ys rise.1 x) (test y) refl e
@@ -54,7 +54,7 @@ module _ {V : Type 0} (bytes : List ℕ → List ℕ) (text : List ℕ) (pairs :
   pub longest_own : IsMap (of_key bytes) pairs → first_of (with_key (of_key bytes) (bytes x.0) pairs) ≡ Some x
   longest_own rise = found_own bytes (λ y. is_front y.0 text) pairs rise x (sym found)
 
--- where no string is a prefix, all pairs stay
+-- if no string is a prefix, all pairs stay
 pub none_longest : {V : Type 0} (bytes : List ℕ → List ℕ) (text : List ℕ) (pairs : List (List ℕ × V)) → None ≡ last_of (strings_in_front (λ string. string) text pairs) →
     pairs ≡ without_longest bytes (λ string. string) text pairs
 none_longest {V} bytes text pairs none = ap (λ (o : Option (List ℕ × V)). elim o as (λ _. List (List ℕ × V)) [ None ↦ pairs | Some pair ↦ remove_key (of_key bytes) (bytes pair.0) pairs ]) none

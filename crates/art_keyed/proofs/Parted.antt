@@ -1,4 +1,5 @@
--- Keys stay known in both parts of a map that is split, and the first part of an order is that of its bytes.
+-- What holds for all keys holds in both parts of a map that is split; a range by the order of the keys is one by their
+-- bytes.
 use Rattle.std.proofs.Common.{◌≡◌, ℕ, List, [], ◌∷◌, ◌++◌, Bool, true, false, not, ◌&&◌, cond, filter, Option, Some, None, ap, sym, subst, ◌∙◌}
 use Rattle.std.specs.List.{AllByRecursion as Each}
 use Rattle.std.specs.Range.Bound.{bound_map}
@@ -14,7 +15,7 @@ use Rattle.art_keyed.specs.KeyedParts.{keys_not_between}
 use Rattle.art_keyed.proofs.Between.{filter_same, map_twice, same_from, same_up_to}
 use denote.Ref.{Bor}
 
--- what is known of those that pass a test and of the others is known of all
+-- what holds for the elements that pass a test and for the others holds for all
 each_part : {A : Type 0} (P : A → Type 0) (test : A → Bool) (xs : List A) → Each P (filter test xs) → Each P (filter (λ x. not (test x)) xs) → Each P xs
 each_part P test [] passed failed = tt
 each_part P test (x ∷ xs) passed failed = go (test x) (each_part P test xs) passed failed
@@ -25,7 +26,7 @@ each_part P test (x ∷ xs) passed failed = go (test x) (each_part P test xs) pa
     go false ih of_yes of_no = (of_no.0, ih of_yes of_no.1)
 
 module _ {K V : Type 0} (is_key : K → Type 0) (bytes : K → List ℕ) where
-  -- without the pair that was taken
+  -- the keys without the pair that was removed
   pub without_keeps : (taken : Option (K × V)) (pairs : List (K × V)) → HaveKeys is_key pairs → HaveKeys is_key (without (of_key bytes) taken pairs)
   without_keeps None pairs all = all
   without_keeps (Some x) pairs all = Each-filter (λ y. is_key y.0) _ pairs all
@@ -41,13 +42,13 @@ module _ {K V : Type 0} (is_key : K → Type 0) (bytes : K → List ℕ) where
     known : HaveKeys is_key (moved ++ x ∷ keys_from (of_key bytes) key after)
     known = subst (HaveKeys is_key) parts (from_keeps key before all)
 
-    -- those that stayed
+    -- the pairs that stayed
     pub stayed_keep : keys_before (of_key bytes) key after ≡ keys_before (of_key bytes) key before → HaveKeys is_key after
     stayed_keep kept =
         each_part (λ y. is_key y.0) _ after (subst (HaveKeys is_key) (sym kept) (before_keeps key before all))
         (Each-right (λ y. is_key y.0) moved _ known).1
 
-  -- the pairs that are not between two bounds are those by their bytes
+  -- the pairs that are not between two bounds are those that are not between them by their bytes
   pub not_between_keys : {order : K → K → Ordering} → KeepsOrder is_key bytes order → (from to : Bound (Bor K)) (low high : Bound (List ℕ)) →
       low ≡ bound_map (λ b. bytes b.now) from → high ≡ bound_map (λ b. bytes b.now) to →
       OnBound is_key (bound_map (λ b. b.now) from) → OnBound is_key (bound_map (λ b. b.now) to) → (pairs : List (K × V)) → HaveKeys is_key pairs →

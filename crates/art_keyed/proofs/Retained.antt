@@ -1,4 +1,4 @@
--- What is known of all pairs is known of those that a closure picked or changed.
+-- What holds for all pairs holds for those that a closure selected or changed.
 use Rattle.std.proofs.Common.{◌≡◌, List, [], ◌∷◌, Bool, true, false, cond}
 use Rattle.std.specs.Borrow.{MutBor}
 use Rattle.std.specs.Fn.{Mut}
@@ -15,7 +15,7 @@ module _ {F A : Type 0} (asks : F → A → Bool → F → Type 0) (Known : A �
       go true is known = rw is (all.0, known)
       go false is known = rw is known
 
--- the keys of pairs whose values were changed are those of before
+-- if values change, the keys are those of before
 pub changes_keep : {K V F : Type 0} (g : Mut F (MutBor V × Unit {0}) (Unit {0} × (MutBor V × Unit {0}))) (is_key : K → Type 0) (f : F) (before after : List (K × V)) (left : F) →
     ChangesEach g f before after left → Each (λ x. is_key x.0) before → Each (λ x. is_key x.0) after
 changes_keep g is_key f [] after left h all = rw h.0 tt

@@ -1,4 +1,4 @@
--- Sets that are made of clones of keys.
+-- Sets of clones of keys.
 use Rattle.std.proofs.Common.{◌≡◌, ℕ, List, [], ◌∷◌, ◌++◌, Bor, map, ap, sym, ◌∙◌}
 use Rattle.std.specs.List.{AllZip, AllByRecursion as Each}
 use Rattle.std.specs.Iterator.{Drains}
@@ -8,7 +8,7 @@ use Rattle.art_map.specs.SetKeys.{add_key}
 use Rattle.art_map.proofs.Extended.{add_last}
 use Rattle.art_keyed.specs.SetClones.{AreAddedClones}
 
--- what is known of keys is known of their clones
+-- what holds for keys holds for their clones
 pub cloned_keys_keep : {K : Type 0} (is_key : K → Type 0) (is_clone : K → K → Type 0) → IsKept is_key is_clone →
     (keys copies : List K) → AllZip is_clone keys copies → Each is_key keys → Each is_key copies
 cloned_keys_keep is_key is_clone kept [] [] are all = tt
@@ -24,14 +24,14 @@ zip_last is_clone [] (z ∷ copies) x y are one = absurd are
 zip_last is_clone (z ∷ came) [] x y are one = absurd are
 zip_last is_clone (z ∷ came) (w ∷ copies) x y are one = (are.0, zip_last is_clone came copies x y are.1 one)
 
--- a clone of one key more is added
+-- a clone of one more key is inserted
 pub one_added : {K : Type 0} (bytes : K → List ℕ) (is_clone : K → K → Type 0) (came : List (Bor K)) (set new : List K) (x : Bor K) (y : K) →
     AreAddedClones bytes is_clone (map (λ key. key.now) came) set → is_clone x.now y → new ≡ add_key bytes y set →
     AreAddedClones bytes is_clone (map (λ key. key.now) (came ++ x ∷ [])) new
 one_added bytes is_clone came set new x y (copies, are, is) one added =
     (copies ++ y ∷ [], zip_last is_clone came copies x y are one, added ∙ ap (add_key bytes y) is ∙ sym (add_last bytes y copies []))
 
--- all that comes of a list is the list
+-- the elements that an iterator over a list returns are the list
 pub all_came : {K : Type 0} (keys : List K) (came : List (Bor K)) → Drains ShowsFirst keys came → map (λ key. key.now) came ≡ keys
 all_came keys [] (left, (end, yields, gives)) = sym (yields ∙ gives.0)
 all_came keys (x ∷ came) (left, (end, (rest, step, more), gives)) = ap (λ others. x.now ∷ others) (all_came rest came (left, (end, more, gives))) ∙ sym step

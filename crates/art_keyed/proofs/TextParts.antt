@@ -1,4 +1,4 @@
--- Parts of a map of strings by a text, and pairs that are put by one.
+-- Parts of a map of strings by a text, and pairs that are inserted by one.
 use Rattle.std.proofs.Common.{◌≡◌, ℕ, List, [], ◌∷◌, Bool, true, false, ◌&&◌, not, refl, ap, subst}
 use Rattle.std.specs.List.{AllByRecursion as Each}
 use Rattle.std.specs.declared.ops.Bound.TheVariants.{Included, Excluded}
@@ -23,7 +23,7 @@ module _ {V : Type 0} (text : List ℕ) (zero : ¬ HasNoZero text) (pairs : List
   pub all_stay : strings_not_below (λ string. string) text pairs ≡ pairs
   all_stay = filter_all _ pairs (Each-weaker (λ x. HasNoZero x.0) (λ x. not (is_front text x.0) ≡ true) (λ x none. ap not (no_start text x.0 zero none)) pairs known)
 
--- none is at a bound and before it
+-- no key is at a bound and before it
 pub none_between : {A : Type 0} (bytes : A → List ℕ) (bound : List ℕ) (xs : List A) → between bytes (Included bound) (Excluded bound) xs ≡ []
 none_between bytes bound xs = filter_none _ xs (all xs)
   where
@@ -35,7 +35,7 @@ none_between bytes bound xs = filter_none _ xs (all xs)
     all [] = tt
     all (y ∷ ys) = (neither (is_before (bytes y) bound), all ys)
 
--- a pair whose key is not stored is put
+-- a pair whose key is not stored is inserted
 pub put_as_new : {K V : Type 0} (bytes : K → List ℕ) (key : K) (value : V) (pairs : List (K × V)) → has_key (of_key bytes) (bytes key) pairs ≡ false →
     put (of_key bytes) (key, value) pairs ≡ put_new bytes (key, value) pairs
 put_as_new bytes key value pairs none = rw none refl

@@ -1,11 +1,11 @@
--- What a map of keys that are never in conflict ends as, where a `&mut` to one of its values is returned.
+-- The final state of a map of keys that never conflict, from which a `&mut` to a value is borrowed.
 use Rattle.std.specs.Prelude.{ℕ, List, Option, Result}
 use Rattle.std.specs.Borrow.{LendsIf, LendsIfOk, Fml, RattleType, MutBor}
 use Rattle.art_model.specs.Pairs.{of_key, put}
 use Rattle.art_map.specs.MapAnswers.{with_value_at}
 use Rattle.art_keyed.specs.contracts.map.TreeMap.{the_row}
 
--- what a clause has as K.NoPrefixesBytes
+-- the members that a clause passes as K.NoPrefixesBytes
 abbrev pub KeyMembers : Type 0 → Type 1
 KeyMembers K = record { bytes : K → List ℕ; is_key : K → Type 0 }
 
@@ -13,10 +13,10 @@ abbrev pub map_row : (K V P : RattleType) → KeyMembers K.Denot → RattleType
 map_row K V P g = the_row K V P (record { is_key = g.is_key }) (record { bytes = g.bytes })
 
 module _ (K V P : RattleType) (g : KeyMembers K.Denot) (s : MutBor (List (K.Denot × V.Denot))) where
-  -- once the borrow r ends, the key has the last value written through r; at `None` the pairs stay as they are
+  -- once the borrow r ends, the key has the last value written through r; at `None` the pairs are unchanged
   abbrev pub lends_value : List ℕ → Option (MutBor V.Denot) → Fml
   lends_value key r = LendsIf (map_row K V P g) V s r (λ value. with_value_at g.bytes key value s.now) s.now
 
-  -- once the borrow r ends, the key was put with the last value written through r; at `Err` the pairs stay as they are
+  -- once the borrow r ends, the key is inserted with the last value written through r; at `Err` the pairs are unchanged
   abbrev pub lends_put : {E : Type 0} → K.Denot → Result (MutBor V.Denot) E → Fml
   lends_put key r = LendsIfOk (map_row K V P g) V s r (λ value. put (of_key g.bytes) (key, value) s.now) s.now

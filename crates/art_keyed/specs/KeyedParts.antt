@@ -1,4 +1,4 @@
--- Pairs that go out of a map whose keys are never in conflict.
+-- Pairs that leave a map whose keys never conflict.
 use Rattle.std.specs.Prelude.{◌≡◌, ℕ, not, ◌&&◌, false, List, ◌∷◌, ◌++◌, filter}
 use Rattle.std.specs.declared.cmp.Ordering.{Ordering}
 use Rattle.std.specs.declared.ops.Bound.{Bound}
@@ -12,7 +12,8 @@ abbrev pub keys_not_between : {K V : Type 0} → (K → K → Ordering) → Boun
 keys_not_between order from to pairs = filter (λ pair. not (is_key_from order from pair.0 && is_key_up_to order to pair.0)) pairs
 
 module _ {K V : Type 0} (bytes : K → List ℕ) where
-  -- some of the given pairs were put, in their order; the next one was handed back, whose key is not stored, and the others are left
+  -- the first of the given pairs were inserted, in their order; the error returns the next one, whose key is not
+  -- stored, and the others are left
   abbrev pub PutsSomeOf : List (K × V) → List (K × V) → PairRefused K V → List (K × V) → List (K × V) → Type 0
   PutsSomeOf before given refused after left =
       (xs : List (K × V)) × (given ≡ xs ++ (refused.key, refused.value) ∷ left) × (after ≡ put_all bytes xs before) ×

@@ -1,4 +1,4 @@
--- What is handed back of what was not put in.
+-- What the errors of insertions return.
 use Rattle.std.specs.Prelude.{◌≡◌, ◌⊎◌, ℕ, false, List, Option, Some}
 use Rattle.std.specs.Iterator.{YieldsThen}
 use Rattle.art_model.specs.Pairs.{has_key, of_key}
@@ -18,14 +18,15 @@ IsHandedBack (Conflict key value error) refused = (refused.key ≡ key) × (refu
 IsHandedBack (Memory key value) refused = (refused.key ≡ key) × (refused.value ≡ value)
 
 module _ {I K V : Type 0} (steps : I → Option (K × V) → I → Type 0) (bytes : K → List ℕ) where
-  -- what came before a pair was put, and that pair was handed back, whose key is not stored; the iterator has the others
+  -- the pairs before one were inserted; the error returns that one, whose key is not stored, and the iterator has the
+  -- others
   abbrev pub PutsUntilRefused : I → List (K × V) → PairRefused K V → I → List (K × V) → Type 0
   PutsUntilRefused from before refused to after =
       (xs : List (K × V)) × YieldsThen steps from xs (Some (refused.key, refused.value)) to × (after ≡ put_all bytes xs before) ×
       (has_key (of_key bytes) (bytes refused.key) after ≡ false)
 
 module _ {I K : Type 0} (steps : I → Option K → I → Type 0) (bytes : K → List ℕ) where
-  -- what came before a key was added, and that key was handed back, which is not stored; the iterator has the others
+  -- the keys before one were added; the error returns that one, which is not stored, and the iterator has the others
   abbrev pub AddsUntilRefused : I → List K → KeyRefused K → I → List K → Type 0
   AddsUntilRefused from before refused to after =
       (ks : List K) × YieldsThen steps from ks (Some refused.key) to × (after ≡ add_all bytes ks before) × (has_key bytes (bytes refused.key) after ≡ false)

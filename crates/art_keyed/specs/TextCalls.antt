@@ -1,4 +1,4 @@
--- What calls by a text return and leave.
+-- What calls by a text return, and the pairs after them.
 use Rattle.std.specs.Prelude.{◌≡◌, ℕ, List, [], Some, None}
 use Rattle.art_keys.specs.Ended.{HasNoZero}
 use Rattle.art_model.specs.Pairs.{last_of, of_key, remove_key}
@@ -6,7 +6,7 @@ use Rattle.art_keyed.specs.KeyedPairs.{strings_in_front}
 use Rattle.art_keyed.specs.declared.map.texts.TextRefused.{TextRefused}
 use Rattle.art_keyed.specs.declared.map.texts.TextRefused.TheVariants.{InnerZero, Memory}
 
--- the value is returned: a zero stands in the text, or an allocation failed
+-- the error returns the value: there is a zero in the text, or an allocation failed
 abbrev pub IsTextRefusal : {V : Type 0} → List ℕ → V → TextRefused V → Type 0
 IsTextRefusal text value (InnerZero given) = (given ≡ value) × ¬ HasNoZero text
 IsTextRefusal text value (Memory given) = given ≡ value

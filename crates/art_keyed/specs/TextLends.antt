@@ -1,4 +1,4 @@
--- What a map of strings ends as, where a `&mut` to one of its values is returned by a text.
+-- The final state of a map of strings, from which a `&mut` to a value is borrowed by a text.
 use Rattle.std.specs.Prelude.{ℕ, List, Option, Result}
 use Rattle.std.specs.Borrow.{Fml, RattleType, MutBor}
 use Rattle.art_keys.specs.Ended.{HasNoZero, ended}
@@ -7,11 +7,12 @@ use Rattle.art_keyed.specs.KeyedLends.{lends_put, lends_value}
 use Rattle.art_keyed.specs.TextCalls.{longest_key}
 
 module _ (V P : RattleType) (s : MutBor (List (List ℕ × V.Denot))) where
-  -- once the borrow r ends, the text's key has the last value written through r; at `None` the pairs stay as they are
+  -- once the borrow r ends, the text's key has the last value written through r; at `None` the pairs are unchanged
   abbrev pub lends_text : List ℕ → Option (MutBor V.Denot) → Fml
   lends_text text r = lends_value TerminatedRow V P (record { bytes = ended; is_key = HasNoZero }) s (ended text) r
 
-  -- once the borrow r ends, the text was put with the last value written through r; at `Err` the pairs stay as they are
+  -- once the borrow r ends, the text is inserted with the last value written through r; at `Err` the pairs are
+  -- unchanged
   abbrev pub lends_text_put : {E : Type 0} → List ℕ → Result (MutBor V.Denot) E → Fml
   lends_text_put text r = lends_put TerminatedRow V P (record { bytes = ended; is_key = HasNoZero }) s text r
 

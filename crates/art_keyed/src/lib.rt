@@ -1,4 +1,4 @@
-//! Maps and sets of keys that are never in conflict.
+//! Maps and sets of keys that never conflict.
 #![tactic(auto)]
 
 pub mod map;

@@ -1,4 +1,4 @@
-//! An ordered map whose keys are never in conflict. Its contracts speak of lists of pairs alone.
+//! An ordered map whose keys never conflict. Its contracts speak only of lists of pairs.
 ghost use Rattle.std.specs.Prelude.{◌≡◌, ◌≢◌, ◌↔◌, ◌<◌, ◌^◌, ℕ, List, [], length, false, IsOk, IfOk, IfErr, IfSome, IsSome, IsTrue, OnOk, OnErr, Some, None, option_copied};
 ghost use Rattle.std.specs.Borrow.{Bor, sem};
 ghost use Rattle.std.specs.Fn.{FnOnceReturnsAt};
@@ -38,7 +38,7 @@ pub use matches::{Matches, MatchesOf, Nested};
 pub(crate) use ordered::bytes_of;
 pub use texts::TextRefused;
 
-/// A pair that was not put in, for want of memory.
+/// A pair that was not inserted, since an allocation failed.
 #[derive(Debug, Drop, Error)]
 #[error("memory allocation failed")]
 pub struct PairRefused<K, V> {
@@ -46,15 +46,15 @@ pub struct PairRefused<K, V> {
     pub value: V,
 }
 
-/// Drops the pair, so that `?` works in a function that fails only if an allocation does.
+/// Drops the pair, so that `?` works in a function that fails only if an allocation fails.
 impl<K: Drop, V: Drop> From<PairRefused<K, V>> for AllocError {
     fn from(refused: PairRefused<K, V>) -> Self {
         AllocError
     }
 }
 
-/// The pair of an error of a `ByteMap` whose keys are of a type that has no conflicts: what failed is
-/// always an allocation.
+/// Returns the pair of an error of a `ByteMap`. If the keys are of a type that has no conflicts, what failed is always
+/// an allocation.
 impl<K: NoPrefixesBytes, V> From<MapInsertError<K, V>> for PairRefused<K, V> {
     ghost use Rattle.art_keyed.specs.KeyedRefusals.{IsHandedBack};
 
@@ -68,8 +68,8 @@ impl<K: NoPrefixesBytes, V> From<MapInsertError<K, V>> for PairRefused<K, V> {
     }
 }
 
-/// A map whose keys are in the order of their bytes. No key of the type is a prefix of another, so that a
-/// pair is refused only for want of memory.
+/// A map whose keys are in the order of their bytes. No key of the type is a prefix of another one, so an insertion
+/// fails only if an allocation fails.
 #[derive(Drop)]
 pub struct TreeMap<K: NoPrefixesBytes, V, const P: usize> {
     map: ByteMap<K, V, P>,
@@ -96,7 +96,7 @@ impl<K: NoPrefixesBytes + Drop, V: Drop, const P: usize> TreeMap<K, V, P> {
     ghost use Rattle.art_keyed.specs.KeyedLends.{lends_put, lends_value};
     ghost use Rattle.art_keyed.specs.KeyedValues.{CountsPut, CountsRemoved, KeepsOtherKeys, value_of};
 
-    /// Returns an empty map, and takes no memory.
+    /// Returns an empty map. It allocates nothing.
     pub fn new(alloc: Global) -> Self
         ensures { result ≡ [] }
     {
@@ -105,7 +105,7 @@ impl<K: NoPrefixesBytes + Drop, V: Drop, const P: usize> TreeMap<K, V, P> {
         }
     }
 
-    /// Returns the map as a `ByteMap`, for those of its calls that only read, such as `longest_match`.
+    /// Returns the map as a `ByteMap`, for the calls of a `ByteMap` that only read, such as `longest_match`.
     pub fn as_byte_map(&self) -> &ByteMap<K, V, P>
         ensures pairs { result.now ≡ self.now }
         ensures keys { HaveKeys K.is_key self.now }
@@ -121,21 +121,21 @@ impl<K: NoPrefixesBytes + Drop, V: Drop, const P: usize> TreeMap<K, V, P> {
         self.map.len()
     }
 
-    /// Returns whether there is no pair.
+    /// Returns whether the map is empty.
     pub fn is_empty(&self) -> bool
         ensures { IsTrue result ↔ (self.now ≡ []) }
     {
         self.map.is_empty()
     }
 
-    /// Returns whether a key is stored, by one way down the tree along its bytes.
+    /// Returns whether a key is stored, with a single descent along its bytes.
     pub fn contains_key(&self, key: &K) -> bool
         ensures { result ≡ has_key (of_key K.bytes) (K.bytes key.now) self.now }
     {
         self.map.contains_key(key.as_bytes())
     }
 
-    /// Returns the value of a key, or `None` where it is not stored, by one way down the tree along its bytes.
+    /// Returns the value of a key, or `None` if the key is not stored, with a single descent along its bytes.
     pub fn get(&self, key: &K) -> Option<&V>
         ensures value { option_copied result ≡ value_at K.bytes (K.bytes key.now) self.now }
         ensures sorted { IsMap (of_key K.bytes) self.now }
@@ -143,7 +143,7 @@ impl<K: NoPrefixesBytes + Drop, V: Drop, const P: usize> TreeMap<K, V, P> {
         self.map.get(key.as_bytes())
     }
 
-    /// Returns the pair of a key, or `None` where it is not stored. It costs what `get` does.
+    /// Returns the pair of a key, or `None` if the key is not stored. It costs what `get` does.
     pub fn get_key_value(&self, key: &K) -> Option<(&K, &V)>
         ensures { option_map deref_pair result ≡
             first_of (with_key (of_key K.bytes) (K.bytes key.now) self.now) }
@@ -151,7 +151,7 @@ impl<K: NoPrefixesBytes + Drop, V: Drop, const P: usize> TreeMap<K, V, P> {
         self.map.get_key_value(key.as_bytes())
     }
 
-    /// Returns the value of a key, to be written, or `None` where it is not stored. It costs what `get` does.
+    /// Returns a mutable reference to the value of a key, or `None` if the key is not stored. It costs what `get` does.
     pub fn get_mut(&mut self, key: &K) -> Option<&mut V>
         ensures* writes_back { sem 𝓛 (lends_value K.row V.row P.row K.NoPrefixesBytes
             self.entry (K.bytes key.now) result) }
@@ -160,7 +160,8 @@ impl<K: NoPrefixesBytes + Drop, V: Drop, const P: usize> TreeMap<K, V, P> {
         self.map.get_mut(key.as_bytes())
     }
 
-    /// Returns the pairs in the order of the bytes of their keys, from both ends. A step of the walk goes down no tree.
+    /// Returns a double-ended iterator over the pairs, in the order of their keys' bytes. No step of it descends the
+    /// tree.
     pub fn iter(&self) -> MapIter<'_, K, V, P>
         ensures pairs { result ≡ self.now }
         ensures known { HaveKeys K.is_key self.now }
@@ -170,7 +171,7 @@ impl<K: NoPrefixesBytes + Drop, V: Drop, const P: usize> TreeMap<K, V, P> {
         self.map.iter()
     }
 
-    /// Returns the keys as they rise, from both ends.
+    /// Returns a double-ended iterator over the keys, in ascending order.
     pub fn keys(&self) -> Keys<'_, K, V, P>
         ensures keys { result ≡ keys_of self.now }
         ensures sorted { IsMap (of_key K.bytes) self.now }
@@ -179,7 +180,7 @@ impl<K: NoPrefixesBytes + Drop, V: Drop, const P: usize> TreeMap<K, V, P> {
         self.map.keys()
     }
 
-    /// Returns the values in the order of their keys, from both ends.
+    /// Returns a double-ended iterator over the values, in the order of their keys.
     pub fn values(&self) -> Values<'_, K, V, P>
         ensures values { result ≡ values_of self.now }
         ensures sorted { IsMap (of_key K.bytes) self.now }
@@ -188,21 +189,21 @@ impl<K: NoPrefixesBytes + Drop, V: Drop, const P: usize> TreeMap<K, V, P> {
         self.map.values()
     }
 
-    /// Returns the keys as they rise, by value, from both ends.
+    /// Consumes the map, and returns a double-ended iterator over the keys, in ascending order.
     pub fn into_keys(self) -> IntoKeys<K, V, P>
         ensures { result ≡ keys_of self }
     {
         self.map.into_keys()
     }
 
-    /// Returns the values in the order of their keys, by value, from both ends.
+    /// Consumes the map, and returns a double-ended iterator over the values, in the order of their keys.
     pub fn into_values(self) -> IntoValues<K, V, P>
         ensures { result ≡ values_of self }
     {
         self.map.into_values()
     }
 
-    /// Returns the first pair, or `None`. It reads one inner node for each level.
+    /// Returns the first pair, or `None` if the map is empty. It reads one inner node on each level.
     pub fn first_key_value(&self) -> Option<(&K, &V)>
         ensures pair { option_map deref_pair result ≡ first_of self.now }
         ensures known { HaveKeys K.is_key self.now }
@@ -210,7 +211,7 @@ impl<K: NoPrefixesBytes + Drop, V: Drop, const P: usize> TreeMap<K, V, P> {
         self.map.first_key_value()
     }
 
-    /// Returns the last pair, or `None`. It reads one inner node for each level.
+    /// Returns the last pair, or `None` if the map is empty. It reads one inner node on each level.
     pub fn last_key_value(&self) -> Option<(&K, &V)>
         ensures pair { option_map deref_pair result ≡ last_of self.now }
         ensures known { HaveKeys K.is_key self.now }
@@ -218,9 +219,11 @@ impl<K: NoPrefixesBytes + Drop, V: Drop, const P: usize> TreeMap<K, V, P> {
         self.map.last_key_value()
     }
 
-    /// Puts a pair in. Where an equal key is stored, that key stays and gets the value, and the key
-    /// that was handed in is returned with the old value. It is refused only for want of memory, and never
-    /// where an equal key is stored.
+    /// Inserts a pair, with a single descent. If an equal key is stored, that key stays and gets the new value, and the
+    /// key that was passed is returned with the old value; else `None` is returned.
+    ///
+    /// Fails only if an allocation fails, and never if an equal key is stored. The error returns the pair, and the map
+    /// is unchanged.
     pub fn insert(&mut self, key: K, value: V) -> Result<Option<(K, V)>, PairRefused<K, V>>
         ensures pairs { OnOk result (self.new ≡ put (of_key K.bytes) (key, value) self.old) }
         ensures replaced { IfOk result (λ replaced.
@@ -248,8 +251,8 @@ impl<K: NoPrefixesBytes + Drop, V: Drop, const P: usize> TreeMap<K, V, P> {
         }
     }
 
-    /// Returns the value of a key, to be written. Where no equal key is stored the pair is put in first; a key that is
-    /// stored stays, with its value. It is refused as `insert` is.
+    /// Returns a mutable reference to the value of a key. If no equal key is stored, the pair is inserted first; a key
+    /// that is stored stays, with its value. Fails as `insert` does.
     pub fn get_or_insert(&mut self, key: K, value: V) -> Result<&mut V, PairRefused<K, V>>
         ensures* writes_back { sem 𝓛 (lends_put K.row V.row P.row K.NoPrefixesBytes
             self.entry key result) }
@@ -264,8 +267,8 @@ impl<K: NoPrefixesBytes + Drop, V: Drop, const P: usize> TreeMap<K, V, P> {
         Ok(self.map.get_or_insert(key, value)?)
     }
 
-    /// Returns what `get_or_insert` does, with a value that is made of the key. The closure is called where
-    /// no equal key is stored, also where the pair is refused then and handed back.
+    /// Does what `get_or_insert` does, with a value that the closure makes of the key. The closure is called only if no
+    /// equal key is stored. If the insertion then fails, the error returns the key and the value that was made.
     pub fn get_or_insert_with<F: FnOnce(&K) -> V>(
         &mut self,
         key: K,
@@ -287,8 +290,8 @@ impl<K: NoPrefixesBytes + Drop, V: Drop, const P: usize> TreeMap<K, V, P> {
         Ok(self.map.get_or_insert_with(key, make)?)
     }
 
-    /// Returns an entry, which is the map with a key: it reads or changes the value of the key, or puts the key in.
-    /// This reads no node.
+    /// Returns an entry, which is the map with a key: it reads or changes the value of the key, or inserts the key.
+    /// This call reads no node.
     pub fn entry(&mut self, key: K) -> TreeEntry<'_, K, V, P>
         ensures same_map { result.map.ghost_name ≡ self.entry.ghost_name }
         ensures pairs { result.map.now ≡ self.old }
@@ -297,9 +300,9 @@ impl<K: NoPrefixesBytes + Drop, V: Drop, const P: usize> TreeMap<K, V, P> {
         TreeEntryOf { map: self, key }
     }
 
-    // ---- Removals. None of them takes memory, and none fails.
+    // ---- Removals: none of them allocates or fails.
 
-    /// Removes the pair of a key and returns it.
+    /// Removes the pair of a key, with a single descent, and returns it, or `None` if the key is not stored.
     pub fn remove(&mut self, key: &K) -> Option<(K, V)>
         ensures pairs { self.new ≡ remove_key (of_key K.bytes) (K.bytes key.now) self.old }
         ensures removed { result ≡ remove_reply (of_key K.bytes) (K.bytes key.now) self.old }
@@ -313,7 +316,7 @@ impl<K: NoPrefixesBytes + Drop, V: Drop, const P: usize> TreeMap<K, V, P> {
         self.map.remove_by(key.as_bytes())
     }
 
-    /// Removes the first pair and returns it.
+    /// Removes the first pair, and returns it, or `None` if the map is empty.
     pub fn pop_first(&mut self) -> Option<(K, V)>
         ensures pairs { self.new ≡ without_first self.old }
         ensures removed { result ≡ first_of self.old }
@@ -328,7 +331,7 @@ impl<K: NoPrefixesBytes + Drop, V: Drop, const P: usize> TreeMap<K, V, P> {
         self.map.pop_first().unwrap()
     }
 
-    /// Removes the last pair and returns it.
+    /// Removes the last pair, and returns it, or `None` if the map is empty.
     pub fn pop_last(&mut self) -> Option<(K, V)>
         ensures pairs { self.new ≡ without_last self.old }
         ensures removed { result ≡ last_of self.old }
@@ -343,15 +346,15 @@ impl<K: NoPrefixesBytes + Drop, V: Drop, const P: usize> TreeMap<K, V, P> {
         self.map.pop_last().unwrap()
     }
 
-    /// Takes out all pairs, and takes no memory, as `clear` of a `ByteMap` does. The store keeps the room of the nodes.
+    /// Removes all pairs, as `clear` of a `ByteMap` does. The store keeps its slots for later pairs.
     pub fn clear(&mut self)
         ensures { self.new ≡ [] }
     {
         self.map.clear();
     }
 
-    /// Moves the pairs into the order of their keys in memory, as `compact` of a `ByteMap` does: a walk
-    /// then reads memory from front to back. An `Err` is for want of memory, and then nothing has moved.
+    /// Moves the pairs into the order of their keys in memory, as `compact` of a `ByteMap` does, so that an iteration
+    /// reads memory from first to last. Fails only if an allocation fails; then no pair has moved.
     pub fn compact(&mut self) -> Result<(), AllocError>
         ensures same { self.new ≡ self.old }
     {
@@ -383,7 +386,7 @@ impl<K: NoPrefixesBytes + Drop, V: Drop, const P: usize> IntoIterator for TreeMa
     }
 }
 
-/// The value of a key, which has to be stored: that is a condition of the index, and no check at run time.
+/// Returns the value of a key, which must be stored: a precondition, which is not checked at run time.
 impl<'b, K: NoPrefixesBytes + Drop, V: Drop, const P: usize> Index<&'b K> for TreeMap<K, V, P> {
     type Output = V;
 
@@ -405,7 +408,7 @@ impl<K: NoPrefixesBytes + fmt::Debug + Drop, V: fmt::Debug + Drop, const P: usiz
     }
 }
 
-/// No key of the type is in conflict with a map of keys of the type.
+/// No key of the type conflicts with a map of keys of the type.
 pub fn keys_are_never_in_conflict<K: NoPrefixesBytes, V>()
     ensures { IsNeverInConflict V K.is_key K.bytes }
 {}

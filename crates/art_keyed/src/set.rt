@@ -1,4 +1,4 @@
-//! An ordered set of keys that are never in conflict. Its contracts speak of lists of keys alone.
+//! An ordered set of keys that never conflict. Its contracts speak only of lists of keys.
 ghost use Rattle.std.specs.Prelude.{◌≡◌, ◌↔◌, ◌<◌, ◌^◌, [], length, false, not, IsOk, IfOk, IfErr, IsTrue, OnOk, OnErr, option_copied};
 ghost use Rattle.std.specs.List.{AllByRecursion as Each};
 ghost use Rattle.art_model.specs.Pairs.{IsMap, first_of, has_key, last_of, remove_key, remove_reply, replace_key, with_key, without_first, without_last};
@@ -23,22 +23,22 @@ mod ordered;
 mod retain;
 mod strings;
 
-/// A key that was not put in, for want of memory.
+/// A key that was not inserted, since an allocation failed.
 #[derive(Debug, Drop, Error)]
 #[error("memory allocation failed")]
 pub struct KeyRefused<K> {
     pub key: K,
 }
 
-/// Drops the key, so that `?` works in a function that fails only if an allocation does.
+/// Drops the key, so that `?` works in a function that fails only if an allocation fails.
 impl<K: Drop> From<KeyRefused<K>> for AllocError {
     fn from(refused: KeyRefused<K>) -> Self {
         AllocError
     }
 }
 
-/// A set of keys in the order of their bytes. No key of the type is a prefix of another, so that a key is
-/// refused only for want of memory.
+/// A set of keys in the order of their bytes. No key of the type is a prefix of another one, so an insertion fails only
+/// if an allocation fails.
 #[derive(Drop)]
 pub struct TreeSet<K: NoPrefixesBytes, const P: usize> {
     set: ByteSet<K, P>,
@@ -59,7 +59,7 @@ impl<K: NoPrefixesBytes, const P: usize> Model for TreeSet<K, P> {
 }
 
 impl<K: NoPrefixesBytes + Drop, const P: usize> TreeSet<K, P> {
-    /// Returns an empty set, and takes no memory.
+    /// Returns an empty set. It allocates nothing.
     pub fn new(alloc: Global) -> Self
         ensures { result ≡ [] }
     {
@@ -68,7 +68,7 @@ impl<K: NoPrefixesBytes + Drop, const P: usize> TreeSet<K, P> {
         }
     }
 
-    /// Returns the set as a `ByteSet`, for those of its calls that only read.
+    /// Returns the set as a `ByteSet`, for the calls of a `ByteSet` that only read.
     pub fn as_byte_set(&self) -> &ByteSet<K, P>
         ensures keys { result.now ≡ self.now }
         ensures known { Each K.is_key self.now }
@@ -84,21 +84,21 @@ impl<K: NoPrefixesBytes + Drop, const P: usize> TreeSet<K, P> {
         self.set.len()
     }
 
-    /// Returns whether there is no key.
+    /// Returns whether the set is empty.
     pub fn is_empty(&self) -> bool
         ensures { IsTrue result ↔ (self.now ≡ []) }
     {
         self.set.is_empty()
     }
 
-    /// Returns whether a key is stored, by one way down the tree along its bytes.
+    /// Returns whether a key is stored, with a single descent along its bytes.
     pub fn contains(&self, key: &K) -> bool
         ensures { result ≡ has_key K.bytes (K.bytes key.now) self.now }
     {
         self.set.contains(key.as_bytes())
     }
 
-    /// Returns the stored key that is equal to a key, or `None`, by one way down the tree along its
+    /// Returns the stored key that is equal to a key, or `None` if there is none, with a single descent along the key's
     /// bytes.
     pub fn get(&self, key: &K) -> Option<&K>
         ensures { option_copied result ≡ first_of (with_key K.bytes (K.bytes key.now) self.now) }
@@ -106,21 +106,21 @@ impl<K: NoPrefixesBytes + Drop, const P: usize> TreeSet<K, P> {
         self.set.get(key.as_bytes())
     }
 
-    /// Returns the first key, or `None`. It reads one inner node for each level.
+    /// Returns the first key, or `None` if the set is empty. It reads one inner node on each level.
     pub fn first(&self) -> Option<&K>
         ensures { option_copied result ≡ first_of self.now }
     {
         self.set.first()
     }
 
-    /// Returns the last key, or `None`. It reads one inner node for each level.
+    /// Returns the last key, or `None` if the set is empty. It reads one inner node on each level.
     pub fn last(&self) -> Option<&K>
         ensures { option_copied result ≡ last_of self.now }
     {
         self.set.last()
     }
 
-    /// Returns the keys as they rise, from both ends. A step of the walk goes down no tree.
+    /// Returns a double-ended iterator over the keys, in ascending order. No step of it descends the tree.
     pub fn iter(&self) -> Keys<'_, K, (), P>
         ensures keys { result ≡ self.now }
         ensures sorted { IsMap K.bytes self.now }
@@ -129,9 +129,11 @@ impl<K: NoPrefixesBytes + Drop, const P: usize> TreeSet<K, P> {
         self.set.iter()
     }
 
-    /// Puts a key in, and returns whether it was new. Where an equal key is stored, that key stays and
-    /// the one that was handed in is dropped. It is refused only for want of memory, and never where an
-    /// equal key is stored.
+    /// Inserts a key, and returns whether it was new. If an equal key is stored, that key stays and the one that was
+    /// passed is dropped.
+    ///
+    /// Fails only if an allocation fails, and never if an equal key is stored. The error returns the key, and the set
+    /// is unchanged.
     pub fn insert(&mut self, key: K) -> Result<bool, KeyRefused<K>>
         ensures keys { OnOk result (self.new ≡ add_key K.bytes key self.old) }
         ensures added { IfOk result (λ added.
@@ -149,8 +151,8 @@ impl<K: NoPrefixesBytes + Drop, const P: usize> TreeSet<K, P> {
         }
     }
 
-    /// Puts a key in, in the place of the equal one that is stored, which it returns. Both have the same
-    /// bytes. It is refused as `insert` is.
+    /// Inserts a key in place of the stored key that is equal to it, and returns that one, or `None` if there was none.
+    /// Both keys have the same bytes. Fails as `insert` does.
     pub fn replace(&mut self, key: K) -> Result<Option<K>, KeyRefused<K>>
         ensures keys { OnOk result (self.new ≡ replace_key K.bytes key self.old) }
         ensures replaced { IfOk result (λ replaced.
@@ -168,9 +170,9 @@ impl<K: NoPrefixesBytes + Drop, const P: usize> TreeSet<K, P> {
         }
     }
 
-    // ---- Removals. None of them takes memory, and none fails.
+    // ---- Removals: none of them allocates or fails.
 
-    /// Removes a key, and returns whether it was there.
+    /// Removes a key, and returns whether it was stored.
     pub fn remove(&mut self, key: &K) -> bool
         ensures keys { self.new ≡ remove_key K.bytes (K.bytes key.now) self.old }
         ensures removed { result ≡ has_key K.bytes (K.bytes key.now) self.old }
@@ -178,7 +180,7 @@ impl<K: NoPrefixesBytes + Drop, const P: usize> TreeSet<K, P> {
         self.set.remove(key.as_bytes())
     }
 
-    /// Removes the stored key that is equal to a key, and returns it.
+    /// Removes the stored key that is equal to a key, and returns it, or `None` if there is none.
     pub fn take(&mut self, key: &K) -> Option<K>
         ensures keys { self.new ≡ remove_key K.bytes (K.bytes key.now) self.old }
         ensures removed { result ≡ remove_reply K.bytes (K.bytes key.now) self.old }
@@ -186,7 +188,7 @@ impl<K: NoPrefixesBytes + Drop, const P: usize> TreeSet<K, P> {
         self.set.take(key.as_bytes())
     }
 
-    /// Removes the first key and returns it.
+    /// Removes the first key, and returns it, or `None` if the set is empty.
     pub fn pop_first(&mut self) -> Option<K>
         ensures keys { self.new ≡ without_first self.old }
         ensures removed { result ≡ first_of self.old }
@@ -194,7 +196,7 @@ impl<K: NoPrefixesBytes + Drop, const P: usize> TreeSet<K, P> {
         self.set.pop_first()
     }
 
-    /// Removes the last key and returns it.
+    /// Removes the last key, and returns it, or `None` if the set is empty.
     pub fn pop_last(&mut self) -> Option<K>
         ensures keys { self.new ≡ without_last self.old }
         ensures removed { result ≡ last_of self.old }
@@ -202,16 +204,15 @@ impl<K: NoPrefixesBytes + Drop, const P: usize> TreeSet<K, P> {
         self.set.pop_last()
     }
 
-    /// Takes out all keys, and takes no memory, as `clear` of a `ByteMap` does. The store keeps the room
-    /// of the nodes.
+    /// Removes all keys, as `clear` of a `ByteMap` does. The store keeps its slots for later keys.
     pub fn clear(&mut self)
         ensures { self.new ≡ [] }
     {
         self.set.clear();
     }
 
-    /// Moves the keys into their order in memory, as `compact` of a `ByteMap` does: a walk then reads
-    /// memory from front to back. An `Err` is for want of memory, and then nothing has moved.
+    /// Moves the keys into their order in memory, as `compact` of a `ByteMap` does, so that an iteration reads memory
+    /// from first to last. Fails only if an allocation fails; then no key has moved.
     pub fn compact(&mut self) -> Result<(), AllocError>
         ensures same { self.new ≡ self.old }
     {

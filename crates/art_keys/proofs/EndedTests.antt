@@ -1,4 +1,4 @@
--- The test for a zero, and what is ended where there is none.
+-- The test for a zero, and strings without one that are ended.
 use Rattle.std.proofs.Common.{◌≡◌, ℕ, List, [], ◌∷◌, ◌++◌, Bool, true, false, ◌||◌, eqb, eqb-true, eq-eqb, refl, sym, ◌∙◌}
 use Rattle.std.specs.List.{list_any}
 use Rattle.std.proofs.lemmas.Bool.{true≢false, false≢true}
@@ -8,7 +8,7 @@ use Rattle.art_keys.specs.EndedLaws.{ended_is, without_end-ended}
 abbrev pub is_zero : ℕ → Bool
 is_zero byte = eqb byte 0
 
--- a test that fails shows that there is none
+-- if the test fails, no byte is zero
 pub none_found : (bytes : List ℕ) → list_any is_zero bytes ≡ false → HasNoZero bytes
 none_found [] h = tt
 none_found (x ∷ bytes) h = go (none_found bytes) (eqb x 0) refl h
@@ -17,7 +17,7 @@ none_found (x ∷ bytes) h = go (none_found bytes) (eqb x 0) refl h
     go ih true e h = absurd (true≢false h)
     go ih false e h = ((λ z. true≢false (sym (eq-eqb x 0 z) ∙ e)), ih h)
 
--- and one that passes that there is one
+-- if the test passes, a byte is zero
 pub one_found : (bytes : List ℕ) → list_any is_zero bytes ≡ true → HasNoZero bytes → ⊥
 one_found [] h of = false≢true h
 one_found (x ∷ bytes) h of = go (λ k. one_found bytes k of.1) (eqb x 0) refl h
@@ -26,6 +26,6 @@ one_found (x ∷ bytes) h of = go (λ k. one_found bytes k of.1) (eqb x 0) refl 
     go ih true e h = of.0 (eqb-true x 0 e)
     go ih false e h = ih h
 
--- what a push of a zero makes
+-- a string to which a zero is pushed is ended
 pub pushed : (bytes text : List ℕ) → HasNoZero text → bytes ≡ text ++ 0 ∷ [] → IsEnded bytes × (without_end bytes ≡ text)
 pushed bytes text h e = rw e (ended_is text h, without_end-ended text)

@@ -3,7 +3,8 @@ use Rattle.std.proofs.Common.{◌≡◌, ◌+◌, ◌≤◌, ◌<◌, ◌++◌, 
 use Rattle.std.proofs.lemmas.List.{take_more_set, take-set-le, length-set}
 use Rattle.art_keys.specs.Escapes.{unescape}
 
--- what is written from a place on and what is to come make up the string, and the bytes before that place stay
+-- the bytes written from an index on and those to come make up the string, and the bytes before that index are
+-- unchanged
 pub record IsWriting (text : List ℕ) (at : ℕ) (before : List ℕ) (end : ℕ) (buffer rest : List ℕ) : Type 0 where
   pub whole : take end buffer ++ unescape rest ≡ take at before ++ text
   pub kept : take at buffer ≡ take at before
@@ -12,7 +13,7 @@ pub record IsWriting (text : List ℕ) (at : ℕ) (before : List ℕ) (end : ℕ
   pub fits : end ≤ length buffer
   pub is_end : end + length (unescape rest) ≡ at + length text
 
--- one byte more
+-- one more byte is written
 pub writes_byte : {text : List ℕ} {at : ℕ} {before : List ℕ} {end : ℕ} {buffer rest : List ℕ} {byte : ℕ} {others : List ℕ} → IsWriting text at before end buffer rest → unescape rest ≡ byte ∷ unescape others → end < length buffer → IsWriting text at before (end + 1) (set buffer end byte) others
 writes_byte {text} {at} {before} {end} {buffer} {rest} {byte} {others} so is room = record {
   whole = ap (λ xs. xs ++ unescape others) (take_more_set buffer end byte room)

@@ -1,4 +1,4 @@
--- Keys that come back from their bytes.
+-- Keys that are recovered from their bytes.
 use Rattle.std.specs.Prelude.{◌≡◌, ℕ, List, ◌++◌, length}
 
 module _ {K : Type 0} (is_key : K → Type 0) (bytes : K → List ℕ) where
@@ -8,14 +8,14 @@ module _ {K : Type 0} (is_key : K → Type 0) (bytes : K → List ℕ) where
     pub of_key : is_key key
     pub is : these ≡ bytes key
 
-  -- these bytes begin with those of a key
+  -- these bytes start with those of a key
   pub record BeginsWithKey (these : List ℕ) : Type 0 where
     pub key : K
     pub rest : List ℕ
     pub of_key : is_key key
     pub is : these ≡ bytes key ++ rest
 
-  -- a key comes back from its bytes, and their number from them and whatever stands after them
+  -- a key is recovered from its bytes, and its length from them and whatever follows them
   abbrev pub ComesBack : (List ℕ → K) → (List ℕ → ℕ) → Type 0
   ComesBack key_of length_of =
       (key : K) → is_key key → (key_of (bytes key) ≡ key) × ((rest : List ℕ) → length_of (bytes key ++ rest) ≡ length (bytes key))
@@ -24,7 +24,7 @@ module _ {K : Type 0} (is_key : K → Type 0) (bytes : K → List ℕ) where
   abbrev pub HaveLength : ℕ → Type 0
   HaveLength count = (key : K) → is_key key → length (bytes key) ≡ count
 
-  -- these bytes are those of the key that comes back from them
+  -- these bytes are those of the key that is recovered from them
   pub record AreOwn (key_of : List ℕ → K) (these : List ℕ) : Type 0 where
     pub of_key : is_key (key_of these)
     pub is : these ≡ bytes (key_of these)

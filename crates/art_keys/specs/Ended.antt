@@ -18,22 +18,22 @@ without_end [] = []
 without_end (byte ∷ []) = []
 without_end (byte ∷ next ∷ rest) = byte ∷ without_end (next ∷ rest)
 
--- how many bytes stand before the first zero
+-- the number of bytes before the first zero, or of all bytes if none is zero
 abbrev pub zero_at : List ℕ → ℕ
 zero_at [] = 0
 zero_at (zero ∷ rest) = 0
 zero_at (suc byte ∷ rest) = suc (zero_at rest)
 
--- how many bytes a string takes that its first zero ends
+-- the length of the string that the first zero ends, with that zero
 abbrev pub ended_length : List ℕ → ℕ
 ended_length bytes = suc (zero_at bytes)
 
--- a zero stands at the end, and nowhere else
+-- the last byte is zero, and no other one
 pub record IsEnded (bytes : List ℕ) : Type 0 where
   pub text : HasNoZero (without_end bytes)
   pub is_end : bytes ≡ ended (without_end bytes)
 
--- the bytes are handed back, where a zero stands among them or for want of memory
+-- the error returns the bytes: there is a zero among them, or there is none and an allocation failed
 abbrev pub IsEndRefusal : List ℕ → EndError → Type 0
 IsEndRefusal bytes (InnerZero text) = (text.items ≡ bytes) × ¬ HasNoZero bytes
 IsEndRefusal bytes (Memory text) = (text.items ≡ bytes) × HasNoZero bytes

@@ -1,4 +1,5 @@
--- Strings of bytes that are ended by a zero: none is a prefix of another, they stand in the order of what is ended, and begin as it does.
+-- Strings of bytes that are ended by a zero: none is a prefix of another one, they are in the order of the bytes before
+-- the end, and prefixes of these are kept.
 use Rattle.std.proofs.Common.{◌≡◌, ◌≢◌, ℕ, zero, suc, length, length-append, List, [], ◌∷◌, ◌++◌, ◌&&◌, eqb, refl, ap, arith}
 use Rattle.std.proofs.lemmas.Bool.{le-ltb, lt-ltb, ne_eqb}
 use Rattle.std.specs.Cmp.Lexicographic.{slice_cmp}
@@ -24,7 +25,7 @@ ended_keeps_order [] (y ∷ b) of_a of_b = let off : y ≢ 0 = of_b.0 in rw (lt-
 ended_keeps_order (x ∷ a) [] of_a of_b = let off : x ≢ 0 = of_a.0 in rw (le-ltb x 0 (omega arith), ne_eqb x 0 off) refl
 ended_keeps_order (x ∷ a) (y ∷ b) of_a of_b = rw (ended_keeps_order a b of_a.1 of_b.1) refl
 
--- what was ended is what stands before the end
+-- the bytes before the end are those that were ended
 pub without_end-ended : (text : List ℕ) → without_end (ended text) ≡ text
 without_end-ended [] = refl
 without_end-ended (x ∷ []) = refl
@@ -33,7 +34,7 @@ without_end-ended (x ∷ y ∷ text) = ap (λ t. x ∷ t) (without_end-ended (y 
 pub ended_is : (text : List ℕ) → HasNoZero text → IsEnded (ended text)
 ended_is text h = record { text = rw (without_end-ended text) h; is_end = rw (without_end-ended text) refl }
 
--- a string without a zero begins what is ended where it begins what stands before the end
+-- a string without a zero is a prefix of an ended one exactly if it is a prefix of the bytes before the end
 pub ended_begins : (text other : List ℕ) → HasNoZero text → is_front text (ended other) ≡ is_front text other
 ended_begins [] other of_text = refl
 ended_begins (x ∷ text) [] of_text = rw (ne_eqb x 0 of_text.0) refl

@@ -1,4 +1,5 @@
--- Escaped strings: what was escaped comes back, none is a prefix of another, they stand in the order of the originals, and begin as they do.
+-- Escaped strings: the string is recovered, no escape is a prefix of another one, escapes are in the order of the
+-- strings, and prefixes are kept.
 use Rattle.std.proofs.Common.{◌≡◌, ℕ, zero, suc, List, [], ◌∷◌, ◌++◌, ◌&&◌, eqb, length, length-append, refl, ap, ap₂, sym, ◌∙◌, arith}
 use Rattle.std.specs.Prelude.{⊤}
 use Rattle.std.proofs.lemmas.Bool.{le-ltb, lt-ltb, ne_eqb}
@@ -36,7 +37,7 @@ escape_order (suc (suc m) ∷ a) (zero ∷ b) =
 escape_order (suc (suc m) ∷ a) (suc zero ∷ b) = rw (le-ltb (suc (suc m)) 1 (omega arith), ne_eqb (suc (suc m)) 1 (λ e. omega arith)) refl
 escape_order (suc (suc m) ∷ a) (suc (suc n) ∷ b) = rw (escape_order a b) refl
 
--- an escaped string that is a prefix of another is the same
+-- an escape that is a prefix of another one is equal to it
 front_same : (a b rest : List ℕ) → escape b ≡ escape a ++ rest → escape a ≡ escape b
 front_same [] [] rest is = refl
 front_same [] (zero ∷ b) rest is = absurd cc
@@ -65,18 +66,18 @@ escape_no_prefixes a b of_a of_b (rest, is) = front_same a b rest is
 pub escape_keeps_order : KeepsOrder {K = List ℕ} (λ text. ⊤) escape (slice_cmp nat_cmp)
 escape_keeps_order a b of_a of_b = escape_order a b
 
--- strings of which one is escaped to a prefix of the other's are the same
+-- strings are equal if the escape of one is a prefix of that of the other
 pub escape_apart : (a b : List ℕ) → IsFront (escape a) (escape b) → a ≡ b
 escape_apart a b (rest, is) = sym (unescape-escape a) ∙ ap unescape (front_same a b rest is) ∙ unescape-escape b
 
--- an escaped string is its escaped bytes and an end
+-- the escape of a string is its escaped bytes and a zero
 pub escape_is : (text : List ℕ) → escape text ≡ escape_inside text ++ 0 ∷ []
 escape_is [] = refl
 escape_is (zero ∷ text) = ap (λ t. 1 ∷ 1 ∷ t) (escape_is text)
 escape_is (suc zero ∷ text) = ap (λ t. 1 ∷ 2 ∷ t) (escape_is text)
 escape_is (suc (suc n) ∷ text) = ap (λ t. suc (suc n) ∷ t) (escape_is text)
 
--- and these begin another one where the string begins the other string
+-- its escaped bytes are a prefix of another escape exactly if the string is a prefix of the other string
 pub escape_begins : (text other : List ℕ) → is_front (escape_inside text) (escape other) ≡ is_front text other
 escape_begins [] other = refl
 escape_begins (zero ∷ text) [] = refl
@@ -92,7 +93,7 @@ escape_begins (suc (suc m) ∷ text) (zero ∷ other) = rw (ne_eqb (suc (suc m))
 escape_begins (suc (suc m) ∷ text) (suc zero ∷ other) = rw (ne_eqb (suc (suc m)) 1 (λ e. omega arith)) refl
 escape_begins (suc (suc m) ∷ text) (suc (suc n) ∷ other) = ap (λ b. eqb (suc (suc m)) (suc (suc n)) && b) (escape_begins text other)
 
--- escaped bytes begin others where the string begins the other string
+-- escaped bytes are a prefix of others exactly if the string is a prefix of the other string
 pub escape_keeps_fronts : KeepsFronts escape_inside
 escape_keeps_fronts [] other = refl
 escape_keeps_fronts (zero ∷ text) [] = refl
@@ -108,7 +109,7 @@ escape_keeps_fronts (suc (suc m) ∷ text) (zero ∷ other) = rw (ne_eqb (suc (s
 escape_keeps_fronts (suc (suc m) ∷ text) (suc zero ∷ other) = rw (ne_eqb (suc (suc m)) 1 (λ e. omega arith)) refl
 escape_keeps_fronts (suc (suc m) ∷ text) (suc (suc n) ∷ other) = ap (λ b. eqb (suc (suc m)) (suc (suc n)) && b) (escape_keeps_fronts text other)
 
--- strings with one byte more are the same where both parts are
+-- if two strings with one more byte each are equal, so are the strings and the bytes
 pub snoc_same : (a b : List ℕ) (x y : ℕ) → a ++ x ∷ [] ≡ b ++ y ∷ [] → (a ≡ b) × (x ≡ y)
 snoc_same [] [] x y e = (refl, cc)
 snoc_same [] (z ∷ []) x y e = absurd cc
@@ -121,11 +122,11 @@ snoc_same (z ∷ a) (w ∷ b) x y e =
     let s = snoc_same a b x y t in
     (ap₂ (λ n r. n ∷ r) first s.0, s.1)
 
--- what stands before the end of an escaped string are its escaped bytes
+-- the bytes before the end of an escape are the escaped bytes
 pub before_end : (text bytes inside : List ℕ) (end : ℕ) → escape text ≡ bytes → bytes ≡ inside ++ end ∷ [] → inside ≡ escape_inside text
 before_end text bytes inside end e f = (snoc_same inside (escape_inside text) end 0 (sym f ∙ sym e ∙ escape_is text)).0
 
--- an escaped string is not empty
+-- an escape is not empty
 pub has_end : (text bytes : List ℕ) → escape text ≡ bytes → length bytes ≡ 0 → ⊥
 has_end text bytes e none = let l = ap length (sym (escape_is text) ∙ e) in omega (arith, simp length-append at l)
 

@@ -1,8 +1,8 @@
--- Any string of bytes as one that is ended by a zero and has no zero before it.
+-- Escapes: any string of bytes as one that is ended by a zero and has no zero before it.
 use Rattle.std.specs.Prelude.{◌≡◌, ◌<◌, ℕ, zero, suc, List, [], ◌∷◌, ◌++◌}
 use Rattle.std.specs.List.{AllByRecursion as Each}
 
--- a byte as one or two that are not zero: 0 and 1 are told apart by what stands after a 1
+-- a byte as one or two that are not zero: the byte after a 1 distinguishes 0 from 1
 abbrev pub escape_byte : ℕ → List ℕ
 escape_byte zero = 1 ∷ 1 ∷ []
 escape_byte (suc zero) = 1 ∷ 2 ∷ []

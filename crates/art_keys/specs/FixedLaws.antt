@@ -14,7 +14,7 @@ fixed_no_prefixes n a b of_a of_b (rest, is) = go rest is (let l = ap length is 
     go [] e none = sym (e ∙ append-nil a)
     go (x ∷ rest) e none = absurd (omega arith)
 
--- a clone has the same bytes, and their number
+-- a clone has the same bytes, and the same length
 pub fixed_keeps_bytes : (n : ℕ) → KeepBytes (λ bytes. bytes) (λ a b. AllZipBelow (λ (x y : ℕ). y ≡ x) a b n)
 fixed_keeps_bytes n a b is = each_same a b is.whole
 

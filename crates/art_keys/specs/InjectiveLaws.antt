@@ -1,4 +1,4 @@
--- Keys with the same bytes are the same, of each type.
+-- Keys with the same bytes are equal, for each type.
 use Rattle.std.proofs.Common.{◌≡◌, ℕ, List, length, ap, sym, ◌∙◌}
 use Rattle.std.specs.Prelude.{⊤}
 use Rattle.std.specs.Int.{bytes_high_first}
@@ -13,7 +13,7 @@ use Rattle.art_keys.specs.Numbers.{HasBytes, HasSignedBytes, lowered, number_of,
 use Rattle.art_keys.specs.NumberLaws.{numbers_come_back, signed_come_back}
 use Rattle.art_keys.specs.Prefixes.{AreInjective}
 
--- keys that come back from their bytes
+-- keys that are recovered from their bytes
 pub back_injective : {K : Type 0} (is_key : K → Type 0) (bytes : K → List ℕ) (key_of : List ℕ → K) (length_of : List ℕ → ℕ) →
     ComesBack is_key bytes key_of length_of → AreInjective is_key bytes
 back_injective is_key bytes key_of length_of back a b of_a of_b same = sym (back a of_a).0 ∙ ap key_of same ∙ (back b of_b).0

@@ -1,4 +1,5 @@
--- Two keys as one: none is a prefix of another, and they stand in the order of the first keys and then of the second ones.
+-- Two keys as one: none is a prefix of another one, and they are in the order of the first keys and then of the second
+-- ones.
 use Rattle.std.proofs.Common.{◌≡◌, ℕ, ◌<◌, List, [], ◌∷◌, ◌++◌, refl, length, length-append, append_assoc, ap, ap₂, sym, ◌∙◌, arith, ◌⊎◌, inl, inr}
 use Rattle.std.proofs.lemmas.Bool.{le-ltb, lt-ltb, ne_eqb, eq-eqb, cases_order}
 use Rattle.std.specs.Cmp.Lexicographic.{slice_cmp}
@@ -10,14 +11,15 @@ use Rattle.art_keys.specs.Joins.{AreKeys, AreKeysOf, joined_bytes, joined_length
 use Rattle.art_keys.specs.Prefixes.{HasNoPrefixes, KeepsOrder}
 use Rattle.art_model.specs.Keys.{IsFront}
 
--- one byte more in front
+-- the same byte before a prefix and before the whole
 longer : (z : ℕ) (x y : List ℕ) → IsFront x y → IsFront (z ∷ x) (z ∷ y)
 longer z x y (rest, e) = (rest, ap (λ t. z ∷ t) e)
 
 tail_same : (z : ℕ) (x y : List ℕ) → z ∷ x ≡ z ∷ y → x ≡ y
 tail_same z x y e = cc
 
--- where neither of two strings is a proper prefix of the other, a longer prefix is both parts' own
+-- If neither of two first parts is a proper prefix of the other: a string of two parts is a prefix of another one only
+-- if the first parts are equal and the second part is a prefix of the other's.
 parts_front : (x y b d : List ℕ) → (IsFront x y → x ≡ y) → (IsFront y x → y ≡ x) → IsFront (x ++ b) (y ++ d) → (x ≡ y) × IsFront b d
 parts_front [] [] b d f g front = (refl, front)
 parts_front [] (w ∷ y) b d f g front = let e : [] ≡ w ∷ y = f (w ∷ y, refl) in absurd cc
@@ -30,7 +32,7 @@ parts_front (z ∷ x) (w ∷ y) b d f g (rest, is) =
     (λ h. tail_same z y x (rw same at (g (rw same (longer z y x h))))) (rest, t) in
     (ap₂ (λ n s. n ∷ s) (sym same) e, front)
 
--- and they compare by the first parts, and then by the second ones
+-- then strings of two parts compare by the first parts, and then by the second ones
 parts_cmp : (x y b d : List ℕ) → (IsFront x y → x ≡ y) → (IsFront y x → y ≡ x) →
     slice_cmp nat_cmp (x ++ b) (y ++ d) ≡ ordering_then (slice_cmp nat_cmp x y) (slice_cmp nat_cmp b d)
 parts_cmp [] [] b d f g = refl
@@ -60,7 +62,7 @@ module _ {A B : Type 0} (is_first : A → Type 0) (first : A → List ℕ) (is_s
 
   module _ (first_of : List ℕ → A) (first_length : List ℕ → ℕ) (second_of : List ℕ → B) (second_length : List ℕ → ℕ)
       (back_first : ComesBack is_first first first_of first_length) (back_second : ComesBack is_second second second_of second_length) where
-    -- two keys come back, each from its own bytes
+    -- two keys are recovered, each from its own bytes
     pub joins_come_back : ComesBack (AreKeys is_first is_second) (joined_bytes first second) (parted first_of first_length second_of) (joined_length first_length second_length)
     joins_come_back pair of_pair = (keys, λ rest. lengths rest)
       where
@@ -81,6 +83,6 @@ module _ {A B : Type 0} (is_first : A → Type 0) (first : A → List ℕ) (is_s
             )
             (sym (length-append (first pair.0) (second pair.1)))
 
-    -- and so they do where they have so many bytes together
+    -- the same for two keys that have so many bytes together
     pub arrays_come_back : (count : ℕ) → ComesBack (AreKeysOf count is_first first is_second second) (joined_bytes first second) (parted first_of first_length second_of) (joined_length first_length second_length)
     arrays_come_back count pair of_pair = joins_come_back pair of_pair.0

@@ -21,11 +21,11 @@ module _ {A B : Type 0} where
   abbrev pub pair_cmp : (A → A → Ordering) → (B → B → Ordering) → A × B → A × B → Ordering
   pair_cmp by_first by_second x y = ordering_then (by_first x.0 y.0) (by_second x.1 y.1)
 
-  -- the two keys of which the first takes so many of the bytes, and the second the others
+  -- the first key is recovered from as many of the bytes as it has, and the second one from the others
   abbrev pub parted : (List ℕ → A) → (List ℕ → ℕ) → (List ℕ → B) → List ℕ → A × B
   parted first_of first_length second_of bytes =
       (first_of (take (first_length bytes) bytes), second_of (drop (first_length bytes) bytes))
 
--- how many of the bytes are those of two keys
+-- the length of the two keys that the bytes start with
 abbrev pub joined_length : (List ℕ → ℕ) → (List ℕ → ℕ) → List ℕ → ℕ
 joined_length first_length second_length bytes = first_length bytes + second_length (drop (first_length bytes) bytes)

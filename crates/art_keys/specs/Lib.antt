@@ -2,7 +2,7 @@ pub mod Prefixes
 pub mod Decoded
 pub mod Ended
 pub mod Escapes
--- proofs of the laws of the types, which their impls name
+-- the proofs of the laws, which the impls of the types cite
 pub mod FixedLaws
 pub mod EndedLaws
 pub mod EscapeLaws

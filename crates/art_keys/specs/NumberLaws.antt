@@ -1,4 +1,5 @@
--- Numbers as bytes: they come back, none is a prefix of another, and they stand in the order of the numbers.
+-- Numbers as bytes: they are recovered, none is a prefix of another one, and their bytes are in the order of the
+-- numbers.
 use Rattle.std.proofs.Common.{◌≡◌, ℕ, zero, suc, ◌+◌, ◌-◌, ◌*◌, ◌/◌, ◌%◌, ◌^◌, ◌<◌, ◌≤◌, length, refl, ap, sym, ◌∙◌, arith, ◌⊎◌, inl, inr}
 use Rattle.std.specs.Prelude.{ℤ, pos, negsuc}
 use Rattle.std.proofs.lemmas.Bool.{le-ltb, lt-ltb, ne_eqb, cases_order, eq-eqb}
@@ -19,12 +20,12 @@ length-bytes (suc k) n = ap suc (length-bytes k n)
 all_pos : (k : ℕ) → 0 < 256 ^ k
 all_pos k = nat.one-le-pow k 256 (omega arith)
 
--- a byte, as a digit
+-- a byte as a digit in base 256
 byte_is : (k n : ℕ) → byte_at k n ≡ n / 256 ^ k % 256
 byte_is zero n = rw (nat.pow-zero 256, nat.div-one n) refl
 byte_is (suc k) n = refl
 
--- one byte more
+-- one more byte
 one_more : (k n : ℕ) → n % 256 ^ suc k ≡ byte_at k n * 256 ^ k + n % 256 ^ k
 one_more k n = rw (nat.pow-succ' 256 k, byte_is k n) (mod-mul n (omega arith) (all_pos k))
 
@@ -38,7 +39,7 @@ number_back count n small = number_of-bytes count n ∙ nat.mod-eq_of_lt small
 pub number_is : (count n : ℕ) → HasBytes count n → IsNumber count (bytes_high_first count n)
 number_is count n small = record { small = rw (number_back count n small) small; is = rw (number_back count n small) refl }
 
--- numbers that both grow by one compare as before
+-- numbers that grow by the same amount compare as before
 shift_cmp : (c r s : ℕ) → nat_cmp (c + r) (c + s) ≡ nat_cmp r s
 shift_cmp c r s = go (cases_order r s)
   where
@@ -49,7 +50,7 @@ shift_cmp c r s = go (cases_order r s)
     go (inr (inr h)) =
         rw (le-ltb (c + r) (c + s) (omega arith), le-ltb r s (omega arith), ne_eqb (c + r) (c + s) (λ e. omega arith), ne_eqb r s (λ e. omega arith)) refl
 
--- numbers of one byte more compare by that byte, and then by the rest
+-- numbers with one more byte compare by that byte, and then by the rest
 more_cmp : (a b r s p : ℕ) → r < p → s < p → ordering_then (nat_cmp a b) (nat_cmp r s) ≡ nat_cmp (a * p + r) (b * p + s)
 more_cmp a b r s p small_r small_s = go (cases_order a b)
   where
@@ -80,7 +81,7 @@ numbers_come_back count n small = (number_back count n small, λ rest. sym (leng
 
 -- ---- signed numbers
 
--- what is lifted has so many bytes
+-- a lifted number has so many bytes
 pub lifted_small : (count : ℕ) (z : ℤ) → HasSignedBytes count z → HasBytes count (lifted count z)
 lifted_small count (pos n) h = omega arith
 lifted_small count (negsuc n) h = omega arith
@@ -89,7 +90,7 @@ pub lowered-lifted : (count : ℕ) (z : ℤ) → HasSignedBytes count z → lowe
 lowered-lifted count (pos n) h = rw (le-ltb (half count + n) (half count) (omega arith)) (ap pos (omega arith))
 lowered-lifted count (negsuc n) h = rw (lt-ltb (half count - suc n) (half count) (omega arith)) (ap negsuc (omega arith))
 
--- two ways to compare in three
+-- natural numbers compare as they do as integers
 two_tests : (n m : ℕ) → nat_cmp n m ≡ int_cmp (pos n) (pos m)
 two_tests n m = go (cases_order n m)
   where
@@ -98,7 +99,7 @@ two_tests n m = go (cases_order n m)
     go (inr (inl h)) = rw (lt-ltb n m h) refl
     go (inr (inr h)) = rw (le-ltb n m (omega arith), lt-ltb m n h, ne_eqb n m (λ e. omega arith)) refl
 
--- what is taken off turns the order round
+-- a subtraction from the same number reverses the order
 turned : (c n m : ℕ) → n < c → m < c → nat_cmp (c - suc n) (c - suc m) ≡ nat_cmp m n
 turned c n m of_n of_m = go (cases_order n m)
   where

@@ -1,4 +1,4 @@
-//! Numbers are written as their decimal digits, by `Display` and by `Debug`.
+//! `Display` and `Debug` of number keys: both write the number in decimal digits.
 
 use super::signed::Signed;
 use super::unsigned::Unsigned;

@@ -1,4 +1,4 @@
-//! Any bytes, escaped so that none is a prefix of another, and in their order.
+//! Strings of any bytes, escaped so that no key is a prefix of another one. The keys are in the order of the strings.
 ghost use Rattle.std.specs.Prelude.{◌≡◌, ℕ, List, ◌<◌, ◌≤◌, ◌++◌, [], ◌∷◌, length, IfOk, IfSome, MatchOption, OnOk};
 ghost use Rattle.std.specs.Bool.{OnFalse, OnTrue};
 ghost use Rattle.std.specs.Cmp.Lexicographic.{slice_cmp};
@@ -17,7 +17,8 @@ use std::marker::Model;
 
 mod write;
 
-/// Any string of bytes as a key. It is seen as the string, and its bytes are the escaped one.
+/// Any string of bytes as a key. The bytes of the key are those of the string, with 0 escaped as `1 1` and 1 as `1 2`,
+/// and then a zero. In contracts it is the string.
 #[derive(Drop)]
 pub struct Escaped {
     bytes: Vec<u8>,
@@ -51,14 +52,14 @@ impl Escaped {
         Ok(Escaped { bytes })
     }
 
-    /// The same of a text.
+    /// Returns what `encode` does, for the bytes of a text.
     pub fn encode_str(alloc: Global, text: &str) -> Result<Self, AllocError>
         ensures { IfOk result (λ key. key ≡ text.now) }
     {
         Escaped::encode(alloc, text.as_bytes())
     }
 
-    /// Returns whether no byte of a string is 0 or 1, so that its escape is the string and a zero.
+    /// Returns whether no byte of a string is 0 or 1. The escape of such a string is the string and a zero.
     pub fn is_plain(text: &[u8]) -> bool
         ensures yes { OnTrue result (IsPlain text.now) }
         ensures no { OnFalse result (¬ IsPlain text.now) }
@@ -70,8 +71,8 @@ impl Escaped {
         is_plain
     }
 
-    /// Returns the string. It allocates once, for as many bytes as the string has, and fails only if that
-    /// allocation fails.
+    /// Returns the string. It allocates once, for as many bytes as the string has, and fails only if that allocation
+    /// fails.
     pub fn decode(&self, alloc: Global) -> Result<Vec<u8>, AllocError>
         ensures { IfOk result (λ text. text.items ≡ self.now) }
     {
@@ -85,7 +86,7 @@ impl Escaped {
     }
 }
 
-// Returns the key of a string that is its own escape but for the end.
+// Returns the key of a string that has no byte to escape. Fails only if an allocation fails.
 fn plain_key(alloc: Global, text: &[u8]) -> Result<Escaped, AllocError>
     requires { IsPlain text.now }
     ensures { IfOk result (λ key. key ≡ text.now) }
@@ -109,11 +110,11 @@ impl fmt::Debug for Escaped {
     }
 }
 
-/// The string as UTF-8 text, with U+FFFD in the place of bytes that are none.
+/// Writes the string as UTF-8 text, with U+FFFD for each invalid sequence.
 impl fmt::Display for Escaped {
     fn fmt<W: fmt::Write>(&self, f: &mut fmt::Formatter<W>) -> fmt::Result {
         let mut rest = self.beginning();
-        // A byte 0 or 1 is a text of its own, so that what stands between two of them is written by itself.
+        // A byte 0 or 1 is a character of its own, so the bytes between two of them are written by themselves.
         while let Some((plain, escaped, others)) = split_at_escape(rest) {
             write_text(f, plain)?;
             f.write_str(escaped)?;
@@ -123,7 +124,8 @@ impl fmt::Display for Escaped {
     }
 }
 
-// Returns the bytes before the first that was escaped, the text of that one, and the bytes after it.
+// Returns the bytes before the first escape, the character that was escaped, and the bytes after the escape; `None` if
+// there is no escape.
 fn split_at_escape(bytes: &[u8]) -> Option<(&[u8], &'static str, &[u8])>
     ensures { IfSome result (λ parts. length parts.2.now < length bytes.now) }
 {
@@ -135,7 +137,7 @@ fn split_at_escape(bytes: &[u8]) -> Option<(&[u8], &'static str, &[u8])>
     }
 }
 
-// Returns the first byte of what was escaped, and the bytes after its own.
+// Returns the first byte of the string that was escaped, and the bytes after its escape; `None` at the end.
 fn first_escaped(bytes: &[u8]) -> Option<(u8, &[u8])>
     ensures byte { MatchOption result (unescape bytes.now ≡ [])
         (λ first. unescape bytes.now ≡ first.0 ∷ unescape first.1.now) }
@@ -149,7 +151,7 @@ fn first_escaped(bytes: &[u8]) -> Option<(u8, &[u8])>
     }
 }
 
-// Returns the length of the escape of a string.
+// Returns the length of the escape of a string, with its end.
 fn escape_len(text: &[u8]) -> usize
     ensures { result ≡ length (escape text.now) }
 {
@@ -171,7 +173,7 @@ fn escape_byte_len(byte: u8) -> usize
     }
 }
 
-// Writes the escape of a byte.
+// Appends the escape of a byte. Fails only if an allocation fails.
 fn push_escaped(bytes: &mut Vec<u8>, byte: u8) -> Result<(), AllocError>
     ensures { OnOk result (bytes.new.items ≡ bytes.old.items ++ escape_byte byte) }
 {
@@ -286,8 +288,8 @@ impl CloneBytes for Escaped {
     ghost keeps_key = { λ x y e of_x. of_x };
 }
 
-/// What was escaped comes back; escapes are in the order of the originals, and none is a prefix of
-/// another one.
+/// Strings are recovered from their escapes. Escapes are in the order of the strings, and none is a prefix of another
+/// one.
 pub fn escapes_come_back_in_order()
     ensures back { (text : List ℕ) → unescape (escape text) ≡ text }
     ensures order { (a b : List ℕ) →
@@ -332,7 +334,7 @@ impl PartialOrd for Escaped {
     }
 }
 
-/// The order of the strings.
+/// The lexicographic order of the strings.
 impl Ord for Escaped {
     ghost use Rattle.std.proofs.Common.{rules};
     ghost use Rattle.std.specs.Cmp.Rules.{comparing};

@@ -1,4 +1,4 @@
-//! Arrays of bytes as keys: all of one length.
+//! Arrays of bytes as keys: all keys of a type have one length.
 ghost use Rattle.std.specs.Prelude.{◌≡◌, length};
 
 use super::laws::{CloneBytes, DecodeBytes, FixedBytes, NoPrefixesBytes, OrderedBytes};
@@ -66,7 +66,7 @@ impl<const N: usize> FixedBytes for [u8; N] {
     ghost has_count = { λ bytes of_bytes. of_bytes };
 }
 
-// Returns all of the bytes, of which there are so many, as an array.
+// Returns the bytes as an array. Their number must be `N`.
 pub(crate) fn all_of<const N: usize>(bytes: &[u8]) -> [u8; N]
     requires { length bytes.now ≡ N }
     ensures { result ≡ bytes.now }

@@ -1,4 +1,4 @@
-//! Two keys as one.
+//! Two keys joined into one.
 ghost use Rattle.std.specs.Prelude.{◌≡◌, IfOk, IsOk};
 ghost use Rattle.art_keys.specs.Joins.{AreKeys, joined_bytes, pair_cmp};
 ghost use Rattle.art_keys.specs.Prefixes.{KeepsOrder};
@@ -11,7 +11,7 @@ use std::fmt;
 use std::hash::{Hash, Hasher};
 use std::marker::{Model, PhantomData};
 
-/// A key and then another, as one. It is seen as the pair of them.
+/// Two keys as one: the bytes of the first key, and then those of the second one. In contracts it is the pair of them.
 #[derive(Drop)]
 pub struct Joined<A: DecodeBytes, B: DecodeBytes> {
     bytes: Vec<u8>,
@@ -35,7 +35,7 @@ impl<A: DecodeBytes, B: DecodeBytes> Model for Joined<A, B> {
 }
 
 impl<A: DecodeBytes + Drop, B: DecodeBytes + Drop> Joined<A, B> {
-    /// Returns the key of two. The only error is want of memory.
+    /// Returns the key of two keys. It allocates once, and fails only if that allocation fails.
     pub fn join(alloc: Global, first: &A, second: &B) -> Result<Self, AllocError>
         ensures { IfOk result (λ key. key ≡ (first.now, second.now)) }
     {
@@ -51,7 +51,7 @@ impl<A: DecodeBytes + Drop, B: DecodeBytes + Drop> Joined<A, B> {
         })
     }
 
-    /// Returns the first key. It fails only if an allocation fails; numbers and arrays allocate nothing.
+    /// Returns the first key. Fails only if an allocation fails; numbers and arrays allocate nothing.
     pub fn first(&self, alloc: Global) -> Result<A, AllocError>
         ensures key { IfOk result (λ key. key ≡ self.now.0) }
         ensures succeeds { A.allocates_nothing → IsOk result }
@@ -60,7 +60,7 @@ impl<A: DecodeBytes + Drop, B: DecodeBytes + Drop> Joined<A, B> {
         A::from_key_bytes(alloc, &self.bytes[..middle])
     }
 
-    /// Returns the second key. It fails only if an allocation fails; numbers and arrays allocate nothing.
+    /// Returns the second key. Fails only if an allocation fails; numbers and arrays allocate nothing.
     pub fn second(&self, alloc: Global) -> Result<B, AllocError>
         ensures key { IfOk result (λ key. key ≡ self.now.1) }
         ensures succeeds { B.allocates_nothing → IsOk result }
@@ -69,7 +69,7 @@ impl<A: DecodeBytes + Drop, B: DecodeBytes + Drop> Joined<A, B> {
         B::from_key_bytes(alloc, &self.bytes[middle..])
     }
 
-    /// Returns the two keys. It fails only if an allocation fails; numbers and arrays allocate nothing.
+    /// Returns the two keys. Fails only if an allocation fails; numbers and arrays allocate nothing.
     pub fn split(&self, alloc: Global) -> Result<(A, B), AllocError>
         ensures keys { IfOk result (λ keys. keys ≡ self.now) }
         ensures succeeds { A.allocates_nothing → B.allocates_nothing → IsOk result }
@@ -81,7 +81,7 @@ impl<A: DecodeBytes + Drop, B: DecodeBytes + Drop> Joined<A, B> {
     }
 }
 
-/// Its bytes, in quotes and with escapes.
+/// Writes the bytes in quotes, escaped as by `escape_ascii`.
 impl<A: DecodeBytes, B: DecodeBytes> fmt::Debug for Joined<A, B> {
     fn fmt<W: fmt::Write>(&self, f: &mut fmt::Formatter<W>) -> fmt::Result {
         let bytes = self.bytes.escape_ascii();
@@ -173,7 +173,7 @@ impl<A: DecodeBytes, B: DecodeBytes> CloneBytes for Joined<A, B> {
         subst (AreKeys A.is_key B.is_key) (sym is) of_key };
 }
 
-/// The bytes of two keys are in the order of the first keys, and then of the second ones.
+/// The bytes of joined keys are in the order of the first keys, and then of the second ones.
 pub fn joined_keys_keep_order<A: OrderedBytes, B: OrderedBytes>()
     ensures { KeepsOrder (AreKeys A.is_key B.is_key) (joined_bytes A.bytes B.bytes)
         (pair_cmp A.order B.order) }
@@ -218,7 +218,7 @@ impl<A: DecodeBytes, B: DecodeBytes> PartialOrd for Joined<A, B> {
     }
 }
 
-/// The order of the bytes: that of the first keys, and then of the second ones.
+/// The order of the bytes: that of the first keys, and then that of the second ones.
 impl<A: DecodeBytes, B: DecodeBytes> Ord for Joined<A, B> {
     ghost use Rattle.std.proofs.Common.{rules};
     ghost use Rattle.std.specs.Cmp.Rules.{comparing};

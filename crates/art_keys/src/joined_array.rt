@@ -1,4 +1,4 @@
-//! Two keys of fixed lengths as one, in an array.
+//! Two keys of fixed lengths joined into one, in an array.
 ghost use Rattle.std.specs.Prelude.{◌≡◌, ◌+◌, ◌++◌, length};
 
 use super::fixed::all_of;
@@ -10,8 +10,8 @@ use std::fmt;
 use std::hash::{Hash, Hasher};
 use std::marker::{Model, PhantomData};
 
-/// A key and then another, as one, in an array of `N` bytes, which is how many bytes the two have. It allocates
-/// nothing. It is seen as the pair of them.
+/// Two keys as one, in an array: the bytes of the first key, and then those of the second one. `N` is the number of
+/// bytes of both. It allocates nothing. In contracts it is the pair of them.
 pub struct JoinedArray<A: FixedBytes, B: FixedBytes, const N: usize> {
     bytes: [u8; N],
     of: PhantomData<(A, B)>,
@@ -41,7 +41,7 @@ impl<A: FixedBytes, B: FixedBytes, const N: usize> Model for JoinedArray<A, B, N
 }
 
 impl<A: FixedBytes + Drop, B: FixedBytes + Drop, const N: usize> JoinedArray<A, B, N> {
-    /// Returns the key of two. Their bytes have to fill the array.
+    /// Returns the key of two keys, which together must have `N` bytes.
     pub fn join(first: &A, second: &B) -> Self
         requires { A.byte_count + B.byte_count ≡ N }
         ensures { result ≡ (first.now, second.now) }
@@ -78,7 +78,7 @@ impl<A: FixedBytes + Drop, B: FixedBytes + Drop, const N: usize> JoinedArray<A, 
     }
 }
 
-/// Its bytes, in quotes and with escapes.
+/// Writes the bytes in quotes, escaped as by `escape_ascii`.
 impl<A: FixedBytes, B: FixedBytes, const N: usize> fmt::Debug for JoinedArray<A, B, N> {
     fn fmt<W: fmt::Write>(&self, f: &mut fmt::Formatter<W>) -> fmt::Result {
         let bytes = self.bytes.escape_ascii();
@@ -225,7 +225,7 @@ impl<A: FixedBytes, B: FixedBytes, const N: usize> PartialOrd for JoinedArray<A,
     }
 }
 
-/// The order of the bytes: that of the first keys, and then of the second ones.
+/// The order of the bytes: that of the first keys, and then that of the second ones.
 impl<A: FixedBytes, B: FixedBytes, const N: usize> Ord for JoinedArray<A, B, N> {
     ghost use Rattle.std.proofs.Common.{rules};
     ghost use Rattle.std.specs.Cmp.Rules.{comparing};
@@ -260,7 +260,7 @@ impl<A: FixedBytes, B: FixedBytes, const N: usize> Hash for JoinedArray<A, B, N>
     }
 }
 
-// Returns two slices, one after the other, as an array.
+// Returns the bytes of two slices, one after the other, as an array. Their number must be `N`.
 fn two_in_one<const N: usize>(first: &[u8], second: &[u8]) -> [u8; N]
     requires { length first.now + length second.now ≡ N }
     ensures { result ≡ first.now ++ second.now }

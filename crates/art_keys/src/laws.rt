@@ -1,4 +1,4 @@
-//! What a type of keys promises, proved for each type.
+//! The laws of key types, which are proved for each type.
 ghost use Rattle.std.specs.Prelude.{◌≡◌, IfOk, IsOk};
 ghost use Rattle.art_keys.specs.Decoded.{BeginsWithKey, ComesBack, HaveLength, IsOfKey};
 ghost use Rattle.art_keys.specs.Prefixes.{AreInjective, BeginsAs, HasNoPrefixes, IsInside, IsKept, KeepsFronts, KeepsOrder};
@@ -8,19 +8,19 @@ use art_nodes::node::AsBytes;
 use std::alloc::{AllocError, Global};
 use std::cmp::Ordering;
 
-/// Keys that are never in conflict: the bytes of one are a prefix of another's only where both have the same.
+/// Keys that never conflict: the bytes of one are a prefix of another's only if both have the same bytes.
 pub trait NoPrefixesBytes: AsBytes {
-    /// What is known of each value of the type.
+    /// What holds for each value of the type.
     ghost is_key: { Self → Type 0 };
 
-    /// Does nothing, but its contract says what is known of the value.
+    /// Does nothing; its contract states what holds for the value.
     fn as_key(&self)
         ensures { is_key self.now };
 
     /// A key whose bytes are a prefix of another's has the same bytes.
     ghost no_prefixes: { HasNoPrefixes is_key Self.bytes };
 
-    /// Keys with the same bytes are equal, as contracts see them.
+    /// Keys with the same bytes are equal in contracts.
     ghost injective: { AreInjective is_key Self.bytes };
 }
 
@@ -40,81 +40,80 @@ pub trait CloneBytes: NoPrefixesBytes + Clone {
     /// A clone has the same bytes.
     ghost keeps_bytes: { KeepBytes Self.bytes Self.is_clone };
 
-    /// What is known of a key is known of its clones.
+    /// What holds for a key holds for its clones.
     ghost keeps_key: { IsKept Self.is_key Self.is_clone };
 }
 
-/// Keys that come back from their bytes.
+/// Keys that are recovered from their bytes.
 pub trait DecodeBytes: NoPrefixesBytes {
     ghost use Rattle.std.specs.Prelude.{List, ℕ};
 
-    /// The key whose bytes these are.
+    /// The key with these bytes.
     ghost key_of: { List ℕ → Self };
 
-    /// How many of the bytes are those of the key that they begin with.
+    /// The length of the key that the bytes start with.
     ghost length_of: { List ℕ → ℕ };
 
-    /// That a key is made of its bytes without an allocation.
+    /// Holds if a key is recovered from its bytes without an allocation.
     ghost allocates_nothing: { Type 0 };
 
-    /// Returns how many of the bytes are those of the key that they begin with.
+    /// Returns the length of the key that the bytes start with.
     fn key_len(bytes: &[u8]) -> usize
         requires { BeginsWithKey Self.is_key Self.bytes bytes.now }
         ensures { result ≡ length_of bytes.now };
 
-    /// Returns the key whose bytes these are. It fails only if an allocation fails, and never where the
-    /// type allocates nothing.
+    /// Returns the key with these bytes. Fails only if an allocation fails, and never if the type allocates nothing.
     fn from_key_bytes(alloc: Global, bytes: &[u8]) -> Result<Self, AllocError>
         requires { IsOfKey Self.is_key Self.bytes bytes.now }
         ensures key { IfOk result (λ key. key ≡ key_of bytes.now) }
         ensures succeeds { allocates_nothing → IsOk result };
 
-    /// A key comes back from its bytes, and their number from them and whatever stands after them.
+    /// A key is recovered from its bytes, and its length from them and whatever follows them.
     ghost comes_back: { ComesBack Self.is_key Self.bytes key_of length_of };
 }
 
-/// Keys that all have the same number of bytes, and are made of them without an allocation: numbers, arrays of bytes,
-/// and two such keys as one.
+/// Keys that all have the same length, and are recovered from their bytes without an allocation: numbers, arrays of
+/// bytes, and two such keys joined into one.
 pub trait FixedBytes: DecodeBytes + Copy {
     ghost use Rattle.std.specs.Prelude.{ℕ};
 
-    /// How many bytes each key has.
+    /// The length of each key.
     ghost byte_count: { ℕ };
 
-    /// Returns the key whose bytes these are.
+    /// Returns the key with these bytes.
     fn from_fixed_bytes(bytes: &[u8]) -> Self
         requires { IsOfKey Self.is_key Self.bytes bytes.now }
         ensures { result ≡ Self.key_of bytes.now };
 
-    /// Each key has that many bytes.
+    /// Each key has this length.
     ghost has_count: { HaveLength Self.is_key Self.bytes byte_count };
 }
 
-/// Keys that stand for strings of bytes. The bytes of a key are those of its string, and then a zero; the bytes
-/// of a string have no zero.
+/// Keys that represent strings of bytes. The bytes of a key are those of its string, which have no zero, and then a
+/// zero.
 pub trait StringBytes: OrderedBytes {
     ghost use Rattle.std.specs.Prelude.{List, ℕ};
 
-    /// The string that a key stands for.
+    /// The string that a key represents.
     ghost text: { Self → List ℕ };
 
-    /// The bytes of a string.
+    /// The bytes of a string, as they are in its key.
     ghost inside: { List ℕ → List ℕ };
 
-    /// Returns the bytes of the key's string. The bytes of each key whose string starts with this one start with
-    /// them, and those of no other key.
+    /// Returns the bytes of the key's string. The bytes of another key start with them exactly if its string starts
+    /// with this one.
     fn beginning(&self) -> &[u8]
         ensures inside { result.now ≡ inside (text self.now) }
         ensures begins { BeginsAs Self.is_key Self.bytes text self.now result.now };
 
-    /// A key has the bytes of its string, and then a zero.
+    /// The bytes of a key are those of its string, which have no zero, and then a zero.
     ghost is_inside: { IsInside Self.is_key Self.bytes text inside };
 
-    /// The bytes of a string are a prefix of those of another just where it is a prefix of the other.
+    /// The bytes of a string are a prefix of those of another one exactly if the string is a prefix of the other one.
     ghost keeps_fronts: { KeepsFronts inside };
 }
 
-/// Returns how two keys compare in the order of their type, by their bytes.
+/// Compares two keys in the order of their type. It compares their bytes.
 pub fn compare<K: OrderedBytes>(a: &K, b: &K) -> Ordering
     ensures { result ≡ K.order a.now b.now }
 {

@@ -1,4 +1,4 @@
-//! Types of keys of which none is a prefix of another, proved of each type.
+//! Key types: no key of a type is a prefix of another one, which is proved for each type.
 #![tactic(auto)]
 
 mod digits;

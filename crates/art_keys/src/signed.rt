@@ -1,4 +1,4 @@
-//! Numbers with a sign as keys, in their order.
+//! Signed numbers as keys, in numerical order.
 ghost use Rattle.std.specs.Prelude.{◌≡◌, ℕ, ℤ};
 ghost use Rattle.std.specs.Ordering.{int_cmp};
 ghost use Rattle.art_keys.specs.Numbers.{HasSignedBytes, lifted, lowered, number_of, signed_bytes};
@@ -12,7 +12,7 @@ use std::cmp::Ordering;
 use std::hash::{Hash, Hasher};
 use std::marker::Model;
 
-/// A signed number of so many bytes. It is seen as the number, and its bytes have the sign's bit flipped.
+/// A signed number of `N` bytes, the highest first, with the sign bit flipped. In contracts it is the number.
 #[derive(Clone, Copy)]
 pub struct Signed<const N: usize> {
     bytes: [u8; N],
@@ -195,7 +195,7 @@ impl Signed<16> {
     }
 }
 
-// The number, moved up by a half of all.
+// Returns the number plus 2^127, so that the least number becomes 0.
 fn lift(n: i128) -> u128
     ensures lifted { result ≡ lifted 16 n }
     ensures fits { HasSignedBytes 16 n }
@@ -203,7 +203,7 @@ fn lift(n: i128) -> u128
     n.cast_unsigned().wrapping_add(1 << 127)
 }
 
-// The number, moved down by a half of all.
+// Returns the number minus 2^127: the inverse of `lift`.
 fn lower(lifted: u128) -> i128
     ensures { result ≡ lowered 16 lifted }
 {
@@ -326,7 +326,7 @@ impl<const N: usize> PartialOrd for Signed<N> {
     }
 }
 
-/// The order of the numbers.
+/// The numerical order.
 impl<const N: usize> Ord for Signed<N> {
     ghost use Rattle.std.proofs.Common.{rules};
     ghost use Rattle.std.specs.Cmp.Rules.{comparing};
@@ -360,7 +360,7 @@ impl<const N: usize> Hash for Signed<N> {
     }
 }
 
-/// Numbers come back from their bytes, which are in the order of the numbers.
+/// Numbers are recovered from their bytes, which are in the order of the numbers.
 pub fn signed_numbers_come_back_in_order()
     ensures back { (count : ℕ) (z : ℤ) → HasSignedBytes count z →
         lowered count (number_of (signed_bytes count z)) ≡ z }

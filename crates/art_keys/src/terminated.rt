@@ -1,4 +1,4 @@
-//! Bytes without a zero, ended by one.
+//! Strings of bytes without a zero, each ended by a zero.
 ghost use Rattle.std.specs.Prelude.{◌≡◌, ◌≤◌, ◌↔◌, length, IfOk, IfErr, IfSome, IsSome, OnOk, string_bytes};
 ghost use Rattle.std.specs.Bool.{OnFalse, OnTrue};
 ghost use Rattle.std.specs.Fmt.{WritesOnOk};
@@ -14,19 +14,19 @@ use std::hash::{Hash, Hasher};
 use std::marker::Model;
 use thiserror::Error;
 
-/// Bytes that were not ended by a zero.
+/// Why no key was made of some bytes. The error returns the bytes.
 #[derive(Debug, Drop, Error)]
 pub enum EndError {
-    /// A zero stands among them.
+    /// There is a zero among the bytes.
     #[error("a zero byte stands among the bytes of the key")]
     InnerZero { text: Vec<u8> },
-    /// There was no memory for one byte more.
+    /// The allocation for the byte at the end failed.
     #[error("memory allocation failed")]
     Memory { text: Vec<u8> },
 }
 
-/// Bytes without a zero, ended by one, so that none is a prefix of another. It is seen as the bytes before
-/// its end.
+/// Bytes without a zero, ended by a zero, so that no key is a prefix of another one. In contracts it is the bytes
+/// before the end.
 #[derive(Drop)]
 pub struct Terminated {
     bytes: Vec<u8>,
@@ -44,8 +44,10 @@ impl Model for Terminated {
 }
 
 impl Terminated {
-    /// Returns the key of these bytes. It takes memory only where they have no room for one more, and hands
-    /// them back where a zero stands among them or there is no memory.
+    /// Returns the key of these bytes. It reuses the vector, and allocates only if that has no room for one more byte.
+    ///
+    /// Fails with `InnerZero` if there is a zero among the bytes, and with `Memory` if the allocation fails. Both
+    /// return the bytes.
     pub fn new(mut text: Vec<u8>) -> Result<Self, EndError>
         ensures key { IfOk result (λ key. key ≡ text.items) }
         ensures accepted { OnOk result (HasNoZero text.items) }
@@ -60,7 +62,7 @@ impl Terminated {
         }
     }
 
-    /// The same of the bytes of a text.
+    /// Returns what `new` does, for the bytes of a text.
     pub fn from_string(text: String) -> Result<Self, EndError>
         ensures key { IfOk result (λ key. key ≡ string_bytes text) }
         ensures accepted { OnOk result (HasNoZero (string_bytes text)) }
@@ -69,8 +71,8 @@ impl Terminated {
         Terminated::new(text.into_bytes())
     }
 
-    /// Returns the key of a copy of these bytes, and `None` where a zero stands among them. The only error
-    /// is want of memory.
+    /// Returns the key of a copy of these bytes, or `None` if there is a zero among them. Fails only if an allocation
+    /// fails.
     pub fn encode(alloc: Global, text: &[u8]) -> Result<Option<Self>, AllocError>
         ensures key { IfOk result (λ made. IfSome made (λ key. key ≡ text.now)) }
         ensures made { IfOk result (λ made. IsSome made ↔ HasNoZero text.now) }
@@ -84,7 +86,7 @@ impl Terminated {
         Ok(Some(Terminated { bytes }))
     }
 
-    /// The same of a text.
+    /// Returns what `encode` does, for the bytes of a text.
     pub fn encode_str(alloc: Global, text: &str) -> Result<Option<Self>, AllocError>
         ensures key { IfOk result (λ made. IfSome made (λ key. key ≡ text.now)) }
         ensures made { IfOk result (λ made. IsSome made ↔ HasNoZero text.now) }
@@ -92,7 +94,7 @@ impl Terminated {
         Terminated::encode(alloc, text.as_bytes())
     }
 
-    /// Returns the bytes before the end.
+    /// Returns the bytes before the end, none of which is zero.
     pub fn as_bytes_without_end(&self) -> &[u8]
         ensures text { result.now ≡ self.now }
         ensures no_zero { HasNoZero self.now }
@@ -100,7 +102,7 @@ impl Terminated {
         &self.bytes[..self.bytes.len() - 1]
     }
 
-    /// Returns the bytes without their end, in the memory that they stand in.
+    /// Returns the bytes before the end. It reuses the vector of the key, and allocates nothing.
     pub fn into_bytes_without_end(self) -> Vec<u8>
         ensures { result.items ≡ self }
     {
@@ -117,7 +119,7 @@ impl fmt::Debug for Terminated {
     }
 }
 
-/// The string as UTF-8 text, with U+FFFD in the place of bytes that are none.
+/// Writes the string as UTF-8 text, with U+FFFD for each invalid sequence.
 impl fmt::Display for Terminated {
     ghost use Rattle.std.specs.Prelude.{Some};
     ghost use Rattle.std.specs.Str.Lossy.{utf8_lossy};
@@ -129,7 +131,7 @@ impl fmt::Display for Terminated {
     }
 }
 
-// Writes the text of bytes, with U+FFFD in the place of those that are none.
+// Writes bytes as UTF-8 text, with U+FFFD for each invalid sequence.
 pub(crate) fn write_text<W: fmt::Write>(f: &mut fmt::Formatter<W>, bytes: &[u8]) -> fmt::Result
     ensures { WritesOnOk W.write_str_gives f.old result (utf8_lossy bytes.now) f.new }
 {
@@ -142,7 +144,7 @@ pub(crate) fn write_text<W: fmt::Write>(f: &mut fmt::Formatter<W>, bytes: &[u8])
     Ok(())
 }
 
-/// Returns whether a byte is zero.
+/// Returns whether one of the bytes is zero.
 pub fn has_zero(bytes: &[u8]) -> bool
     ensures found { OnTrue result (¬ HasNoZero bytes.now) }
     ensures none { OnFalse result (HasNoZero bytes.now) }
@@ -150,7 +152,7 @@ pub fn has_zero(bytes: &[u8]) -> bool
     bytes.contains(&0)
 }
 
-// Returns how many bytes stand before the first zero.
+// Returns the number of bytes before the first zero, or of all bytes if none is zero.
 pub(crate) fn zero_at(bytes: &[u8]) -> usize
     ensures at { result ≡ zero_at bytes.now }
     ensures within { result ≤ length bytes.now }
@@ -294,7 +296,7 @@ impl PartialOrd for Terminated {
     }
 }
 
-/// The order of the bytes before the end.
+/// The lexicographic order of the bytes before the end.
 impl Ord for Terminated {
     ghost use Rattle.std.proofs.Common.{rules};
     ghost use Rattle.std.specs.Cmp.Rules.{comparing};

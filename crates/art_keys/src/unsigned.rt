@@ -1,4 +1,4 @@
-//! Numbers without a sign as keys, in their order.
+//! Unsigned numbers as keys, in numerical order.
 ghost use Rattle.std.specs.Prelude.{◌≡◌, ℕ};
 ghost use Rattle.std.specs.Int.{bytes_high_first};
 ghost use Rattle.std.specs.Ordering.{nat_cmp};
@@ -13,7 +13,7 @@ use std::cmp::Ordering;
 use std::hash::{Hash, Hasher};
 use std::marker::Model;
 
-/// A number of so many bytes, the highest first. It is seen as the number.
+/// An unsigned number of `N` bytes, the highest first. In contracts it is the number.
 #[derive(Clone, Copy)]
 pub struct Unsigned<const N: usize> {
     bytes: [u8; N],
@@ -303,7 +303,7 @@ impl<const N: usize> PartialOrd for Unsigned<N> {
     }
 }
 
-/// The order of the numbers.
+/// The numerical order.
 impl<const N: usize> Ord for Unsigned<N> {
     ghost use Rattle.std.proofs.Common.{rules};
     ghost use Rattle.std.specs.Cmp.Rules.{comparing};
@@ -337,7 +337,7 @@ impl<const N: usize> Hash for Unsigned<N> {
     }
 }
 
-/// Numbers come back from their bytes, which are in the order of the numbers.
+/// Numbers are recovered from their bytes, which are in the order of the numbers.
 pub fn unsigned_numbers_come_back_in_order()
     ensures back { (count n : ℕ) → HasBytes count n → number_of (bytes_high_first count n) ≡ n }
     ensures order { (count : ℕ) → KeepsOrder (HasBytes count) (bytes_high_first count) nat_cmp }

@@ -1,4 +1,4 @@
--- The way down along a query to the shortest text of at least so many bytes.
+-- The descent along a query to the shortest text of at least so many bytes.
 use Rattle.std.proofs.Common.{◌≡◌, ℕ, ◌+◌, ◌<◌, ◌≤◌, ◌⊎◌, List, [], ◌∷◌, ◌++◌, length, length-append, filter, leb, get_or, refl, ap, sym, ◌∙◌, subst, arith, append-nil, append_assoc, is_some, Option, Some, None, Bool, true, false, inl, inr}
 use Rattle.std.specs.List.{AllByRecursion as Each}
 use Rattle.std.specs.Bool.{⊤}
@@ -45,11 +45,11 @@ none_is None e = refl
 none_is (Some x) e = absurd cc
 
 module _ {A : Type 0} (bytes : A → List ℕ) (end : ℕ) (query : List ℕ) (at_least : ℕ) where
-  -- the text of the pair is not sought
+  -- the text of the pair is not searched for
   abbrev pub IsPassed : A → Type 0
   IsPassed x = (t : List ℕ) → bytes x ≡ t ++ end ∷ [] → IsFront t query → at_least ≤ length t → ⊥
 
-  -- if it is sought, this text is a prefix of it, and has at least so many bytes
+  -- if the text of the pair is searched for, this text is a prefix of it, and has at least so many bytes
   abbrev pub IsLed : List ℕ → A → Type 0
   IsLed f x = (t : List ℕ) → bytes x ≡ t ++ end ∷ [] → IsFront t query → at_least ≤ length t → IsFront f t × (at_least ≤ length f)
 
@@ -74,7 +74,7 @@ module _ {A : Type 0} (bytes : A → List ℕ) (end : ℕ) (query : List ℕ) (a
               (subst (λ z. IsFront z (text_of bytes y)) (sym own) (subst (λ z. IsFront f z) (sym (own_text y e)) h), subst (λ z. at_least ≤ length z) (sym own) m)) xs ended led;
         }
 
--- The way down to a node, beside which no text is sought.
+-- The descent to a node, outside of which no text is searched for.
 abbrev pub IsShortWay : {A : Type 0} (bytes : A → List ℕ) (P end : ℕ) (query : List ℕ) (at_least : ℕ) (tree : Tree OpaqueNodePtr A) (name : OpaqueNodePtr) (depth : ℕ) → Type 0
 IsShortWay bytes P end query at_least tree name depth =
     IsDescent bytes P (IsPassed bytes end query at_least) (IsPassed bytes end query at_least) tree name depth
@@ -96,7 +96,7 @@ module _ {K V : Type 0} {s : Nodes K V} {bytes : K × V → List ℕ} {P : ℕ} 
         (Each-append Q (pairs_before at.path) (pairs_of at.node) (Each-weaker (IsPassed bytes end query at_least) Q aside (pairs_before at.path) at.before) own)
         (Each-weaker (IsPassed bytes end query at_least) Q aside (pairs_after at.path) at.after))
 
-    -- the way ends at a leaf
+    -- the path ends at a leaf
     pub short_leaf : (n : LeafPtr) (x : K × V) → way.at.node ≡ leaf (leaf_name n) x → EndsAtFirst bytes query at_least (pairs_of layout) layout (Some n)
     short_leaf n x is =
         let e = (subst (λ t. AreEnded bytes end (pairs_of t)) is (ended_at by end query ended way.at)).0 in
@@ -107,7 +107,7 @@ module _ {K V : Type 0} {s : Nodes K V} {bytes : K × V → List ℕ} {P : ℕ} 
 
     -- ---- at an inner node
     module _ {p : InnerPtr} {shown : Inner} (at : IsShown way.at.node p shown) where
-      -- where the text of a pair goes, below a child
+      -- the text of a pair below a child: it ends at the node, or continues with the child's byte
       abbrev Goes : List ℕ → ℕ → List ℕ → Type 0
       Goes w c t = ((t ≡ w) × (c ≡ end)) ⊎ IsFront (w ++ c ∷ []) t
 
@@ -145,7 +145,7 @@ module _ {K V : Type 0} {s : Nodes K V} {bytes : K × V → List ℕ} {P : ℕ} 
           )
 
       module _ (result : Option LeafPtr) (short : length (front way at) < at_least → result ≡ None) (long : at_least ≤ length (front way at) → IsLeafOr (child_at shown.children end) None result) where
-        -- a text that ends here was found
+        -- a text that ends here is found
         pub short_found : (n : LeafPtr) → result ≡ Some n → at_least ≤ length (front way at) → EndsAtFirst bytes query at_least (pairs_of layout) layout (Some n)
         short_found n is enough = go (child_at shown.children end) refl (subst (λ r. IsLeafOr (child_at shown.children end) None r) is (long enough))
           where
@@ -172,7 +172,7 @@ module _ {K V : Type 0} {s : Nodes K V} {bytes : K × V → List ℕ} {P : ℕ} 
             go (Some n) e some (inr m) = short_found n e m
 
         module _ (is : result ≡ None) where
-          -- no text ends here that is sought
+          -- no text that is searched for ends here
           no_mark : (c : ℕ) → IsIn c (bytes_of at.children) → c ≡ end → at_least ≤ length (front way at) → ⊥
           no_mark c i mark enough = go (child_at shown.children end) refl (subst (λ r. IsLeafOr (child_at shown.children end) None r) is (long enough))
             where
@@ -197,14 +197,14 @@ module _ {K V : Type 0} {s : Nodes K V} {bytes : K × V → List ℕ} {P : ℕ} 
           pub short_gap : child_at shown.children (get_or query (length (front way at)) 0) ≡ None → EndsAtFirst bytes query at_least (pairs_of layout) layout None
           short_gap none = none_below (λ c i. off_here c i (λ f. child_there way at c i (ap (child_at shown.children) (next_byte c f) ∙ none)))
 
-          -- the way goes on below that child
+          -- the path continues below that child
           pub short_goes_on : {to : OpaqueNodePtr} → child_at shown.children (get_or query (length (front way at)) 0) ≡ Some to → IsShortWay bytes P end query at_least layout to (depth + shown.prefix.len + 1)
           short_goes_on {to} there =
               down way at (get_or query (length (front way at)) 0) there
               (λ c i less x leads t e. off_here c i (λ f. let n = next_byte c f in omega arith) t (below c x leads t e))
               (λ c i more x leads t e. off_here c i (λ f. let n = next_byte c f in omega arith) t (below c x leads t e))
 
--- ---- what the leaf at the end of the way is
+-- ---- the leaf at the end of the path
 
 module _ {A : Type 0} (bytes : A → List ℕ) (query : List ℕ) (at_least : ℕ) where
   abbrev is_long : A → Bool
@@ -213,7 +213,7 @@ module _ {A : Type 0} (bytes : A → List ℕ) (query : List ℕ) (at_least : �
   abbrev is_text : A → Bool
   is_text x = is_front (text_of bytes x) query
 
-  -- none is left where none is sought
+  -- if no text is searched for, there is no pair
   none_sought : (xs : List A) → Each (λ x. IsSought bytes query at_least x → ⊥) xs → texts_from bytes query at_least xs ≡ []
   none_sought xs off =
       filter_none is_long (filter is_text xs)
@@ -224,7 +224,7 @@ module _ {A : Type 0} (bytes : A → List ℕ) (query : List ℕ) (at_least : �
       short x o e true l = absurd (o (front_from (text_of bytes x) query e, leb-true at_least (length (text_of bytes x)) l))
       short x o e false l = refl
 
-  -- the first that is sought comes first
+  -- the first pair whose text is searched for comes first
   first_sought : (before after : List A) (x : A) → Each (λ y. IsSought bytes query at_least y → ⊥) before → IsSought bytes query at_least x →
       first_of (texts_from bytes query at_least (before ++ x ∷ after)) ≡ Some x
   first_sought before after x off (on, long) =
@@ -247,7 +247,7 @@ module _ {K V : Type 0} {s : Nodes K V} {bytes : K × V → List ℕ} {P : ℕ} 
     first_none result is off = subst (FindsFirst layout (texts_from bytes query at_least pairs)) (sym is) (none_sought bytes query at_least pairs off)
 
     module _ {name : LeafPtr} (c : IsBeforeAll bytes query at_least pairs layout name) where
-      -- the leaf's text is sought
+      -- the leaf's text is searched for
       pub first_found : IsSought bytes query at_least c.pair → FindsFirst layout (texts_from bytes query at_least pairs) (Some name)
       first_found on = (c.pair, ap (λ xs. first_of (texts_from bytes query at_least xs)) split ∙ first_sought bytes query at_least (pairs_before c.has.path) (pairs_after c.has.path) c.pair off on, c.has)
         where
@@ -271,7 +271,7 @@ module _ {K V : Type 0} {s : Nodes K V} {bytes : K × V → List ℕ} {P : ℕ} 
               (Each-left (λ y. IsEndedBy end (bytes y)) (pairs_before c.has.path) (c.pair ∷ pairs_after c.has.path) (subst (AreEnded bytes end) split ended))
               (Each-left Led (pairs_before c.has.path) (c.pair ∷ pairs_after c.has.path) (subst (Each Led) split c.leads)))
 
-      -- it is not, and so none is
+      -- it is not, and so no text is
       pub first_missed : (IsSought bytes query at_least c.pair → ⊥) → FindsFirst layout (texts_from bytes query at_least pairs) None
       first_missed off =
           none_sought bytes query at_least pairs

@@ -1,4 +1,4 @@
--- Where a way down ends that looks for the shortest text of at least so many bytes in front of a query.
+-- Where a descent ends that searches for the shortest text of at least so many bytes that is a prefix of a query.
 use Rattle.std.specs.Prelude.{◌≡◌, ◌≤◌, ℕ, List, [], filter, leb, length, Option, Some, None}
 use Rattle.std.specs.List.{AllByRecursion as Each}
 use Rattle.art_parts.specs.Names.{leaf_name}
@@ -10,7 +10,7 @@ use Rattle.art_model.specs.Pairs.{first_of}
 use Rattle.art_model.specs.Texts.{texts_in_front, text_of}
 use Rattle.art_model.specs.Trees.{Tree}
 
--- the leaf of the first pair of the list is found, or none where there is no pair
+-- the leaf of the first pair of the list is found, or none if there is no pair
 abbrev pub FindsFirst : {A : Type 0} → Tree OpaqueNodePtr A → List A → Option LeafPtr → Type 0
 FindsFirst tree pairs None = pairs ≡ []
 FindsFirst {A} tree pairs (Some name) = (x : A) × (first_of pairs ≡ Some x) × HasLeaf tree (leaf_name name) x
@@ -24,13 +24,14 @@ module _ {A : Type 0} (bytes : A → List ℕ) where
   abbrev pub IsSought : List ℕ → ℕ → A → Type 0
   IsSought query at_least x = IsFront (text_of bytes x) query × (at_least ≤ length (text_of bytes x))
 
-  -- A leaf whose text is a prefix of each text that is sought, and has at least so many bytes if there is one.
+  -- A leaf whose text is a prefix of each text that is searched for. If there is such a text, the leaf's text has at
+  -- least so many bytes.
   pub record IsBeforeAll (query : List ℕ) (at_least : ℕ) (pairs : List A) (layout : Tree OpaqueNodePtr A) (name : LeafPtr) : Type 0 where
     pub pair : A
     pub has : HasLeaf layout (leaf_name name) pair
     pub leads : Each (λ x. IsSought query at_least x → IsFront (text_of bytes pair) (text_of bytes x) × (at_least ≤ length (text_of bytes pair))) pairs
 
-  -- such a leaf, or none where no text is sought
+  -- such a leaf, or none if there is no text that is searched for
   abbrev pub EndsAtFirst : List ℕ → ℕ → List A → Tree OpaqueNodePtr A → Option LeafPtr → Type 0
   EndsAtFirst query at_least pairs layout None = Each (λ x. IsSought query at_least x → ⊥) pairs
   EndsAtFirst query at_least pairs layout (Some name) = IsBeforeAll query at_least pairs layout name

@@ -32,7 +32,7 @@ none_before : (text : List ℕ) → is_less text [] ≡ false
 none_before [] = refl
 none_before (t ∷ text) = refl
 
--- a prefix of which each byte is 255 is one of all strings from it on
+-- a prefix whose bytes are all 255 is one of all strings from it on
 all_from : (prefix text : List ℕ) → Each (λ byte. byte ≡ 255) prefix → Each (λ byte. byte < 256) text → is_front prefix text ≡ not (is_less text prefix)
 all_from [] text is bytes = rw (none_before text) refl
 all_from (p ∷ prefix) [] is bytes = refl
@@ -48,7 +48,7 @@ and_true : (b : Bool) → b ≡ (b && true)
 and_true true = refl
 and_true false = refl
 
--- a byte that is not 255, and then bytes that are: the end has one more in its place
+-- a prefix ends with a byte that is not 255 and then bytes that are: in the end of the range that byte is one greater
 ends_after : (front : List ℕ) (byte : ℕ) (last text : List ℕ) → Each (λ b. b ≡ 255) last → Each (λ b. b < 256) text →
     is_front (front ++ byte ∷ last) text ≡ (not (is_less text (front ++ byte ∷ last)) && is_less text (front ++ suc byte ∷ []))
 ends_after [] byte last [] is bytes = refl
@@ -78,12 +78,12 @@ ends_after (f ∷ front) byte last (t ∷ text) is (first, bytes) = go (ends_aft
     go rest (inr (inr above)) =
         rw (other_first f t (front ++ byte ∷ last) text (λ e. omega (arith, above, e)), more_first t f text (front ++ byte ∷ last) above, more_first t f text (front ++ suc byte ∷ []) above) refl
 
--- where each byte is 255 there is no end
+-- if each byte is 255, there is no end
 pub has_no_end : (prefix after : List ℕ) (len : ℕ) → len ≡ 0 → Each (λ byte. byte ≡ 255) (drop len prefix) → IsPrefixEnd prefix 0 after
 has_no_end prefix after len none is = λ text bytes.
     all_from prefix text (subst (λ n. Each (λ byte. byte ≡ 255) (drop n prefix)) none is) bytes ∙ and_true (not (is_less text prefix))
 
--- else the last other byte is one more in the end, and what follows it is removed
+-- else the last other byte is one greater in the end, and what follows it is removed
 ends_at : (prefix : List ℕ) (n d byte : ℕ) → n < length prefix → Each (λ byte. byte ≡ 255) (drop (suc n) prefix) →
     byte ≡ get_or prefix n d + 1 → IsPrefixEnd prefix (suc n) (set prefix n byte)
 ends_at prefix n d byte few is more = λ text bytes.

@@ -32,7 +32,7 @@ code_of (Some pairs) = done
 abbrev pub value_of : List ℕ → List (List ℕ × ℕ) → Option ℕ
 value_of key pairs = value_at escape (escape key) pairs
 
--- the code reports whether there is something, which then is written
+-- the code reports whether there is something, and if so it is written
 abbrev pub Tells : {A : Type 0} → Option A → ℕ → A → Type 0
 Tells wanted code written = MatchOption wanted (code ≡ absent) (λ it. (code ≡ done) × (written ≡ it))
 
@@ -41,7 +41,7 @@ pub record Answers {A : Type 0} (map : Option (List (List ℕ × ℕ))) (wanted 
   pub tells : MatchOption map (code ≡ freed) (λ pairs. code ≢ no_memory → Tells (wanted pairs) code after)
   pub stays : code ≢ done → after ≡ before
 
--- A call changes the pairs of a map. If it fails they stay.
+-- A call changes the pairs of a map. If it fails, they are unchanged.
 pub record Changes (before : Option (List (List ℕ × ℕ))) (change : List (List ℕ × ℕ) → List (List ℕ × ℕ)) (code : ℕ) (after : Option (List (List ℕ × ℕ))) : Type 0 where
   pub changed : code < no_memory → after ≡ option_map change before
   pub kept : no_memory ≤ code → after ≡ before

@@ -1,4 +1,5 @@
-//! Calls for one key, and for the whole map. On a map that was freed each returns `FREED` and does nothing.
+//! Calls for one key, and for the whole map. All but `new` return a code; on a map that was freed they return `FREED`
+//! and do nothing.
 ghost use Rattle.std.specs.Prelude.{◌≡◌, ◌≢◌, ◌<◌, ◌≤◌, [], length, Some, None};
 ghost use Rattle.std.specs.Option.{option_map};
 ghost use Rattle.art_keyed.specs.KeyedPairs.{strings_below, strings_in_front};
@@ -25,7 +26,7 @@ pub fn new(alloc: Global) -> StringMap
     }
 }
 
-/// Frees a map. Returns `DONE`, or `FREED` if that was done before.
+/// Frees a map. Returns `DONE`, or `FREED` if it was freed before.
 pub fn free(map: &mut StringMap) -> u32
     ensures { (map.new ≡ None) × (result ≡ code_of map.old) }
 {
@@ -35,7 +36,7 @@ pub fn free(map: &mut StringMap) -> u32
     }
 }
 
-/// Writes the number of pairs.
+/// Writes the number of pairs. Returns `DONE`.
 pub fn len(map: &StringMap, len: &mut usize) -> u32
     ensures { Answers map.now (λ pairs. Some (length pairs)) result len.old len.new ×
         (result ≢ no_memory) }
@@ -47,7 +48,7 @@ pub fn len(map: &StringMap, len: &mut usize) -> u32
     DONE
 }
 
-/// Removes all pairs. It allocates nothing.
+/// Removes all pairs. Returns `DONE`. It allocates nothing.
 pub fn clear(map: &mut StringMap) -> u32
     ensures { (map.new ≡ option_map (λ _. []) map.old) × (result ≡ code_of map.old) }
 {
@@ -59,6 +60,7 @@ pub fn clear(map: &mut StringMap) -> u32
 }
 
 /// Moves the pairs into the order of their keys in memory, so that an iteration reads memory from first to last.
+/// Returns `DONE`, or `NO_MEMORY` if an allocation fails; then no pair has moved.
 pub fn compact(map: &mut StringMap) -> u32
     ensures { (map.new ≡ map.old) × (result ≢ no_memory → result ≡ code_of map.old) }
 {
@@ -71,7 +73,8 @@ pub fn compact(map: &mut StringMap) -> u32
     }
 }
 
-/// Looks up a key, and writes its value.
+/// Looks up a key, and writes its value. Returns `DONE`, `ABSENT` if the key is not stored, or `NO_MEMORY` if an
+/// allocation fails.
 pub fn get(map: &StringMap, key: &[u8], value: &mut u64) -> u32
     ensures { Answers map.now (value_of key.now) result value.old value.new }
 {
@@ -88,7 +91,8 @@ pub fn get(map: &StringMap, key: &[u8], value: &mut u64) -> u32
     }
 }
 
-/// Inserts a pair, and writes the value that it replaced.
+/// Inserts a pair, and writes the value that it replaced. Returns `DONE`, `ABSENT` if the key is new, or `NO_MEMORY` if
+/// an allocation fails; then the map is unchanged.
 pub fn insert(map: &mut StringMap, key: &[u8], value: u64, replaced: &mut u64) -> u32
     ensures { Answers map.old (value_of key.now) result replaced.old replaced.new ×
         Changes map.old (put (of_key escape) (key.now, value)) result map.new }
@@ -102,7 +106,7 @@ pub fn insert(map: &mut StringMap, key: &[u8], value: u64, replaced: &mut u64) -
     insert_key(pairs, key, value, replaced)
 }
 
-// Inserts a pair, and writes the value that it replaced.
+// Inserts the pair of a key, and writes the value that it replaced.
 fn insert_key(
     pairs: &mut TreeMap<Escaped, u64, 16>,
     key: Escaped,
@@ -124,7 +128,7 @@ fn insert_key(
     }
 }
 
-/// Removes the pair of a key, and writes its value.
+/// Removes the pair of a key, and writes its value. The codes are those of `get`.
 pub fn remove(map: &mut StringMap, key: &[u8], value: &mut u64) -> u32
     ensures { Answers map.old (value_of key.now) result value.old value.new ×
         Changes map.old (remove_key (of_key escape) (escape key.now)) result map.new }
@@ -142,7 +146,7 @@ pub fn remove(map: &mut StringMap, key: &[u8], value: &mut u64) -> u32
     }
 }
 
-/// Writes how many keys start with a prefix.
+/// Writes how many keys start with a prefix. Returns `DONE`, or `NO_MEMORY` if an allocation fails.
 pub fn count_prefix(map: &StringMap, prefix: &[u8], count: &mut usize) -> u32
     ensures { Answers map.now (λ pairs. Some (length (strings_below (λ text. text) prefix.now pairs)))
         result count.old count.new }
@@ -164,7 +168,8 @@ fn count_below(pairs: &TreeMap<Escaped, u64, 16>, text: &Escaped) -> usize
     pairs.prefix(text).count()
 }
 
-/// Looks up the longest key that is a prefix of the query. Writes its length, and its value.
+/// Looks up the longest key that is a prefix of the query. Writes its length, and its value. Returns `DONE`, `ABSENT`
+/// if no key is one, or `NO_MEMORY` if an allocation fails.
 pub fn longest_match(map: &StringMap, query: &[u8], pair: &mut Pair) -> u32
     ensures { Answers map.now
         (λ pairs. option_map pair_of (last_of (strings_in_front (λ text. text) query.now pairs)))
@@ -186,7 +191,8 @@ pub fn longest_match(map: &StringMap, query: &[u8], pair: &mut Pair) -> u32
     }
 }
 
-/// Writes the first pair, and its key to the front of a buffer.
+/// Writes the first pair, and its key to the front of a buffer. Returns `DONE`, `ABSENT` if there is no pair, or
+/// `TOO_LONG` if the key is longer than the buffer; then the value and the length of the key are written.
 pub fn first(map: &StringMap, buffer: &mut [u8], pair: &mut Pair) -> u32
     ensures { ShowsPair map.now first_of result buffer.new pair.old pair.new }
 {
@@ -196,7 +202,7 @@ pub fn first(map: &StringMap, buffer: &mut [u8], pair: &mut Pair) -> u32
     show(pairs.first_key_value(), buffer, pair)
 }
 
-/// Writes the last pair, and its key to the front of a buffer.
+/// Writes the last pair, and its key to the front of a buffer. Returns what `first` does.
 pub fn last(map: &StringMap, buffer: &mut [u8], pair: &mut Pair) -> u32
     ensures { ShowsPair map.now last_of result buffer.new pair.old pair.new }
 {

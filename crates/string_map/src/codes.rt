@@ -1,6 +1,6 @@
 //! The codes that calls return.
 
-/// The call did what was asked. Where it looks something up, that was found and is written.
+/// The call succeeded. If it looks something up, that was found and is written.
 pub const DONE: u32 = 0;
 /// What was looked up is not stored. An insertion has inserted a new pair.
 pub const ABSENT: u32 = 1;
@@ -13,9 +13,9 @@ pub const FULL: u32 = 4;
 /// The map has been freed.
 pub const FREED: u32 = 5;
 
-/// A range without this bound.
+/// The range has no bound on this side.
 pub const UNBOUNDED: u32 = 0;
-/// A range whose bound is one of its keys, if that is stored.
+/// The bound is a key of the range, if it is stored.
 pub const INCLUDED: u32 = 1;
-/// A range whose bound is not one of its keys.
+/// The bound is not a key of the range.
 pub const EXCLUDED: u32 = 2;

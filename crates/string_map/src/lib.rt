@@ -12,14 +12,14 @@ pub mod codes;
 pub mod pairs;
 pub mod prefixes;
 
-/// A map of byte strings to numbers, until it is freed. Any bytes are a key, also none.
+/// A map of byte strings to numbers, until it is freed. Any string of bytes is a key, also the empty one.
 #[derive(Drop)]
 pub struct StringMap {
     pairs: Option<TreeMap<Escaped, u64, 16>>,
     alloc: Global,
 }
 
-/// A map is its pairs in the order of their keys, or `None` once it was freed.
+/// In contracts a map is its pairs in the order of their keys, or `None` once it was freed.
 impl Model for StringMap {
     ghost use Rattle.std.specs.Prelude.{List, Option, ℕ};
 

@@ -18,7 +18,7 @@ pub struct Pair {
     pub key_len: usize,
 }
 
-/// How many pairs were written, and the length of a next key that is too long for the space.
+/// How many pairs were written, and the length of the next key if that is too long for the space.
 #[repr(C)]
 #[derive(Clone, Copy)]
 pub struct Given {
@@ -26,12 +26,13 @@ pub struct Given {
     pub key_len: usize,
 }
 
-/// Writes the pairs whose keys are between two bounds, by rising keys, or backward by falling keys: as many as there is
-/// space for. Their keys are one after another at the front of the buffer; what follows them there is not specified.
+/// Writes the pairs whose keys are between two bounds, in ascending order, or in descending order if `is_backward`: as
+/// many as there is space for. Their keys are one after another at the front of the buffer; what follows them there is
+/// not specified.
 ///
 /// A bound is a kind and a key: `UNBOUNDED` (the key is ignored), `INCLUDED` or `EXCLUDED`. Returns `DONE` when all
-/// pairs are written, `FULL` when `pairs` is full, and `TOO_LONG` when the next key is longer than the rest of the
-/// buffer. To continue, call it again with the last key as an excluded bound.
+/// pairs are written, `FULL` when `pairs` is full, `TOO_LONG` when the next key is longer than the rest of the buffer,
+/// and `NO_MEMORY` if an allocation fails. To continue, call it again with the last key as an excluded bound.
 pub fn next_pairs(
     map: &StringMap,
     from: &[u8],
@@ -60,7 +61,7 @@ pub fn next_pairs(
     fill(range, is_backward, buffer, pairs, given)
 }
 
-// Returns a bound of a kind.
+// Returns the bound of this kind, with this key.
 fn bound_of(kind: u32, key: &Escaped) -> Bound<&Escaped>
     ensures { bound_map (λ b. b.now) result ≡ bound_at kind key.now }
 {
@@ -104,7 +105,7 @@ fn fill(
     FULL
 }
 
-// Returns the next pair in this direction.
+// Returns the next pair in this direction, or `None` if none is left.
 fn step<'a>(
     left: &mut Range<'a, Escaped, u64, 16>,
     is_backward: bool,

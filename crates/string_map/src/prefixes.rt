@@ -1,8 +1,8 @@
 //! The strings that start with a prefix are a range.
 ghost use Rattle.string_map.specs.PrefixEnds.{IsPrefixEnd};
 
-/// Turns a prefix into the end of the range of the strings that start with it, and returns the length of that end: 0
-/// where all strings from the prefix on start with it, so that their range has no end.
+/// Turns a prefix into the end of the range of the strings that start with it, and returns the length of that end.
+/// Returns 0 if the range has no end: all strings from the prefix on start with it.
 pub fn prefix_end(prefix: &mut [u8]) -> usize
     ensures { IsPrefixEnd prefix.old result prefix.new }
 {

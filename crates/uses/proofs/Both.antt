@@ -1,4 +1,4 @@
--- Of two trees in a store: the second one changes, and the first one is canonical.
+-- Two trees in a store: the second one changes, and the first one is canonical.
 use Rattle.std.proofs.Common.{◌≡◌, ℕ, List, Option, Some, None, IfSome, subst}
 use Rattle.art_nodes.specs.Nodes.{Nodes}
 use Rattle.art_parts.specs.declared.names.OpaqueNodePtr.{OpaqueNodePtr}
@@ -18,7 +18,7 @@ module _ {K V : Type 0} (bytes : K × V → List ℕ) (P : ℕ) where
   first_canonical s None second pairs others h = tt
   first_canonical s (Some root) second pairs others h = let (layout, is) = h.one in (pairs, layout, is)
 
-  -- where a root is there it stands in its place
+  -- a root that is there may be named
   pub first_named : (s : Nodes K V) (first second : Option OpaqueNodePtr) (root : OpaqueNodePtr) (pairs others : List (K × V)) → first ≡ Some root →
       HasBoth bytes P s first second pairs others → HasBoth bytes P s (Some root) second pairs others
   first_named s first second root pairs others e h = subst (λ r. HasBoth bytes P s r second pairs others) e h

@@ -1,4 +1,4 @@
--- A fold that takes the longer of two lengths finds the longest key.
+-- A fold that keeps the greater of two lengths finds the longest key.
 use Rattle.std.proofs.Common.{◌≡◌, ℕ, List, [], ◌∷◌, ◌++◌, length, max, sym, ap₂, ◌∙◌, arith}
 use Rattle.art_nodes.specs.Nodes.{Nodes}
 use Rattle.art_parts.specs.declared.names.OpaqueNodePtr.{OpaqueNodePtr}
@@ -12,7 +12,7 @@ use Rattle.art_operations.proofs.CallerLemmas.{folds_to}
 use Rattle.uses.specs.Longest.{longest}
 
 module _ {A : Type 0} (bytes : A → List ℕ) where
-  -- the longest key of two lists is the longer one of theirs
+  -- the longest key of two lists is the longer one of both
   longest-append : (xs ys : List A) → longest bytes (xs ++ ys) ≡ max (longest bytes xs) (longest bytes ys)
   longest-append [] ys = omega arith
   longest-append (x ∷ xs) ys = let rest = longest-append xs ys in omega arith

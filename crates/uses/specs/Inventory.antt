@@ -15,7 +15,7 @@ Goods = List (List ℕ × ℕ)
 abbrev pub quantity : List ℕ → Goods → ℕ
 quantity code stock = unwrap_or (value_at (λ code. code) code stock) 0
 
--- how many there are together
+-- how many there are in all
 abbrev pub total_of : Goods → ℕ
 total_of stock = sum_by (λ good. good.1) stock
 
@@ -24,12 +24,12 @@ abbrev pub ChangesTo : List ℕ → ℕ → Goods → Goods → Type 0
 ChangesTo code count old new =
     (quantity code new ≡ count) × ((other : List ℕ) → other ≢ code → quantity other new ≡ quantity other old)
 
--- there would be more than can be counted, or there is none yet
+-- there would be more than can be counted, or an allocation failed and there is none yet
 abbrev pub IsAddRefusal : List ℕ → ℕ → Goods → AddError → Type 0
 IsAddRefusal code count stock adds.TooMany = 2 ^ 32 ≤ quantity code stock + count
 IsAddRefusal code count stock adds.NoMemory = quantity code stock ≡ 0
 
--- there are only so many, or there was no memory, where some are left
+-- there are only so many, or an allocation failed and some would be left
 abbrev pub IsTakeRefusal : List ℕ → ℕ → Goods → TakeError → Type 0
 IsTakeRefusal code count stock (takes.NotEnough there) = (there ≡ quantity code stock) × (there < count)
 IsTakeRefusal code count stock takes.NoMemory = count < quantity code stock

@@ -1,4 +1,4 @@
-//! A map whose values are written where they are. What is written is seen in the pairs.
+//! A map whose values are changed in place. The contracts state the pairs that result.
 ghost use Rattle.std.specs.Prelude.{◌≡◌, ◌+◌, ◌∷◌, [], Some, IfSome, IsTrue, IsFalse};
 ghost use Rattle.art_model.specs.Pairs.{of_key, put};
 ghost use Rattle.art_operations.specs.MapAnswers.{with_value_at};
@@ -6,8 +6,8 @@ ghost use Rattle.art_operations.specs.MapAnswers.{with_value_at};
 use art_operations::map::ByteMap;
 use std::alloc::Global;
 
-/// Puts two pairs in, counts the first key twice more and a new one once, and takes both ends out. `None` for
-/// want of memory.
+/// Inserts two pairs, adds 2 to the value of the first key and 1 to that of a new one, and removes and returns the
+/// first and the last pair. Returns `None` if an allocation fails.
 pub fn count_twice(alloc: Global) -> Option<(Option<([u8; 1], u32)>, Option<([u8; 1], u32)>)>
     ensures { IfSome result (λ told. told ≡ (Some (1 ∷ [], 9), Some (3 ∷ [], 1))) }
 {
@@ -30,7 +30,7 @@ pub fn count_twice(alloc: Global) -> Option<(Option<([u8; 1], u32)>, Option<([u8
     Some((first, last))
 }
 
-/// Writes the value of a key, where there is one.
+/// Writes the value of a key, if the key is stored, and returns whether it is.
 pub fn write_value(map: &mut ByteMap<[u8; 1], u32, 4>, key: &[u8], value: u32) -> bool
     ensures written { IsTrue result →
         map.new ≡ with_value_at (λ key. key) key.now value map.old }
@@ -43,7 +43,7 @@ pub fn write_value(map: &mut ByteMap<[u8; 1], u32, 4>, key: &[u8], value: u32) -
     true
 }
 
-/// Puts a pair in by the entry of its key.
+/// Inserts a pair by the entry of its key. Returns false if the insertion fails; then the map is unchanged.
 pub fn put_by_entry(map: &mut ByteMap<[u8; 1], u32, 4>, key: [u8; 1], value: u32) -> bool
     ensures put { IsTrue result →
         map.new ≡ put (of_key (λ key. key)) (key, value) map.old }
@@ -56,7 +56,8 @@ pub fn put_by_entry(map: &mut ByteMap<[u8; 1], u32, 4>, key: [u8; 1], value: u32
     true
 }
 
-/// The first key of a map of one pair, and how many pairs are left when the map is cleared.
+/// Returns the first key of a map of one pair, and how many pairs are left once the map is cleared. Returns `None` if
+/// an allocation fails.
 pub fn first_key(alloc: Global) -> Option<(Option<[u8; 1]>, usize)>
     ensures { IfSome result (λ told. told ≡ (Some (4 ∷ []), 0)) }
 {

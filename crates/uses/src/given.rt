@@ -1,4 +1,4 @@
-//! A map whose pairs are taken by value, and a set.
+//! A map that is consumed, and a set.
 ghost use Rattle.std.specs.Prelude.{◌≡◌, ◌∷◌, [], Some, None, IfSome, false, true};
 ghost use Rattle.art_model.specs.Pairs.{first_of};
 ghost use Rattle.art_operations.specs.MapItems.{keys_of};
@@ -7,22 +7,22 @@ use art_operations::map::ByteMap;
 use art_operations::set::ByteSet;
 use std::alloc::Global;
 
-/// The first pair of a map that is given up. The others are dropped.
+/// Consumes a map, and returns its first pair, if any. The others are dropped.
 pub fn first_by_value(map: ByteMap<[u8; 1], u32, 4>) -> Option<([u8; 1], u32)>
     ensures { result ≡ first_of map }
 {
     map.into_iter().next()
 }
 
-/// The first key of a map that is given up.
+/// Consumes a map, and returns its first key, if any.
 pub fn first_key_by_value(map: ByteMap<[u8; 1], u32, 4>) -> Option<[u8; 1]>
     ensures { result ≡ first_of (keys_of map) }
 {
     map.into_keys().next()
 }
 
-/// Whether two keys, the second of which is put in twice, are new, and which key is the first one. `None` for
-/// want of memory.
+/// Inserts a key, and then another one twice. Returns whether the other one was new each time, and the first key.
+/// Returns `None` if an allocation fails.
 pub fn which_are_new(alloc: Global) -> Option<(bool, bool, Option<[u8; 1]>)>
     ensures { IfSome result (λ told. told ≡ (true, false, Some (2 ∷ []))) }
 {

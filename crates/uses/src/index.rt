@@ -1,4 +1,4 @@
-//! An index by two numbers, and what maps and sets have by the traits of std, as a user has them.
+//! An index by two numbers, and maps and sets by the traits of std.
 ghost use Rattle.std.specs.Prelude.{◌≡◌, length, IfOk, OnOk};
 ghost use Rattle.std.specs.Ordering.{int_cmp, nat_cmp};
 ghost use Rattle.std.specs.declared.ops.Bound.TheVariants.{Excluded, Included};
@@ -20,7 +20,7 @@ use std::alloc::AllocError;
 /// A user and a time, as a key.
 pub type Place = JoinedArray<U64Key, I64Key, 16>;
 
-/// What happened, by user and time.
+/// Events by user and time.
 pub type Index = TreeMap<Place, u32, 4>;
 
 /// Returns the key of a user and a time. It allocates nothing.
@@ -30,7 +30,7 @@ pub fn place(user: u64, time: i64) -> Place
     JoinedArray::join(&U64Key::from(user), &I64Key::from(time))
 }
 
-/// Inserts an event. It fails only if an allocation fails.
+/// Inserts an event. Fails only if an allocation fails.
 pub fn put_event(index: &mut Index, at: Place, event: u32) -> Result<(), AllocError>
     ensures { OnOk result (index.new ≡ put (of_key place_bytes) (at, event) index.old) }
 {
@@ -45,7 +45,7 @@ pub fn event_at(index: &Index, at: Place) -> Option<u32>
     index.get(&at).copied()
 }
 
-/// Returns how many events are from one user and time up to another, which is not one of them. It allocates nothing.
+/// Returns how many events there are from one user and time up to another, which is excluded. It allocates nothing.
 pub fn count_between(index: &Index, from: Place, to: Place) -> usize
     ensures { result ≡ length
         (keys_between (pair_cmp nat_cmp int_cmp) (Included from) (Excluded to) index.now) }
@@ -53,7 +53,7 @@ pub fn count_between(index: &Index, from: Place, to: Place) -> usize
     index.range(from..to).count()
 }
 
-/// Returns two maps, the given one and a clone of it. It fails only if an allocation fails.
+/// Returns two maps: the given one and a clone of it. Fails only if an allocation fails.
 pub fn snapshot<K: CloneBytes + Drop, const P: usize>(
     map: TreeMap<K, u32, P>,
 ) -> Result<(TreeMap<K, u32, P>, TreeMap<K, u32, P>), AllocError>
@@ -64,7 +64,7 @@ pub fn snapshot<K: CloneBytes + Drop, const P: usize>(
     Ok((map, copy))
 }
 
-/// Returns the numbers of the first set that the second one lacks. It fails only if an allocation fails.
+/// Returns the numbers of the first set that the second one lacks. Fails only if an allocation fails.
 pub fn missing(
     wanted: &TreeSet<U16Key, 4>,
     there: &TreeSet<U16Key, 4>,

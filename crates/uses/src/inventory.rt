@@ -1,4 +1,4 @@
-//! A stock of goods by codes of four bytes. The contracts say how many there are of each.
+//! A stock of goods by codes of four bytes. The contracts state how many there are of each.
 ghost use Rattle.std.specs.Prelude.{◌≡◌, ◌+◌, ◌≤◌, ◌^◌, length, IfErr, IfOk, OnErr, OnOk};
 ghost use Rattle.uses.specs.Inventory.{ChangesTo, IsAddRefusal, IsTakeRefusal, quantity, total_of};
 
@@ -10,9 +10,9 @@ pub type Stock = TreeMap<[u8; 4], u32, 4>;
 /// Why goods were not added.
 #[derive(Clone, Copy, PartialEq, Eq, Debug)]
 pub enum AddError {
-    /// There would be more than can be counted.
+    /// There would be more than a `u32` can count.
     TooMany,
-    /// There is none of this good yet, and no memory for it.
+    /// There is none of this good yet, and an allocation for it failed.
     NoMemory,
 }
 
@@ -21,11 +21,11 @@ pub enum AddError {
 pub enum TakeError {
     /// There are only so many.
     NotEnough(u32),
-    /// There was no memory.
+    /// An allocation failed.
     NoMemory,
 }
 
-/// Adds so many of a good.
+/// Adds `count` of a good. If it fails, the stock is unchanged.
 pub fn add(stock: &mut Stock, code: [u8; 4], count: u32) -> Result<(), AddError>
     ensures added { OnOk result
         (ChangesTo code (quantity code stock.old + count) stock.old stock.new) }
@@ -42,7 +42,8 @@ pub fn add(stock: &mut Stock, code: [u8; 4], count: u32) -> Result<(), AddError>
     }
 }
 
-/// Takes so many of a good out, and returns how many are left. A good of which none is left is no longer in the stock.
+/// Removes `count` of a good, and returns how many are left. If none is left, the good is removed from the stock. If it
+/// fails, the stock is unchanged.
 pub fn take(stock: &mut Stock, code: [u8; 4], count: u32) -> Result<u32, TakeError>
     ensures left { IfOk result (λ left. left + count ≡ quantity code stock.old) }
     ensures taken { IfOk result (λ left. ChangesTo code left stock.old stock.new) }
@@ -64,7 +65,7 @@ pub fn take(stock: &mut Stock, code: [u8; 4], count: u32) -> Result<u32, TakeErr
     Ok(left)
 }
 
-/// Returns how many goods there are together.
+/// Returns how many goods there are in all. The stock must have at most 2^32 codes.
 pub fn total(stock: &Stock) -> u64
     requires { length stock.now ≤ 2 ^ 32 }
     ensures { result ≡ total_of stock.now }

@@ -1,4 +1,4 @@
-//! Maps of keys that are never in conflict, as a user has them.
+//! Maps of keys that never conflict, as a caller uses them.
 ghost use Rattle.std.specs.Prelude.{◌≡◌, length, Some, IfOk, IfSome, OnErr, OnOk};
 ghost use Rattle.std.specs.Cmp.Lexicographic.{slice_cmp};
 ghost use Rattle.std.specs.Option.{option_map};
@@ -16,10 +16,10 @@ use art_operations::keys::{Escaped, Joined, Terminated, U16Key, U32Key, U64Key};
 use art_operations::tree_map::TreeMap;
 use std::alloc::{AllocError, Global};
 
-/// Words with their numbers. Any word may be the beginning of another.
+/// Words with their numbers. A word may be a prefix of another one.
 pub type Words = TreeMap<Escaped, u64, 16>;
 
-/// Puts a word in. The only error is want of memory.
+/// Inserts a word. Fails only if an allocation fails; then the words are unchanged.
 pub fn put_word(
     words: &mut Words,
     alloc: Global,
@@ -34,14 +34,15 @@ pub fn put_word(
     Ok(())
 }
 
-/// Does nothing, and tells that the words rise as their bytes do, and not as their escapes.
+/// Does nothing; its contract states that the words are in ascending order of their own bytes, and not only of their
+/// escapes.
 pub fn words_rise(words: &Words)
     ensures { RiseBy (slice_cmp nat_cmp) words.now }
 {
     words.rises();
 }
 
-/// Returns the number of a name, and takes no memory.
+/// Returns the number of a name, or `None` if the name is not stored. It allocates nothing.
 pub fn number_of_name(names: &TreeMap<Terminated, u64, 16>, name: &str) -> Option<u64>
     ensures { result ≡ value_at ended (ended name.now) names.now }
 {
@@ -65,11 +66,10 @@ pub fn coldest(alloc: Global) -> Option<Option<(U16Key, u32)>>
     Some(days.pop_first())
 }
 
-/// What users did, by the number of the user and the time. The events of one user stand together, in the
-/// order of their times.
+/// Events by the numbers of users and by time. The events of one user are adjacent, in the order of their times.
 pub type Events = TreeMap<Joined<U32Key, U64Key>, u32, 4>;
 
-/// Puts an event in. The only error is want of memory.
+/// Inserts an event. Fails only if an allocation fails; then the events are unchanged.
 pub fn put_event(
     events: &mut Events,
     alloc: Global,
@@ -86,8 +86,8 @@ pub fn put_event(
     Ok(())
 }
 
-/// Returns how many events a user has from one time up to another, which is not one of them. The only error is
-/// want of memory, for the two ends.
+/// Returns how many events a user has from one time up to another, which is excluded. Fails only if an allocation
+/// fails, for the keys of the two times.
 pub fn count_between(
     events: &Events,
     alloc: Global,
@@ -104,7 +104,8 @@ pub fn count_between(
     Ok(events.range(from..to).count())
 }
 
-/// Returns the first event of a user, with its time. The only error is want of memory.
+/// Returns the time of a user's first event and the event, or `None` if there is none. Fails only if an allocation
+/// fails.
 pub fn first_event(
     events: &Events,
     alloc: Global,
@@ -120,8 +121,8 @@ pub fn first_event(
     Ok(Some((time.get(), *event)))
 }
 
-/// Puts four events of two users in, and returns how many the user 2 has from time 10 up to time 30, and the
-/// first event of that user, with its time. `None` for want of memory.
+/// Inserts four events of two users. Returns how many events user 2 has from time 10 up to time 30, which is excluded,
+/// and the first event of that user with its time. Returns `None` if an allocation fails.
 pub fn count_events(alloc: Global) -> Option<(usize, Option<(u64, u32)>)>
     ensures { IfSome result (λ told. told ≡ (2, Some (5, 101))) }
 {

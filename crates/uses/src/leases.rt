@@ -12,16 +12,17 @@ use art_operations::delete::{find_minimum_to_delete, search_for_delete_point};
 use art_operations::insert::plant;
 use art_operations::minmax::minimum_unchecked;
 
-/// The roots of two trees in one store; none where a tree has no pair.
+/// The roots of two trees in one store; `None` for a tree without a pair.
 #[derive(Clone, Copy, PartialEq, Eq, Debug)]
 pub struct Roots {
-    /// Of the leases by their ids.
+    /// The root of the leases by their ids.
     pub by_id: Option<OpaqueNodePtr>,
-    /// Of the same by the times at which they end, eight bytes each, and then their ids.
+    /// The root of the same leases by the times at which they end, eight bytes each, and then by their ids.
     pub by_end: Option<OpaqueNodePtr>,
 }
 
-/// Puts a pair into the tree of a root, or plants a tree, and returns the root. `None` as of `put`.
+/// Inserts a pair into the tree with this root, or into a new tree if there is no root, and returns the root. Returns
+/// `None` as `put` does.
 pub fn put_in<K: AsBytes + Drop, V: Drop, const P: usize>(
     store: &mut NodeStore<K, V, P>,
     root: Option<OpaqueNodePtr>,
@@ -43,7 +44,7 @@ pub fn put_in<K: AsBytes + Drop, V: Drop, const P: usize>(
     }
 }
 
-// The same where there is no tree.
+// The same if there is no tree.
 fn begin_tree<K: AsBytes + Drop, V: Drop, const P: usize>(
     store: &mut NodeStore<K, V, P>,
     key: K,
@@ -62,8 +63,8 @@ fn begin_tree<K: AsBytes + Drop, V: Drop, const P: usize>(
     Some(name.to_opaque())
 }
 
-/// Puts a lease in, under its id and under the time at which it ends, and returns the roots. An `Err` is for a key in
-/// conflict or want of memory: then nothing has come under the id.
+/// Inserts a lease by its id and by the time at which it ends, and returns the roots. Fails if a key conflicts with a
+/// stored one or an allocation fails: the error returns the roots, and the leases by their ids are unchanged.
 pub fn begin<K: AsBytes + Drop, V: Drop, const P: usize>(
     store: &mut NodeStore<K, V, P>,
     roots: Roots,
@@ -97,7 +98,8 @@ pub fn begin<K: AsBytes + Drop, V: Drop, const P: usize>(
     })
 }
 
-/// Takes the lease out that ends first, if there is one, and returns the roots and its key.
+/// Removes the lease that ends first from the leases by their ends, and returns the roots and its key, or `None` if
+/// there is no lease.
 pub fn take_first<K: AsBytes + Drop, V: Drop, const P: usize>(
     store: &mut NodeStore<K, V, P>,
     roots: Roots,
@@ -115,7 +117,7 @@ pub fn take_first<K: AsBytes + Drop, V: Drop, const P: usize>(
     Some((Roots { by_end, ..roots }, done.deleted_leaf.key))
 }
 
-/// Takes the lease of an id out of those by their ids, if there is one, and returns the roots.
+/// Removes the lease of an id from the leases by their ids, if there is one, and returns the roots.
 pub fn forget<K: AsBytes + Drop, V: Drop, const P: usize>(
     store: &mut NodeStore<K, V, P>,
     roots: Roots,
@@ -137,7 +139,8 @@ pub fn forget<K: AsBytes + Drop, V: Drop, const P: usize>(
     }
 }
 
-/// Takes the leases out that end up to a time, eight bytes of it, from the first one on, and returns the roots.
+/// Removes the leases that end at a time or before, in the order of their ends, and returns the roots. The time is
+/// given as eight bytes.
 pub fn expire<K: AsBytes + Drop, V: Drop, const P: usize>(
     store: &mut NodeStore<K, V, P>,
     roots: Roots,
@@ -159,7 +162,7 @@ pub fn expire<K: AsBytes + Drop, V: Drop, const P: usize>(
     roots
 }
 
-// Whether the lease that ends first ends up to a time.
+// Returns whether the lease that ends first ends at a time or before.
 fn is_due<K: AsBytes + Drop, V: Drop, const P: usize>(
     store: &NodeStore<K, V, P>,
     roots: Roots,
@@ -177,7 +180,7 @@ fn is_due<K: AsBytes + Drop, V: Drop, const P: usize>(
     8 <= bytes.len() && &bytes[..8] <= now
 }
 
-// The id in a key by a time.
+// Returns the id in a key of a lease by its end.
 fn id_of(key: &[u8]) -> &[u8] {
     if 8 <= key.len() { &key[8..] } else { key }
 }

@@ -34,8 +34,8 @@ pub mod parts;
 pub mod sessions;
 pub mod tally;
 
-/// Puts a pair in, and returns the root. `None` where the key is related to an unequal stored one, or for
-/// want of memory; then the root stands for what it stood for.
+/// Inserts a pair, and returns the root. Returns `None` if the key conflicts with a stored one or an allocation fails;
+/// then the tree is unchanged.
 pub fn put<K: AsBytes + Drop, V: Drop, const P: usize>(
     store: &mut NodeStore<K, V, P>,
     root: OpaqueNodePtr,
@@ -61,8 +61,8 @@ pub fn put<K: AsBytes + Drop, V: Drop, const P: usize>(
     }
 }
 
-/// Puts a pair in, in the place of all with related keys, and returns the root and how many leaves are gone.
-/// `None` for want of memory; then the root stands for what it stood for.
+/// Inserts a pair and removes every conflicting one, and returns the root and how many leaves were freed. Returns
+/// `None` if an allocation fails; then the tree is unchanged.
 pub fn put_over<K: AsBytes + Drop, V: Drop, const P: usize>(
     store: &mut NodeStore<K, V, P>,
     root: OpaqueNodePtr,
@@ -84,8 +84,8 @@ pub fn put_over<K: AsBytes + Drop, V: Drop, const P: usize>(
     }
 }
 
-/// Removes the pair of a key, and returns it with the root that is left, if any. `None` where the key isn't stored; then
-/// nothing has changed.
+/// Removes the pair of a key, and returns the root that is left, if any, and the pair. Returns `None` if the key is not
+/// stored; then nothing has changed.
 pub fn take<K: AsBytes + Drop, V: Drop, const P: usize>(
     store: &mut NodeStore<K, V, P>,
     root: OpaqueNodePtr,
@@ -111,7 +111,7 @@ pub fn take<K: AsBytes + Drop, V: Drop, const P: usize>(
     Some((done.new_root, leaf.key, leaf.value))
 }
 
-/// Returns the value of a key, if it is stored.
+/// Returns the value of a key, or `None` if the key is not stored.
 pub fn get<'a, K: AsBytes + Drop, V: Drop, const P: usize>(
     store: &'a NodeStore<K, V, P>,
     root: OpaqueNodePtr,
@@ -128,7 +128,7 @@ pub fn get<'a, K: AsBytes + Drop, V: Drop, const P: usize>(
     Some(&node.value)
 }
 
-/// Returns the pair whose key is a prefix of the query or equal to it. There is at most one.
+/// Returns the pair whose key is a prefix of the query or equal to it, or `None`. There is at most one.
 pub fn longest_match<'a, K: AsBytes + Drop, V: Drop, const P: usize>(
     store: &'a NodeStore<K, V, P>,
     root: OpaqueNodePtr,
@@ -145,7 +145,7 @@ pub fn longest_match<'a, K: AsBytes + Drop, V: Drop, const P: usize>(
     Some((&node.key, &node.value))
 }
 
-/// Returns a walk of all leaves of a tree, in order.
+/// Returns an iterator over all leaves of a tree, in order.
 pub fn walk<K: AsBytes + Drop, V: Drop, const P: usize>(
     store: &NodeStore<K, V, P>,
     root: OpaqueNodePtr,
@@ -159,8 +159,8 @@ pub fn walk<K: AsBytes + Drop, V: Drop, const P: usize>(
     RawIterator::new(store, first, last)
 }
 
-/// Takes the next leaf of a walk out of its store, and returns its pair. The walk goes on with the others. `None` where
-/// there is no further leaf.
+/// Frees the next leaf of an iterator, and returns its pair, or `None` if no leaf is left. The iterator continues with
+/// the others.
 pub fn take_next<K: AsBytes + Drop, V: Drop, const P: usize>(
     store: &mut NodeStore<K, V, P>,
     leaves: &mut RawIterator,
@@ -175,7 +175,7 @@ pub fn take_next<K: AsBytes + Drop, V: Drop, const P: usize>(
     Some((node.key, node.value))
 }
 
-/// A visitor that finds how long the longest key is.
+/// A visitor that computes the length of the longest key.
 #[derive(Drop)]
 pub struct LongestKey;
 
@@ -209,7 +209,7 @@ impl<K: AsBytes + Drop, V: Drop, const P: usize> Visitor<K, V, P> for LongestKey
     }
 }
 
-/// How long the longest key of a tree is.
+/// Returns the length of the longest key of a tree.
 pub fn longest_key<K: AsBytes + Drop, V: Drop, const P: usize>(
     store: &NodeStore<K, V, P>,
     root: OpaqueNodePtr,

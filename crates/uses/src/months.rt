@@ -1,4 +1,4 @@
-//! A map as a user has it. Its contracts speak of lists of pairs, so each result is known.
+//! A map as a caller uses it. Its contracts speak of lists of pairs, so each result is known.
 ghost use Rattle.std.specs.Prelude.{◌≡◌, ◌∷◌, [], Some, IfSome};
 ghost use Rattle.std.specs.Option.{option_map};
 ghost use Rattle.art_model.specs.Pairs.{first_of};
@@ -6,9 +6,9 @@ ghost use Rattle.art_model.specs.Pairs.{first_of};
 use art_operations::map::ByteMap;
 use std::alloc::Global;
 
-/// Puts three pairs in, the last with the key of the first, asks, walks, and takes all out: the pair that
-/// comes back, the value of the key 1, the value that a walk begins with, and the last pair. `None` for
-/// want of memory.
+/// Inserts three pairs, the last one with the key of the first, and empties the map. Returns the pair that was
+/// replaced, the value of the key 1, the value with which an iteration starts, and the last pair. Returns `None` if an
+/// allocation fails.
 pub fn build_and_empty(
     alloc: Global,
 ) -> Option<
@@ -39,7 +39,7 @@ pub fn build_and_empty(
     Some((replaced, found, first, last))
 }
 
-// The value that a walk begins with.
+// Returns the value with which an iteration starts.
 fn first_value(map: &ByteMap<[u8; 1], u32, 4>) -> Option<u32>
     ensures { result ≡ option_map (λ pair. pair.1) (first_of map.now) }
 {

@@ -1,4 +1,4 @@
-//! Parts of a map, as a user asks for them. Each result is known.
+//! Parts of a map, as a caller uses them. Each result is known.
 ghost use Rattle.std.specs.Prelude.{◌≡◌, ◌≤◌, ◌∷◌, [], length, Some, IfSome};
 ghost use Rattle.std.specs.Option.{option_map};
 ghost use Rattle.art_model.specs.Pairs.{first_of, last_of, of_key};
@@ -10,8 +10,8 @@ use std::alloc::Global;
 
 type Map = ByteMap<[u8; 2], u32, 4>;
 
-/// Asks for the last value below the byte 1, the first value of a range of keys, and the last value
-/// of the same range. `None` for want of memory.
+/// Returns the last value with the prefix 1, and the first and the last value of a range of keys. Returns `None` if an
+/// allocation fails.
 pub fn build_and_ask(alloc: Global) -> Option<(Option<u32>, Option<u32>, Option<u32>)>
     ensures { IfSome result (λ told. told ≡ (Some 12, Some 12, Some 21)) }
 {
@@ -25,8 +25,8 @@ pub fn build_and_ask(alloc: Global) -> Option<(Option<u32>, Option<u32>, Option<
     ))
 }
 
-/// Takes the pairs below the byte 1 out, and returns how many went and the first value that is left.
-/// `None` for want of memory.
+/// Removes the pairs with the prefix 1, and returns how many there were and the first value that is left. Returns
+/// `None` if an allocation fails.
 pub fn build_and_remove(alloc: Global) -> Option<(usize, Option<u32>)>
     ensures { IfSome result (λ told. told ≡ (2, Some 21)) }
 {
@@ -35,7 +35,7 @@ pub fn build_and_remove(alloc: Global) -> Option<(usize, Option<u32>)>
     Some((removed, first_value(map.prefix(&[]))))
 }
 
-/// Counts the pairs below a prefix of any map: they are not more than a `usize` has numbers for.
+/// Counts the pairs with a prefix in any map. The count does not overflow: a `usize` can count all pairs of a map.
 pub fn count_below<K: AsBytes + Drop, V: Drop, const P: usize>(
     map: &ByteMap<K, V, P>,
     prefix: &[u8],
@@ -45,7 +45,7 @@ pub fn count_below<K: AsBytes + Drop, V: Drop, const P: usize>(
     map.prefix(prefix).count()
 }
 
-// A map of four pairs.
+// Returns a map of four pairs, or `None` if an allocation fails.
 fn build(alloc: Global) -> Option<Map>
     ensures { IfSome result (λ map. map ≡
         (1 ∷ 1 ∷ [], 11) ∷ (1 ∷ 2 ∷ [], 12) ∷ (2 ∷ 1 ∷ [], 21) ∷ (3 ∷ 1 ∷ [], 31) ∷ []) }
@@ -66,7 +66,7 @@ fn build(alloc: Global) -> Option<Map>
     Some(map)
 }
 
-// The first value of a part.
+// Returns the first value of a part.
 fn first_value(mut part: Range<'_, [u8; 2], u32, 4>) -> Option<u32>
     ensures { result ≡ option_map (λ pair. pair.1) (first_of part.entry) }
 {
@@ -76,7 +76,7 @@ fn first_value(mut part: Range<'_, [u8; 2], u32, 4>) -> Option<u32>
     }
 }
 
-// The last value of a part.
+// Returns the last value of a part.
 fn last_value(mut part: Range<'_, [u8; 2], u32, 4>) -> Option<u32>
     ensures { result ≡ option_map (λ pair. pair.1) (last_of part.entry) }
 {

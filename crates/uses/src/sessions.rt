@@ -1,4 +1,4 @@
-//! Sessions in two maps, by their tokens and by their ends, which change together or not at all.
+//! Sessions in two maps, by their tokens and by their ends. The maps change together or not at all.
 ghost use Rattle.std.specs.Prelude.{◌≡◌, Some, OnErr, OnOk};
 ghost use Rattle.art_operations.specs.Escapes.{escape};
 ghost use Rattle.art_operations.specs.KeyedValues.{value_of};
@@ -14,7 +14,7 @@ pub type Open = TreeMap<Escaped, u64, 16>;
 /// The same sessions in the order of their ends.
 pub type Ends = TreeMap<Joined<Unsigned<8>, Escaped>, (), 16>;
 
-/// Opens a session in both maps. It fails only if an allocation fails, and then both are unchanged.
+/// Opens a session in both maps. Fails only if an allocation fails, and then both are unchanged.
 pub fn open(
     open: &mut Open,
     ends: &mut Ends,

@@ -9,7 +9,7 @@ use std::alloc::{AllocError, Global};
 /// How often each word was added. A word is any string of bytes.
 pub type Tally = TreeMap<Escaped, u64, 16>;
 
-/// Counts a word once more; a count stays at the greatest number. It fails only if an allocation fails, and then nothing
+/// Counts a word once more; a count stays at the greatest number. Fails only if an allocation fails, and then nothing
 /// is counted.
 pub fn add(tally: &mut Tally, alloc: Global, word: &[u8]) -> Result<(), AllocError>
     ensures counted { OnOk result (count_of word.now tally.new ≡
@@ -26,7 +26,7 @@ pub fn add(tally: &mut Tally, alloc: Global, word: &[u8]) -> Result<(), AllocErr
     Ok(())
 }
 
-/// Returns how often a word was added.
+/// Returns how often a word was added. Fails only if an allocation fails.
 pub fn count(tally: &Tally, alloc: Global, word: &[u8]) -> Result<u64, AllocError>
     ensures { IfOk result (λ count. count ≡ count_of word.now tally.now) }
 {

@@ -1,4 +1,4 @@
-//! Two keys of fixed lengths as one, in an array.
+//! Two keys of fixed lengths joined into one, in an array.
 use art_keyed::map::TreeMap;
 use art_keyed::set::TreeSet;
 use art_keys::joined::Joined;
@@ -34,7 +34,7 @@ fn the_second_key_stands_after_the_first_in_the_array() -> Result<(), Fail> {
     )
 }
 
-// Numbers in their order.
+// Numbers in ascending order.
 static FIRSTS: [u8; 4] = [0, 1, 127, 255];
 
 static SECONDS: [i16; 5] = [i16::MIN, -1, 0, 1, i16::MAX];
@@ -48,7 +48,7 @@ fn compares(alloc: Global, a: (u8, i16), b: (u8, i16)) -> Option<bool> {
     Some(p.cmp(&q) == wanted && x.cmp(&y) == wanted && p.as_bytes() == x.as_bytes())
 }
 
-// How many keys compare so with one.
+// How many keys compare so with one of them.
 fn count_compared(alloc: Global, a: (u8, i16)) -> Option<usize> {
     let mut count = 0usize;
     for first in FIRSTS.iter() {
@@ -86,7 +86,7 @@ fn a_key_in_an_array_comes_back_from_its_bytes() -> Result<(), Fail> {
     )
 }
 
-// A key of three: two as one, and another.
+// A key of three: two joined into one, and another one.
 type Three = JoinedArray<Small, U8Key, 4>;
 
 #[test]
@@ -102,7 +102,7 @@ fn time_of(user: u64, time: i64) -> JoinedArray<U64Key, I64Key, 16> {
     JoinedArray::join(&U64Key::from(user), &I64Key::from(time))
 }
 
-// Five times of each of four users, from -2 to 2.
+// Inserts five times of each of four users, from -2 to 2.
 fn fill(times: &mut Times) -> Option<()> {
     for user in 0..4u64 {
         for time in -2..3i64 {
@@ -112,7 +112,7 @@ fn fill(times: &mut Times) -> Option<()> {
     Some(())
 }
 
-// What is read of the map and removed from it while every allocation fails.
+// What is read from a map and removed from it while every allocation fails.
 fn starve(times: &mut Times, alloc: Global) -> Option<([usize; 6], Option<u32>)> {
     fill(times)?;
     let held = all_memory(alloc).ok()?;

@@ -1,4 +1,4 @@
-//! Maps and sets by the traits of std: collected, extended and cloned.
+//! Maps and sets by the traits of std: collected, extended, cloned and combined.
 ghost use Rattle.std.specs.Prelude.{◌<◌};
 
 use super::short::{COUNT, Short};
@@ -14,7 +14,7 @@ use std::test::Fail;
 
 type Days = TreeMap<I16Key, u32, 4>;
 
-// Each number of a range, with its place.
+// A map of the numbers of a range, each with its index.
 fn days(alloc: Global, first: i16, last: i16) -> Result<Days, AllocError> {
     let mut days = TreeMap::new(alloc);
     let mut place = 0u32;
@@ -25,7 +25,7 @@ fn days(alloc: Global, first: i16, last: i16) -> Result<Days, AllocError> {
     Ok(days)
 }
 
-// How many days there are once others have come, and two of their values.
+// How many days there are once others are inserted, and two of their values.
 fn extend(alloc: Global) -> Option<(usize, Option<u32>, Option<u32>)> {
     let mut map = days(alloc, -10, 10).ok()?;
     map.extend(days(alloc, 5, 20).ok()?).ok()?;
@@ -41,7 +41,7 @@ fn pairs_of_another_map_replace_values(rt: HostRuntime) -> Result<(), Fail> {
     same(extend(rt.alloc()), Some((30, Some(0), Some(0))))
 }
 
-// Whether a map that is collected of pairs has the pairs of the kit's map that is.
+// Whether a map that is collected from pairs has the pairs of a `BTreeMap` that is collected from the same.
 fn collect(alloc: Global) -> Option<bool> {
     let days = days(alloc, -40, 40).ok()?;
     let (mut pairs, mut others) = (Vec::new(alloc), Vec::new(alloc));
@@ -59,7 +59,7 @@ fn a_map_is_collected(rt: HostRuntime) -> Result<(), Fail> {
     same(collect(rt.alloc()), Some(true))
 }
 
-// How many of the short strings a set has that they are collected into, twice each.
+// How many keys a set has that is collected from the short strings and then extended by them.
 fn collect_strings(alloc: Global) -> Option<usize> {
     let mut strings = Vec::new(alloc);
     for number in 0..COUNT {
@@ -78,7 +78,7 @@ fn a_set_is_collected(rt: HostRuntime) -> Result<(), Fail> {
     same(collect_strings(rt.alloc()), Some(COUNT))
 }
 
-// Whether a clone is equal to the map, also once the map has changed.
+// Whether a clone is equal to the map, and whether it is once the map has changed.
 fn clone_days(alloc: Global) -> Option<[bool; 2]> {
     let mut map = days(alloc, 0, 300).ok()?;
     let copy = map.clone().ok()?;
@@ -92,7 +92,7 @@ fn a_clone_stands_by_itself(rt: HostRuntime) -> Result<(), Fail> {
     same(clone_days(rt.alloc()), Some([true, false]))
 }
 
-// How many keys a set has once those of an iterator came, and how many the iterator still has.
+// How many keys a set has once those of an iterator are inserted, and how many the iterator still has.
 fn extend_by_ref(alloc: Global) -> Option<(usize, usize)> {
     let mut set: TreeSet<U8Key, 2> = TreeSet::new(alloc);
     let mut keys = Vec::new(alloc);
@@ -133,7 +133,7 @@ fn sum(set: &Numbers) -> (usize, u32) {
     (set.len(), sum)
 }
 
-// The same of the four sets that two make.
+// The same for the union, the intersection, the difference and the symmetric difference of two sets.
 fn combine(twos: &Numbers, threes: &Numbers) -> Option<[(usize, u32); 4]> {
     let either = sum(&(twos | threes).ok()?);
     let both = sum(&(twos & threes).ok()?);
@@ -142,7 +142,7 @@ fn combine(twos: &Numbers, threes: &Numbers) -> Option<[(usize, u32); 4]> {
     Some([either, both, first, one])
 }
 
-// The same of the multiples of 2 and of 3.
+// The same for the multiples of 2 and of 3.
 fn combine_multiples(alloc: Global) -> Option<[(usize, u32); 4]> {
     let (twos, threes) = (multiples(alloc, 2).ok()?, multiples(alloc, 3).ok()?);
     combine(&twos, &threes)
@@ -154,7 +154,7 @@ fn two_sets_are_combined(rt: HostRuntime) -> Result<(), Fail> {
     same(seen, Some([(40, 1170), (10, 270), (20, 600), (30, 900)]))
 }
 
-// Whether a clone of a set is equal to it, also once the set has changed.
+// Whether a clone of a set is equal to it, and whether it is once the set has changed.
 fn clone_set(alloc: Global) -> Option<[bool; 2]> {
     let mut set = multiples(alloc, 1).ok()?;
     let copy = set.clone().ok()?;

@@ -1,4 +1,4 @@
-//! Drawn calls of a map of strings beside the same ones of a `BTreeMap`. Most strings begin others.
+//! Random calls of a map of strings beside the same calls of a `BTreeMap`. Most strings are prefixes of others.
 use super::short::{COUNT, Short};
 use art_keyed::map::TreeMap;
 use art_keys::escaped::Escaped;
@@ -56,7 +56,7 @@ fn agree_on_removal(
     Some(value == model.remove(string.as_slice()))
 }
 
-// The value of the first string that begins with this one.
+// The value of the first string that starts with this one.
 fn first_below(model: &Model, string: &[u8]) -> Option<u32> {
     let mut first = None;
     for (other, value) in model.iter() {
@@ -67,7 +67,7 @@ fn first_below(model: &Model, string: &[u8]) -> Option<u32> {
     first
 }
 
-// What a removal of the first string that begins with this one returns of the map.
+// What the removal of the first string that starts with this one returns from the map.
 fn popped(map: &mut Map, alloc: Global, string: Short) -> Option<Option<(Escaped, u32)>> {
     let prefix = Escaped::encode(alloc, string.as_slice()).ok()?;
     Some(map.pop_first_below(&prefix))
@@ -79,7 +79,7 @@ fn removed_from(model: &mut Model, alloc: Global, key: &Escaped) -> Option<u32> 
     model.remove(&bytes)
 }
 
-// The first string that begins with this one goes from both, and whether they return the same value.
+// A removal of the first string that starts with this one from both, and whether they return the same value.
 fn agree_on_the_first_below(
     map: &mut Map,
     model: &mut Model,
@@ -95,14 +95,14 @@ fn agree_on_the_first_below(
     }
 }
 
-// The value of a key, and how many keys begin with its string, or come from it on.
+// The value of a key, how many keys start with its string, and how many are at it or after it.
 fn answers(map: &Map, key: Escaped) -> (Option<u32>, usize, usize) {
     let found = map.get(&key).copied();
     let begin = map.prefix(&key).count();
     (found, begin, map.range(key..).count())
 }
 
-// The same of a string.
+// The same for a string.
 fn expected_answers(model: &Model, string: &[u8]) -> (Option<u32>, usize, usize) {
     let (mut begin, mut follow) = (0usize, 0usize);
     for (other, _) in model.iter() {
@@ -112,13 +112,13 @@ fn expected_answers(model: &Model, string: &[u8]) -> (Option<u32>, usize, usize)
     (model.get(string).copied(), begin, follow)
 }
 
-// Whether both find the same, and as many strings that begin with this one, or come from it on.
+// Whether both find the same value, and as many strings that start with this one, and that are at it or after it.
 fn agree_on_questions(map: &Map, model: &Model, alloc: Global, string: Short) -> Option<bool> {
     let key = Escaped::encode(alloc, string.as_slice()).ok()?;
     Some(answers(map, key) == expected_answers(model, string.as_slice()))
 }
 
-// Whether a pair is there that has this string and this value.
+// Whether there is a pair, with this string and this value.
 fn is_pair(alloc: Global, pair: Option<(&Escaped, &u32)>, bytes: &[u8], value: u32) -> bool {
     let Some((key, own_value)) = pair else {
         return false;

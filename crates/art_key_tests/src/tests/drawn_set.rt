@@ -1,4 +1,4 @@
-//! Drawn calls of a set of strings beside the same ones of a `BTreeSet`. Most strings begin others.
+//! Random calls of a set of strings beside the same calls of a `BTreeSet`. Most strings are prefixes of others.
 use super::short::{COUNT, Short};
 use art_keyed::set::TreeSet;
 use art_keys::escaped::Escaped;
@@ -21,7 +21,7 @@ fn changed(set: &mut Set, alloc: Global, string: Short, inserts: bool) -> Option
     Some(set.remove(&key))
 }
 
-// The same of the other set.
+// The same for the other set.
 fn expected_change(model: &mut Model, alloc: Global, string: Short, inserts: bool) -> Option<bool> {
     if inserts {
         let bytes = string.as_slice().to_vec(alloc).ok()?;
@@ -42,14 +42,14 @@ fn agree_on_change(
     Some(is_changed == expected_change(model, alloc, string, inserts)?)
 }
 
-// Whether a key is there, and how many begin with its string, or come before it, or are there.
+// Whether a key is stored, how many keys start with its string, how many are before it, and how many there are.
 fn answers(set: &Set, key: Escaped) -> (bool, [usize; 3]) {
     let found = set.contains(&key);
     let begin = set.prefix(&key).count();
     (found, [begin, set.range(..key).count(), set.iter().count()])
 }
 
-// The same of a string.
+// The same for a string.
 fn expected_answers(model: &Model, string: &[u8]) -> (bool, [usize; 3]) {
     let (mut begin, mut before) = (0usize, 0usize);
     for other in model.iter() {
@@ -59,13 +59,13 @@ fn expected_answers(model: &Model, string: &[u8]) -> (bool, [usize; 3]) {
     (model.contains(string), [begin, before, model.len()])
 }
 
-// Whether both have the key, and as many strings that begin with this one, or come before it, or are there.
+// Whether both have the key, and as many strings that start with this one, that are before it, and in all.
 fn agree_on_questions(set: &Set, model: &Model, alloc: Global, string: Short) -> Option<bool> {
     let key = Escaped::encode(alloc, string.as_slice()).ok()?;
     Some(answers(set, key) == expected_answers(model, string.as_slice()))
 }
 
-// Whether a key is there that has this string.
+// Whether there is a key, with this string.
 fn is_key(alloc: Global, key: Option<&Escaped>, bytes: &[u8]) -> bool {
     let Some(key) = key else {
         return false;

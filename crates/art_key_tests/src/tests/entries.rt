@@ -1,11 +1,11 @@
-//! Values that are made where their keys are new.
+//! Values that are made if their keys are new.
 use art_keyed::map::TreeMap;
 use art_node_support::expected::same;
 use std::test::Fail;
 
 type Map = TreeMap<[u8; 2], u32, 8>;
 
-// One more than the value of a key, which is 7 where it is made, and whether it was.
+// Increments the value of a key, which is 7 if it is made: the value then, and whether it was made.
 fn made(map: &mut Map, key: [u8; 2]) -> Option<(u32, bool)> {
     let mut is_made = false;
     let entered = map.entry(key).or_insert_with(|| {
@@ -33,7 +33,7 @@ fn made_of_key(map: &mut Map, key: [u8; 2]) -> Option<(u32, bool)> {
     Some((*value, is_made))
 }
 
-// One more than the value of a key, which is the default where it is new.
+// Increments the value of a key, which is the default if the key is new: the value then.
 fn default_made(map: &mut Map, key: [u8; 2]) -> Option<u32> {
     let Ok(value) = map.entry(key).or_default() else {
         return None;

@@ -1,4 +1,4 @@
-//! Two keys as one are taken apart again.
+//! Joined keys are split again.
 use super::short::Short;
 use art_keys::escaped::Escaped;
 use art_keys::joined::Joined;
@@ -14,7 +14,7 @@ use std::test::Fail;
 // How many short strings there are of at most three bytes.
 const COUNT: usize = 85;
 
-// Whether a key is taken apart into these two.
+// Whether a key is split into these two.
 fn comes_apart<A: DecodeBytes + PartialEq + Drop, B: DecodeBytes + PartialEq + Drop>(
     alloc: Global,
     key: &Joined<A, B>,
@@ -25,7 +25,7 @@ fn comes_apart<A: DecodeBytes + PartialEq + Drop, B: DecodeBytes + PartialEq + D
     Some([one == *first, other == *second] == [true; 2])
 }
 
-// Whether two keys come back from their join.
+// Whether two keys are recovered from their join.
 fn come_back<A: DecodeBytes + PartialEq + Drop, B: DecodeBytes + PartialEq + Drop>(
     alloc: Global,
     first: &A,
@@ -37,7 +37,7 @@ fn come_back<A: DecodeBytes + PartialEq + Drop, B: DecodeBytes + PartialEq + Dro
 
 static NUMBERS: [i32; 6] = [i32::MIN, -257, -1, 0, 1, i32::MAX];
 
-// How many numbers come back beside a string, as its second key and as its first one.
+// How many numbers are recovered from a join with a string, as the second key and as the first one.
 fn count_numbers(alloc: Global, string: &Escaped) -> Option<usize> {
     let mut count = 0usize;
     for number in NUMBERS.iter() {
@@ -54,13 +54,13 @@ fn numbered(alloc: Global, number: u16) -> Option<Joined<Escaped, Unsigned<2>>> 
     Joined::join(alloc, &string, &Unsigned::from(number)).ok()
 }
 
-// Whether a string comes back that stands before the string of a number and the number.
+// Whether a string is recovered from a join with the string of a number and the number.
 fn comes_back_before(alloc: Global, first: &Escaped, number: u16) -> Option<bool> {
     let rest = numbered(alloc, number)?;
     come_back(alloc, first, &rest)
 }
 
-// How many strings come back after a string, with a number after both.
+// How many strings are recovered after a string, with a number after both.
 fn count_strings(alloc: Global, first: &Escaped) -> Option<usize> {
     let mut count = 0usize;
     for number in 0..COUNT as u16 {
@@ -69,7 +69,7 @@ fn count_strings(alloc: Global, first: &Escaped) -> Option<usize> {
     Some(count)
 }
 
-// How many of both there are with the short string of a number.
+// How many of both are recovered with the short string of a number.
 fn count_with(alloc: Global, number: usize) -> (Option<usize>, Option<usize>) {
     match Escaped::encode(alloc, Short::new(number).as_slice()) {
         Ok(first) => (count_numbers(alloc, &first), count_strings(alloc, &first)),
@@ -77,7 +77,7 @@ fn count_with(alloc: Global, number: usize) -> (Option<usize>, Option<usize>) {
     }
 }
 
-// How many of both there are with each short string.
+// How many of both are recovered with all short strings.
 fn count_pairs(alloc: Global) -> Option<(usize, usize)> {
     let (mut numbers, mut strings) = (0usize, 0usize);
     for number in 0..COUNT {
@@ -108,7 +108,7 @@ fn right_key(alloc: Global) -> Option<Right> {
     Joined::join(alloc, &string, &[]).ok()
 }
 
-// Their join, with a number behind it.
+// Their join, joined with a number.
 fn whole_key(
     alloc: Global,
     left: &Left,
@@ -118,13 +118,13 @@ fn whole_key(
     Joined::join(alloc, &both, &Unsigned::from(1u64 << 40)).ok()
 }
 
-// Whether the word of the left key comes back, and its array.
+// Whether the word of the left key is recovered, and its array.
 fn word_and_array(alloc: Global, left: &Left) -> Option<(bool, [u8; 2])> {
     let (text, array) = left.split(alloc).ok()?;
     Some((text.as_bytes_without_end() == b"car".as_slice(), array))
 }
 
-// The same of both keys, and whether the right one comes back.
+// The same for both keys, and whether the right one is recovered.
 fn both_apart(
     alloc: Global,
     both: &Joined<Left, Right>,
@@ -134,7 +134,7 @@ fn both_apart(
     Some((other == *right, word_and_array(alloc, &one)))
 }
 
-// What comes back of both keys, and of the number behind them.
+// What is recovered of both keys, and the number after them.
 type Apart = (Option<(bool, Option<(bool, [u8; 2])>)>, u64);
 
 fn whole_apart(alloc: Global, left: &Left, right: &Right) -> Option<Apart> {
@@ -143,7 +143,7 @@ fn whole_apart(alloc: Global, left: &Left, right: &Right) -> Option<Apart> {
     Some((both_apart(alloc, &both, right), u64::from(number)))
 }
 
-// What comes back of a key of five parts, of which two are joined first.
+// What is recovered of a key of five parts.
 fn nested(alloc: Global) -> Option<Apart> {
     let left = left_key(alloc)?;
     let right = right_key(alloc)?;
@@ -156,7 +156,7 @@ fn joins_of_joins_are_taken_apart(rt: HostRuntime) -> Result<(), Fail> {
     same(nested(rt.alloc()), Some((keys, 1 << 40)))
 }
 
-// Whether a string is not taken out of a key, and numbers are.
+// Whether the split of a key with a string fails, and a key of numbers is split.
 fn taken_out(
     of_string: &Joined<Escaped, Unsigned<2>>,
     of_numbers: &Joined<Unsigned<2>, Signed<1>>,
@@ -167,7 +167,7 @@ fn taken_out(
     Some((refused, (u16::from(number), i8::from(other)) == (513, -1)))
 }
 
-// The same while there is no memory.
+// The same while every allocation fails.
 fn starve(
     of_string: &Joined<Escaped, Unsigned<2>>,
     of_numbers: &Joined<Unsigned<2>, Signed<1>>,

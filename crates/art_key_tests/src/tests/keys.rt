@@ -9,7 +9,7 @@ use art_nodes::node::AsBytes;
 use std::alloc::Global;
 use std::test::Fail;
 
-// What becomes of bytes that are to be ended.
+// What `Terminated::new` returns: a key, or which error, and the number of bytes.
 #[derive(Clone, Copy, PartialEq, Debug)]
 enum Ended {
     Key(usize),
@@ -17,7 +17,7 @@ enum Ended {
     Memory(usize),
 }
 
-// The same of a copy of the bytes, with the length of what came back.
+// The same for a copy of the bytes.
 fn make_ended(alloc: Global, text: &[u8]) -> Option<Ended> {
     let bytes = text.to_vec(alloc).ok()?;
     match Terminated::new(bytes) {
@@ -45,7 +45,7 @@ fn bytes_are_ended_unless_a_zero_stands_among_them(rt: HostRuntime) -> Result<()
     )
 }
 
-// How a key with an end is shown.
+// Whether a `Terminated` key is formatted so by `Display` and `Debug`.
 fn shown_as(alloc: Global, key: &Terminated, display: &str, debug: &str) -> Option<[bool; 2]> {
     let as_text = key.to_string(alloc).ok()?;
     let as_debug = format!(in alloc; "{key:?}").ok()?;
@@ -94,7 +94,7 @@ static STRINGS: [&[u8]; 9] = [
     b"cart",
 ];
 
-// Whether the string comes back from its key, and the key is after the one before.
+// Whether a string is recovered from its key, which is not before another key; and the key.
 fn comes_back(alloc: Global, text: &[u8], before: &Escaped) -> Option<(bool, Escaped)> {
     let key = Escaped::encode(alloc, text).ok()?;
     let back = key.decode(alloc).ok()?;
@@ -102,7 +102,7 @@ fn comes_back(alloc: Global, text: &[u8], before: &Escaped) -> Option<(bool, Esc
     Some((is_right, key))
 }
 
-// How many strings come back in order.
+// How many strings are recovered, in order.
 fn count_back(alloc: Global) -> Option<usize> {
     let mut before = Escaped::encode(alloc, b"").ok()?;
     let mut count = 0usize;
@@ -119,7 +119,7 @@ fn escaped_strings_come_back_in_order(rt: HostRuntime) -> Result<(), Fail> {
     same(count_back(rt.alloc()), Some(9))
 }
 
-// The bytes of an escaped string, and how it is shown.
+// Whether an escaped string has these bytes, and how it is formatted.
 fn escaped(alloc: Global) -> Option<(bool, bool)> {
     let key = Escaped::encode(alloc, b"a\0\x01b").ok()?;
     let shown = format!(in alloc; "{key:?}").ok()?;
@@ -203,7 +203,7 @@ fn numbers_are_turned_back_at_their_ends() -> Result<(), Fail> {
     )
 }
 
-// Whether a number of 16 bytes has these first and these other bytes, and comes back.
+// Whether a number of 16 bytes has this first byte and these others, and is recovered.
 fn is_wide(number: i128, first: u8, others: u8) -> bool {
     let key = Signed::from(number);
     match key.as_bytes().split_first() {
@@ -252,7 +252,7 @@ fn the_ends_of_numbers_are_in_order() -> Result<(), Fail> {
     )
 }
 
-// The bytes of two keys as one.
+// Whether a joined key has the bytes of both keys.
 fn joined(alloc: Global) -> Option<bool> {
     let name = Escaped::encode(alloc, b"a").ok()?;
     let key = Joined::join(alloc, &name, &Unsigned::from(513u16)).ok()?;

@@ -23,7 +23,7 @@ fn put<const P: usize>(map: &mut Texts<P>, alloc: Global, text: &str, value: u32
     Some(())
 }
 
-// Inserts texts with their numbers, from 1 on.
+// Inserts texts with the numbers from 1 on as values.
 fn put_all<const P: usize>(map: &mut Texts<P>, alloc: Global, texts: &[&str]) -> Option<()>
     requires { P < 256 }
 {
@@ -35,7 +35,7 @@ fn put_all<const P: usize>(map: &mut Texts<P>, alloc: Global, texts: &[&str]) ->
     Some(())
 }
 
-// The value of the longest string in front of a text, or 0.
+// The value of the longest string that is a prefix of a text, or 0.
 fn longest<const P: usize>(map: &Texts<P>, text: &str) -> u32 {
     match map.longest_match(text.as_bytes()) {
         Some((_, value)) => *value,
@@ -43,7 +43,7 @@ fn longest<const P: usize>(map: &Texts<P>, text: &str) -> u32 {
     }
 }
 
-// The same of each of nine texts.
+// The same for each of nine texts.
 fn longest_of<const P: usize>(
     mut map: Texts<P>,
     alloc: Global,
@@ -120,7 +120,7 @@ fn paths_are_matched_by_the_longest_mount(rt: HostRuntime) -> Result<(), Fail> {
     )
 }
 
-// What is found by texts, and what is left of three removals.
+// What is found by texts, what two removals and a lookup return, and how many texts are left.
 fn by_text<const P: usize>(
     map: &mut Texts<P>,
     alloc: Global,
@@ -161,7 +161,7 @@ fn texts_are_found_and_removed(rt: HostRuntime) -> Result<(), Fail> {
     )
 }
 
-// A string with each byte so many times, so that prefixes get long.
+// A string with each byte repeated, so that prefixes get long.
 fn stretched(alloc: Global, string: Short, times: usize) -> Option<Vec<u8>> {
     let mut bytes = Vec::new(alloc);
     for byte in string.as_slice() {
@@ -172,7 +172,7 @@ fn stretched(alloc: Global, string: Short, times: usize) -> Option<Vec<u8>> {
     Some(bytes)
 }
 
-// A drawn query: a stretched string, at times cut, and with other bytes after it.
+// A random query: a string with repeated bytes, which may be cut, and other bytes after it.
 fn query(alloc: Global, numbers: &mut Numbers, number: usize, times: usize) -> Option<Vec<u8>> {
     let mut query = stretched(alloc, Short::new(number), times)?;
     if numbers.below(4) == 0 {
@@ -186,7 +186,7 @@ fn query(alloc: Global, numbers: &mut Numbers, number: usize, times: usize) -> O
     Some(query)
 }
 
-// Inserts drawn strings into a map and a list.
+// Inserts random strings into a map and a list.
 fn draw<const P: usize>(
     map: &mut Bytes<P>,
     list: &mut Vec<Vec<u8>>,
@@ -207,7 +207,7 @@ fn draw<const P: usize>(
     Some(())
 }
 
-// The lengths of the strings of a list that are prefixes of a query, as they rise.
+// The lengths of the strings of a list that are prefixes of a query, in ascending order.
 fn lengths_of_list(alloc: Global, list: &[Vec<u8>], query: &[u8]) -> Option<Vec<u32>> {
     let mut lengths = Vec::new(alloc);
     for len in 0..query.len().saturating_add(1) {
@@ -220,7 +220,7 @@ fn lengths_of_list(alloc: Global, list: &[Vec<u8>], query: &[u8]) -> Option<Vec<
     Some(lengths)
 }
 
-// The same of a map, by its values, from the front.
+// The same for a map, by its values, from the front.
 fn lengths_from_front<const P: usize>(
     alloc: Global,
     map: &Bytes<P>,
@@ -278,7 +278,7 @@ fn lengths_from_ends<const P: usize>(
     Some(lengths)
 }
 
-// The longest length of a list's strings that are prefixes of a query.
+// The length of the longest string of a list that is a prefix of a query.
 fn longest_in_list(list: &[Vec<u8>], query: &[u8]) -> Option<u32> {
     let mut longest = None;
     for string in list {
@@ -311,7 +311,7 @@ fn agree<const P: usize>(
     Some(is_longest && is_shortest && front && back && ends)
 }
 
-// On how many drawn queries they agree.
+// On how many random queries they agree.
 fn count_agreed<const P: usize>(
     map: &mut Bytes<P>,
     list: &mut Vec<Vec<u8>>,
@@ -431,7 +431,7 @@ fn add_to_longest<const P: usize>(map: &mut Texts<P>, text: &[u8], more: u32) ->
     Some(())
 }
 
-// The counts of words, what is left of parts, and of longest matches.
+// The counts of two words, values and lengths after calls by text, and whether calls that find nothing return nothing.
 fn words<const P: usize>(map: &mut Texts<P>, alloc: Global) -> Option<([u32; 8], bool)>
     requires { P < 256 }
 {

@@ -1,4 +1,4 @@
-//! Maps of such keys.
+//! Maps of keys that never conflict.
 use art_keyed::map::TreeMap;
 use art_keys::escaped::Escaped;
 use art_keys::laws::NoPrefixesBytes;
@@ -41,7 +41,7 @@ fn a_map_is_printed_in_order(rt: HostRuntime) -> Result<(), Fail> {
     same(seen, Some(true))
 }
 
-// Puts strings in as escaped keys, with their places as values.
+// Inserts strings as escaped keys, with their indices as values.
 fn plant_escaped(
     map: &mut TreeMap<Escaped, u32, 8>,
     alloc: Global,
@@ -76,7 +76,7 @@ fn strings_that_go_on_after_others_are_stored_in_order(rt: HostRuntime) -> Resul
     )
 }
 
-// Puts four numbers in, with their places as values.
+// Inserts four numbers, with their indices as values.
 fn plant_numbers(map: &mut TreeMap<Signed<4>, u32, 8>) -> Option<()> {
     for (i, n) in [5i32, -1, 0, i32::MIN].iter().enumerate() {
         map.insert(Signed::from(*n), i as u32).ok()?;
@@ -99,7 +99,7 @@ fn negative_numbers_come_first(rt: HostRuntime) -> Result<(), Fail> {
     same(seen, Some(([Some(3), Some(1), Some(2), Some(0)], true, 3)))
 }
 
-// Whether a map of numbers is made compact, what it returns then, and what a number more has.
+// Whether a map of numbers is compacted, and its values and its length after one more insertion.
 fn compacted(map: &mut TreeMap<Signed<4>, u32, 8>) -> Option<(bool, [Option<u32>; 4], usize)> {
     plant_numbers(map)?;
     let is_compact = map.compact().is_ok();
@@ -113,7 +113,7 @@ fn numbers_stay_in_order_in_a_compact_map(rt: HostRuntime) -> Result<(), Fail> {
     same(seen, Some((true, [Some(3), Some(1), Some(2), Some(0)], 5)))
 }
 
-// Puts a word in as a key with an end, and returns the value that it had.
+// Inserts a word as a `Terminated` key, and returns the value that it had.
 fn word(
     map: &mut TreeMap<Terminated, u32, 8>,
     alloc: Global,
@@ -128,7 +128,7 @@ fn word(
     }
 }
 
-// What insertions of words return, and what is left after both ends have gone.
+// What insertions of words return, and what is left after the first and the last pair are removed.
 fn words(
     map: &mut TreeMap<Terminated, u32, 8>,
     alloc: Global,
@@ -155,7 +155,7 @@ fn a_word_may_begin_another(rt: HostRuntime) -> Result<(), Fail> {
     )
 }
 
-// The values of a map of arrays and of its clone.
+// The values of the clone of a map of arrays, and whether the map has the same.
 fn cloned(map: &mut TreeMap<[u8; 2], u32, 8>) -> Option<([Option<u32>; 4], bool)> {
     if map.insert([1, 2], 7).is_err() || map.insert([1, 1], 8).is_err() {
         return None;
@@ -170,7 +170,7 @@ fn a_clone_has_clones_of_the_pairs(rt: HostRuntime) -> Result<(), Fail> {
     same(seen, Some(([Some(8), Some(7), None, None], true)))
 }
 
-// The values of a part of a map.
+// How many pairs are in two ranges, and the values next to a number.
 fn count_part(map: &TreeMap<Signed<4>, u32, 8>) -> (usize, usize, Option<u32>, Option<u32>) {
     let number = Signed::from(-1);
     (
@@ -181,7 +181,7 @@ fn count_part(map: &TreeMap<Signed<4>, u32, 8>) -> (usize, usize, Option<u32>, O
     )
 }
 
-// The same of a map of four numbers.
+// The same for a map of four numbers.
 fn parts(map: &mut TreeMap<Signed<4>, u32, 8>) -> Option<(usize, usize, Option<u32>, Option<u32>)> {
     plant_numbers(map)?;
     Some(count_part(map))
@@ -193,7 +193,7 @@ fn numbers_between_two_are_a_part(rt: HostRuntime) -> Result<(), Fail> {
     same(seen, Some((2, 0, Some(2), Some(1))))
 }
 
-// What is found by bytes that are not a key yet, and how many words begin with one.
+// What is found by texts, and how many words start with one.
 fn look_up(
     map: &mut TreeMap<Terminated, u32, 8>,
     alloc: Global,
@@ -221,7 +221,7 @@ fn words_are_found_by_their_bytes(rt: HostRuntime) -> Result<(), Fail> {
     same(seen, Some(([Some(2), Some(1), None, None, None], 3)))
 }
 
-// How many words that begin so a removal takes out, and another one after it.
+// How many words with a prefix are removed, and how many when that is done again.
 fn remove_twice(
     map: &mut TreeMap<Escaped, u32, 8>,
     alloc: Global,
@@ -231,12 +231,12 @@ fn remove_twice(
     Some([map.remove_prefix(&prefix), map.remove_prefix(&prefix)])
 }
 
-// The value of a string that is not a key yet.
+// The value of a string, looked up by its bytes.
 fn value_under(map: &TreeMap<Escaped, u32, 8>, alloc: Global, bytes: &[u8]) -> Option<Option<u32>> {
     Some(map.get_text(alloc, bytes).ok()?.copied())
 }
 
-// What a removal of the words that begin so returns, and which are left.
+// What removals of the words with a prefix return, and which words are left.
 type Left = ([usize; 2], [Option<Option<u32>>; 4]);
 
 fn remove_below(map: &mut TreeMap<Escaped, u32, 8>, alloc: Global) -> Option<Left> {
@@ -258,7 +258,7 @@ fn words_that_begin_with_a_word_go_at_once(rt: HostRuntime) -> Result<(), Fail> 
     same(seen, Some(([2, 0], left)))
 }
 
-// What is found of escaped strings by bytes that are not a key yet.
+// What is found of escaped strings by their bytes.
 fn look_up_bytes(
     map: &mut TreeMap<Escaped, u32, 8>,
     alloc: Global,
@@ -286,7 +286,7 @@ fn escaped_strings_are_found_by_their_bytes(rt: HostRuntime) -> Result<(), Fail>
     same(seen, Some(found))
 }
 
-// Writes values in three ways.
+// Writes values by three calls.
 fn write(map: &mut TreeMap<[u8; 2], u32, 8>) -> Option<()> {
     map.insert([1, 2], 7).ok()?;
     let value = map.get_mut(&[1, 2])?;
@@ -306,7 +306,7 @@ fn write(map: &mut TreeMap<[u8; 2], u32, 8>) -> Option<()> {
     Some(())
 }
 
-// What writes of values leave, and whether a map is equal to its clone.
+// The values after these writes, and whether a map is equal to its clone.
 fn written(map: &mut TreeMap<[u8; 2], u32, 8>) -> Option<([Option<u32>; 4], Option<u32>, bool)> {
     write(map)?;
     let (values, value) = (values(map), map.get(&[1, 1]).copied());

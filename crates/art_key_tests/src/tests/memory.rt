@@ -1,4 +1,4 @@
-//! Keys and maps of them without memory.
+//! Keys, maps and sets while every allocation fails.
 use art_keyed::map::TreeMap;
 use art_keyed::set::TreeSet;
 use art_keys::escaped::Escaped;
@@ -10,7 +10,7 @@ use art_node_support::memory::all_memory;
 use std::alloc::Global;
 use std::test::Fail;
 
-// How many bytes come back of those that are not ended for want of memory.
+// How many bytes the error returns if the allocation for their end fails.
 fn left(full: Vec<u8>) -> Option<usize> {
     match Terminated::new(full) {
         Ok(_key) => None,
@@ -19,8 +19,8 @@ fn left(full: Vec<u8>) -> Option<usize> {
     }
 }
 
-// Whether a string is not escaped, what comes back of bytes with no room for an end, and whether ones with room are ended,
-// while there is no memory.
+// While every allocation fails: whether a string is not escaped, how many bytes without room for an end are returned,
+// and whether bytes with room are ended.
 fn starve_keys(
     alloc: Global,
     full: Vec<u8>,
@@ -33,7 +33,7 @@ fn starve_keys(
     Some(answers)
 }
 
-// A block of this size has no room to spare for the end.
+// A vector of this size has no spare room for the end.
 #[test]
 fn without_memory_bytes_are_ended_where_there_is_room(rt: HostRuntime) -> Result<(), Fail> {
     let alloc = rt.alloc();
@@ -46,7 +46,8 @@ fn without_memory_bytes_are_ended_where_there_is_room(rt: HostRuntime) -> Result
     )
 }
 
-// Whether a first pair is refused, and comes back, while there is no memory.
+// Whether the insertion of a first pair fails and returns the pair while every allocation fails, and the length of the
+// map.
 fn starve_map(alloc: Global, map: &mut TreeMap<Unsigned<4>, u32, 8>) -> Option<(bool, usize)> {
     let held = all_memory(alloc).ok()?;
     let is_refused = match map.insert(Unsigned::from(5), 6) {
@@ -63,13 +64,13 @@ fn without_memory_a_pair_comes_back(rt: HostRuntime) -> Result<(), Fail> {
     same(seen, Some((true, 0)))
 }
 
-// What is found of escaped strings, by bytes that are plain and by others.
+// What is found of escaped strings by a plain text, and whether a lookup by another one fails.
 fn look_ups(map: &TreeMap<Escaped, u32, 8>, alloc: Global) -> Option<(Option<u32>, bool)> {
     let found = map.get_text(alloc, b"car").ok()?.copied();
     Some((found, map.get_text(alloc, b"c\0").is_err()))
 }
 
-// The same without memory, in a map of one.
+// The same in a map of one pair while every allocation fails.
 fn starve_strings(
     map: &mut TreeMap<Escaped, u32, 8>,
     alloc: Global,
@@ -89,7 +90,7 @@ fn without_memory_plain_strings_are_found(rt: HostRuntime) -> Result<(), Fail> {
 
 // ---- removals
 
-// 256 keys of one byte, which are under one node.
+// Inserts 256 keys of one byte, which are the children of one node.
 fn fill_map(map: &mut TreeMap<[u8; 1], u32, 4>) -> bool {
     for byte in 0..=255u8 {
         if map.insert([byte], byte as u32).is_err() {
@@ -99,7 +100,7 @@ fn fill_map(map: &mut TreeMap<[u8; 1], u32, 4>) -> bool {
     map.len() == 256
 }
 
-// Whether the pairs of both ends and another one are removed.
+// Whether the first pair, the last one and another one are removed.
 fn are_removed(map: &mut TreeMap<[u8; 1], u32, 4>, byte: u8) -> bool {
     let (key, last) = (byte.wrapping_add(100), 255 - byte);
     map.pop_first() == Some(([byte], byte as u32))
@@ -133,7 +134,7 @@ fn without_memory_256_pairs_are_removed(rt: HostRuntime) -> Result<(), Fail> {
     same(seen, Some([true, true]))
 }
 
-// The same keys in a set.
+// Inserts the same keys into a set.
 fn fill_set(set: &mut TreeSet<[u8; 1], 4>) -> bool {
     for byte in 0..=255u8 {
         if set.insert([byte]).is_err() {
@@ -143,7 +144,7 @@ fn fill_set(set: &mut TreeSet<[u8; 1], 4>) -> bool {
     set.len() == 256
 }
 
-// Whether the keys of both ends and two others are removed.
+// Whether the first key, the last one and two others are removed.
 fn are_keys_removed(set: &mut TreeSet<[u8; 1], 4>, byte: u8) -> bool {
     let taken = byte.wrapping_add(140);
     set.pop_first() == Some([byte])
@@ -180,7 +181,7 @@ fn without_memory_256_keys_are_removed(rt: HostRuntime) -> Result<(), Fail> {
 
 type Times = TreeMap<Joined<Unsigned<1>, Unsigned<1>>, u32, 2>;
 
-// Twenty times of each of twenty users.
+// Inserts twenty times of each of twenty users.
 fn fill_times(times: &mut Times, alloc: Global) -> Option<()> {
     for user in 0..20u8 {
         for time in 0..20u8 {
@@ -229,7 +230,7 @@ fn word(alloc: Global, bytes: &[u8]) -> Option<Terminated> {
     Terminated::new(bytes.to_vec(alloc).ok()?).ok()
 }
 
-// Fifty words that start with each of two letters.
+// Inserts fifty words that start with each of two letters.
 fn fill_words(words: &mut Words, alloc: Global) -> Option<()> {
     for last in 1..=50u8 {
         words.insert(word(alloc, &[b'a', last])?, 1).ok()?;

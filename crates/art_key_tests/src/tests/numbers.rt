@@ -1,4 +1,4 @@
-//! Keys of numbers by their names, and how they are shown.
+//! Number keys by the names of their types, and how they are formatted.
 use art_keys::signed::{I8Key, I16Key, I32Key, I64Key, I128Key};
 use art_keys::unsigned::{U8Key, U16Key, U32Key, U64Key, U128Key};
 use art_node_support::expected::same;
@@ -6,7 +6,7 @@ use std::alloc::Global;
 use std::fmt::Debug;
 use std::test::Fail;
 
-// Whether a key is shown so by `{:?}`.
+// Whether a key is formatted so by `{:?}`.
 fn is_shown<T: Debug>(alloc: Global, key: &T, wanted: &str) -> Option<bool> {
     let shown = format!(in alloc; "{key:?}").ok()?;
     Some(shown.as_str() == wanted)

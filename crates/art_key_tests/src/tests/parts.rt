@@ -1,4 +1,4 @@
-//! Pairs of a map of numbers that are removed by their bounds, and those that move into another map, drawn beside a
+//! Removals of the pairs of a map of numbers by their bounds, and moves of pairs into another map, at random, beside a
 //! `BTreeMap`.
 use art_keyed::map::TreeMap;
 use art_keys::unsigned::Unsigned;
@@ -15,7 +15,7 @@ fn drawn_number(numbers: &mut Numbers) -> u16 {
     numbers.below(900) as u16
 }
 
-// Puts a pair into both.
+// Inserts a pair into both.
 fn put_both(map: &mut Map, model: &mut Model, numbers: &mut Numbers) -> bool {
     let (number, value) = (drawn_number(numbers), numbers.value());
     map.insert(Unsigned::from(number), value).is_ok() && model.insert(number, value).is_ok()
@@ -59,8 +59,8 @@ fn agree_on_entry(map: &mut Map, model: &mut Model, number: u16) -> bool {
     }
 }
 
-// Whether both are split at a number into the same maps, and are the same once the second part is appended, with a pair
-// that may replace one.
+// Whether both are split at a number into the same maps, and are the same once the second part is appended, after an
+// insertion that may replace a pair.
 fn agree_on_split(map: &mut Map, model: &mut Model, numbers: &mut Numbers) -> bool {
     let number = drawn_number(numbers);
     let Ok(mut tail) = map.split_off(&Unsigned::from(number)) else {

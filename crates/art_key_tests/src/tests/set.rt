@@ -1,4 +1,4 @@
-//! Sets of such keys.
+//! Sets of keys that never conflict.
 use art_keyed::set::TreeSet;
 use art_keys::joined::Joined;
 use art_keys::signed::Signed;
@@ -7,7 +7,7 @@ use art_node_support::expected::same;
 use std::alloc::Global;
 use std::test::Fail;
 
-// Which of four numbers, of which one comes twice, are new, and whether two of them are there.
+// Which of four numbers, one of which is inserted twice, are new, and whether two numbers are stored.
 fn put_in(set: &mut TreeSet<Signed<2>, 2>) -> Option<([bool; 4], [bool; 2])> {
     let mut added = [false; 4];
     for (added, number) in added.iter_mut().zip([3i16, -1, 3, i16::MIN]) {
@@ -20,7 +20,8 @@ fn put_in(set: &mut TreeSet<Signed<2>, 2>) -> Option<([bool; 4], [bool; 2])> {
     Some((added, are_there))
 }
 
-// The first number and the last one, whether two are taken out, and the two ends of what is left.
+// The first number and the last one, whether a number is removed and once more, and the first and the last of what is
+// left.
 fn take_out(set: &mut TreeSet<Signed<2>, 2>) -> Option<([i16; 4], [bool; 2], usize)> {
     let (first, last) = (i16::from(*set.first()?), i16::from(*set.last()?));
     let removed = [
@@ -50,7 +51,7 @@ fn a_set_has_each_number_once(rt: HostRuntime) -> Result<(), Fail> {
     )
 }
 
-// Whether a set of three numbers is made compact, and its ends and their number then.
+// Whether a set of three numbers is compacted, and its first and last number and its length then.
 fn compacted(set: &mut TreeSet<Signed<2>, 2>) -> Option<(bool, [i16; 2], usize)> {
     put_in(set)?;
     let is_compact = set.compact().is_ok();
@@ -87,7 +88,7 @@ fn keys_with_a_first_key_are_a_part(rt: HostRuntime) -> Result<(), Fail> {
     same(seen, Some([0, 3, 0, 2]))
 }
 
-// Whether a number that is there is replaced, and one that is not; and how many odd ones stay, and the first.
+// Whether a number that is stored is replaced, and one that is not; how many odd ones stay, and the first of these.
 fn keep_odd(set: &mut TreeSet<Signed<2>, 2>) -> Option<([bool; 2], usize, i16)> {
     let replaced = [
         set.replace(Signed::from(3i16)).ok()?.is_some(),

@@ -59,7 +59,7 @@ fn escape_all(alloc: Global, strings: &mut Vec<Short>, keys: &mut Vec<Escaped>) 
     Some(())
 }
 
-// Those without a zero, ended.
+// Those without a zero, as `Terminated` keys.
 fn end_all(alloc: Global, strings: &mut Vec<Short>, keys: &mut Vec<Terminated>) -> Option<()> {
     for number in 0..COUNT {
         let string = Short::new(number);
@@ -73,7 +73,8 @@ fn end_all(alloc: Global, strings: &mut Vec<Short>, keys: &mut Vec<Terminated>) 
     Some(())
 }
 
-// Whether the bytes of two keys compare as their strings do, and one begins the other only where they are the same.
+// Whether the bytes of two keys compare as their strings do, and one is a prefix of the other only if the strings are
+// equal.
 fn are_right(a: &[u8], b: &[u8], of_a: &[u8], of_b: &[u8]) -> bool {
     of_a.cmp(of_b) == a.cmp(b) && of_b.starts_with(of_a) == (a == b)
 }
@@ -92,7 +93,7 @@ fn count_pairs<K: AsBytes>(strings: &[Short], keys: &[K]) -> (usize, usize) {
     (count, wrong)
 }
 
-// How many strings come back from their keys.
+// How many strings are recovered from their keys.
 fn count_back(alloc: Global, strings: &[Short], keys: &[Escaped]) -> Option<usize> {
     let mut count = 0usize;
     for (string, key) in strings.iter().zip(keys.iter()) {
@@ -121,7 +122,7 @@ fn ended_pairs(alloc: Global) -> (Option<()>, (usize, usize)) {
     (made, count_pairs(&strings, &keys))
 }
 
-// Of three bytes that are no zero there are 121 strings.
+// There are 121 strings of up to four of the bytes 1, 2 and 255.
 #[test]
 fn short_strings_are_ended_in_order(rt: HostRuntime) -> Result<(), Fail> {
     same(ended_pairs(rt.alloc()), (Some(()), (121 * 121, 0)))

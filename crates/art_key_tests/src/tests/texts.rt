@@ -1,4 +1,4 @@
-//! The texts of keys, and keys of texts.
+//! Keys formatted as texts, and keys of texts.
 use super::short::{COUNT, Short};
 use art_keys::escaped::Escaped;
 use art_keys::signed::Signed;
@@ -9,7 +9,7 @@ use std::alloc::Global;
 use std::fmt::Display;
 use std::test::Fail;
 
-// Whether an escaped string is shown as this text.
+// Whether an escaped string is formatted as this text.
 fn is_shown(alloc: Global, string: &[u8], wanted: &str) -> Option<bool> {
     let key = Escaped::encode(alloc, string).ok()?;
     let text = key.to_string(alloc).ok()?;
@@ -47,7 +47,7 @@ fn texts_are_escaped_as_their_bytes(rt: HostRuntime) -> Result<(), Fail> {
     same(seen, [Some(true); 3])
 }
 
-// How many of the short strings are shown as the text that the library makes of their bytes.
+// How many of the short strings are formatted as the text that std makes of their bytes.
 fn count_shown(alloc: Global) -> Option<usize> {
     let mut count = 0usize;
     for number in 0..COUNT {
@@ -64,7 +64,7 @@ fn short_strings_are_shown_as_the_library_shows_them(rt: HostRuntime) -> Result<
     same(count_shown(rt.alloc()), Some(341))
 }
 
-// Whether a number is shown by these digits.
+// Whether a number is formatted as these digits.
 fn has_digits<K: Display + Drop>(alloc: Global, key: K, wanted: &str) -> Option<bool> {
     let text = key.to_string(alloc).ok()?;
     Some(text.as_str() == wanted)
@@ -98,7 +98,7 @@ fn numbers_are_shown_by_their_digits(rt: HostRuntime) -> Result<(), Fail> {
     same((unsigned, signed), ([Some(true); 5], [Some(true); 5]))
 }
 
-// What a number writes into a field of five places.
+// Whether a number is padded to a width of five.
 fn in_a_field(alloc: Global) -> Option<bool> {
     let key = Signed::from(-12i32);
     let text = format!(in alloc; "{key:>5}|{key:05}").ok()?;
@@ -110,7 +110,7 @@ fn numbers_are_set_in_fields(rt: HostRuntime) -> Result<(), Fail> {
     same(in_a_field(rt.alloc()), Some(true))
 }
 
-// What a copy of a text is as a key with an end: its length, if it has no zero.
+// The length of the `Terminated` key of a text, if the text has no zero.
 fn ended_length(alloc: Global, text: &str) -> Option<Option<usize>> {
     match Terminated::encode_str(alloc, text).ok()? {
         Some(key) => Some(Some(key.as_bytes_without_end().len())),

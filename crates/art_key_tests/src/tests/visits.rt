@@ -1,4 +1,4 @@
-//! Drawn calls of a map whose keys are two numbers as one, beside the same ones of a `BTreeMap`.
+//! Random calls of a map whose keys are two numbers joined into one, beside the same calls of a `BTreeMap`.
 use art_keyed::map::TreeMap;
 use art_keys::joined::Joined;
 use art_keys::signed::Signed;
@@ -132,7 +132,7 @@ fn agree_on_the_first(
     Some(popped == first)
 }
 
-// A removal of all visits of a user from both, and whether as many go.
+// A removal of all visits of a user from both, and whether as many are removed.
 fn agree_on_all_of_a_user(map: &mut Visits, model: &mut Model, user: u8) -> bool {
     let before = model.len();
     model.retain(|key, _| key.0 != user);
@@ -157,7 +157,7 @@ fn keep_even(map: &mut Visits, model: &mut Model, alloc: Global) -> bool {
 // A visit with its value.
 type Pair = ((u8, i16), u32);
 
-// A pair of the map with its key taken apart.
+// A pair of the map with its key split.
 fn apart(alloc: Global, pair: Option<(&Key, &u32)>) -> Option<Pair> {
     let (key, value) = pair?;
     let (user, time) = key.split(alloc).ok()?;

@@ -1,4 +1,4 @@
-//! A pair is inserted into each of two maps, or into neither.
+//! Insertion of a pair into each of two maps, or into neither.
 ghost use Rattle.std.specs.Prelude.{◌≡◌, Some, IfErr, IfOk, OnErr, OnOk};
 ghost use Rattle.art_model.specs.Pairs.{of_key, put, put_reply};
 ghost use Rattle.art_keyed.specs.KeyedRefusals.{AreHandedBack, IsOneNew, refused_pair};
@@ -18,9 +18,9 @@ pub struct BothRefused<K, V, L, W> {
 }
 
 impl<K: NoPrefixesBytes + Drop, V: Drop, const P: usize> TreeMap<K, V, P> {
-    /// Inserts a pair here and another one into another map, or neither. Each is inserted as by `insert`; the key that
-    /// was passed is returned with the old value where an equal key is stored. It fails only if an allocation fails:
-    /// then both pairs are returned, and both maps are unchanged.
+    /// Inserts a pair here and another one into another map, or neither. Each is inserted as by `insert`: if an equal
+    /// key is stored, the key that was passed is returned with the old value. Fails only if an allocation fails: then
+    /// both pairs are returned, and both maps are unchanged.
     ///
     /// It costs what two insertions do.
     pub fn insert_both<L: NoPrefixesBytes + Drop, W: Drop, const Q: usize>(
@@ -59,7 +59,7 @@ impl<K: NoPrefixesBytes + Drop, V: Drop, const P: usize> TreeMap<K, V, P> {
     }
 }
 
-// The pairs of an error, which is always that an allocation failed.
+// Returns the pairs of an error, which is always that an allocation failed.
 fn without_conflict<K, V, L, W>(error: BothInsertError<K, V, L, W>) -> BothRefused<K, V, L, W>
     ensures { AreHandedBack error result }
 {
@@ -75,7 +75,7 @@ fn without_conflict<K, V, L, W>(error: BothInsertError<K, V, L, W>) -> BothRefus
     }
 }
 
-// The pair of an error.
+// Returns the pair of an error.
 fn pair_of<K, V>(error: MapInsertError<K, V>) -> (K, V)
     ensures { result ≡ refused_pair error }
 {

@@ -1,12 +1,12 @@
-//! A map with clones of all pairs, in a store of its own.
+//! Clones of maps.
 ghost use Rattle.art_model.specs.Clones.{AreClones};
 
 use super::TreeMap;
 use art_keys::laws::CloneBytes;
 use std::alloc::AllocError;
 
-/// Clones of all pairs, in a store of its own. It fails only if an allocation fails, for a node or for the clone of a
-/// key or a value.
+/// Returns a map with clones of all pairs, in a store of its own. Fails only if an allocation fails, for a node or for
+/// the clone of a key or a value.
 impl<K: CloneBytes + Drop, V: Clone + Drop, const P: usize> Clone for TreeMap<K, V, P> {
     ghost is_clone = { λ map copy. AreClones K.is_clone V.is_clone map copy };
 

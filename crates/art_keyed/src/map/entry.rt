@@ -1,4 +1,4 @@
-//! A map with a key, which may be stored or not.
+//! Entries: a map with a key, which may be stored or not.
 ghost use Rattle.std.specs.Prelude.{◌≡◌, false, IfErr, IfOk, OnErr, Some, option_copied};
 ghost use Rattle.std.specs.Borrow.{Bor, MutBor, sem};
 ghost use Rattle.std.specs.Fn.{FnOnceReturnsAt};
@@ -11,14 +11,14 @@ ghost use Rattle.art_keyed.specs.KeyedLends.{lends_put};
 use super::{PairRefused, TreeMap};
 use art_keys::laws::NoPrefixesBytes;
 
-/// A map with a key.
+/// An entry: a map and a key, which may be stored there or not.
 #[derive(Drop)]
 pub struct TreeEntryOf<'a, K, M> {
     pub(crate) map: &'a mut M,
     pub(crate) key: K,
 }
 
-/// The same, of a map whose keys these are.
+/// An entry of a `TreeMap`.
 pub type TreeEntry<'a, K, V, const P: usize> = TreeEntryOf<'a, K, TreeMap<K, V, P>>;
 
 impl<'a, K: NoPrefixesBytes + Drop, V: Drop, const P: usize> TreeEntryOf<'a, K, TreeMap<K, V, P>> {
@@ -29,7 +29,7 @@ impl<'a, K: NoPrefixesBytes + Drop, V: Drop, const P: usize> TreeEntryOf<'a, K, 
         &self.key
     }
 
-    /// Returns the value of the key, where it is stored, by one way down the tree.
+    /// Returns the value of the key, or `None` if the key is not stored, with a single descent.
     pub fn get(&self) -> Option<&V>
         ensures { option_copied result ≡
             value_at K.bytes (K.bytes self.now.key) self.now.map.now }
@@ -37,7 +37,8 @@ impl<'a, K: NoPrefixesBytes + Drop, V: Drop, const P: usize> TreeEntryOf<'a, K, 
         self.map.get(&self.key)
     }
 
-    /// Returns the entry, after a call of the closure at the key's value, where it is stored.
+    /// Calls the closure with a mutable reference to the value of the key, if the key is stored, and returns the entry.
+    /// It costs what `get_mut` of the map does.
     pub fn and_modify<F: FnOnce(&mut V)>(self, f: F) -> Self
         requires { (value : MutBor V) →
             value_at K.bytes (K.bytes self.key) self.map.now ≡ Some value.now → F.pre f value }
@@ -53,7 +54,7 @@ impl<'a, K: NoPrefixesBytes + Drop, V: Drop, const P: usize> TreeEntryOf<'a, K, 
         TreeEntryOf { map, key }
     }
 
-    /// Removes the pair of the key, and returns it; `None` where no equal key is stored. It costs what `remove` of the
+    /// Removes the pair of the key, and returns it, or `None` if the key is not stored. It costs what `remove` of the
     /// map does, and never fails.
     pub fn remove(self) -> Option<(K, V)>
         ensures removed { result ≡ remove_reply (of_key K.bytes)
@@ -65,8 +66,8 @@ impl<'a, K: NoPrefixesBytes + Drop, V: Drop, const P: usize> TreeEntryOf<'a, K, 
         map.remove(&key)
     }
 
-    /// Returns the value of the key, to be written. Where no equal key is stored the pair is put in
-    /// first, by the same way down the tree. It is refused as `insert` of the map is.
+    /// Returns a mutable reference to the value of the key. If no equal key is stored, the pair is inserted first, in
+    /// the same descent. Fails as `insert` of the map does.
     pub fn or_insert(self, value: V) -> Result<&'a mut V, PairRefused<K, V>>
         ensures* writes_back { sem 𝓛 (lends_put K.row V.row P.row K.NoPrefixesBytes
             self.entry.map self.entry.key result) }
@@ -81,8 +82,8 @@ impl<'a, K: NoPrefixesBytes + Drop, V: Drop, const P: usize> TreeEntryOf<'a, K, 
         map.get_or_insert(key, value)
     }
 
-    /// Returns what `or_insert` does, with a value that is made of the key. The closure is called where no
-    /// equal key is stored, also where the pair is refused then and handed back.
+    /// Does what `or_insert` does, with a value that the closure makes of the key. The closure is called only if no
+    /// equal key is stored. If the insertion then fails, the error returns the key and the value that was made.
     pub fn or_insert_with_key<F: FnOnce(&K) -> V>(
         self,
         make: F,
@@ -103,8 +104,8 @@ impl<'a, K: NoPrefixesBytes + Drop, V: Drop, const P: usize> TreeEntryOf<'a, K, 
         map.get_or_insert_with(key, make)
     }
 
-    /// Returns what `or_insert` does, with a value that is made. The closure is called where no equal key
-    /// is stored, also where the pair is refused then and handed back.
+    /// Does what `or_insert` does, with a value that the closure makes. The closure is called only if no equal key is
+    /// stored. If the insertion then fails, the error returns the key and the value that was made.
     pub fn or_insert_with<F: FnOnce() -> V>(self, make: F) -> Result<&'a mut V, PairRefused<K, V>>
         requires { has_key (of_key K.bytes) (K.bytes self.key) self.map.now ≡ false → F.pre make }
         ensures* writes_back { sem 𝓛 (lends_put K.row V.row P.row K.NoPrefixesBytes
@@ -120,7 +121,7 @@ impl<'a, K: NoPrefixesBytes + Drop, V: Drop, const P: usize> TreeEntryOf<'a, K, 
         self.or_insert_with_key(|_| make())
     }
 
-    /// Returns what `or_insert` does, with the value that is the default of its type.
+    /// Does what `or_insert` does, with the default value of the type.
     pub fn or_default(self) -> Result<&'a mut V, PairRefused<K, V>>
     where
         V: Default,

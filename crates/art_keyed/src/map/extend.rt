@@ -1,4 +1,4 @@
-//! Pairs of an iterator are inserted.
+//! Insertion of the pairs of an iterator.
 ghost use Rattle.std.specs.Prelude.{◌≡◌, IfErr, OnOk};
 ghost use Rattle.std.specs.Iterator.{IsFinite};
 ghost use Rattle.art_map.specs.MapCalls.{PutsAll};
@@ -8,8 +8,8 @@ use super::{PairRefused, TreeMap};
 use art_keys::laws::NoPrefixesBytes;
 use std::alloc::{AllocError, Global};
 
-/// Inserts the pairs that come, one after another, as `insert` does. It fails only if an allocation fails: the pairs
-/// before that stay in the map.
+/// Inserts the pairs of an iterator one by one, as `insert` does. Fails only if an allocation fails: the pairs that
+/// were inserted before stay in the map, and the pair that was not is dropped.
 impl<K: NoPrefixesBytes + Drop, V: Drop, const P: usize> Extend<(K, V)> for TreeMap<K, V, P> {
     ghost use Rattle.art_map.specs.MapCalls.{put_all};
 
@@ -23,7 +23,8 @@ impl<K: NoPrefixesBytes + Drop, V: Drop, const P: usize> Extend<(K, V)> for Tree
     }
 }
 
-/// A map of the pairs that come, inserted one after another: of equal keys the first stays, with the last value.
+/// Makes a map of the pairs of an iterator, inserted one by one: of equal keys the first one stays, with the last
+/// value. Fails only if an allocation fails.
 impl<K: NoPrefixesBytes + Drop, V: Drop, const P: usize> FromIterator<(K, V)> for TreeMap<K, V, P> {
     type Alloc = Global;
 

@@ -1,4 +1,4 @@
-//! Maps whose keys are two keys of fixed lengths as one, in an array.
+//! Maps whose keys are two keys of fixed lengths joined into one, in an array.
 ghost use Rattle.std.specs.Prelude.{◌≡◌, ◌<◌, ◌^◌, length, IsOk, IfOk, OnOk};
 ghost use Rattle.art_model.specs.Pairs.{IsMap, first_of, of_key};
 ghost use Rattle.art_keys.specs.Joins.{joined_bytes};
@@ -14,8 +14,8 @@ impl<A: FixedBytes, B: FixedBytes, V: Drop, const N: usize, const P: usize> Tree
     V,
     P,
 > {
-    /// Returns the pairs whose keys have this first key, in the order of the bytes of the second ones. It
-    /// costs what `prefix` of a `ByteMap` does, and takes no memory.
+    /// Returns an iterator over the pairs whose keys have this first key, in the order of the bytes of the second keys.
+    /// It costs what `prefix` of a `ByteMap` does, and allocates nothing.
     pub fn with_first(&self, first: &A) -> Range<'_, JoinedArray<A, B, N>, V, P>
         ensures pairs { result ≡ pairs_with_first A.bytes (A.bytes first.now) self.now }
         ensures sorted { IsMap (of_key (joined_bytes A.bytes B.bytes)) self.now }
@@ -25,7 +25,8 @@ impl<A: FixedBytes, B: FixedBytes, V: Drop, const N: usize, const P: usize> Tree
         self.map.prefix(first.as_bytes())
     }
 
-    /// Removes all pairs whose keys have this first key, at once, and returns how many. It never fails.
+    /// Removes all pairs whose keys have this first key at once, and returns how many there were. It allocates nothing
+    /// and never fails.
     pub fn remove_with_first(&mut self, first: &A) -> usize
         ensures pairs { self.new ≡ pairs_without_first A.bytes (A.bytes first.now) self.old }
         ensures removed { result ≡
@@ -35,7 +36,8 @@ impl<A: FixedBytes, B: FixedBytes, V: Drop, const N: usize, const P: usize> Tree
         self.map.remove_prefix(first.as_bytes())
     }
 
-    /// Removes the first of the pairs whose keys have this first key, and returns it. It never fails.
+    /// Removes the first of the pairs whose keys have this first key, and returns it, or `None` if there is none. It
+    /// allocates nothing and never fails.
     pub fn pop_first_with(&mut self, first: &A) -> Option<(JoinedArray<A, B, N>, V)>
         ensures pairs { self.new ≡ without_first_with A.bytes (A.bytes first.now) self.old }
         ensures removed { result ≡

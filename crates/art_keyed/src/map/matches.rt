@@ -1,4 +1,4 @@
-//! The strings of a map that are prefixes of another one.
+//! Matches: the strings of a map that are prefixes of a query.
 ghost use Rattle.std.specs.Prelude.{◌≡◌, ◌+◌, ◌-◌, ◌<◌, ◌≤◌, List, length, take, IfSome, None, Some, ⊤};
 ghost use Rattle.std.specs.Iterator.{UpTo, at_most};
 ghost use Rattle.std.specs.Iterator.SizeHint.{IsWithinCount};
@@ -16,17 +16,19 @@ use std::alloc::AllocError;
 use std::iter::FusedIterator;
 use std::marker::Model;
 
-/// A map whose matches are found: the strings that are prefixes of another one.
+/// A map in which matches are looked up: the strings that are prefixes of a query.
 pub trait Nested<K: AsBytes, V> {
     ghost pairs: { Self → List (K × V) };
 
-    /// Returns the pair with the shortest string of those that are left, or `None`, and leaves the longer ones.
+    /// Returns the pair with the shortest string of the matches that are left, or `None` if none is left. The longer
+    /// ones are left.
     fn next_match<'q>(&self, left: &mut Option<&'q [u8]>, at_least: &mut usize) -> Option<(&K, &V)>
         ensures { TakesFirst
             (matches_left K.bytes (option_map (λ b. b.now) left.old) at_least.old (pairs self.now)) result
             (matches_left K.bytes (option_map (λ b. b.now) left.new) at_least.new (pairs self.now)) };
 
-    /// Returns the pair with the longest string of those that are left, or `None`, and leaves the shorter ones.
+    /// Returns the pair with the longest string of the matches that are left, or `None` if none is left. The shorter
+    /// ones are left.
     fn next_back_match<'q>(&self, left: &mut Option<&'q [u8]>, at_least: usize) -> Option<(&K, &V)>
         ensures { TakesLast
             (matches_left K.bytes (option_map (λ b. b.now) left.old) at_least (pairs self.now)) result
@@ -62,7 +64,8 @@ impl<K: StringBytes + Drop, V: Drop, const P: usize> Nested<K, V> for TreeMap<K,
     }
 }
 
-// The bytes whose prefixes are those of the query that are shorter than the text of a key: none where that is empty.
+// Returns the query cut to one byte less than the text of a key has: its prefixes are those of the query that are
+// shorter than the text. `None` if the text is empty.
 fn shorter<'q>(query: &'q [u8], key: &[u8]) -> Option<&'q [u8]>
     requires { length key.now ≤ length query.now + 1 }
     ensures empty { length key.now ≤ 1 → option_map (λ b. b.now) result ≡ None }
@@ -75,19 +78,21 @@ fn shorter<'q>(query: &'q [u8], key: &[u8]) -> Option<&'q [u8]>
     Some(&query[..key.len() - 2])
 }
 
-/// The pairs of a map whose strings are prefixes of another one, the shortest first, seen as the list of those that
-/// have not come yet. A step from the front is one descent from the root, and a step from the back costs what
-/// `longest_match` does; neither takes memory.
+/// An iterator over the pairs of a map whose strings are prefixes of a query, the shortest first. In contracts it is
+/// the list of the pairs not returned yet.
+///
+/// A step from the front is one descent from the root, and a step from the back costs what `longest_match` does.
+/// Neither allocates.
 #[derive(Drop)]
 pub struct MatchesOf<'a, 'q, K: AsBytes, V, M: Nested<K, V>> {
     map: &'a M,
     left: Option<&'q [u8]>,
     at_least: usize,
-    // None: it names the lifetime of what is lent.
+    // Always `None`: it names the lifetime of what is borrowed.
     nothing: Option<(&'a K, &'a V)>,
 }
 
-/// The same, over a map of keys.
+/// The matches of a `TreeMap`.
 pub type Matches<'a, 'q, K, V, const P: usize> = MatchesOf<'a, 'q, K, V, TreeMap<K, V, P>>;
 
 impl<'a, 'q, K: AsBytes, V, M: Nested<K, V>> Model for MatchesOf<'a, 'q, K, V, M> {
@@ -149,8 +154,8 @@ impl<'a, 'q, K: AsBytes, V, M: Nested<K, V>> DoubleEndedIterator for MatchesOf<'
 impl<'a, 'q, K: AsBytes, V, M: Nested<K, V>> FusedIterator for MatchesOf<'a, 'q, K, V, M> {}
 
 impl<K: StringBytes + Drop, V: Drop, const P: usize> TreeMap<K, V, P> {
-    /// Returns the pairs whose strings are prefixes of that of a key, or the same, the shortest first, from both ends.
-    /// It takes no memory.
+    /// Returns a double-ended iterator over the pairs whose strings are prefixes of a key's string, or equal to it, the
+    /// shortest first. It allocates nothing.
     pub fn matches_key<'a, 'q>(&'a self, query: &'q K) -> Matches<'a, 'q, K, V, P>
         ensures { result ≡ strings_in_front K.text (K.text query.now) self.now }
     {
@@ -163,8 +168,8 @@ impl<K: StringBytes + Drop, V: Drop, const P: usize> TreeMap<K, V, P> {
         }
     }
 
-    /// Returns the pair with the shortest string that is a prefix of that of a key, or the same, or `None`. It is one
-    /// descent along the key's string, and takes no memory.
+    /// Returns the pair with the shortest string that is a prefix of a key's string, or equal to it, or `None` if there
+    /// is none. It is a single descent along the key's string, and allocates nothing.
     pub fn shortest_match_key(&self, query: &K) -> Option<(&K, &V)>
         ensures { option_map deref_pair result ≡
             first_of (strings_in_front K.text (K.text query.now) self.now) }
@@ -174,8 +179,8 @@ impl<K: StringBytes + Drop, V: Drop, const P: usize> TreeMap<K, V, P> {
 }
 
 impl<V: Drop, const P: usize> TreeMap<Terminated, V, P> {
-    /// Returns the pairs whose strings are prefixes of a text, or the same, the shortest first, from both ends. It
-    /// takes no memory.
+    /// Returns a double-ended iterator over the pairs whose strings are prefixes of a text, or equal to it, the
+    /// shortest first. It allocates nothing.
     pub fn matches<'a, 'q>(&'a self, text: &'q [u8]) -> Matches<'a, 'q, Terminated, V, P>
         ensures { result ≡ strings_in_front (λ string. string) text.now self.now }
     {
@@ -188,8 +193,8 @@ impl<V: Drop, const P: usize> TreeMap<Terminated, V, P> {
         }
     }
 
-    /// Returns the pair with the shortest string that is a prefix of a text, or the same, or `None`. It is one descent
-    /// along the text, and takes no memory.
+    /// Returns the pair with the shortest string that is a prefix of a text, or equal to it, or `None` if there is
+    /// none. It is a single descent along the text, and allocates nothing.
     pub fn shortest_match(&self, text: &[u8]) -> Option<(&Terminated, &V)>
         ensures { option_map deref_pair result ≡
             first_of (strings_in_front (λ string. string) text.now self.now) }

@@ -13,15 +13,15 @@ use art_map::map::Range;
 use std::ops::{Bound, RangeBounds};
 
 impl<K: OrderedBytes + Drop, V: Drop, const P: usize> TreeMap<K, V, P> {
-    /// Does nothing, but its contract says that the keys rise in the order of their type.
+    /// Does nothing; its contract states that the keys are in ascending order of their type.
     pub fn rises(&self)
         ensures { RiseBy K.order self.now }
     {
         self.map.len();
     }
 
-    /// Returns the pairs whose keys are in a range, in the order of their keys; none where it runs backwards. It costs
-    /// what `range` of a `ByteMap` does, and takes no memory.
+    /// Returns an iterator over the pairs whose keys are in a range, in the order of their keys; it is empty if the
+    /// range ends before it starts. It costs what `range` of a `ByteMap` does, and allocates nothing.
     pub fn range<R: RangeBounds<K> + Drop>(&self, range: R) -> Range<'_, K, V, P>
         ensures pairs { R.has_bounds range → result ≡
             keys_between K.order (R.start_bound range) (R.end_bound range) self.now }
@@ -45,8 +45,8 @@ impl<K: OrderedBytes + Drop, V: Drop, const P: usize> TreeMap<K, V, P> {
         self.map.range((bytes_of(from), bytes_of(to)))
     }
 
-    /// Returns the first pair whose key is after a bound, or at it where that is included. It costs what `first_from`
-    /// of a `ByteMap` does, and takes no memory.
+    /// Returns the first pair whose key is after a bound, or at it if the bound is included, or `None` if there is
+    /// none. It costs what `first_from` of a `ByteMap` does, and allocates nothing.
     pub fn first_from(&self, from: Bound<&K>) -> Option<(&K, &V)>
         ensures { option_map deref_pair result ≡ first_of (keys_between K.order
             (bound_map (λ b. b.now) from.entry) Unbounded self.now) }
@@ -54,8 +54,8 @@ impl<K: OrderedBytes + Drop, V: Drop, const P: usize> TreeMap<K, V, P> {
         self.map.first_from(bytes_of(from))
     }
 
-    /// Returns the last pair whose key is before a bound, or at it where that is included. It costs what `first_from`
-    /// does.
+    /// Returns the last pair whose key is before a bound, or at it if the bound is included, or `None` if there is
+    /// none. It costs what `first_from` does.
     pub fn last_up_to(&self, to: Bound<&K>) -> Option<(&K, &V)>
         ensures { option_map deref_pair result ≡ last_of (keys_between K.order Unbounded
             (bound_map (λ b. b.now) to.entry) self.now) }

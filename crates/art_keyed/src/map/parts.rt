@@ -1,4 +1,4 @@
-//! Pairs that are removed by the bounds of their keys, and those that move into another map.
+//! Removal of the pairs whose keys are in a range, and moves of pairs into another map.
 ghost use Rattle.std.specs.Prelude.{◌≡◌, ◌++◌, ◌∷◌, [], length, IfErr, IfOk, OnErr, OnOk};
 ghost use Rattle.std.specs.Range.Bound.{bound_map};
 ghost use Rattle.art_model.specs.Pairs.{first_of, of_key};
@@ -13,7 +13,7 @@ use art_map::map::SplitRefused;
 use std::ops::{Bound, RangeBounds};
 
 impl<K: OrderedBytes + Drop, V: Drop, const P: usize> TreeMap<K, V, P> {
-    /// Removes the first pair whose key is in a range, and returns it; `None` where no key is. It never fails.
+    /// Removes the first pair whose key is in a range, and returns it, or `None` if there is none. It never fails.
     ///
     /// It costs what `range` and `remove` do together, and allocates nothing.
     pub fn pop_first_in<R: RangeBounds<K> + Drop>(&mut self, range: R) -> Option<(K, V)>
@@ -24,7 +24,7 @@ impl<K: OrderedBytes + Drop, V: Drop, const P: usize> TreeMap<K, V, P> {
         self.take_first_in(range.start_bound(), range.end_bound())
     }
 
-    /// Removes all pairs whose keys are in a range, and returns how many. It never fails.
+    /// Removes all pairs whose keys are in a range, and returns how many there were. It never fails.
     ///
     /// Each pair costs what `pop_first_in` does; it allocates nothing.
     pub fn remove_range<R: RangeBounds<K> + Drop>(&mut self, range: R) -> usize
@@ -57,10 +57,10 @@ impl<K: OrderedBytes + Drop, V: Drop, const P: usize> TreeMap<K, V, P> {
 }
 
 impl<K: NoPrefixesBytes + Drop, V: Drop, const P: usize> TreeMap<K, V, P> {
-    /// Moves the pairs with this key and those after it into a new map, and returns it.
+    /// Moves the pair with this key, if it is stored, and those after it into a new map, and returns that map.
     ///
-    /// Each pair that moves costs a removal and an insertion. Out of memory, the pairs that moved are in the error's
-    /// `ByteMap`, the next one is in the error, and the others stay: no pair is lost.
+    /// Each pair that moves costs a removal and an insertion. Fails only if an allocation fails: then the error has a
+    /// `ByteMap` of the pairs that moved and the pair that was next, and the others stay. No pair is lost.
     pub fn split_off(&mut self, key: &K) -> Result<Self, SplitRefused<K, V, P>>
         ensures stay { OnOk result
             (self.new ≡ keys_before (of_key K.bytes) (K.bytes key.now) self.old) }
@@ -80,11 +80,11 @@ impl<K: NoPrefixesBytes + Drop, V: Drop, const P: usize> TreeMap<K, V, P> {
         }
     }
 
-    /// Moves all pairs of another map into this one, in the order of their keys, as `insert` puts them in. The other
-    /// map is empty then.
+    /// Moves all pairs of another map into this one, in the order of their keys, each as by `insert`. The other map is
+    /// empty then.
     ///
-    /// It fails only if an allocation fails. The error returns the pair that was to move next: those before it have
-    /// moved, and those after it are still in the other map.
+    /// Fails only if an allocation fails. The error returns the pair that was to move next: those before it have moved,
+    /// and those after it are still in the other map.
     pub fn append(&mut self, other: &mut Self) -> Result<(), PairRefused<K, V>>
         ensures pairs { OnOk result (self.new ≡ put_all K.bytes other.old self.old) }
         ensures emptied { OnOk result (other.new ≡ []) }

@@ -1,4 +1,4 @@
-//! Maps of strings by a text, of which no key is made.
+//! Calls of maps of strings by a text, for which no key is made.
 ghost use Rattle.std.specs.Prelude.{◌≡◌, ◌<◌, ◌^◌, length, false, IfErr, IfOk, IsOk, OnErr, OnOk, option_copied};
 ghost use Rattle.std.specs.Borrow.{sem};
 ghost use Rattle.std.specs.Option.{option_copied_mut, option_map, unwrap_or};
@@ -22,10 +22,10 @@ use std::alloc::{AllocError, Global};
 use std::ops::Bound;
 use thiserror::Error;
 
-/// A value that was not inserted under a text, which is returned.
+/// A value that was not inserted by a text. The error returns it.
 #[derive(Debug, Drop, Error)]
 pub enum TextRefused<V> {
-    /// A zero stands in the text, which no key of the type has.
+    /// There is a zero in the text, which no key of the type has.
     #[error("a zero byte stands among the bytes of the text")]
     InnerZero { value: V },
     /// An allocation failed.
@@ -33,9 +33,10 @@ pub enum TextRefused<V> {
     Memory { value: V },
 }
 
-/// Calls by a text, of which no key is made. They cost what the calls by key do, and take no memory.
+/// Calls by a text, for which no key is made. They cost what the calls by key do. Only `get_text_or_insert` allocates
+/// or fails.
 impl<V: Drop, const P: usize> TreeMap<Terminated, V, P> {
-    /// Returns the value of a text's key, or `None`.
+    /// Returns the value of a text's key, or `None` if it is not stored.
     pub fn get_text(&self, text: &[u8]) -> Option<&V>
         ensures { option_copied result ≡ value_at ended (ended text.now) self.now }
     {
@@ -49,7 +50,7 @@ impl<V: Drop, const P: usize> TreeMap<Terminated, V, P> {
         self.map.contains_key_by(EndedQuery { text, end: 0 })
     }
 
-    /// Removes the pair of a text's key, and returns it.
+    /// Removes the pair of a text's key, and returns it, or `None` if it is not stored.
     pub fn remove_text(&mut self, text: &[u8]) -> Option<(Terminated, V)>
         ensures pairs { self.new ≡ remove_key (of_key ended) (ended text.now) self.old }
         ensures removed { result ≡ remove_reply (of_key ended) (ended text.now) self.old }
@@ -57,8 +58,8 @@ impl<V: Drop, const P: usize> TreeMap<Terminated, V, P> {
         self.map.remove_by(EndedQuery { text, end: 0 })
     }
 
-    /// Returns the pair with the longest string that is a prefix of a text, or the same, or `None`. It costs what
-    /// `longest_match_key` does.
+    /// Returns the pair with the longest string that is a prefix of a text, or equal to it, or `None` if there is none.
+    /// It costs what `longest_match_key` does.
     pub fn longest_match(&self, text: &[u8]) -> Option<(&Terminated, &V)>
         ensures { option_map deref_pair result ≡
             last_of (strings_in_front (λ text. text) text.now self.now) }
@@ -66,7 +67,7 @@ impl<V: Drop, const P: usize> TreeMap<Terminated, V, P> {
         self.map.longest_text(text, 0)
     }
 
-    /// Returns the pair of a text's key, or `None`.
+    /// Returns the pair of a text's key, or `None` if it is not stored.
     pub fn get_key_value_text(&self, text: &[u8]) -> Option<(&Terminated, &V)>
         ensures { option_map deref_pair result ≡
             first_of (with_key (of_key ended) (ended text.now) self.now) }
@@ -74,7 +75,7 @@ impl<V: Drop, const P: usize> TreeMap<Terminated, V, P> {
         self.map.get_key_value_by(EndedQuery { text, end: 0 })
     }
 
-    /// Returns the value of a text's key, to be written, or `None`.
+    /// Returns a mutable reference to the value of a text's key, or `None` if it is not stored.
     pub fn get_text_mut(&mut self, text: &[u8]) -> Option<&mut V>
         ensures* writes_back { sem 𝓛 (lends_text V.row P.row self.entry text.now result) }
         ensures value { option_copied_mut result ≡ value_at ended (ended text.now) self.old }
@@ -82,11 +83,11 @@ impl<V: Drop, const P: usize> TreeMap<Terminated, V, P> {
         self.map.get_mut_by(EndedQuery { text, end: 0 })
     }
 
-    /// Returns the value of a text's key, to be written. Where no equal key is stored, a copy of the text is inserted
-    /// with this value first. A key that is stored stays, with its value. It costs two look-ups, and where the text is
-    /// new an insertion.
+    /// Returns a mutable reference to the value of a text's key. If no equal key is stored, a copy of the text is
+    /// inserted with this value first; a key that is stored stays, with its value. It costs two lookups, and an
+    /// insertion if the text is new.
     ///
-    /// The error is `InnerZero` if a zero stands in the text, and `Memory` if an allocation fails. Both return the
+    /// Fails with `InnerZero` if there is a zero in the text, and with `Memory` if an allocation fails. Both return the
     /// value, and the map is unchanged.
     pub fn get_text_or_insert(
         &mut self,
@@ -133,8 +134,8 @@ impl<V: Drop, const P: usize> TreeMap<Terminated, V, P> {
         }
     }
 
-    /// Returns the value of the longest string that is a prefix of a text, or the same, to be written, or `None`. It
-    /// costs what `longest_match` and `get_text` do together.
+    /// Returns a mutable reference to the value of the longest string that is a prefix of a text, or equal to it, or
+    /// `None` if there is none. It costs what `longest_match` and `get_text_mut` do together.
     pub fn longest_match_mut(&mut self, text: &[u8]) -> Option<&mut V>
         ensures* writes_back { sem 𝓛 (lends_longest V.row P.row self.entry text.now result) }
         ensures value { option_copied_mut result ≡
@@ -149,8 +150,8 @@ impl<V: Drop, const P: usize> TreeMap<Terminated, V, P> {
         Some(lent)
     }
 
-    /// Removes the pair with the longest string that is a prefix of a text, or the same, and returns it. It never
-    /// fails, and costs what `longest_match` and `remove_text` do together.
+    /// Removes the pair with the longest string that is a prefix of a text, or equal to it, and returns it, or `None`
+    /// if there is none. It never fails, and costs what `longest_match` and `remove_text` do together.
     pub fn remove_longest_match(&mut self, text: &[u8]) -> Option<(Terminated, V)>
         ensures pairs { self.new ≡ without_longest ended (λ string. string) text.now self.old }
         ensures removed { result ≡
@@ -162,7 +163,8 @@ impl<V: Drop, const P: usize> TreeMap<Terminated, V, P> {
         self.remove_text(&text[..len])
     }
 
-    /// Returns the pairs whose strings start with a text, in the order of their keys. It costs what `prefix` does.
+    /// Returns an iterator over the pairs whose strings start with a text, in the order of their keys. It costs what
+    /// `prefix` does.
     pub fn prefix_text(&self, text: &[u8]) -> Range<'_, Terminated, V, P>
         ensures pairs { result ≡ strings_below (λ string. string) text.now self.now }
         ensures sorted { IsMap (of_key ended) self.now }
@@ -176,7 +178,8 @@ impl<V: Drop, const P: usize> TreeMap<Terminated, V, P> {
         self.map.prefix(text)
     }
 
-    /// Removes all pairs whose strings start with a text, at once, and returns how many. It never fails.
+    /// Removes all pairs whose strings start with a text at once, and returns how many there were. It costs what
+    /// `remove_prefix` does.
     pub fn remove_prefix_text(&mut self, text: &[u8]) -> usize
         ensures pairs { self.new ≡ strings_not_below (λ string. string) text.now self.old }
         ensures removed { result ≡ length (strings_below (λ string. string) text.now self.old) }
@@ -189,10 +192,10 @@ impl<V: Drop, const P: usize> TreeMap<Terminated, V, P> {
     }
 }
 
-/// Calls by a text. They take memory only where a byte 0 or 1 stands in the text, for its key, and the only error
-/// is that an allocation fails.
+/// Calls by a text. They allocate only if a byte of the text is 0 or 1, for the text's key, and fail only if that
+/// allocation fails.
 impl<V: Drop, const P: usize> TreeMap<Escaped, V, P> {
-    /// Returns the value of a text's key, or `None`.
+    /// Returns the value of a text's key, or `None` if it is not stored.
     pub fn get_text(&self, alloc: Global, text: &[u8]) -> Result<Option<&V>, AllocError>
         ensures value { IfOk result (λ found.
             option_copied found ≡ value_at escape (escape text.now) self.now) }
@@ -205,8 +208,8 @@ impl<V: Drop, const P: usize> TreeMap<Escaped, V, P> {
         Ok(self.map.get_by(EndedQuery { text, end: 0 }))
     }
 
-    /// Returns the pair with the longest string that is a prefix of a text, or the same, or `None`. It costs what
-    /// `longest_match_key` does.
+    /// Returns the pair with the longest string that is a prefix of a text, or equal to it, or `None` if there is none.
+    /// It costs what `longest_match_key` does.
     pub fn longest_match(
         &self,
         alloc: Global,
@@ -236,7 +239,7 @@ impl<V: Drop, const P: usize> TreeMap<Escaped, V, P> {
         Ok(self.map.contains_key_by(EndedQuery { text, end: 0 }))
     }
 
-    /// Returns the pair of a text's key, or `None`.
+    /// Returns the pair of a text's key, or `None` if it is not stored.
     pub fn get_key_value_text(
         &self,
         alloc: Global,
@@ -253,7 +256,8 @@ impl<V: Drop, const P: usize> TreeMap<Escaped, V, P> {
         Ok(self.map.get_key_value_by(EndedQuery { text, end: 0 }))
     }
 
-    /// Returns the pairs whose strings start with a text, in the order of their keys. It costs what `prefix` does.
+    /// Returns an iterator over the pairs whose strings start with a text, in the order of their keys. It costs what
+    /// `prefix` does.
     pub fn prefix_text(
         &self,
         alloc: Global,

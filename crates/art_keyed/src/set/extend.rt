@@ -1,4 +1,4 @@
-//! Keys of an iterator are inserted.
+//! Insertion of the keys of an iterator.
 ghost use Rattle.std.specs.Prelude.{◌≡◌, IfErr, OnOk};
 ghost use Rattle.std.specs.Iterator.{IsFinite};
 ghost use Rattle.art_map.specs.SetKeys.{AddsAll};
@@ -8,8 +8,8 @@ use super::{KeyRefused, TreeSet};
 use art_keys::laws::NoPrefixesBytes;
 use std::alloc::{AllocError, Global};
 
-/// Inserts the keys that come, one after another, as `insert` does. It fails only if an allocation fails: the keys
-/// before that stay in the set.
+/// Inserts the keys of an iterator one by one, as `insert` does. Fails only if an allocation fails: the keys that were
+/// inserted before stay in the set, and the key that was not is dropped.
 impl<K: NoPrefixesBytes + Drop, const P: usize> Extend<K> for TreeSet<K, P> {
     ghost use Rattle.art_map.specs.SetKeys.{add_all};
 
@@ -23,7 +23,8 @@ impl<K: NoPrefixesBytes + Drop, const P: usize> Extend<K> for TreeSet<K, P> {
     }
 }
 
-/// A set of the keys that come, inserted one after another: of equal keys the first stays.
+/// Makes a set of the keys of an iterator, inserted one by one: of equal keys the first one stays. Fails only if an
+/// allocation fails.
 impl<K: NoPrefixesBytes + Drop, const P: usize> FromIterator<K> for TreeSet<K, P> {
     type Alloc = Global;
 

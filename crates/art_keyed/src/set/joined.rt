@@ -1,4 +1,4 @@
-//! Sets whose keys are two keys as one.
+//! Sets whose keys are two keys joined into one.
 ghost use Rattle.std.specs.Prelude.{◌≡◌, ◌<◌, ◌^◌, length};
 ghost use Rattle.art_model.specs.Pairs.{IsMap};
 ghost use Rattle.art_keys.specs.Joins.{joined_bytes};
@@ -10,8 +10,8 @@ use art_keys::laws::DecodeBytes;
 use art_map::set::KeyRange;
 
 impl<A: DecodeBytes + Drop, B: DecodeBytes + Drop, const P: usize> TreeSet<Joined<A, B>, P> {
-    /// Returns the keys that have this first key, in the order of the bytes of the second ones. It costs
-    /// what `with_first` of the map does.
+    /// Returns an iterator over the keys that have this first key, in the order of the bytes of the second keys. It
+    /// costs what `with_first` of the map does.
     pub fn with_first(&self, first: &A) -> KeyRange<'_, Joined<A, B>, P>
         ensures keys { result ≡ set_with_first A.bytes (A.bytes first.now) self.now }
         ensures sorted { IsMap (joined_bytes A.bytes B.bytes) self.now }

@@ -1,4 +1,4 @@
-//! Sets whose keys are two keys of fixed lengths as one, in an array.
+//! Sets whose keys are two keys of fixed lengths joined into one, in an array.
 ghost use Rattle.std.specs.Prelude.{◌≡◌, ◌<◌, ◌^◌, length};
 ghost use Rattle.art_model.specs.Pairs.{IsMap};
 ghost use Rattle.art_keys.specs.Joins.{joined_bytes};
@@ -13,8 +13,8 @@ impl<A: FixedBytes, B: FixedBytes, const N: usize, const P: usize> TreeSet<
     JoinedArray<A, B, N>,
     P,
 > {
-    /// Returns the keys that have this first key, in the order of the bytes of the second ones. It costs
-    /// what `with_first` of the map does.
+    /// Returns an iterator over the keys that have this first key, in the order of the bytes of the second keys. It
+    /// costs what `with_first` of the map does.
     pub fn with_first(&self, first: &A) -> KeyRange<'_, JoinedArray<A, B, N>, P>
         ensures keys { result ≡ set_with_first A.bytes (A.bytes first.now) self.now }
         ensures sorted { IsMap (joined_bytes A.bytes B.bytes) self.now }

@@ -1,5 +1,5 @@
-//! The set of what two sets have together, by std's operators. Each inserts the keys one by one, as they rise, and fails
-//! only if an allocation fails.
+//! Union, intersection and differences of two sets as a new set, by std's operators. Each inserts clones of the keys
+//! one by one, in ascending order, and fails only if an allocation fails.
 ghost use Rattle.std.specs.Prelude.{List, map, IfOk};
 ghost use Rattle.std.specs.Borrow.{Bor};
 ghost use Rattle.std.specs.Iterator.{Drains, IsFinite};
@@ -10,7 +10,7 @@ use art_keys::laws::CloneBytes;
 use std::alloc::{AllocError, Global};
 use std::ops::{BitAnd, BitOr, BitXor, Sub};
 
-/// `&a | &b`: a set of clones of the keys of either set; of two equal keys the first set's.
+/// `&a | &b`: returns a set of clones of the keys of either set; of two equal keys it clones the first set's.
 impl<'a, 'b, K: CloneBytes + Drop, const P: usize> BitOr<&'b TreeSet<K, P>> for &'a TreeSet<K, P> {
     type Output = Result<TreeSet<K, P>, AllocError>;
 
@@ -26,7 +26,7 @@ impl<'a, 'b, K: CloneBytes + Drop, const P: usize> BitOr<&'b TreeSet<K, P>> for 
     }
 }
 
-/// `&a & &b`: a set of clones of the keys of the first set that the second one has too.
+/// `&a & &b`: returns a set of clones of the keys of the first set that the second one has too.
 impl<'a, 'b, K: CloneBytes + Drop, const P: usize> BitAnd<&'b TreeSet<K, P>> for &'a TreeSet<K, P> {
     type Output = Result<TreeSet<K, P>, AllocError>;
 
@@ -42,7 +42,7 @@ impl<'a, 'b, K: CloneBytes + Drop, const P: usize> BitAnd<&'b TreeSet<K, P>> for
     }
 }
 
-/// `&a - &b`: a set of clones of the keys of the first set that the second one lacks.
+/// `&a - &b`: returns a set of clones of the keys of the first set that the second one lacks.
 impl<'a, 'b, K: CloneBytes + Drop, const P: usize> Sub<&'b TreeSet<K, P>> for &'a TreeSet<K, P> {
     type Output = Result<TreeSet<K, P>, AllocError>;
 
@@ -58,7 +58,7 @@ impl<'a, 'b, K: CloneBytes + Drop, const P: usize> Sub<&'b TreeSet<K, P>> for &'
     }
 }
 
-/// `&a ^ &b`: a set of clones of the keys that just one of the sets has.
+/// `&a ^ &b`: returns a set of clones of the keys that exactly one of the sets has.
 impl<'a, 'b, K: CloneBytes + Drop, const P: usize> BitXor<&'b TreeSet<K, P>> for &'a TreeSet<K, P> {
     type Output = Result<TreeSet<K, P>, AllocError>;
 
@@ -74,7 +74,7 @@ impl<'a, 'b, K: CloneBytes + Drop, const P: usize> BitXor<&'b TreeSet<K, P>> for
     }
 }
 
-// Returns a set of clones of the keys that come.
+// Returns a set of clones of the keys of an iterator. Fails only if an allocation fails.
 fn clones_of<'a, K: CloneBytes + Drop + 'a, I: Iterator<Item = &'a K>, const P: usize>(
     alloc: Global,
     keys: I,

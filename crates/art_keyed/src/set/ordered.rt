@@ -1,4 +1,4 @@
-//! Sets whose keys are in the order of their type, and those whose keys stand for strings of bytes.
+//! Sets whose keys are in the order of their type, and those whose keys represent strings of bytes.
 ghost use Rattle.std.specs.Prelude.{◌≡◌, ◌<◌, ◌^◌, length, option_copied};
 ghost use Rattle.std.specs.Range.Bound.{bound_map};
 ghost use Rattle.std.specs.declared.ops.Bound.TheVariants.{Unbounded};
@@ -12,15 +12,15 @@ use art_map::set::KeyRange;
 use std::ops::{Bound, RangeBounds};
 
 impl<K: OrderedBytes + Drop, const P: usize> TreeSet<K, P> {
-    /// Does nothing, but its contract says that the keys rise in the order of their type.
+    /// Does nothing; its contract states that the keys are in ascending order of their type.
     pub fn rises(&self)
         ensures { KeysRiseBy K.order self.now }
     {
         self.set.len();
     }
 
-    /// Returns the keys in a range, as they rise; none where it runs backwards. It costs what `range` of
-    /// the map does.
+    /// Returns an iterator over the keys in a range, in ascending order; it is empty if the range ends before it
+    /// starts. It costs what `range` of the map does.
     pub fn range<R: RangeBounds<K> + Drop>(&self, range: R) -> KeyRange<'_, K, P>
         ensures keys { R.has_bounds range → result ≡
             set_between K.order (R.start_bound range) (R.end_bound range) self.now }
@@ -40,8 +40,8 @@ impl<K: OrderedBytes + Drop, const P: usize> TreeSet<K, P> {
         self.set.range((bytes_of(from), bytes_of(to)))
     }
 
-    /// Returns the first key after a bound, or at it where that is included. It costs what `first_from`
-    /// of the map does.
+    /// Returns the first key after a bound, or at it if the bound is included, or `None` if there is none. It costs
+    /// what `first_from` of the map does.
     pub fn first_from(&self, from: Bound<&K>) -> Option<&K>
         ensures { option_copied result ≡ first_of (set_between K.order
             (bound_map (λ b. b.now) from.entry) Unbounded self.now) }
@@ -49,8 +49,8 @@ impl<K: OrderedBytes + Drop, const P: usize> TreeSet<K, P> {
         self.set.first_from(bytes_of(from))
     }
 
-    /// Returns the last key before a bound, or at it where that is included. It costs what `first_from`
-    /// does.
+    /// Returns the last key before a bound, or at it if the bound is included, or `None` if there is none. It costs
+    /// what `first_from` does.
     pub fn last_up_to(&self, to: Bound<&K>) -> Option<&K>
         ensures { option_copied result ≡ last_of (set_between K.order Unbounded
             (bound_map (λ b. b.now) to.entry) self.now) }
@@ -60,8 +60,8 @@ impl<K: OrderedBytes + Drop, const P: usize> TreeSet<K, P> {
 }
 
 impl<K: StringBytes + Drop, const P: usize> TreeSet<K, P> {
-    /// Returns the keys whose strings begin with that of a key, as they rise. It costs what `prefix` of
-    /// the map does.
+    /// Returns an iterator over the keys whose strings start with that of a key, in ascending order. It costs what
+    /// `prefix` of the map does.
     pub fn prefix(&self, prefix: &K) -> KeyRange<'_, K, P>
         ensures keys { result ≡ set_below K.text (K.text prefix.now) self.now }
         ensures sorted { IsMap K.bytes self.now }

@@ -1,4 +1,4 @@
-//! The keys that a closure picks are kept.
+//! Removal of the keys that a closure does not select.
 ghost use Rattle.std.specs.Fn.{CalledAt};
 ghost use Rattle.art_model.specs.Pairs.{of_key};
 ghost use Rattle.art_map.specs.MapRetain.{Retains, RetainsAll};

@@ -1,4 +1,4 @@
-//! Sets of strings, by texts of which no key is made.
+//! Calls of sets of strings by a text, for which no key is made.
 ghost use Rattle.std.specs.Prelude.{◌≡◌, option_copied};
 ghost use Rattle.art_model.specs.Pairs.{first_of, has_key, last_of, match_of, remove_key};
 ghost use Rattle.art_keys.specs.Ended.{ended};
@@ -15,7 +15,7 @@ impl<const P: usize> TreeSet<Terminated, P> {
         self.set.contains_by(EndedQuery { text, end: 0 })
     }
 
-    /// Removes a text's key, and returns whether it was stored. It costs what `remove` does.
+    /// Removes a text's key, and returns whether it was stored. It never fails, and costs what `remove` does.
     pub fn remove_text(&mut self, text: &[u8]) -> bool
         ensures keys { self.new ≡ remove_key ended (ended text.now) self.old }
         ensures removed { result ≡ has_key ended (ended text.now) self.old }
@@ -23,16 +23,16 @@ impl<const P: usize> TreeSet<Terminated, P> {
         self.set.remove_by(EndedQuery { text, end: 0 })
     }
 
-    /// Returns the longest string that is a prefix of a text, or the same, or `None`. It costs what `longest_match` of
-    /// the map does.
+    /// Returns the longest string that is a prefix of a text, or equal to it, or `None` if there is none. It costs what
+    /// `longest_match` of the map does.
     pub fn longest_match(&self, text: &[u8]) -> Option<&Terminated>
         ensures { option_copied result ≡ last_of (match_of (λ string. string) text.now self.now) }
     {
         self.set.longest_text(text, 0)
     }
 
-    /// Returns the shortest string that is a prefix of a text, or the same, or `None`. It costs what `shortest_match`
-    /// of the map does.
+    /// Returns the shortest string that is a prefix of a text, or equal to it, or `None` if there is none. It costs
+    /// what `shortest_match` of the map does.
     pub fn shortest_match(&self, text: &[u8]) -> Option<&Terminated>
         ensures { option_copied result ≡ first_of (match_of (λ string. string) text.now self.now) }
     {

@@ -1,10 +1,10 @@
-//! The string of a key, written to a buffer.
+//! The length of a key's string, and the string written to a buffer.
 ghost use Rattle.std.specs.Prelude.{◌≡◌, ◌+◌, ◌<◌, ◌≤◌, ◌++◌, length, take, IfSome, MatchOption};
 
 use super::{Escaped, first_escaped};
 
 impl Escaped {
-    /// Returns the length of the string.
+    /// Returns the length of the string. It reads all bytes of the key.
     pub fn text_len(&self) -> usize
         ensures { result ≡ length self.now }
     {
@@ -17,8 +17,8 @@ impl Escaped {
         len
     }
 
-    /// Writes the string to a buffer from a place on, and returns where it ends, or `None` where the buffer is too short:
-    /// what stands from that place on is then not specified. It takes no memory.
+    /// Writes the string to a buffer from index `at` on, and returns the index at which it ends. Returns `None` if the
+    /// buffer is too short; the bytes from `at` on are then not specified. It allocates nothing.
     pub fn write_at(&self, at: usize, buffer: &mut [u8]) -> Option<usize>
         requires { at ≤ length buffer.old }
         ensures end { MatchOption result (length buffer.old < at + length self.now)

@@ -1,5 +1,5 @@
-//! Searches for the shortest text of at least so many bytes that is a prefix of a query, among keys each of which is
-//! a text and the byte that ends it. A text may be a prefix of another.
+//! Searches for the shortest text of at least so many bytes that is a prefix of a query, among keys each of which is a
+//! text and an end byte. A text may be a prefix of another one.
 ghost use Rattle.std.specs.Prelude.{◌≡◌, ◌+◌, ◌<◌, ◌≤◌, ◌↔◌, length, IsSome, IfSome, IsTrue, None};
 ghost use Rattle.std.specs.FinMap as map;
 ghost use Rattle.art_inner.specs.Inner.{child_at};
@@ -19,10 +19,9 @@ use art_nodes::node::{AsBytes, InnerRef, NodePtr, OpaqueNodePtr, OptionalLeafPtr
 use art_nodes::store::NodeStore;
 
 /// Returns the leaf of the shortest text that is a prefix of the query and has at least so many bytes, or `None` if
-/// no text is one.
+/// there is none.
 ///
-/// It is a single descent along the query, which compares no prefix on its way, and one comparison with the query at
-/// its end.
+/// It is a single descent along the query. It compares no prefix on the way, and one text with the query at the end.
 pub fn shortest_text_unchecked<K: AsBytes + Drop, V: Drop, const PREFIX_LEN: usize>(
     store: &NodeStore<K, V, PREFIX_LEN>,
     root: OpaqueNodePtr,
@@ -84,7 +83,8 @@ fn is_sought(text: &[u8], query: &[u8], at_least: usize) -> bool
     at_least <= text.len() && begins_with(query, text)
 }
 
-// Descends along the query to the first leaf that may be the one: its text is a prefix of all that are.
+// Descends along the query to the first leaf that may be the one: its text is a prefix of all texts that are searched
+// for. Returns `None` if there is none.
 #[inline(always)]
 fn walk_to_first<K: AsBytes + Drop, V: Drop, const PREFIX_LEN: usize>(
     store: &NodeStore<K, V, PREFIX_LEN>,
@@ -132,7 +132,7 @@ fn walk_to_first<K: AsBytes + Drop, V: Drop, const PREFIX_LEN: usize>(
     }
 }
 
-// The leaf under a byte, if the text of the node's place has so many bytes.
+// The leaf under a byte, if at least so many bytes lead to the node and through its prefix.
 #[inline(always)]
 fn leaf_if_long<const P: usize>(
     node: InnerRef<'_, P>,

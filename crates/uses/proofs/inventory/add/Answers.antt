@@ -9,7 +9,7 @@ no_value : (o : Option (List ℕ × ℕ)) → is_some o ≡ false → unwrap_or 
 no_value None e = refl
 no_value (Some x) e = cc
 
--- of a good that is not stored there is none
+-- the quantity of a good that is not stored is 0
 none_there : (code : List ℕ) (stock : Goods) → has_key (of_key (λ code. code)) code stock ≡ false → quantity code stock ≡ 0
 none_there code stock e = no_value (first_of (with_key (of_key (λ code. code)) code stock)) (sym (has_is_stored (of_key (λ code. code)) (code, 0) stock) ∙ e)
 

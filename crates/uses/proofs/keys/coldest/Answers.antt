@@ -3,7 +3,7 @@ use Rattle.std.specs.Int.{bytes_high_first}
 use Rattle.art_model.specs.Pairs.{first_of, of_key, put}
 use Rattle.uses.proofs.keys.coldest.Goals as goal
 
--- what three insertions leave begins with the least number
+-- after three insertions the first pair has the least number
 told : (a b c : ℕ) (p q r s : List (ℕ × ℕ)) (first : Option (ℕ × ℕ)) → a ≡ 281 → b ≡ 272 → c ≡ 290 → p ≡ [] →
     q ≡ put (of_key (bytes_high_first 2)) (a, 1) p → r ≡ put (of_key (bytes_high_first 2)) (b, 2) q → s ≡ put (of_key (bytes_high_first 2)) (c, 3) r →
     first ≡ first_of s → first ≡ Some (272, 2)

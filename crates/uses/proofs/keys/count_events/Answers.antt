@@ -7,7 +7,7 @@ use Rattle.art_operations.specs.KeyedPairs.{keys_between}
 use Rattle.uses.specs.Events.{event_bytes, of_user}
 use Rattle.uses.proofs.keys.count_events.Goals as goal
 
--- of what four insertions leave, two events are between the times, and the second one that came is the first
+-- after four insertions two events are between the times, and the event that was inserted second is the first one
 told : (p q r s t : List ((ℕ × ℕ) × ℕ)) (count : ℕ) (first : Option (ℕ × ℕ)) → p ≡ [] →
     q ≡ put (of_key event_bytes) ((2, 20), 100) p → r ≡ put (of_key event_bytes) ((2, 5), 101) q →
     s ≡ put (of_key event_bytes) ((1, 15), 102) r → t ≡ put (of_key event_bytes) ((2, 10), 103) s →

@@ -4,7 +4,7 @@ use Rattle.art_keys.specs.Escapes.{escape}
 use Rattle.art_keys.specs.EscapeLaws.{unescape-escape}
 use Rattle.art_keys.proofs.escaped.Escaped.encode.Goals as goal
 
--- what the loop leaves is the whole but for its end
+-- after the loop only the end is missing
 written : (items bytes text : List ℕ) (i : ℕ) → length text ≤ i → bytes ++ escape (drop i text) ≡ escape text → items ≡ bytes ++ 0 ∷ [] → items ≡ escape text
 written items bytes text i h e f = f ∙ ap (λ rest. bytes ++ escape rest) (sym (drop_all i text h)) ∙ e
 
