@@ -1,5 +1,4 @@
--- A store with clones of another one's leaves and with its inner nodes, under the same names, holds clones of the
--- pairs.
+-- A store with another one's inner nodes and clones of its leaves, under the same names, holds clones of the pairs.
 use Rattle.std.proofs.Common.{◌≡◌, ℕ, List, [], ◌∷◌, ◌++◌, length, refl, ap, ap₂, sym, ◌∙◌, subst, Option, Some, None}
 use Rattle.std.specs.FinMap as map
 use Rattle.std.specs.Option.{option_map, option_and_then}

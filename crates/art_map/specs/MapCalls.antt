@@ -9,8 +9,7 @@ use Rattle.art_map.specs.declared.map.MapMakeError.{MapMakeError}
 use Rattle.art_map.specs.declared.map.MapMakeError.TheVariants.{Insert, Make}
 use Rattle.art_map.specs.MapAnswers.{IsRefusalOf, value_at, with_value_at}
 
--- if the key is not stored the pairs are unchanged; else a call of f on its value left another one, which the key now
--- has
+-- the pairs are unchanged if the key is not stored; else a call of f on its value left another, which the key now has
 abbrev pub Modifies : {K V F : Type 0} → Once F (MutBor V × Unit {0}) (Unit {0} × (MutBor V × Unit {0})) → F → (K → List ℕ) → List ℕ →
     List (K × V) → List (K × V) → Type 0
 Modifies {K} {V} g f bytes key before after =

@@ -58,8 +58,7 @@ pub record NamesLeafOf {K V : Type 0} (bytes : K → List ℕ) (P : ℕ) (s : No
   pub has : HasLeaf layout (leaf_name leaf) pair
   pub key_is : bytes pair.0 ≡ key
 
--- The leaf is that of the key; or the point is, and no stored key is equal or conflicts; or there is no tree; or a key
--- conflicts.
+-- The leaf is the key's; or the point is, and no key is equal or conflicts; or there is no tree; or a key conflicts.
 abbrev pub IsPositionOf : {K V : Type 0} → (K → List ℕ) → ℕ → Nodes K V → Option OpaqueNodePtr → List ℕ → Position → Type 0
 IsPositionOf bytes P s root key (positions.Leaf leaf) = NamesLeafOf bytes P s root key leaf
 IsPositionOf bytes P s root key (positions.Point point) =
@@ -98,8 +97,7 @@ module _ {K V : Type 0} (bytes : K → List ℕ) (P : ℕ) (pairs : List (K × V
   HasReplaced key value (Err error) t root len =
       HoldsPairs (of_key bytes) P t root len pairs × IsRefusalOf bytes key value pairs error
 
-  -- the pair was put if its key was not stored, and the leaf of the key is returned; or the pair is, and the pairs are
-  -- unchanged
+  -- the pair was put if its key is new, and the key's leaf is returned; or the pair is, and the pairs are unchanged
   abbrev pub HasEntered : K → V → Result LeafPtr (MapInsertError K V) → Nodes K V → Option OpaqueNodePtr → ℕ → Type 0
   HasEntered key value (Ok leaf) t root len =
       HoldsPairs (of_key bytes) P t root len (put_new bytes (key, value) pairs) × NamesLeafOf bytes P t root (bytes key) leaf ×
@@ -118,8 +116,7 @@ module _ {K V : Type 0} (bytes : K → List ℕ) (P : ℕ) (pairs : List (K × V
   HasTried key IsMade (Err error) t root len =
       HoldsPairs (of_key bytes) P t root len pairs × IsMakeRefusal bytes key IsMade pairs error
 
-  -- the pair was inserted in place of those with related keys; or it is returned, the pairs are unchanged, and not just
-  -- one was to be replaced
+  -- the pair replaced those with related keys; or it is returned, the pairs are unchanged, and not just one is related
   abbrev pub HasPutOver : K → V → Result ℕ (Refused K V) → Nodes K V → Option OpaqueNodePtr → ℕ → Type 0
   HasPutOver key value (Ok gone) t root len =
       HoldsPairs (of_key bytes) P t root len (overwrite (of_key bytes) (key, value) pairs) ×
