@@ -392,7 +392,7 @@ impl<K: AsBytes + Drop, V: Drop, const P: usize> ByteMap<K, V, P> {
     /// as one. What is replaced is dropped.
     ///
     /// It fails only if an allocation fails; the error returns the pair, and the map is unchanged. It allocates unless
-    /// it replaces exactly one pair.
+    /// it replaces exactly one pair. It descends as `insert` does, and frees all nodes that are replaced.
     pub fn insert_over(&mut self, key: K, value: V) -> Result<usize, Refused<K, V>>
         ensures pairs { OnOk result (self.new ≡ overwrite (of_key K.bytes) (key, value) self.old) }
         ensures gone { IfOk result (λ gone.
