@@ -1,4 +1,4 @@
--- What is known while a closure changes each value of a map, leaf by leaf.
+-- What holds while a closure changes each value of a map, leaf by leaf.
 use Rattle.std.proofs.Common.{◌≡◌, ◌≢◌, ℕ, ◌<◌, ◌≤◌, List, [], ◌∷◌, ◌++◌, length, refl, ap, ap₂, sym, ◌∙◌, subst, arith, append_assoc, append-nil, Option, Some, None, inl, inr}
 use Rattle.std.specs.Borrow.{MutBor}
 use Rattle.std.specs.FinMap.{get}
@@ -37,14 +37,14 @@ use Rattle.art_map.proofs.Views.{holds, map_held, view_of}
 use Rattle.art_map.proofs.Written.{value_written}
 
 module _ {K V F : Type 0} (g : Mut F (MutBor V × Unit {0}) (Unit {0} × (MutBor V × Unit {0}))) where
-  -- f was called at some values and then at one more
+  -- f was called on some values and then on one more
   changes_one : (xs ys : List (K × V)) (x : K × V) (f next left : F) (w : V) → ChangesEach g f xs ys next → CalledAtMut g next x.1 tt left w →
       ChangesEach g f (xs ++ x ∷ []) (ys ++ (x.0, w) ∷ []) left
   changes_one [] ys x f next left w h called = rw h.0 (w, left, [], subst (λ z. CalledAtMut g z x.1 tt left w) (sym h.1) called, (refl, refl), refl)
   changes_one (z ∷ xs) ys x f next left w (value, then, rest, first, h, is) called =
       (value, then, rest ++ (x.0, w) ∷ [], first, changes_one xs rest x then next left w h called, ap (λ zs. zs ++ (x.0, w) ∷ []) is)
 
-  -- the keys stay
+  -- the keys are unchanged
   pub keys_stay : (f : F) (before after : List (K × V)) (left : F) → ChangesEach g f before after left → keys_of after ≡ keys_of before
   keys_stay f [] after left h = ap keys_of h.0
   keys_stay f (x ∷ xs) after left (value, next, rest, called, h, is) = ap keys_of is ∙ ap (λ ks. x.0 ∷ ks) (keys_stay next xs rest left h)
@@ -53,7 +53,7 @@ module _ {K V : Type 0} (s : Nodes K V) (p : LeafPtr) (node : LeafNode K V) (w :
   abbrev t : Nodes K V
   t = with_leaf_value s p w
 
-  -- all links stay where a leaf gets another value
+  -- all links are unchanged where a leaf gets another value
   links_stay : (k : OpaqueNodePtr) → links_at t k ≡ links_at s k
   links_stay k = elim (leaf_or k) [
     | inl (q, e) ↦ subst (λ (z : OpaqueNodePtr). links_at t z ≡ links_at s z) (sym e) (elim (same_leaf q p) [
@@ -64,7 +64,7 @@ module _ {K V : Type 0} (s : Nodes K V) (p : LeafPtr) (node : LeafNode K V) (w :
     | inr off ↦ links_inner t k off ∙ sym (links_inner s k off)
   ]
 
-  -- and so do the pairs of leaves that have other names
+  -- and so are the pairs of leaves with other names
   pairs_stay : (names : List OpaqueNodePtr) (before after : Option OpaqueNodePtr) → AreLinked (links_at s) before names after → Each (λ k. leaf_name p ≢ k) names →
       named_pairs t names ≡ named_pairs s names
   pairs_stay [] before after linked off = refl
@@ -76,7 +76,7 @@ module _ {K V : Type 0} (s : Nodes K V) (p : LeafPtr) (node : LeafNode K V) (w :
   ]
 
 module _ {K V : Type 0} (bytes : K → List ℕ) (P : ℕ) where
-  -- one value of a map is another
+  -- one value of a map is replaced
   written_inside : (l r : List (K × V)) (x : K × V) (w : V) → IsMap (of_key bytes) (l ++ x ∷ r) → with_value_at bytes (bytes x.0) w (l ++ x ∷ r) ≡ l ++ (x.0, w) ∷ r
   written_inside l r x w rising =
       let here : with_value_at bytes (bytes x.0) w (x ∷ []) ≡ (x.0, w) ∷ [] = rw (front_same (bytes x.0)) refl in
@@ -85,7 +85,7 @@ module _ {K V : Type 0} (bytes : K → List ℕ) (P : ℕ) where
       ∙ append_assoc l ((x.0, w) ∷ []) r
 
   module _ {F : Type 0} (g : Mut F (MutBor V × Unit {0}) (Unit {0} × (MutBor V × Unit {0}))) (root : Option OpaqueNodePtr) (len : ℕ) (began : F) (before : List (K × V)) where
-    -- f was called at the values of some pairs, and a walk has the others left
+    -- f was called on the values of some pairs, and an iterator has the others left
     pub record Changing (f : F) (s : Nodes K V) (walk : Option (LeafPtr × LeafPtr)) : Type 0 where
       pub seen : List (K × V)
       pub done : List (K × V)
@@ -122,7 +122,7 @@ module _ {K V : Type 0} (bytes : K → List ℕ) (P : ℕ) where
 
       module _ {rest : Option (LeafPtr × LeafPtr)} {p : LeafPtr} {left : F} {t : Nodes K V} (first : Some (leaf_name p) ≡ first_of now.names)
           (after : IsIteratorOf s rest (without_first now.names)) (changes : ChangesLeaf g p f s left t) where
-        -- f was called at the value of the next leaf, and one less is left
+        -- f was called on the value of the next leaf, and one less is left
         step : (next : Changing left t rest) × (length next.names < length now.names)
         step =
             let (node, w, there, called, is) = changes in

@@ -1,4 +1,4 @@
--- The pairs of a map stay where its leaves are sorted.
+-- A map whose leaves are sorted keeps its pairs.
 use Rattle.std.proofs.Common.{◌≡◌, ◌≢◌, ℕ, List, Option, Some, None, Result, Ok, Err, OnOk, OnErr, ap, sym, ◌∙◌, subst}
 use Rattle.art_inner.specs.InnerRenamed.{child_renamed}
 use Rattle.art_nodes.specs.Nodes.{Nodes}
@@ -20,7 +20,7 @@ use Rattle.art_map.specs.MapPairs.{HoldsPairs}
 use Rattle.art_map.proofs.Puts.{HasTreeAt, at_some}
 
 module _ {K V : Type 0} {bytes : K × V → List ℕ} {P : ℕ} {s : Nodes K V} {root : OpaqueNodePtr} {len : ℕ} {pairs : List (K × V)} (has : HasTreeAt bytes P s root len pairs) where
-  -- the leaves of the tree stand in a row
+  -- the leaves of the tree are a row
   leaf_row : HasRow s None (leaf_names has.layout)
   leaf_row = row_of s None (leaf_names has.layout) has.by.linked
 
@@ -33,7 +33,7 @@ module _ {K V : Type 0} {bytes : K × V → List ℕ} {P : ℕ} {s : Nodes K V} 
     has_row = (leaf_row.row, leaf_row.is_row, first_is)
 
     module _ (inner : root.kind ≢ Leaf) {t : Nodes K V} where
-      -- the same pairs have the renamed tree
+      -- the renamed tree has the same pairs
       renamed_holds : (rename : LeafPtr → LeafPtr) → AreRenamed rename leaf_row.row s t → HoldsPairs bytes P t (Some root) len pairs
       renamed_holds rename are = record {
         tree = Some (renamed (child_renamed rename) has.layout);
@@ -43,7 +43,7 @@ module _ {K V : Type 0} {bytes : K × V → List ℕ} {P : ℕ} {s : Nodes K V} 
         len_is = has.len_is;
       }
 
-      -- and so they are held whether the leaves were sorted or there was no memory
+      -- so the pairs are held, whether the leaves were sorted or an allocation failed
       sorted_holds : {E : Type 0} (result : Result (Unit {0}) E) →
           ((row : List LeafPtr) → IsRow s.leaves None row → first_of_row row ≡ Some first → OnOk result ((rename : LeafPtr → LeafPtr) × AreRenamed rename row s t)) →
           OnErr result (t ≡ s) → HoldsPairs bytes P t (Some root) len pairs
@@ -58,7 +58,7 @@ module _ {K V : Type 0} {bytes : K × V → List ℕ} {P : ℕ} {s : Nodes K V} 
   pub can_sort : (row : List LeafPtr) × IsRow s.leaves None row × (first_of_row row ≡ Some first)
   can_sort = let has = at_some root_is holds in has_row has (is_first has.layout (has_children _ _ _ _ _ has.layout has.by))
 
-  -- and below an inner node it then has the same pairs
+  -- and an inner node as root then holds the same pairs
   pub still_holds : {E : Type 0} {t : Nodes K V} (inner : InnerPtr) → inner_name inner ≡ name → inner.kind ≢ Leaf → (result : Result (Unit {0}) E) →
       ((row : List LeafPtr) → IsRow s.leaves None row → first_of_row row ≡ Some first → OnOk result ((rename : LeafPtr → LeafPtr) × AreRenamed rename row s t)) →
       OnErr result (t ≡ s) → HoldsPairs bytes P t root len pairs

@@ -1,4 +1,4 @@
--- A store with clones of another one's leaves, and with the same inner nodes, under the same names: it holds clones of the pairs.
+-- A store with another one's inner nodes and clones of its leaves, under the same names, holds clones of the pairs.
 use Rattle.std.proofs.Common.{◌≡◌, ℕ, List, [], ◌∷◌, ◌++◌, length, refl, ap, ap₂, sym, ◌∙◌, subst, Option, Some, None}
 use Rattle.std.specs.FinMap as map
 use Rattle.std.specs.Option.{option_map, option_and_then}
@@ -34,7 +34,7 @@ module _ {N A : Type 0} (IsClone : A → A → Type 0) where
   IsNodeCopy (Some (inner_node h slots)) copy = copy ≡ Some (inner_node h slots)
 
   module _ (at copied : N → Option (Node N A)) (each : (n : N) → IsNodeCopy (at n) (copied n)) where
-    -- The second tree is a copy of the first one under the same names, and is held.
+    -- The second tree is a copy of the first one, with the same names, and is held.
     record IsHeldCopy (t u : Tree N A) : Type 0 where
       same : IsCopy IsClone t u
       holds : Holds copied u
@@ -42,7 +42,7 @@ module _ {N A : Type 0} (IsClone : A → A → Type 0) where
       names : names_of u ≡ names_of t
       leaves : leaf_names u ≡ leaf_names t
 
-    -- The same of children.
+    -- The same for children.
     record AreHeldCopies (cs ds : Subtrees N A) : Type 0 where
       same : AreCopies IsClone cs ds
       holds : HoldsBelow copied ds
@@ -54,7 +54,7 @@ module _ {N A : Type 0} (IsClone : A → A → Type 0) where
     under n o is = subst (λ o. IsNodeCopy o (copied n)) is (each n)
 
     mutual
-      -- a tree that is held has a copy under its names
+      -- a tree that is held has a copy with its names
       held_copy : (t : Tree N A) → Holds at t → (u : Tree N A) × IsHeldCopy t u
       held_copy (leaf n x) is =
           let (y, clone, there) = under n (Some (leaf_node x)) is in
@@ -87,7 +87,7 @@ module _ {N A : Type 0} (IsClone : A → A → Type 0) where
           )
 
 module _ {K V : Type 0} (is_key_clone : K → K → Type 0) (is_value_clone : V → V → Type 0) where
-  -- of one leaf
+  -- the same for one leaf
   leaf_copy : (node copy : Option (LeafNode K V)) → IsCopyThere is_key_clone is_value_clone node copy →
       IsNodeCopy (IsPairClone is_key_clone is_value_clone) (option_map (tree_node Leaf) (option_map held_leaf node)) (option_map (tree_node Leaf) (option_map held_leaf copy))
   leaf_copy None copy is = rw is refl
@@ -183,7 +183,7 @@ module _ {K V : Type 0} (is_key_clone : K → K → Type 0) (is_value_clone : V 
                 },
               )
 
-      -- and they are those that are read off
+      -- and they are those read off the store
       pub copies_read : {root : Option OpaqueNodePtr} {len : ℕ} → HoldsPairs (of_key bytes) P s root len (pairs_at s root) →
           AreClones is_key_clone is_value_clone (pairs_at s root) (pairs_at t root) × HoldsPairs (of_key bytes) P t root len (pairs_at t root)
       copies_read {root} is =

@@ -30,7 +30,7 @@ same_name : (n k : OpaqueNodePtr) → n.kind ≡ Leaf → k.kind ≡ Leaf → as
 same_name n k e f same = ap₂ (λ kind slot. let r : OpaqueNodePtr = record { kind = kind; slot = slot } in r) (e ∙ sym f) (ap (λ p. p.slot) same)
 
 module _ {K V : Type 0} where
-  -- the name is that of a leaf that is there
+  -- the name is that of a leaf in the store
   abbrev IsLeafIn : map.FinMap leaf_cmp (LeafNode K V) → OpaqueNodePtr → Type 0
   IsLeafIn m n = (n.kind ≡ Leaf) × (is_some (map.get m (as_leaf n)) ≡ true)
 
@@ -73,7 +73,7 @@ module _ {K V : Type 0} (s : Nodes K V) where
     leaves_held_below no_child h = tt
     leaves_held_below (child b t cs) h = Each-append (IsLeafIn s.leaves) (leaf_names t) (leaf_names_below cs) (leaves_held t h.0) (leaves_held_below cs h.1)
 
--- at least as many leaves as pairs
+-- the store has at least as many leaves as there are pairs
 pub enough : {K V : Type 0} {bytes : K × V → List ℕ} {P : ℕ} {s : Nodes K V} {root : OpaqueNodePtr} {pairs : List (K × V)} {layout : Tree OpaqueNodePtr (K × V)} →
     IsCanonicalTree bytes P s root pairs layout → length pairs ≤ map.len s.leaves
 enough {s = s} {layout = layout} by =

@@ -1,4 +1,4 @@
--- The leaf of a key that is stored, or comes in.
+-- The leaf of a key that is stored, or is inserted.
 use Rattle.std.proofs.Common.{◌≡◌, ℕ, Bool, List, Option, Some, None, Result, Ok, Err, refl, ap, sym, ◌∙◌, subst, true, false, is_some}
 use Rattle.std.proofs.lemmas.Bool.{false≢true}
 use Rattle.std.specs.Option.{UnwrapsOrElse, unwrap_or}
@@ -35,12 +35,12 @@ use Rattle.art_map.proofs.Items.{no_pairs}
 use Rattle.art_map.proofs.Puts.{is_some-map}
 use Rattle.art_map.proofs.Views.{holds, map_held, view_is}
 
--- a leaf is not covered by no promise
+-- an empty promise covers no leaf
 no_leaf : (inner : Option NodeType) → covers no_promise 1 inner ≡ true → ⊥
 no_leaf None e = false≢true e
 no_leaf (Some kind) e = false≢true e
 
--- so what is placed for a point that names no leaf of the key is not
+-- so it does not cover what is placed for a point that names no leaf of the key
 uncovered : {K V : Type 0} (s : Nodes K V) (kind : InsertKind) → ((p : LeafPtr) → kind ≡ Exact p → ⊥) → is_covered (placed_for s kind) no_promise ≡ true → ⊥
 uncovered s (Exact p) off e = off p refl
 uncovered s (SplitLeaf p n) off e = false≢true e
@@ -56,18 +56,18 @@ module _ {K V : Type 0} (bytes : K → List ℕ) (P : ℕ) {s : Nodes K V} {key 
       let l = own_leaf answers exact by in
       record { name = point.root; pairs = pairs; layout = layout; pair = pair_of l.at.shown; root_is = e; by = by; has = record { path = l.at.path; whole = l.at.whole }; key_is = l.same }
 
-  -- where a point names no leaf of the key, that is not stored
+  -- where a point names no leaf of the key, the key is not stored
   pub unstored : {pairs : List (K × V)} {layout : _} → IsCanonicalTree (of_key bytes) P s point.root pairs layout → AnswersTo (of_key bytes) P layout key point →
       ((p : LeafPtr) → point.insert_kind ≡ Exact p → ⊥) → has_key (of_key bytes) key pairs ≡ false
   unstored by at off = refused_new (tree_stays {mid = record s { promise = no_promise }} (refl, refl) by) at (uncovered s point.insert_kind off)
 
-  -- so it is not stored where the store stands for a list of pairs
+  -- so it is not stored if the store stands for a list of pairs
   pub point_new : {root : Option OpaqueNodePtr} → root ≡ Some point.root → IsPointIn (of_key bytes) P s key point → ((p : LeafPtr) → point.insert_kind ≡ Exact p → ⊥) →
       has_key (of_key bytes) key (pairs_at s root) ≡ false
   point_new {root} e (pairs, layout, by, at) off =
       subst (λ xs. has_key (of_key bytes) key xs ≡ false) (sym (ap (pairs_at s) e ∙ view_is (of_key bytes) P s (Some point.root) (Some layout) by)) (unstored by at off)
 
--- a key that is stored is not in conflict
+-- a stored key does not conflict
 pub stored_free : {K V : Type 0} (bytes : K → List ℕ) (key : List ℕ) (pairs : List (K × V)) → IsMap (of_key bytes) pairs → has_key (of_key bytes) key pairs ≡ true →
     is_conflict (of_key bytes) key pairs ≡ false
 stored_free bytes key pairs rising stored = go (is_conflict (of_key bytes) key pairs) refl
@@ -84,18 +84,18 @@ position_new bytes P key is (positions.Point point) (root_is, point_in, exact, f
 position_new bytes P {s} key is positions.Bare at off = ap (has_key (of_key bytes) key) (no_pairs (of_key bytes) P s at is)
 position_new bytes P {s} {root} key is (positions.Refused error) (any, related) off = conflict_new (of_key bytes) key (pairs_at s root) (map_held (of_key bytes) P s is) related
 
--- a key under which there is no value is not stored
+-- a key without a value is not stored
 pub none_stored : {K V : Type 0} (bytes : K → List ℕ) (key : List ℕ) (pairs : List (K × V)) → value_at bytes key pairs ≡ None → has_key (of_key bytes) key pairs ≡ false
 none_stored bytes key pairs e =
     any_is_first (λ x. are_same key (bytes x.0)) pairs ∙ sym (is_some-map (λ x. x.1) (first_of (with_key (of_key bytes) key pairs))) ∙ ap is_some e
 
--- and neither is a key that is refused
+-- and neither is a rejected key
 pub none_refused : {K V : Type 0} (bytes : K → List ℕ) (key : K) (value : V) (pairs : List (K × V)) → IsMap (of_key bytes) pairs → (error : MapInsertError K V) →
     IsRefusalOf bytes key value pairs error → has_key (of_key bytes) (bytes key) pairs ≡ false
 none_refused bytes key value pairs rising (errors.Conflict k v error) (same_key, same_value, spelled, related) = conflict_new (of_key bytes) (bytes key) pairs rising related
 none_refused bytes key value pairs rising (errors.Memory k v) (same_key, same_value, none) = none
 
--- what is there, or was made
+-- the value that exists, or the one that was made
 pub unwraps : {V : Type 0} (IsMade : V → Type 0) (o : Option V) (value lent : V) → (o ≡ None → IsMade value) → lent ≡ unwrap_or o value → UnwrapsOrElse o IsMade lent
 unwraps IsMade None value lent made e = subst IsMade (sym e) (made refl)
 unwraps IsMade (Some x) value lent made e = e
@@ -105,7 +105,7 @@ module _ {K V : Type 0} (bytes : K → List ℕ) (new : K × V) (pairs : List (K
   pub new_is_put : put (of_key bytes) new pairs ≡ put_new bytes new pairs
   new_is_put = rw none refl
 
-  -- which is in its own place, and no pair gives way
+  -- it is inserted in its place, and replaces no pair
   pub new_replaces : (replace_key (of_key bytes) new pairs ≡ put_new bytes new pairs) × (None ≡ first_of (with_key (of_key bytes) (bytes new.0) pairs))
   new_replaces = go (first_of (with_key (of_key bytes) (bytes new.0) pairs)) refl
     where
@@ -114,7 +114,7 @@ module _ {K V : Type 0} (bytes : K → List ℕ) (new : K × V) (pairs : List (K
       go None e = (sym (put-new (of_key bytes) new pairs e) ∙ new_is_put, sym e)
       go (Some x) e = absurd (false≢true (sym none ∙ has_is_stored (of_key bytes) new pairs ∙ ap is_some e))
 
-  -- and nothing comes back
+  -- and nothing is returned
   pub none_back : put_reply (of_key bytes) new pairs ≡ None
   none_back = go (first_of (with_key (of_key bytes) (bytes new.0) pairs)) refl
     where
@@ -122,7 +122,7 @@ module _ {K V : Type 0} (bytes : K → List ℕ) (new : K × V) (pairs : List (K
       go None e = put_reply-new (of_key bytes) new pairs e
       go (Some x) e = absurd (false≢true (sym none ∙ has_is_stored (of_key bytes) new pairs ∙ ap is_some e))
 
--- the leaf that an insertion answers is that of the key
+-- the leaf that an insertion returns is that of the key
 pub leaf_of_result : {K V : Type 0} (bytes : K → List ℕ) (P : ℕ) {t : Nodes K V} {point : InsertPoint} (new : K × V) (after : List (K × V)) (done : InsertResult K V) →
     IsCanonical (of_key bytes) P t (Some done.new_root) after →
     ForTree (of_key bytes) P t done.new_root (λ pairs layout. HasInserted layout point (stored_for (of_key bytes) new pairs) done) →
@@ -141,12 +141,12 @@ leaf_of_result bytes P new after done (layout, by) told =
     }
 
 module _ {K V : Type 0} (bytes : K → List ℕ) (P : ℕ) (pairs : List (K × V)) (t : Nodes K V) (root : Option OpaqueNodePtr) (len : ℕ) (key : K) (value : V) where
-  -- the pairs that are read off are held, whatever is answered
+  -- the pairs read off the store are held, whatever the result
   pub enters_holds : (result : Result LeafPtr (MapInsertError K V)) → HasEntered bytes P pairs key value result t root len → HoldsPairs (of_key bytes) P t root len (pairs_at t root)
   enters_holds (Ok leaf) h = holds (of_key bytes) P t h.0
   enters_holds (Err error) h = holds (of_key bytes) P t h.0
 
--- the same where the value was made
+-- the same if the value was made
 pub made_holds : {K V : Type 0} (bytes : K → List ℕ) (P : ℕ) (pairs : List (K × V)) (t : Nodes K V) (root : Option OpaqueNodePtr) (len : ℕ) (key : K) (IsMade : V → Type 0)
     (result : Result LeafPtr (MapInsertError K V)) → HasMade bytes P pairs key IsMade result t root len → HoldsPairs (of_key bytes) P t root len (pairs_at t root)
 made_holds bytes P pairs t root len key IsMade result (value, made, entered) = enters_holds bytes P pairs t root len key value result entered

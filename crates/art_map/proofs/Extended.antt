@@ -1,4 +1,4 @@
--- What is put one after another, with one more.
+-- Puts of several pairs, and of one more.
 use Rattle.std.proofs.Common.{◌≡◌, ℕ, List, [], ◌∷◌, ◌++◌, refl}
 use Rattle.art_model.specs.Pairs.{of_key, put}
 use Rattle.art_map.specs.MapCalls.{put_all}

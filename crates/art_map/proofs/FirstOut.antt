@@ -1,4 +1,4 @@
--- The first pair whose key passes a test goes, and then the next ones.
+-- The first pair whose key passes a test is removed, and then the next ones.
 use Rattle.std.proofs.Common.{◌≡◌, ℕ, suc, ◌+◌, ◌-◌, ◌≤◌, ◌<◌, List, [], ◌∷◌, length, refl, ap, sym, ◌∙◌, subst, arith, Some, None, Bool, true, false, not, cond, filter}
 use Rattle.std.proofs.lemmas.Bool.{true≢false}
 use Rattle.art_model.specs.Keys.{are_same}
@@ -20,7 +20,7 @@ module _ {A : Type 0} (bytes : A → List ℕ) (test : List ℕ → Bool) where
   first_passes : (pairs : List A) (x : A) → first_of (passing pairs) ≡ Some x → test (bytes x) ≡ true
   first_passes pairs x e = first_has (λ y. test (bytes y) ≡ true) (passing pairs) x (filter_passes (λ y. test (bytes y)) pairs) e
 
-  -- of two keys of which one passes and the other does not, neither is the other
+  -- two keys of which only one passes the test are unequal
   other_key : (x y : A) → test (bytes x) ≡ true → test (bytes y) ≡ false → are_same (bytes x) (bytes y) ≡ false
   other_key x y is off = go (are_same (bytes x) (bytes y)) refl
     where
@@ -28,7 +28,7 @@ module _ {A : Type 0} (bytes : A → List ℕ) (test : List ℕ → Bool) where
       go false e = refl
       go true e = absurd (true≢false (sym is ∙ ap test (sym (same_equal (bytes x) (bytes y) e)) ∙ off))
 
-  -- The pair is found by its key. To remove its key takes it alone out.
+  -- The pair is found by its key. The removal of its key removes it alone.
   pub record IsFirstOut (pairs : List A) (x : A) : Type 0 where
     pub reply : remove_reply bytes (bytes x) pairs ≡ Some x
     pub passes : passing pairs ≡ x ∷ passing (remove_key bytes (bytes x) pairs)
@@ -49,7 +49,7 @@ module _ {A : Type 0} (bytes : A → List ℕ) (test : List ℕ → Bool) where
           let off = other_key x y (first_passes ys x f) is in
           record { reply = rw off out.reply; passes = rw (off, is) out.passes; fails = rw (off, is) (ap (λ zs. y ∷ zs) out.fails) }
 
-  -- where none passes all stay
+  -- if none passes, all stay
   pub none_out : (pairs : List A) → passing pairs ≡ [] → failing pairs ≡ pairs
   none_out pairs none =
       filter_all (λ x. not (test (bytes x))) pairs
@@ -92,6 +92,6 @@ module _ {A : Type 0} (bytes : A → List ℕ) (test : List ℕ → Bool) where
     pub some_goes : (x : A) → Some x ≡ first_of (passing now) → failing (without bytes (Some x) now) ≡ failing before
     some_goes x first = (first_out now x rising (sym first)).fails ∙ kept
 
-    -- each time there are less
+    -- there are fewer each time
     pub fewer : (x : A) → Some x ≡ first_of (passing now) → length (passing (without bytes (Some x) now)) < length (passing now)
     fewer x first = let less = ap length (first_out now x rising (sym first)).passes in omega arith

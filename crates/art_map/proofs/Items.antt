@@ -1,4 +1,4 @@
--- The pairs that a walk of leaves has left.
+-- The pairs that an iterator over leaves has left.
 use Rattle.std.proofs.Common.{◌≡◌, ℕ, suc, ◌+◌, ◌-◌, ◌≤◌, List, [], ◌∷◌, ◌++◌, length, refl, ap, ap₂, sym, ◌∙◌, subst, arith, length-append, append_assoc, Option, Some, None}
 use Rattle.std.specs.Option.{option_map}
 use Rattle.std.specs.FinMap as map
@@ -51,7 +51,7 @@ module _ {K V : Type 0} (s : Nodes K V) where
   mutual
     unfolding pairs_from
 
-    -- a chain of links gives the pairs of its names
+    -- a list of linked leaves gives the pairs of its names
     chained : (names : List OpaqueNodePtr) (before after o : Option OpaqueNodePtr) (p : Option LeafPtr) → AreLinked (links_at s) before names after →
         option_map leaf_name p ≡ first_or names o → pairs_from s (length names) p ≡ named_pairs names
     chained [] before after o p linked e = refl
@@ -67,7 +67,7 @@ module _ {K V : Type 0} (s : Nodes K V) where
   first_first [] n e = absurd cc
   first_first (x ∷ xs) n e = sym e
 
-  -- so a walk has the pairs of its names left
+  -- so an iterator has the pairs of its names left
   pub left_are : (walk : Option (LeafPtr × LeafPtr)) (names : List OpaqueNodePtr) (len : ℕ) → IsIteratorOf s walk names → len ≡ length names → pairs_left s walk len ≡ named_pairs names
   left_are None names len is counted =
       ap (λ n. pairs_from s n None) counted ∙ chained names is.segment.before is.segment.after None None is.segment.linked (ap (λ ns. first_or ns None) (sym is.ends))
@@ -87,7 +87,7 @@ module _ {K V : Type 0} (s : Nodes K V) where
         let (node, there, previous, next) = linked_leaf (map.get s.leaves p) _ (subst (λ k. links_at s k ≡ Some (record { previous = before; next = first_or ns after })) (sym same) linked.0) in
         ap length (from_there p node (length ns) there) ∙ ap suc (chained_len ns (Some n) after after node.next linked.1 next)
 
-  -- a walk has as many pairs left as its length says
+  -- an iterator has as many pairs left as its length says
   pub left_len : (walk : Option (LeafPtr × LeafPtr)) (len : ℕ) → IsWalk s walk len → length (pairs_left s walk len) ≡ len
   left_len None len w =
       ap (λ n. length (pairs_from s n None)) w.len_is ∙ chained_len w.names w.is.segment.before w.is.segment.after None None w.is.segment.linked
@@ -122,7 +122,7 @@ module _ {K V : Type 0} (s : Nodes K V) where
       ap named_pairs (but_last n ns (leaf_name p) (sym e)) ∙ named_append (without_last (n ∷ ns)) (leaf_name p ∷ [])
       ∙ ap (λ xs. named_pairs (without_last (n ∷ ns)) ++ (xs ++ [])) (read_pair (map.get s.leaves p) pair read)
 
--- the names of a list with a first one, or with a last one, are one more than the others
+-- a list with a first name, or with a last one, has one more than the others
 pub less_first : {N : Type 0} (names : List N) (n : N) → Some n ≡ first_of names → length names ≡ length (without_first names) + 1
 less_first [] n e = absurd cc
 less_first (x ∷ xs) n e = omega arith
@@ -142,7 +142,7 @@ none_last (x ∷ []) e = absurd cc
 none_last (x ∷ y ∷ ys) e = let none : y ∷ ys ≡ [] = none_last (y ∷ ys) e in absurd cc
 
 module _ {K V : Type 0} {s : Nodes K V} {walk left : Option (LeafPtr × LeafPtr)} {len : ℕ} (w : IsWalk s walk len) where
-  -- where no name is left of a walk there is no pair
+  -- if an iterator has no name left, there is no pair
   ended : (without : List OpaqueNodePtr → List OpaqueNodePtr) → without [] ≡ [] → IsIteratorOf s left (without w.names) → w.names ≡ [] →
       (pairs_left s walk len ≡ []) × (pairs_left s left len ≡ [])
   ended without nothing after none =
@@ -172,7 +172,7 @@ module _ {K V : Type 0} {s : Nodes K V} {walk left : Option (LeafPtr × LeafPtr)
     pub last_ended : ((names : List OpaqueNodePtr) → IsIteratorOf s walk names → None ≡ last_of names) → (pairs_left s walk len ≡ []) × (pairs_left s left len ≡ [])
     last_ended e = ended without_last refl (after w.names w.is) (none_last w.names (e w.names w.is))
 
-    -- and the walk is one of no more leaves
+    -- and the iterator is over no more leaves
     pub last_over : ((names : List OpaqueNodePtr) → IsIteratorOf s walk names → None ≡ last_of names) → IsWalk s left len
     last_over e =
         let none = none_last w.names (e w.names w.is) in
@@ -200,7 +200,7 @@ module _ {K V : Type 0} {s : Nodes K V} {walk left : Option (LeafPtr × LeafPtr)
 
 module _ {K V : Type 0} {bytes : K × V → List ℕ} {P : ℕ} {s : Nodes K V} {root : OpaqueNodePtr} {pairs : List (K × V)} {layout : Tree OpaqueNodePtr (K × V)}
     (by : IsCanonicalTree bytes P s root pairs layout) where
-  -- the walk from the first leaf of a tree to the last one
+  -- the iterator from the first leaf of a tree to the last one
   pub whole_walk : {p q : LeafPtr} → HasFirstLeaf layout (leaf_name p) → HasLastLeaf layout (leaf_name q) → IsIteratorOf s (Some (p, q)) (leaf_names layout)
   whole_walk first last = record { ends = (first.name_is, last.name_is); segment = tree_segment layout by.stands.0.distinct by.linked }
 
@@ -211,7 +211,7 @@ module _ {K V : Type 0} {bytes : K × V → List ℕ} {P : ℕ} {s : Nodes K V} 
   whole_pairs {p} {q} {len} first last counted =
       left_are s (Some (p, q)) (leaf_names layout) len (whole_walk first last) (counted ∙ sym whole_len) ∙ leaves_named s layout by.stands.0.holds ∙ (tree_radix by).1
 
--- no root has no pairs, and an empty walk none left
+-- without a root there are no pairs, and an empty iterator has none left
 pub none_left : {K V : Type 0} (s : Nodes K V) → pairs_left s None 0 ≡ []
 none_left s = left_are s None [] 0 empty_iterator refl
 

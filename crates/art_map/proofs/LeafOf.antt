@@ -1,4 +1,4 @@
--- In the store of a map each leaf is one of the tree.
+-- Each leaf in the store of a map is one of the tree.
 use Rattle.std.proofs.Common.{◌≡◌, ◌≢◌, ◌⊎◌, ℕ, List, [], ◌∷◌, Option, Some, None, refl, ap, sym, ◌∙◌, subst, inl, inr}
 use Rattle.std.specs.FinMap.{get}
 use Rattle.std.specs.Option.{option_map}
@@ -27,13 +27,13 @@ use Rattle.art_map.specs.MapPairs.{HoldsPairs}
 use Rattle.art_map.proofs.Enough.{as_leaf}
 
 module _ {N A : Type 0} where
-  -- children before one, that one, and those after it
+  -- the children before one, that one, and those after it
   join_one : (l : Subtrees N A) (b : ℕ) (t : Tree N A) (r : Subtrees N A) → join (join l (child b t no_child)) r ≡ join l (child b t r)
   join_one no_child b t r = refl
   join_one (child c u l) b t r = ap (child c u) (join_one l b t r)
 
 module _ {K V : Type 0} (s : Nodes K V) (p : LeafPtr) (whole : Tree OpaqueNodePtr (K × V)) where
-  -- the tree has the leaf, or it is under none of these names
+  -- the tree has the leaf, or none of these names is the leaf's
   abbrev IsLeafOr : List OpaqueNodePtr → Type 0
   IsLeafOr names = (IsIn (leaf_name p) names → ⊥) ⊎ ((x : K × V) × HasLeaf whole (leaf_name p) x)
 

@@ -14,7 +14,7 @@ use Rattle.art_map.specs.MapParts.{keys_before, keys_from, without}
 use Rattle.art_map.proofs.FirstOut.{all_gone, failing, first_out, passing}
 
 module _ {K V : Type 0} (bytes : K → List ℕ) where
-  -- no pair before a key has it
+  -- no pair before a key has that key
   none_same : (x : K × V) (l : List (K × V)) → Each (λ y. Precedes (bytes y.0) (bytes x.0)) l →
       (with_key (of_key bytes) (bytes x.0) l ≡ []) × (remove_key (of_key bytes) (bytes x.0) l ≡ l)
   none_same x [] h = (refl, refl)
@@ -23,7 +23,7 @@ module _ {K V : Type 0} (bytes : K → List ℕ) where
       let off : are_same (bytes x.0) (bytes y.0) ≡ false = same_related (bytes x.0) (bytes y.0) (related_sym (bytes x.0) (bytes y.0) ∙ h.0.1) in
       (rw off none, rw off (ap (λ zs. y ∷ zs) all))
 
-  -- a pair after all others is put at the end
+  -- a pair that is greater than all others is put at the end
   pub put_end : (x : K × V) (l : List (K × V)) → Each (λ y. Precedes (bytes y.0) (bytes x.0)) l → put (of_key bytes) x l ≡ l ++ x ∷ []
   put_end x l h =
       let (none, all) = none_same x l h in
@@ -43,13 +43,13 @@ module _ {K V : Type 0} (bytes : K → List ℕ) where
       abbrev left : List (K × V)
       left = without (of_key bytes) (Some x) now
 
-      -- the next pair is out
+      -- the next pair is removed
       pub next_out : (passing (of_key bytes) test before ≡ moved ++ x ∷ passing (of_key bytes) test left) × (failing (of_key bytes) test left ≡ failing (of_key bytes) test before)
       next_out =
           let out = first_out (of_key bytes) test now x rising (sym first) in
           (so_far.parts ∙ ap (λ zs. moved ++ zs) out.passes, out.fails ∙ so_far.kept)
 
-      -- and in the other map
+      -- and is in the other map
       pub goes_on : Moving left (put (of_key bytes) x moved)
       goes_on =
           let out = first_out (of_key bytes) test now x rising (sym first) in
@@ -82,7 +82,7 @@ module _ {A : Type 0} (bytes : A → List ℕ) (key : List ℕ) (pairs : List A)
   pub before_key : failing bytes (is_between (Included key) Unbounded) pairs ≡ keys_before bytes key pairs
   before_key = λ i. filter (λ x. not_not (is_before (bytes x) key) i) pairs
 
--- what a split tells
+-- what a split reports
 module _ {K V : Type 0} (bytes : K → List ℕ) (key : List ℕ) (before : List (K × V)) {now moved : List (K × V)}
     (so_far : Moving bytes (is_between (Included key) Unbounded) before now moved) where
   abbrev test : List ℕ → Bool
@@ -107,11 +107,11 @@ module _ {K V : Type 0} (bytes : K → List ℕ) (key : List ℕ) (before : List
       let (left, all) = ends bytes test before so_far none in
       (same ∙ left ∙ before_key (of_key bytes) key before, all ∙ from_key (of_key bytes) key before)
 
--- the first of a list and the others are the list
+-- a list is its first item and the others
 pub first_and_others : {A : Type 0} (xs : List A) (x : A) → Some x ≡ first_of xs → xs ≡ x ∷ without_first xs
 first_and_others [] x e = absurd cc
 first_and_others (y ∷ ys) x e = let same : x ≡ y = cc in ap (λ z. z ∷ ys) (sym same)
 
--- what a removal returned was the first
+-- what a removal returned was the first pair
 pub removed_first : {A E : Type 0} {r : Result (Option A) E} {o : Option A} (xs : List A) → r ≡ Ok o → IfOk r (λ removed. removed ≡ first_of xs) → o ≡ first_of xs
 removed_first xs e h = rw e at h

@@ -1,4 +1,4 @@
--- What a walk has left once the leaf that came is freed.
+-- What an iterator has left after the returned leaf is freed.
 use Rattle.std.proofs.Common.{◌≡◌, ◌≢◌, ℕ, ◌-◌, List, [], ◌∷◌, ◌++◌, length, refl, ap, sym, ◌∙◌, subst, inl, inr, Option, Some, None}
 use Rattle.std.specs.Option.{option_map, option_and_then}
 use Rattle.std.specs.FinMap as map
@@ -21,7 +21,7 @@ use Rattle.art_writing.proofs.Freed.{leaf_freed}
 use Rattle.art_map.specs.MapItems.{pairs_from, pairs_left, IsWalk}
 use Rattle.art_map.proofs.Items.{from_there, first_first, first_step, first_walk, last_step, last_walk}
 
--- the first of distinct names is not one of the others, and neither is the last one
+-- the first of distinct names is not one of the others, and neither is the last
 off_first : {N : Type 0} (names : List N) (k : N) → AreDistinct names → Some k ≡ first_of names → IsIn k (without_first names) → ⊥
 off_first [] k distinct e i = absurd cc
 off_first (x ∷ xs) k distinct e i = each_in (λ y. x ≢ y) k xs distinct.0 i cc
@@ -46,7 +46,7 @@ module _ {K V : Type 0} (s t : Nodes K V) (p : LeafPtr) (leaves : t.leaves ≡ m
         from_there t q node (length ns) stays ∙ ap (λ xs. pair_of node ∷ xs) (same_chain ns (Some n) after after node.next linked.1 next (λ i. off (inr i)))
         ∙ sym (from_there s q node (length ns) there)
 
-  -- a walk without the leaf that is freed goes on
+  -- an iterator continues without the freed leaf
   module _ {walk : Option (LeafPtr × LeafPtr)} {len : ℕ} (w : IsWalk s walk len) (off : IsIn (leaf_name p) w.names → ⊥) where
     walk_stays : IsWalk t walk len
     walk_stays = record {
@@ -70,7 +70,7 @@ module _ {K V : Type 0} (s t : Nodes K V) (p : LeafPtr) (leaves : t.leaves ≡ m
   module _ {walk left : Option (LeafPtr × LeafPtr)} {len : ℕ} {node : LeafNode K V} (w : IsWalk s walk len) (there : map.get s.leaves p ≡ Some node) where
     module _ (after : (names : List OpaqueNodePtr) → IsIteratorOf s walk names → IsIteratorOf s left (without_first names))
         (first : (names : List OpaqueNodePtr) → IsIteratorOf s walk names → Some (leaf_name p) ≡ first_of names) where
-      -- once the first leaf is freed
+      -- after the first leaf is freed
       pub first_out_walk : IsWalk t left (len - 1)
       unfolding first_walk
       first_out_walk = walk_stays (first_walk w after {p = p} first) (off_first w.names (leaf_name p) w.is.segment.distinct (first w.names w.is))
@@ -83,7 +83,7 @@ module _ {K V : Type 0} (s t : Nodes K V) (p : LeafPtr) (leaves : t.leaves ≡ m
 
     module _ (after : (names : List OpaqueNodePtr) → IsIteratorOf s walk names → IsIteratorOf s left (without_last names))
         (last : (names : List OpaqueNodePtr) → IsIteratorOf s walk names → Some (leaf_name p) ≡ last_of names) where
-      -- once the last leaf is freed
+      -- after the last leaf is freed
       pub last_out_walk : IsWalk t left (len - 1)
       unfolding last_walk
       last_out_walk = walk_stays (last_walk w after {p = p} last) (off_last w.names (leaf_name p) w.is.segment.distinct (last w.names w.is))

@@ -1,4 +1,4 @@
--- The pairs that are left when the first of those whose keys begin with a prefix is taken out, or all of them.
+-- The pairs that are left after the first pair with a prefix is removed, or all of them.
 use Rattle.std.proofs.Common.{◌≡◌, ℕ, suc, ◌+◌, ◌-◌, ◌≤◌, Option, List, [], ◌∷◌, length, refl, ap, sym, ◌∙◌, subst, arith, Some, None, Bool, true, false, not, cond}
 use Rattle.std.specs.List.{AllByRecursion as Each}
 use Rattle.std.proofs.lemmas.Bool.{true≢false}
@@ -31,7 +31,7 @@ module _ {A : Type 0} (bytes : A → List ℕ) (prefix : List ℕ) where
       go [] is h = absurd cc
       go (y ∷ ys) is h = let same : y ≡ x = cc in subst (λ q. is_front prefix (bytes q) ≡ true) same h.0
 
-  -- of two keys of which one begins with the prefix and the other does not, neither is the other
+  -- two keys of which only one starts with the prefix are unequal
   other_key : (x y : A) → is_front prefix (bytes x) ≡ true → is_front prefix (bytes y) ≡ false → are_same (bytes x) (bytes y) ≡ false
   other_key x y begins off = go (are_same (bytes x) (bytes y)) refl
     where
@@ -39,7 +39,7 @@ module _ {A : Type 0} (bytes : A → List ℕ) (prefix : List ℕ) where
       go false e = refl
       go true e = absurd (true≢false (sym begins ∙ ap (is_front prefix) (sym (same_equal (bytes x) (bytes y) e)) ∙ off))
 
-  -- the first of those is found by its key, and to remove its key takes it out
+  -- the first of these pairs is found by its key, and the removal of its key removes it
   pub first_below : (pairs : List A) (x : A) → IsMap bytes pairs → first_of (below bytes prefix pairs) ≡ Some x →
       (remove_reply bytes (bytes x) pairs ≡ Some x) × (remove_key bytes (bytes x) pairs ≡ without_below bytes prefix 1 pairs)
   first_below [] x rising e = absurd cc
@@ -72,7 +72,7 @@ module _ {A : Type 0} (bytes : A → List ℕ) (prefix : List ℕ) where
         subst (λ q. (Some q ≡ first_of (below bytes prefix pairs)) × (remove_key bytes (bytes q) pairs ≡ without_below bytes prefix 1 pairs)) same
         (first, (first_below pairs x rising (sym first)).1)
 
-  -- where there is none of those all stay
+  -- if there are no such pairs, all stay
   pub nothing_out : (pairs : List A) → None ≡ first_of (below bytes prefix pairs) → without_below bytes prefix 1 pairs ≡ pairs
   nothing_out [] none = refl
   nothing_out (y ∷ ys) none = go (nothing_out ys) (is_front prefix (bytes y)) refl none
@@ -82,14 +82,14 @@ module _ {A : Type 0} (bytes : A → List ℕ) (prefix : List ℕ) where
       go ih true is f = absurd cc
       go ih false is f = ap (λ zs. y ∷ zs) (ih f)
 
-  -- where none begins with the prefix all stay
+  -- if no key starts with the prefix, all stay
   pub none_below : (pairs : List A) → below bytes prefix pairs ≡ [] → not_below bytes prefix pairs ≡ pairs
   none_below pairs none =
       filter_all (λ x. not (is_front prefix (bytes x))) pairs
       (Each-weaker (λ x. is_front prefix (bytes x) ≡ false) (λ x. not (is_front prefix (bytes x)) ≡ true) (λ x e. ap not e) pairs
       (none_passes (λ x. is_front prefix (bytes x)) pairs none))
 
-  -- each pair begins with the prefix or does not
+  -- each key starts with the prefix or does not
   pub both_counted : (pairs : List A) → length (not_below bytes prefix pairs) + length (below bytes prefix pairs) ≡ length pairs
   both_counted [] = refl
   both_counted (y ∷ ys) = go (both_counted ys) (is_front prefix (bytes y))
@@ -99,9 +99,9 @@ module _ {A : Type 0} (bytes : A → List ℕ) (prefix : List ℕ) where
       go ih true = omega arith
       go ih false = omega arith
 
--- ---- all of them go at once
+-- ---- all of them are removed at once
 
--- no root holds no pair
+-- without a root there are no pairs
 pub none_held : {K V : Type 0} (bytes : K × V → List ℕ) (P : ℕ) {s : Nodes K V} {root : Option OpaqueNodePtr} {len : ℕ} {pairs : List (K × V)} → root ≡ None → HoldsPairs bytes P s root len pairs → pairs ≡ []
 none_held {K} {V} bytes P {s} {root} {len} {pairs} none is = go is.tree (subst (λ r. IsRootOf bytes P s r pairs is.tree) none is.canonical)
   where
@@ -111,7 +111,7 @@ none_held {K} {V} bytes P {s} {root} {len} {pairs} none is = go is.tree (subst (
 
 module _ {K V : Type 0} (bytes : K × V → List ℕ) (P : ℕ) {s : Nodes K V} {name : OpaqueNodePtr} {len : ℕ} {pairs : List (K × V)} (has : HasTreeAt bytes P s name len pairs)
     (prefix : List ℕ) where
-  -- where none begins with the prefix
+  -- if no key starts with the prefix
   pub none_begins : below bytes prefix (pairs_of has.layout) ≡ [] → (not_below bytes prefix pairs ≡ pairs) × (0 ≡ length (below bytes prefix pairs))
   none_begins none =
       let nothing : below bytes prefix pairs ≡ [] = ap (below bytes prefix) (sym (tree_radix has.by).1) ∙ none in

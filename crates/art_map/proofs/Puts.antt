@@ -1,4 +1,4 @@
--- Pairs that are put.
+-- Puts of pairs into a map's tree.
 use Rattle.std.proofs.Common.{◌≡◌, ℕ, ◌+◌, ◌-◌, ◌≤◌, List, [], ◌∷◌, length, not, refl, ap, ap₂, sym, ◌∙◌, subst, arith, Bool, Option, Some, None, true, false, is_some, zero, suc}
 use Rattle.std.proofs.lemmas.Bool.{true≢false}
 use Rattle.std.specs.List.{cons_option}
@@ -32,14 +32,14 @@ use Rattle.art_map.specs.MapPairs.{HoldsPairs}
 use Rattle.art_map.proofs.Views.{none_other}
 
 module _ {K V : Type 0} (bytes : K × V → List ℕ) (P : ℕ) where
-  -- The pairs have a tree, and the store has no name beside it.
+  -- The pairs have a tree, and the store has no names but the tree's.
   pub record HasTreeAt (s : Nodes K V) (root : OpaqueNodePtr) (len : ℕ) (pairs : List (K × V)) : Type 0 where
     pub layout : Tree OpaqueNodePtr (K × V)
     pub by : IsCanonicalTree bytes P s root pairs layout
     pub no_other : (name : OpaqueNodePtr) → (IsIn name (names_of layout) → ⊥) → content_at s name ≡ None
     pub len_is : len ≡ length pairs
 
-  -- of a root that is there
+  -- the same for a root that exists
   pub at_root : {s : Nodes K V} {name : OpaqueNodePtr} {len : ℕ} {pairs : List (K × V)} → HoldsPairs bytes P s (Some name) len pairs → HasTreeAt s name len pairs
   at_root {s} {name} {len} {pairs} is = go is.tree is.canonical is.no_other
     where
@@ -73,41 +73,41 @@ module _ {K V : Type 0} (bytes : K × V → List ℕ) (P : ℕ) where
     len_is = counted;
   }
 
-  -- nothing is left of a tree that was freed
+  -- nothing is left of a freed tree
   pub emptied : {s t : Nodes K V} {name : OpaqueNodePtr} {len : ℕ} {pairs : List (K × V)} (has : HasTreeAt s name len pairs) → KeepsOthers s t (names_of has.layout) [] → HoldsPairs bytes P t None 0 []
   emptied has freed = record { tree = None; canonical = refl; no_other = none_other freed has.no_other; len_is = refl }
 
 module _ {K V : Type 0} {bytes : K × V → List ℕ} {P : ℕ} where
-  -- of a root that is known to be there
+  -- the same for a root that is known to exist
   pub at_some : {s : Nodes K V} {root : Option OpaqueNodePtr} {name : OpaqueNodePtr} {len : ℕ} {pairs : List (K × V)} → root ≡ Some name → HoldsPairs bytes P s root len pairs →
       HasTreeAt bytes P s name len pairs
   at_some {s} {len = len} {pairs = pairs} e is = at_root bytes P (subst (λ r. HoldsPairs bytes P s r len pairs) e is)
 
-  -- the name of a root that is there is canonical
+  -- the name of an existing root is canonical
   pub canonical_root : {s : Nodes K V} {root : Option OpaqueNodePtr} {name : OpaqueNodePtr} {len : ℕ} {pairs : List (K × V)} → root ≡ Some name → HoldsPairs bytes P s root len pairs →
       IsCanonicalRoot bytes P s name
   canonical_root {pairs = pairs} e is = let has = at_some e is in (pairs, has.layout, has.by)
 
 module _ {K V : Type 0} (bytes : K → List ℕ) (new : K × V) (pairs : List (K × V)) (rising : IsMap (of_key bytes) pairs) where
-  -- as many pairs have the key as come back
+  -- as many pairs have the key as are returned
   with_key_told : length (with_key (of_key bytes) (bytes new.0) pairs) ≡ length (cons_option (put_reply (of_key bytes) new pairs) [])
   with_key_told = sym (length-map (with_key (of_key bytes) (bytes new.0) pairs) (λ old. (new.0, old.1))) ∙ ap length (put_tells bytes new pairs rising)
 
-  -- where nothing comes back there is a pair more
+  -- if none is returned, there is one pair more
   pub one_more : put_reply (of_key bytes) new pairs ≡ None → length (put (of_key bytes) new pairs) ≡ length pairs + 1
   one_more none =
       let counts = put_counts bytes new pairs in
       let empty : length (with_key (of_key bytes) (bytes new.0) pairs) ≡ 0 = with_key_told ∙ ap (λ o. length (cons_option o [])) none in
       omega arith
 
-  -- and where a pair does there are as many
+  -- and if one is, there are as many
   pub as_many : (x : K × V) → put_reply (of_key bytes) new pairs ≡ Some x → length (put (of_key bytes) new pairs) ≡ length pairs
   as_many x some =
       let counts = put_counts bytes new pairs in
       let one : length (with_key (of_key bytes) (bytes new.0) pairs) ≡ 1 = with_key_told ∙ ap (λ o. length (cons_option o [])) some in
       omega arith
 
--- what is made of something is there where that is
+-- what is made of an item exists exactly where the item does
 pub is_some-map : {A B : Type 0} (f : A → B) (o : Option A) → is_some (option_map f o) ≡ is_some o
 is_some-map f None = refl
 is_some-map f (Some x) = refl
@@ -116,7 +116,7 @@ module _ {K V : Type 0} (bytes : K → List ℕ) (new : K × V) (pairs : List (K
   abbrev Related : List (K × V)
   Related = related_to (of_key bytes) (bytes new.0) pairs
 
-  -- one pair comes, and those with related keys go
+  -- one pair is inserted, and those with related keys are removed
   pub over_counts : length (overwrite (of_key bytes) new pairs) + length Related ≡ length pairs + 1
   over_counts = overwrite_counts bytes new pairs rising
 
@@ -130,7 +130,7 @@ module _ {K V : Type 0} (bytes : K → List ℕ) (new : K × V) (pairs : List (K
       double true = refl
       double false = refl
 
-  -- what an overwrite tells is how many pairs have related keys
+  -- the number that an overwrite returns is that of the pairs with related keys
   pub told_gone : (done : PrefixInsertResult K V) → done.insert_result.existing_leaf ≡ option_map unlinked_leaf (overwrite_reply (of_key bytes) new pairs).0 →
       done.leafs_removed ≡ (overwrite_reply (of_key bytes) new pairs).1 → gone_count done ≡ length Related
   told_gone done existing removed = go (has_key (of_key bytes) (bytes new.0) pairs) refl
@@ -173,7 +173,7 @@ pub some_back : {K V : Type 0} (reply : Option (K × V)) (node : LeafNode K V) �
 some_back None node e = absurd cc
 some_back (Some x) node e = let same : unlinked_leaf x ≡ node = cc in ap (λ l. Some (pair_of l)) same
 
--- How many pairs gave way to a new one, and how many there are with it.
+-- How many pairs a new one replaced, and how many there are with it.
 pub record CountsOver {K V : Type 0} (bytes : K → List ℕ) (new : K × V) (pairs : List (K × V)) (gone len : ℕ) : Type 0 where
   pub gone_is : gone ≡ length (related_to (of_key bytes) (bytes new.0) pairs)
   pub fits : gone ≤ len
@@ -182,25 +182,25 @@ pub record CountsOver {K V : Type 0} (bytes : K → List ℕ) (new : K × V) (pa
 module _ {K V : Type 0} (bytes : K → List ℕ) (P : ℕ) {s : Nodes K V} {name : OpaqueNodePtr} {len : ℕ} {pairs : List (K × V)} (new : K × V)
     (has : HasTreeAt (of_key bytes) P s name len pairs) where
   module _ {existing : Option (LeafNode K V)} (told : ForTree (of_key bytes) P s name (λ pairs layout. existing ≡ option_map unlinked_leaf (put_reply (of_key bytes) new pairs))) where
-    -- where no leaf comes back there is a pair more than the length said
+    -- if no leaf is returned, there is one pair more than the length said
     pub pair_more : existing ≡ None → (put_reply (of_key bytes) new pairs ≡ None) × (length (put (of_key bytes) new pairs) ≡ len + 1)
     pair_more none =
         let reply = none_back (put_reply (of_key bytes) new pairs) (sym (told pairs has.layout has.by) ∙ none) in
         (reply, one_more bytes new pairs has.by.is_map reply ∙ ap (λ n. n + 1) (sym has.len_is))
 
-    -- and where one does there are as many
+    -- and if one is, there are as many
     pub same_many : {node : LeafNode K V} → existing ≡ Some node → (put_reply (of_key bytes) new pairs ≡ Some (pair_of node)) × (length (put (of_key bytes) new pairs) ≡ len)
     same_many {node} some =
         let reply = some_back (put_reply (of_key bytes) new pairs) node (sym (told pairs has.layout has.by) ∙ some) in
         (reply, as_many bytes new pairs has.by.is_map (pair_of node) reply ∙ sym has.len_is)
 
-  -- where the root's search refused no key there is no conflict
+  -- if the search from the root found a point for the key, there is no conflict
   pub accepted : {root : OpaqueNodePtr} {key : List ℕ} → name ≡ root → key ≡ bytes new.0 → ForTree (of_key bytes) P s root (λ pairs layout. is_conflict (of_key bytes) key pairs ≡ false) →
       is_conflict (of_key bytes) (bytes new.0) pairs ≡ false
   accepted e same free =
       subst (λ key. is_conflict (of_key bytes) key pairs ≡ false) same (free pairs has.layout (subst (λ n. IsCanonicalTree (of_key bytes) P s n pairs has.layout) e has.by))
 
-  -- what an overwrite tells of the pairs that gave way
+  -- what an overwrite reports of the replaced pairs
   pub over_counted : (done : PrefixInsertResult K V) →
       ForTree (of_key bytes) P s name (λ pairs layout. done.insert_result.existing_leaf ≡ option_map unlinked_leaf (overwrite_reply (of_key bytes) new pairs).0) →
       ForTree (of_key bytes) P s name (λ pairs layout. done.leafs_removed ≡ (overwrite_reply (of_key bytes) new pairs).1) → CountsOver bytes new pairs (gone_count done) len

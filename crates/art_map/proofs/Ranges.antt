@@ -1,4 +1,4 @@
--- The pairs of a walk of at most so many leaves.
+-- The pairs of an iterator over at most so many leaves.
 use Rattle.std.proofs.Common.{◌≡◌, ℕ, zero, suc, ◌-◌, ◌≤◌, List, [], ◌∷◌, ◌++◌, length, length-append, map as each, filter, refl, ap, sym, ◌∙◌, subst, arith, Option, Some, None, Bool, true, false, cond, ◌&&◌, eqb, eq-eqb, Bor}
 use Rattle.std.specs.List.{AllByRecursion as Each}
 use Rattle.std.specs.Option.{option_map}
@@ -35,12 +35,12 @@ module _ {K V : Type 0} (s : Nodes K V) (last : LeafPtr) where
   unfolding leaves_to
   to_next p n node e there = rw (e, there) refl
 
-  -- a leaf that is named so
+  -- a leaf with this name
   names_leaf : (o : Option LeafPtr) (n : OpaqueNodePtr) → option_map leaf_name o ≡ Some n → (p : LeafPtr) × (o ≡ Some p) × (leaf_name p ≡ n)
   names_leaf None n e = absurd cc
   names_leaf (Some p) n e = (p, refl, cc)
 
-  -- a chain of links to the last leaf is counted
+  -- a list of linked leaves is counted up to its last one
   counts : (names : List OpaqueNodePtr) (before after : Option OpaqueNodePtr) (p : LeafPtr) (n : ℕ) → AreLinked (links_at s) before names after → AreDistinct names →
       first_of names ≡ Some (leaf_name p) → last_of names ≡ Some (leaf_name last) → length names ≤ n → leaves_to s last n (Some p) ≡ length names
   counts [] before after p n linked distinct first end few = absurd cc
@@ -59,7 +59,7 @@ module _ {K V : Type 0} (s : Nodes K V) (last : LeafPtr) where
       to_next p n node other there ∙ ap suc (ap (leaves_to s last n) next_is ∙ counts (y ∷ ys) (Some x) after q n linked.1 distinct.1 (ap Some (sym named)) end (omega arith))
 
 module _ {K V : Type 0} (s : Nodes K V) where
-  -- so the leaves of a walk are counted
+  -- so the leaves of an iterator are counted
   pub walk_counted : (walk : Option (LeafPtr × LeafPtr)) (names : List OpaqueNodePtr) (n : ℕ) → IsIteratorOf s walk names → length names ≤ n → walk_len s walk n ≡ length names
   walk_counted None names n is few = ap length (sym is.ends)
   walk_counted (Some ends) names n is few = counts s ends.1 names is.segment.before is.segment.after ends.0 n is.segment.linked is.segment.distinct is.ends.0 is.ends.1 few
@@ -68,7 +68,7 @@ module _ {K V : Type 0} (s : Nodes K V) where
   pub between_are : (walk : Option (LeafPtr × LeafPtr)) (names : List OpaqueNodePtr) (n : ℕ) → IsIteratorOf s walk names → length names ≤ n → pairs_between s walk n ≡ named_pairs s names
   between_are walk names n is few = left_are s walk names (walk_len s walk n) is (walk_counted walk names n is few)
 
-  -- no more of them than the number says
+  -- at most as many as the bound says
   pub between_few : (walk : Option (LeafPtr × LeafPtr)) (n : ℕ) → IsRange s walk n → length (pairs_between s walk n) ≤ n
   between_few walk n w =
       let counted = walk_counted walk w.names n w.is w.few in
@@ -77,7 +77,7 @@ module _ {K V : Type 0} (s : Nodes K V) where
       omega arith
 
 module _ {K V : Type 0} {s : Nodes K V} {walk left : Option (LeafPtr × LeafPtr)} {n : ℕ} (w : IsRange s walk n) where
-  -- where no name is left of a walk there is no pair
+  -- if an iterator has no name left, there is no pair
   none_taken : (without : List OpaqueNodePtr → List OpaqueNodePtr) → without [] ≡ [] → IsIteratorOf s left (without w.names) → w.names ≡ [] →
       (pairs_between s walk n ≡ []) × (pairs_between s left n ≡ [])
   none_taken without nothing after none =
@@ -137,9 +137,9 @@ module _ {K V : Type 0} {s : Nodes K V} {walk left : Option (LeafPtr × LeafPtr)
           between_are s walk w.names n w.is w.few ∙ last_left s w.names p pair (e w.names w.is) read
           ∙ ap (λ xs. xs ++ pair ∷ []) (sym (between_are s left (without_last w.names) (n - 1) (after w.names w.is) (omega arith)))
 
--- ---- walks of just so many leaves
+-- ---- iterators over exactly so many leaves
 module _ {K V : Type 0} {s : Nodes K V} {walk : Option (LeafPtr × LeafPtr)} {n : ℕ} where
-  -- it is one of at most so many
+  -- such an iterator is one over at most so many
   pub walk_range : IsWalk s walk n → IsRange s walk n
   walk_range w = let counted = w.len_is in record { names = w.names; is = w.is; few = omega arith }
 
@@ -153,14 +153,14 @@ module _ {K V : Type 0} {s : Nodes K V} {walk : Option (LeafPtr × LeafPtr)} {n 
   pub walk_full : IsWalk s walk n → length (pairs_between s walk n) ≡ n
   walk_full w = ap length (walk_pairs w) ∙ left_len s walk n w
 
-  -- one of at most so many with as many pairs is such a walk
+  -- an iterator over at most so many leaves, with as many pairs, is one over exactly so many
   full_walk : IsRange s walk n → length (pairs_between s walk n) ≡ n → IsWalk s walk n
   full_walk w full =
       let counted = walk_counted s walk w.names n w.is w.few in
       record { names = w.names; is = w.is; len_is = sym full ∙ left_len s walk (walk_len s walk n) (record { names = w.names; is = w.is; len_is = counted }) ∙ counted }
 
 module _ {K V : Type 0} {s : Nodes K V} {walk left : Option (LeafPtr × LeafPtr)} {n m : ℕ} (w : IsWalk s walk n) (range : IsRange s left m) where
-  -- and it stays one when a pair comes
+  -- and it is one after a pair is returned
   pub first_counted : (pair : Option (Bor K × Bor V)) → TakesFirst (pairs_between s walk n) pair (pairs_between s left m) → CountsDown n pair m → IsWalk s left m
   first_counted None (none, over) counts = let full = walk_full w in let before = ap length none in let after = ap length over in full_walk range (omega arith)
   first_counted (Some x) takes counts = let full = walk_full w in let lens = ap length takes in full_walk range (omega arith)
@@ -174,7 +174,7 @@ module _ {K V : Type 0} {s : Nodes K V} {walk left : Option (LeafPtr × LeafPtr)
 
 -- ---- the leaves of a tree whose pairs pass a test
 module _ {K V : Type 0} (s : Nodes K V) where
-  -- under the name of an entry is its pair
+  -- the leaf under the name of an entry has its pair
   abbrev Reads : (K × V) × OpaqueNodePtr → Type 0
   Reads e = one_pair s (map.get s.leaves (as_leaf e.1)) ≡ e.0 ∷ []
 
@@ -216,24 +216,24 @@ module _ {K V : Type 0} {bytes : K × V → List ℕ} {P : ℕ} {s : Nodes K V} 
   entries_are : each (λ e. e.0) (entries_of layout) ≡ pairs
   entries_are = pairs_of-leaves layout ∙ (tree_radix by).1
 
-  -- there are no more of them than pairs
+  -- these are no more than the pairs
   few_are : {len : ℕ} → len ≡ length pairs → length (leaves_where test layout) ≤ len
   few_are counted = let few = those_few s test (entries_of layout) in let all = ap length entries_are in omega arith
 
   pub range_there : {len : ℕ} → len ≡ length pairs → IsRange s walk len
   range_there counted = record { names = leaves_where test layout; is = is; few = few_are counted }
 
-  -- and the walk has the pairs that pass
+  -- and the iterator has the pairs that pass
   pub range_pairs : {len : ℕ} → len ≡ length pairs → pairs_between s walk len ≡ filter test pairs
   range_pairs {len} counted =
       between_are s walk (leaves_where test layout) len is (few_are counted) ∙ those_named s test (entries_of layout) (entries_read s layout by.stands.0.holds)
       ∙ ap (filter test) entries_are
 
--- no walk has no pair
+-- an empty iterator has no pairs
 pub no_range : {K V : Type 0} (s : Nodes K V) (n : ℕ) → pairs_between s None n ≡ []
 no_range s n = left_are s None [] 0 (record { ends = refl; segment = empty_segment }) refl
 
--- ---- the pair of the leaf at an end of those that pass
+-- ---- the pair of the first or the last leaf that passes
 module _ {K V : Type 0} {bytes : K × V → List ℕ} {P : ℕ} {s : Nodes K V} {root : OpaqueNodePtr} {pairs : List (K × V)} {layout : Tree OpaqueNodePtr (K × V)}
     (by : IsCanonicalTree bytes P s root pairs layout) (test : K × V → Bool) where
   those_are : named_pairs s (leaves_where test layout) ≡ filter test pairs
@@ -260,7 +260,7 @@ module _ {K V : Type 0} {bytes : K × V → List ℕ} {P : ℕ} {s : Nodes K V} 
       last_pushed (y ∷ []) x = refl
       last_pushed (y ∷ z ∷ xs) x = last_pushed (z ∷ xs) x
 
--- a test and then one that always holds
+-- a test together with one that always holds
 pub also_true : (b : Bool) → b ≡ b && true
 also_true true = refl
 also_true false = refl

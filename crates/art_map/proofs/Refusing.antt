@@ -1,4 +1,4 @@
--- The first pair of which a closure says false: its point, and what is left when it was taken out.
+-- The first pair for which a closure returns false: its point, and what is left after its removal.
 use Rattle.std.proofs.Common.{◌≡◌, ℕ, Bool, List, [], Option, Some, None, IfSome, refl, ap, sym, ◌∙◌, subst}
 use Rattle.art_nodes.specs.Nodes.{Nodes}
 use Rattle.art_parts.specs.declared.names.OpaqueNodePtr.{OpaqueNodePtr}
@@ -40,12 +40,12 @@ module _ {F K V : Type 0} (asks : F → K × V → Bool → F → Type 0) (bytes
             let (y, e, way) = point_some tree p (remove_reply (of_key bytes) (bytes x.0) all) (point all tree is) in
             subst (λ z. LeadsTo tree z p) (same_some (sym e ∙ replied all same.0)) way
 
-  -- where there is no pair none is refused
+  -- if there is no pair, none is removed
   pub none_refused : (last : Option (K × V)) (f : F) (pairs : List (K × V)) → pairs ≡ [] → Retains asks f (pairs_after (of_key bytes) last pairs) (pairs_after (of_key bytes) last pairs) f
   none_refused last f pairs e = subst (λ xs. Retains asks f (pairs_after (of_key bytes) last xs) (pairs_after (of_key bytes) last xs) f) (sym e) (refl, refl)
 
   module _ (last : Option (K × V)) (f left : F) (pairs : List (K × V)) (t : Nodes K V) (root : Option OpaqueNodePtr) (len : ℕ) where
-    -- the pair was taken out
+    -- the pair was removed
     pub refused_taken : {x : K × V} → StopsAt asks f (pairs_after (of_key bytes) last pairs) x left → (y : K × V) →
         HasTaken bytes P (Some x) (remove_key (of_key bytes) (bytes x.0) pairs) (Some y) t root len → HasTakenRefused asks bytes P last f pairs (Some y) left t root len
     refused_taken {x} stops y h =
@@ -55,7 +55,7 @@ module _ {F K V : Type 0} (asks : F → K × V → Bool → F → Type 0) (bytes
       pub refused_holds : HoldsPairs (of_key bytes) P t root len (pairs_at t root)
       refused_holds = holds (of_key bytes) P t h.1
 
-      -- by the pairs that are read off
+      -- in terms of the pairs read off the store
       pub refused_told : {before : List (K × V)} → pairs ≡ before → TakesRefused asks bytes last f before result left (pairs_at t root)
       refused_told same =
           subst (λ after. TakesRefused asks bytes last f _ result left after) (sym (view_of (of_key bytes) P t h.1)) (subst (λ xs. TakesRefused asks bytes last f xs result left h.0) same h.2)

@@ -1,4 +1,4 @@
--- What is known of a place that was reserved for a key, or was not.
+-- What holds of a place that was reserved for a key, or was not.
 use Rattle.std.proofs.Common.{◌≡◌, ℕ, List, Option, refl, ap, ◌∙◌, true}
 use Rattle.art_nodes.specs.Nodes.{Nodes}
 use Rattle.art_model.specs.Pairs.{IsMap, is_conflict, of_key}
@@ -15,14 +15,14 @@ use Rattle.art_map.specs.Reserved.{IsUnreserved}
 use Rattle.art_map.proofs.Puts.{stays}
 use Rattle.art_map.proofs.Views.{holds, view_of}
 
--- as much is placed where the inner nodes are the same
+-- equal inner nodes need the same placements
 pub placed_same : {K V : Type 0} (s t : Nodes K V) → t.inners ≡ s.inners → (kind : InsertKind) → placed_for t kind ≡ placed_for s kind
 placed_same s t same (Exact p) = refl
 placed_same s t same (SplitLeaf p n) = refl
 placed_same s t same (IntoExisting p) = ap (λ inners. placed_for (record s { inners = inners }) (IntoExisting p)) same
 placed_same s t same (MismatchPrefix m p) = refl
 
--- a search that met a conflict
+-- a search that found a conflict
 pub unreserved : {K V : Type 0} (bytes : K → List ℕ) (key : List ℕ) (pairs : List (K × V)) → IsMap (of_key bytes) pairs → is_conflict (of_key bytes) key pairs ≡ true → (error : InsertSearchError) →
     IsRefusedFor key error → IsUnreserved bytes key pairs error
 unreserved bytes key pairs rising related (Prefix error) spelled = (spelled, related)

@@ -1,4 +1,4 @@
--- What a change leaves, by the pairs that are read off.
+-- What a change leaves, in terms of the pairs read off the store.
 use Rattle.std.proofs.Common.{◌≡◌, ◌≢◌, ℕ, List, length, Option, Some, None, Result, Ok, Err, IsOk, OnOk, OnErr, IfOk, IfErr, false, refl, ap, ◌∙◌, subst}
 use Rattle.art_nodes.specs.Nodes.{Nodes}
 use Rattle.art_parts.specs.declared.names.OpaqueNodePtr.{OpaqueNodePtr}
@@ -13,12 +13,12 @@ use Rattle.art_map.specs.declared.map.MapInsertError.{MapInsertError}
 use Rattle.art_map.proofs.CallerLaws.{value_elsewhere, value_gone, value_here, value_left}
 use Rattle.art_map.proofs.Views.{holds, view_of, view_sorted}
 
--- what holds where a call succeeds holds after it did
+-- what is ensured for `Ok` holds after a call that succeeded
 pub ok_told : {A E Q : Type 0} {r : Result A E} {x : A} → r ≡ Ok x → OnOk r Q → Q
 ok_told e h = rw e at h
 
 module _ {K V : Type 0} (bytes : K → List ℕ) where
-  -- What a caller is told of a pair that is put.
+  -- What a caller knows after a pair is put.
   pub record TellsPut (key : K) (value : V) (before after : List (K × V)) (result : Result (Option (K × V)) (MapInsertError K V)) : Type 0 where
     pub pairs : OnOk result (after ≡ put (of_key bytes) (key, value) before)
     pub replaced : IfOk result (λ replaced. replaced ≡ put_reply (of_key bytes) (key, value) before)
@@ -29,7 +29,7 @@ module _ {K V : Type 0} (bytes : K → List ℕ) where
     pub refused : IfErr result (IsRefusalOf bytes key value before)
     pub kept : OnErr result (after ≡ before)
 
-  -- What a caller is told of a pair that is put in the place of those with related keys.
+  -- What a caller knows after a pair replaces those with related keys.
   pub record TellsOver (key : K) (value : V) (before after : List (K × V)) (result : Result ℕ (Refused K V)) : Type 0 where
     pub pairs : OnOk result (after ≡ overwrite (of_key bytes) (key, value) before)
     pub gone : IfOk result (λ gone. gone ≡ length (related_to (of_key bytes) (bytes key) before))
@@ -37,7 +37,7 @@ module _ {K V : Type 0} (bytes : K → List ℕ) where
     pub kept : OnErr result (after ≡ before)
     pub refused : OnErr result (length (related_to (of_key bytes) (bytes key) before) ≢ 1)
 
-  -- What a caller is told of a pair that is put in the place of the one with an equal key.
+  -- What a caller knows after a pair replaces the one with an equal key.
   pub record TellsReplaced (key : K) (value : V) (before after : List (K × V)) (result : Result (Option (K × V)) (MapInsertError K V)) : Type 0 where
     pub pairs : OnOk result (after ≡ replace_key (of_key bytes) (key, value) before)
     pub replaced : IfOk result (λ replaced. replaced ≡ first_of (with_key (of_key bytes) (bytes key) before))
@@ -108,7 +108,7 @@ module _ {K V : Type 0} (bytes : K → List ℕ) (P : ℕ) (pairs : List (K × V
     pub below_holds : HoldsPairs (of_key bytes) P t root len (pairs_at t root)
     below_holds = holds (of_key bytes) P t h.0
 
-    -- what a caller is told of the pairs with a prefix that are taken out
+    -- what a caller knows after the pairs with a prefix are removed
     pub tells_below : {before : List (K × V)} → pairs ≡ before → (pairs_at t root ≡ not_below (of_key bytes) prefix before) × (removed ≡ length (below (of_key bytes) prefix before))
     tells_below same = (view_of (of_key bytes) P t h.0 ∙ ap (not_below (of_key bytes) prefix) same, h.1 ∙ ap (λ xs. length (below (of_key bytes) prefix xs)) same)
 
@@ -116,15 +116,15 @@ module _ {K V : Type 0} (bytes : K → List ℕ) (P : ℕ) (pairs : List (K × V
     pub taken_holds : HoldsPairs (of_key bytes) P t root len (pairs_at t root)
     taken_holds = holds (of_key bytes) P t h.0
 
-    -- what a caller is told of a pair that is taken out
+    -- what a caller knows after a pair is removed
     pub tells_taken : {before : List (K × V)} → pairs ≡ before → (pairs_at t root ≡ left before) × (taken ≡ pair before)
     tells_taken same = (view_of (of_key bytes) P t h.0 ∙ ap left same, h.1 ∙ ap pair same)
 
 module _ {K V : Type 0} (bytes : K → List ℕ) (key : List ℕ) (before after : List (K × V)) (removed : after ≡ remove_key (of_key bytes) key before) where
-  -- under a key that was taken out nothing is found
+  -- under a removed key nothing is found
   pub none_found : value_at bytes key after ≡ None
   none_found = ap (value_at bytes key) removed ∙ value_gone bytes key before
 
-  -- and under every other what was found before
+  -- and under every other key, what was found before
   pub rest_found : (other : List ℕ) → other ≢ key → value_at bytes other after ≡ value_at bytes other before
   rest_found other off = ap (value_at bytes other) removed ∙ value_left bytes other key before (not_same other key off)

@@ -1,4 +1,4 @@
--- What a caller knows after `retain`: what each call keeps of the pairs so far, of those that stayed and of the closure's state, holds of all at the end.
+-- After `retain`: what each call keeps true of the pairs so far, the kept ones and the closure is true of all.
 use Rattle.std.proofs.Common.{◌≡◌, List, [], ◌∷◌, ◌++◌, Bool, true, false, cond, refl, ap, sym, ◌∙◌, append_assoc, append-nil}
 use Rattle.art_map.specs.MapRetain.{Retains}
 

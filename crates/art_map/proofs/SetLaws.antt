@@ -58,7 +58,7 @@ keys_where test (x ∷ xs) = go (keys_where test xs) (test x.0)
     go e true = ap (λ zs. x.0 ∷ zs) e
     go e false = e
 
--- what is known of each key is known of the key of each pair
+-- what holds of each key holds of the key of each pair
 pub keys_each : {K V : Type 0} (Q : K → Type 0) (pairs : List (K × V)) → Each Q (keys_of pairs) → Each (λ x. Q x.0) pairs
 keys_each Q [] h = tt
 keys_each Q (x ∷ xs) h = (h.0, keys_each Q xs h.1)
@@ -132,7 +132,7 @@ module _ {K V : Type 0} (bytes : K → List ℕ) where
       go ih true e = rw e refl
       go ih false e = rw e (ap (λ ks. x.0 ∷ ks) ih)
 
-  -- a key takes the place of an equal one
+  -- a key replaces an equal one
   pub keys_replaced : (key : K) (value : V) (pairs : List (K × V)) → keys_of (replace_key (of_key bytes) (key, value) pairs) ≡ replace_key bytes key (keys_of pairs)
   keys_replaced key value pairs = keys_added (key, value) (remove_key (of_key bytes) (bytes key) pairs) ∙ ap (add_in_order bytes key) (keys_removed (bytes key) pairs)
 
@@ -154,7 +154,7 @@ module _ {K V : Type 0} (bytes : K → List ℕ) where
   pub keys_with : (key : List ℕ) (pairs : List (K × V)) → with_key bytes key (keys_of pairs) ≡ keys_of (with_key (of_key bytes) key pairs)
   keys_with key pairs = keys_where _ pairs
 
-  -- a removal returns a pair where the key is there
+  -- a removal returns a pair exactly where the key is stored
   pub removed_has : (key : List ℕ) (pairs : List (K × V)) → is_some (remove_reply (of_key bytes) key pairs) ≡ has_key bytes key (keys_of pairs)
   removed_has key pairs = sym (any_is_first (λ x. are_same key (bytes x.0)) pairs) ∙ sym (keys_have key pairs)
 
@@ -162,7 +162,7 @@ module _ {K V : Type 0} (bytes : K → List ℕ) where
     has_found : has_key bytes (bytes key) (keys_of pairs) ≡ is_some (first_of (with_key (of_key bytes) (bytes key) pairs))
     has_found = keys_have (bytes key) pairs ∙ has_is_stored (of_key bytes) (key, value) pairs
 
-    -- a put adds its key, where it is new
+    -- a put adds its key, if it is new
     pub keys_put : IsMap (of_key bytes) pairs → keys_of (put (of_key bytes) (key, value) pairs) ≡ add_key bytes key (keys_of pairs)
     keys_put rising = go (first_of (with_key (of_key bytes) (bytes key) pairs)) refl
       where
@@ -176,7 +176,7 @@ module _ {K V : Type 0} (bytes : K → List ℕ) where
             let stored : has_key (of_key bytes) (bytes key) pairs ≡ true = sym (keys_have (bytes key) pairs) ∙ on in
             sym (ap keys_of (new_written bytes key pairs rising value value)) ∙ keys_written (bytes key) value (put_new bytes (key, value) pairs) ∙ (rw (stored, on) refl)
 
-    -- it answers a pair where the key is not new
+    -- it returns a pair exactly where the key is stored
     pub reply_has : is_some (put_reply (of_key bytes) (key, value) pairs) ≡ has_key bytes (bytes key) (keys_of pairs)
     reply_has = go (first_of (with_key (of_key bytes) (bytes key) pairs)) ∙ sym has_found
       where
@@ -184,7 +184,7 @@ module _ {K V : Type 0} (bytes : K → List ℕ) where
         go None = refl
         go (Some x) = refl
 
--- what a map refuses without a value, a set refuses
+-- a set rejects the key of a pair that its map rejects
 pub key_refused : {K : Type 0} (bytes : K → List ℕ) (key : K) (pairs : List (K × Unit {0})) (error : MapInsertError K (Unit {0})) →
     IsRefusalOf bytes key tt pairs error → IsKeyRefusal bytes key (keys_of pairs) (key_error error)
 key_refused bytes key pairs (Conflict k v e) is = (is.0, is.2, keys_conflict bytes (bytes key) pairs ∙ is.3)

@@ -1,4 +1,4 @@
--- Which keys are in what two sets have together.
+-- Which keys are in a union, an intersection or a difference of two sets.
 use Rattle.std.proofs.Common.{◌≡◌, ℕ, Bool, true, false, not, cond, filter, ◌&&◌, ◌||◌, List, [], ◌∷◌, refl, ap, ap₂, sym, subst, ◌∙◌}
 use Rattle.std.proofs.lemmas.Bool.{false≢true}
 use Rattle.std.proofs.lemmas.Cmp.{nat_list_cmp_total}
@@ -47,7 +47,7 @@ module _ {K : Type 0} (bytes : K → List ℕ) (key : List ℕ) where
   abbrev here : K → Bool
   here x = are_same key (bytes x)
 
-  -- a key is among those that pass a test if it is there and passes
+  -- a key is among those that pass a test if it is in the list and passes
   pub filtered : (test : K → Bool) (passes : Bool) → ((x : K) → here x ≡ true → test x ≡ passes) → (xs : List K) → has (filter test xs) ≡ (has xs && passes)
   filtered test passes law [] = refl
   filtered test passes law (x ∷ xs) = by_test (test x) refl (filtered test passes law xs)
@@ -64,7 +64,7 @@ module _ {K : Type 0} (bytes : K → List ℕ) (key : List ℕ) where
       by_test true e ih = stays (here x) (has xs) (has (filter test xs)) (λ same. sym e ∙ law x same) ih
       by_test false e ih = goes (here x) (has xs) (has (filter test xs)) (λ same. sym e ∙ law x same) ih
 
-  -- whether a list has a key goes by the key's bytes
+  -- whether a list has a key depends on the key's bytes
   pub same_member : (xs : List K) (x : K) → here x ≡ true → has_key bytes (bytes x) xs ≡ has xs
   same_member xs x same = ap (λ k. has_key bytes k xs) (same_equal key (bytes x) same)
 
@@ -89,9 +89,9 @@ module _ {K : Type 0} (bytes : K → List ℕ) (key : List ℕ) where
   merged [] ys = refl
   merged (x ∷ xs) ys = merged_step x xs (sorted_merge (byte_order bytes) true xs) (merged xs) ys
 
-  -- ---- the keys of just one
+  -- ---- the keys of exactly one
 
-  -- where a key is the first, it is not among later ones
+  -- if a key is the first, it is not among later ones
   none_after : (front : List ℕ) → are_same key front ≡ true → (xs : List K) → Each (λ x. is_before front (bytes x) ≡ true) xs → has xs ≡ false
   none_after front same [] later = refl
   none_after front same (x ∷ xs) later =

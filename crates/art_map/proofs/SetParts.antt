@@ -1,4 +1,4 @@
--- What goes out of a map, by the keys alone.
+-- What is removed from a map, by the keys alone.
 use Rattle.std.proofs.Common.{◌≡◌, ℕ, List, [], ◌∷◌, ◌++◌, not, ap, sym, refl, ◌∙◌}
 use Rattle.std.specs.declared.ops.Bound.{Bound}
 use Rattle.art_model.specs.Keys.{is_before}

@@ -1,4 +1,4 @@
--- What comes first of the keys that pass a test, and of two lists that are merged.
+-- The first of the keys that pass a test, and of two lists that are merged.
 use Rattle.std.proofs.Common.{◌≡◌, ℕ, ◌+◌, ◌≤◌, IfSome, suc, List, [], ◌∷◌, Bool, ◌||◌, ◌&&◌, Option, Some, None, cond, filter, length, refl, ap, sym, ◌∙◌, subst, arith, true, false, not, is_some, Bor}
 use Rattle.std.specs.Iterator.{UpTo, at_most}
 use Rattle.std.specs.List.{list_all, list_any}
@@ -9,7 +9,7 @@ use Rattle.std.specs.declared.cmp.Ordering.TheVariants.{Less, Equal, Greater}
 use Rattle.art_map.specs.MapItems.{ShowsFirst}
 use Rattle.art_map.specs.SetAlgebra.{IsSum}
 
--- a number that a list's length is at most bounds its items
+-- a bound for the length of a list is one for its items
 pub up_to : (n : ℕ) (r : Option ℕ) → IfSome r (λ most. n ≤ most) → IfSome r (UpTo (at_most n))
 up_to n None few = tt
 up_to n (Some most) few = (tt, few)
@@ -19,7 +19,7 @@ not-not true = refl
 not-not false = refl
 
 module _ {K : Type 0} (test : K → Bool) where
-  -- a key comes of those that pass a test where one passes
+  -- a key is returned of those that pass a test exactly if one passes
   pub some_passes : (keys : List K) (r : Option (Bor K)) (left : List K) → ShowsFirst (filter test keys) r left → is_some r ≡ list_any test keys
   some_passes [] None left h = refl
   some_passes [] (Some x) left h = absurd cc
@@ -51,12 +51,12 @@ module _ {K : Type 0} (test : K → Bool) where
       go false ih = omega arith
 
 module _ {K : Type 0} (test : K → Bool) where
-  -- none comes of those that fail where all pass
+  -- none of those that fail is returned if all pass
   pub all_pass : (keys : List K) (r : Option (Bor K)) (left : List K) (none : Bool) → ShowsFirst (filter (λ k. not (test k)) keys) r left → is_some r ≡ not none → none ≡ list_all test keys
   all_pass keys r left none h is =
       sym (not-not none) ∙ ap not (sym is ∙ some_passes (λ k. not (test k)) keys r left h ∙ any_fails test keys) ∙ not-not (list_all test keys)
 
-  -- and none of those that pass where all fail
+  -- and none of those that pass if all fail
   pub none_passes : (keys : List K) (r : Option (Bor K)) (left : List K) (none : Bool) → ShowsFirst (filter test keys) r left → is_some r ≡ not none → none ≡ not (list_any test keys)
   none_passes keys r left none h is = sym (not-not none) ∙ ap not (sym is ∙ some_passes test keys r left h)
 
@@ -65,7 +65,7 @@ module _ {K : Type 0} (order : K → K → Ordering) (both : Bool) where
   lone [] = refl
   lone (x ∷ xs) = refl
 
-  -- where the second list has come the first one is left
+  -- if the second list is empty, the first one is left
   pub first_alone : (before xs left ys : List K) (r : Option (Bor K)) → before ≡ sorted_merge order both xs ys → ys ≡ [] → ShowsFirst xs r left →
       ShowsFirst before r (sorted_merge order both left ys)
   first_alone before xs left ys r same e h =
@@ -88,7 +88,7 @@ module _ {K : Type 0} (order : K → K → Ordering) (both : Bool) where
       by Equal first few second = equal both few
       by Greater first few second = omega arith
 
-  -- no more come than both lists have
+  -- the merged list has at most the keys of both lists
   pub few_merged : (xs ys : List K) → length (sorted_merge order both xs ys) ≤ length xs + length ys
   few_merged [] ys = omega arith
   few_merged (x ∷ xs) ys = fewer_step x xs (sorted_merge order both xs) (few_merged xs) ys

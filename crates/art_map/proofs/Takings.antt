@@ -1,4 +1,4 @@
--- Pairs that are found, and those that are taken out.
+-- Pairs that are found, and pairs that are removed.
 use Rattle.std.proofs.Common.{◌≡◌, ℕ, ◌-◌, ◌≤◌, List, [], ◌∷◌, ◌++◌, length, filter, refl, ap, sym, ◌∙◌, subst, arith, Option, Some, None, Bool, true, false, IfSome, IsSome, is_some, option_copied, Bor}
 use Rattle.std.specs.FinMap.{get}
 use Rattle.art_parts.specs.Names.{leaf_name}
@@ -37,7 +37,7 @@ use Rattle.art_map.proofs.Puts.{at_root, at_some, is_some-map}
 use Rattle.art_map.proofs.Views.{none_other, with_tree}
 
 module _ {A : Type 0} (bytes : A → List ℕ) where
-  -- a filter that an element passes leaves one
+  -- a filter that an item passes leaves at least one
   some_pass : (test : A → Bool) (l r : List A) (x : A) → test x ≡ true → 1 ≤ length (filter test (l ++ (x ∷ []) ++ r))
   some_pass test [] r x e = rw e (omega arith)
   some_pass test (y ∷ l) r x e = go (some_pass test l r x e) (test y) refl
@@ -46,7 +46,7 @@ module _ {A : Type 0} (bytes : A → List ℕ) where
       go ih true f = rw f (omega arith)
       go ih false f = rw f ih
 
-  -- one pair goes with the key of a pair of a map
+  -- the removal of a key of a map removes one pair
   one_less : (l m r pairs : List A) (x : A) → l ++ m ++ r ≡ pairs → m ≡ x ∷ [] → IsMap bytes pairs → length (remove_key bytes (bytes x) pairs) ≡ length pairs - 1
   one_less l m r pairs x e own rising =
       let counts = removal_counts bytes (bytes x) pairs in
@@ -58,7 +58,7 @@ module _ {A : Type 0} (bytes : A → List ℕ) where
 
 module _ {K V : Type 0} (bytes : K → List ℕ) (P : ℕ) {s : Nodes K V} {name : OpaqueNodePtr} {pairs : List (K × V)} {layout : Tree OpaqueNodePtr (K × V)}
     (by : IsCanonicalTree (of_key bytes) P s name pairs layout) where
-  -- what holds pairs holds those of each tree of its root
+  -- a store that holds pairs holds those of each tree of its root
   pub for_tree : {len : ℕ} {others : List (K × V)} → HoldsPairs (of_key bytes) P s (Some name) len others →
       ((k : OpaqueNodePtr) → (IsIn k (names_of layout) → ⊥) → content_at s k ≡ None) × (len ≡ length pairs)
   for_tree {len} is =
@@ -89,7 +89,7 @@ module _ {K V : Type 0} (bytes : K → List ℕ) (P : ℕ) {s : Nodes K V} {name
         ap Some pair,
       )
 
--- to let the first pair go is to remove its key
+-- the first pair is removed with its key
 module _ {A : Type 0} (bytes : A → List ℕ) where
   pub first_goes : (pairs : List A) (x : A) → IsMap bytes pairs → first_of pairs ≡ Some x → remove_key bytes (bytes x) pairs ≡ without_first pairs
   first_goes [] x rising e = absurd cc
@@ -109,7 +109,7 @@ module _ {K V : Type 0} (bytes : K → List ℕ) (P : ℕ) {s : Nodes K V} {name
 
   module _ {root : Option OpaqueNodePtr} {len : ℕ} {p : LeafPtr} (e : root ≡ Some name) (is : HoldsPairs (of_key bytes) P s root len (pairs_at s root)) where
     module _ (wanted : List (K × V) → Option (K × V)) (named : ForTree (of_key bytes) P s name (λ pairs layout. NamesPair layout (wanted pairs) p)) where
-      -- the leaf of a pair that is wanted is there
+      -- the leaf of the pair is in the store
       pub named_there : IsSome (get s.leaves p)
       named_there =
           let has = at_some e is in
@@ -125,17 +125,17 @@ module _ {K V : Type 0} (bytes : K → List ℕ) (P : ℕ) {s : Nodes K V} {name
           let (node, there, its) = leaf_found (of_key bytes) P has.by has_leaf in
           sym read ∙ ap (option_map pair_of) there ∙ ap Some its ∙ sym some ∙ ap wanted view
 
-  -- what a look-up finds is the pair that was sought, or nothing where there is none
+  -- a lookup finds the pair that is asked for, or nothing if there is none
   pub found_pair : {root : Option OpaqueNodePtr} {len : ℕ} → root ≡ Some name → HoldsPairs (of_key bytes) P s root len (pairs_at s root) →
       (sought : List (K × V) → List (K × V)) {found : Option (K × V)} → ForTree (of_key bytes) P s name (λ pairs _. found ≡ first_of (sought pairs)) →
       {before : List (K × V)} → pairs_at s root ≡ before → found ≡ first_of (sought before)
   found_pair {root} e is sought read view = let has = at_some e is in read (pairs_at s root) has.layout has.by ∙ ap (λ xs. first_of (sought xs)) view
 
--- a value is found exactly where the key is stored
+-- a value is found exactly if the key is stored
 pub value_stored : {K V : Type 0} (bytes : K → List ℕ) (key : List ℕ) (pairs : List (K × V)) → is_some (value_at bytes key pairs) ≡ has_key (of_key bytes) key pairs
 value_stored bytes key pairs = is_some-map (λ x. x.1) (first_of (with_key (of_key bytes) key pairs)) ∙ sym (any_is_first (λ x. are_same key (bytes x.0)) pairs)
 
--- a borrow is there where what it lends is
+-- a borrow exists exactly where its item does
 pub copied_some : {A : Type 0} (o : Option (Bor A)) → is_some o ≡ is_some (option_copied o)
 copied_some None = refl
 copied_some (Some x) = refl

@@ -32,16 +32,16 @@ module _ {K V : Type 0} (bytes : K → List ℕ) (key : List ℕ) (value : V) wh
   high_kept [] h = refl
   high_kept (x ∷ xs) h = rw (same_related key (bytes x.0) h.0.1) (ap (λ ys. x ∷ ys) (high_kept xs h.1))
 
-  -- a new value is a change at the place of its key alone
+  -- a new value changes only the pair of its key
   pub written_between : IsLocal (of_key bytes) key (with_value_at bytes key value)
   written_between xs ys zs low high = simp (map-append, low_stay xs low, high_stay zs high)
 
-  -- where a key is stored its pair has it
+  -- if a key is stored, its pair has it
   pub has_the_key : (pairs : List (K × V)) (x : K × V) → with_key (of_key bytes) key pairs ≡ x ∷ [] → are_same key (bytes x.0) ≡ true
   has_the_key pairs x only = (subst (Each (λ y. are_same key (bytes y.0) ≡ true)) only (filter_passes (λ y. are_same key (bytes y.0)) pairs)).0
 
 module _ {K V : Type 0} (bytes : K → List ℕ) (value : V) where
-  -- a put of an equal key is another value under it
+  -- a put of an equal key gives it another value
   stored_written : (pairs : List (K × V)) (x : K × V) → IsMap (of_key bytes) pairs → first_of (with_key (of_key bytes) (bytes x.0) pairs) ≡ Some x →
       replace_key (of_key bytes) (x.0, value) pairs ≡ with_value_at bytes (bytes x.0) value pairs
   stored_written [] x rising e = absurd cc
@@ -94,7 +94,7 @@ module _ {K V : Type 0} (bytes : K → List ℕ) (key : K) (pairs : List (K × V
   found_has : (x : K × V) → found ≡ Some x → are_same (bytes key) (bytes x.0) ≡ true
   found_has x some = first_each (λ y. are_same (bytes key) (bytes y.0) ≡ true) (with_key (of_key bytes) (bytes key) pairs) x some (filter_passes (λ y. are_same (bytes key) (bytes y.0)) pairs)
 
-  -- a pair that is put where its key was not stored, and then gets another value, is put with that
+  -- to put a pair with a new key and then give it another value is to put it with that value
   pub new_written : (first value : V) → with_value_at bytes (bytes key) value (put_new bytes (key, first) pairs) ≡ put (of_key bytes) (key, value) pairs
   new_written first value = go found refl
     where
@@ -108,7 +108,7 @@ module _ {K V : Type 0} (bytes : K → List ℕ) (key : K) (pairs : List (K × V
           rw (has_is_stored (of_key bytes) (key, first) pairs ∙ ap is_some some) (ap (λ k. with_value_at bytes k value pairs) (sym same)
           ∙ sym (stored_written bytes value pairs x rising (ap (λ k. first_of (with_key (of_key bytes) k pairs)) same ∙ some)) ∙ sym (put-old (of_key bytes) (key, value) pairs x some))
 
-  -- its value is the one that was stored, or else its own
+  -- its value is the stored one, or else its own
   pub new_value : (value : V) → value_at bytes (bytes key) (put_new bytes (key, value) pairs) ≡ Some (unwrap_or (value_at bytes (bytes key) pairs) value)
   new_value value = go found refl
     where

@@ -1,4 +1,4 @@
--- The pairs that are read off a store are those that the root is canonical for.
+-- The pairs read off a store are those that the root is canonical for.
 use Rattle.std.proofs.Common.{◌≡◌, ℕ, zero, suc, ◌≤◌, List, [], ◌++◌, refl, ap, ap₂, sym, ◌∙◌, subst, arith, Option, Some, None}
 use Rattle.std.specs.FinMap as map
 use Rattle.std.specs.Option.{option_map}
@@ -49,12 +49,12 @@ module _ {K V : Type 0} (bytes : K × V → List ℕ) (P : ℕ) (s : Nodes K V) 
         ∙ pairs_are (node_at s) t (map.len s.inners) by.stands.0.holds (enough_steps s t by.stands.0.holds by.stands.0.distinct)
         ∙ (tree_radix by).1
 
-  -- a root with a tree, of a canonical one
+  -- the tree of a canonical root
   pub with_tree : (root : Option OpaqueNodePtr) (pairs : List (K × V)) → IsCanonical bytes P s root pairs → (tree : Option (Tree OpaqueNodePtr (K × V))) × IsRootOf bytes P s root pairs tree
   with_tree None pairs is = (None, is)
   with_tree (Some root) pairs is = (Some is.0, is.1)
 
-  -- what holds pairs holds a map
+  -- the pairs that are held are a map
   pub map_held : {root : Option OpaqueNodePtr} {len : ℕ} {pairs : List (K × V)} → HoldsPairs bytes P s root len pairs → IsMap bytes pairs
   map_held {root} {len} {pairs} is = go root is.tree is.canonical
     where
@@ -64,18 +64,18 @@ module _ {K V : Type 0} (bytes : K × V → List ℕ) (P : ℕ) (s : Nodes K V) 
       go (Some root) None is = absurd is
       go (Some root) (Some t) by = by.is_map
 
-  -- so what a contract sees of it is one
+  -- so what a contract sees of them is one
   pub view_sorted : {root : Option OpaqueNodePtr} {len : ℕ} {seen : List (K × V)} → HoldsPairs bytes P s root len (pairs_at s root) → pairs_at s root ≡ seen → IsMap bytes seen
   view_sorted is view_is = subst (IsMap bytes) view_is (map_held is)
 
-  -- what holds pairs holds those that are read off
+  -- a store that holds pairs holds those read off it
   pub holds : {root : Option OpaqueNodePtr} {len : ℕ} {pairs : List (K × V)} → HoldsPairs bytes P s root len pairs → HoldsPairs bytes P s root len (pairs_at s root)
   holds {root} {len} {pairs} is = subst (HoldsPairs bytes P s root len) (sym (view_is root is.tree is.canonical)) is
 
   pub view_of : {root : Option OpaqueNodePtr} {len : ℕ} {pairs : List (K × V)} → HoldsPairs bytes P s root len pairs → pairs_at s root ≡ pairs
   view_of {root} is = view_is root is.tree is.canonical
 
--- no name is beside the new tree, where none was beside the old one.
+-- the store has no names but the new tree's, if it had none but the old one's
 pub none_other : {K V : Type 0} {s t : Nodes K V} {old new : List OpaqueNodePtr} → KeepsOthers s t old new → ((name : OpaqueNodePtr) → (IsIn name old → ⊥) → content_at s name ≡ None) →
     (name : OpaqueNodePtr) → (IsIn name new → ⊥) → content_at t name ≡ None
 none_other {K} {V} {s} {t} {old} {new} keeps none name out = go (content_at t name) refl
@@ -86,7 +86,7 @@ none_other {K} {V} {s} {t} {old} {new} keeps none name out = go (content_at t na
         let beside : IsIn name old → ⊥ = λ was. let free = keeps.gone name was out in absurd cc in
         keeps.beside name beside out ∙ none name beside
 
--- nothing is held in an empty store
+-- an empty store holds nothing
 module _ {K V : Type 0} (s : Nodes K V) (leaves : s.leaves ≡ map.empty) (inners : s.inners ≡ map.empty) where
   free_in : (kind : NodeType) (slot : ℕ) → content_in s kind slot ≡ None
   free_in Leaf slot = ap (λ m. option_map held_leaf (map.get m (record { slot = slot }))) leaves ∙ ap (option_map held_leaf) (map.get-empty leaf_cmp (record { slot = slot }))

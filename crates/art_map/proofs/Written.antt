@@ -1,4 +1,4 @@
--- A value that is written in the leaf of a key.
+-- A value that is written to the leaf of a key.
 use Rattle.std.proofs.Common.{◌≡◌, ◌⊎◌, ℕ, List, [], ◌∷◌, Option, Some, None, IfSome, IsSome, is_some, refl, ap, sym, ◌∙◌, subst, inl, true, ◌++◌, length, length-append, ◌+◌}
 use Rattle.std.specs.FinMap.{get}
 use Rattle.std.specs.Option.{option_map}
@@ -36,26 +36,26 @@ use Rattle.art_map.proofs.Takings.{for_tree}
 use Rattle.art_map.proofs.ValueLaws.{has_the_key, written_between}
 use Rattle.art_map.proofs.Views.{none_other, view_is}
 
--- what there is
+-- the item of an option that has one
 pub some_of : {A : Type 0} (o : Option A) → IsSome o → (x : A) × (o ≡ Some x)
 some_of None none = absurd (false≢true none)
 some_of (Some x) some = (x, refl)
 
--- a list is as long with another element
+-- a list with one item replaced is as long
 same_length : {A : Type 0} (before after : List A) (x y : A) → length (before ++ (x ∷ []) ++ after) ≡ length (before ++ (y ∷ []) ++ after)
 same_length before after x y =
     length-append (before ++ x ∷ []) after ∙ ap (λ n. n + length after) (length-append before (x ∷ []) ∙ sym (length-append before (y ∷ []))) ∙ sym (length-append (before ++ y ∷ []) after)
 
--- in the same there is the same
+-- equal options have equal items
 pub one_value : {A : Type 0} {x y : A} → Some x ≡ Some y → x ≡ y
 one_value e = cc
 
--- a borrow lends the same under the same name
+-- equal functions under the same name borrow the same
 pub lends_same : {A B C D : Type 0} {name : A} {f h : B → C} → ((w : B) → f w ≡ h w) → ◌≡◌ {A = (A × (B → C)) ⊎ D} (inl (name, f)) (inl (name, h))
 lends_same {name = name} same = λ i. inl (name, λ w. same w i)
 
 module _ {K V : Type 0} (bytes : K → List ℕ) (P : ℕ) {s : Nodes K V} {p : LeafPtr} {root : Option OpaqueNodePtr} (key : List ℕ) where
-  -- the leaf that a look-up finds
+  -- the leaf that a lookup finds
   pub leaf_named : {name : OpaqueNodePtr} {len : ℕ} → root ≡ Some name → HoldsPairs (of_key bytes) P s root len (pairs_at s root) →
       ForTree (of_key bytes) P s name (λ pairs layout. FindsLeaf layout (with_key (of_key bytes) key pairs) (Some p)) → V → NamesLeafOf bytes P s root key p
   leaf_named {name} e is found any =
@@ -73,7 +73,7 @@ module _ {K V : Type 0} (bytes : K → List ℕ) (P : ℕ) {s : Nodes K V} {p : 
       }
 
 module _ {K V : Type 0} (bytes : K → List ℕ) (P : ℕ) {s : Nodes K V} {p : LeafPtr} {root : Option OpaqueNodePtr} (key : List ℕ) (n : NamesLeafOf bytes P s root key p) where
-  -- the leaf is there
+  -- the leaf is in the store
   node : LeafNode K V
   node = (leaf_found (of_key bytes) P n.by n.has).0
 
@@ -104,7 +104,7 @@ module _ {K V : Type 0} (bytes : K → List ℕ) (P : ℕ) {s : Nodes K V} {p : 
   pub pairs_are : pairs_at s root ≡ n.pairs
   pairs_are = ap (pairs_at s) n.root_is ∙ view_is (of_key bytes) P s (Some n.name) (Some n.layout) n.by
 
-  -- the key is stored in it alone
+  -- this leaf alone has the key
   its_pair : with_key (of_key bytes) key n.pairs ≡ pair_of node ∷ []
   its_pair =
       let found = with_key-hole (of_key bytes) P n.has.path hole.0 (bytes node.key) (leaf (leaf_name p) (pair_of node)) hole.1.path hole.1.front in
@@ -114,7 +114,7 @@ module _ {K V : Type 0} (bytes : K → List ℕ) (P : ℕ) {s : Nodes K V} {p : 
   pub is_stored : has_key (of_key bytes) key (pairs_at s root) ≡ true
   is_stored = ap (has_key (of_key bytes) key) pairs_are ∙ any_is_first (λ x. are_same key (bytes x.0)) n.pairs ∙ ap (λ xs. is_some (first_of xs)) its_pair
 
-  -- the value that the leaf has is that of the key
+  -- the value of the leaf is that of the key
   pub value_read : {before : List (K × V)} → pairs_at s root ≡ before → option_map (λ node. node.value) (get s.leaves p) ≡ value_at bytes key before
   value_read view = ap (option_map (λ node. node.value)) there ∙ ap (λ xs. option_map (λ x. x.1) (first_of xs)) (sym its_pair) ∙ ap (value_at bytes key) (sym pairs_are ∙ view)
 
@@ -137,7 +137,7 @@ module _ {K V : Type 0} (bytes : K → List ℕ) (P : ℕ) {s : Nodes K V} {p : 
         len_is = counted ∙ sym (length-map n.pairs _);
       })
 
-  -- the leaf gets another pair with the key, which takes the place of the old one
+  -- the leaf gets another pair with the key, which replaces the old one
   pub pair_written : {len : ℕ} {t : Nodes K V} (new : K × V) → bytes new.0 ≡ key → HoldsPairs (of_key bytes) P s root len (pairs_at s root) → t.leaves ≡ change s.leaves p (with_pair new.0 new.1) →
       t.inners ≡ s.inners → HoldsPairs (of_key bytes) P t root len (replace_key (of_key bytes) new (pairs_at s root))
   pair_written {len} {t} new same is leaves inners =

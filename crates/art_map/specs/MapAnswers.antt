@@ -1,4 +1,4 @@
--- What the calls of a map answer, by its pairs.
+-- What the calls of a map return, by its pairs.
 use Rattle.std.specs.Prelude.{◌≡◌, ℕ, true, false, if◌then◌else◌, List, map, Option}
 use Rattle.std.specs.Box.{boxed_slice_items}
 use Rattle.std.specs.Option.{option_map}
@@ -7,7 +7,8 @@ use Rattle.art_model.specs.Pairs.{of_key, first_of, with_key, has_key, is_confli
 use Rattle.art_map.specs.declared.map.MapInsertError.{MapInsertError}
 use Rattle.art_map.specs.declared.map.MapInsertError.TheVariants.{Conflict, Memory}
 
--- The pair is handed back: with the key's bytes where an unequal stored key is related, or for want of memory where no equal key is stored.
+-- The error returns the pair: with the key's bytes if a stored key conflicts, or after a failed allocation if no equal
+-- key is stored.
 abbrev pub IsRefusalOf : {K V : Type 0} → (K → List ℕ) → K → V → List (K × V) → MapInsertError K V → Type 0
 IsRefusalOf bytes key value pairs (Conflict k v error) =
     (k ≡ key) × (v ≡ value) × (boxed_slice_items error.byte_repr ≡ bytes key) ×
@@ -15,7 +16,7 @@ IsRefusalOf bytes key value pairs (Conflict k v error) =
 IsRefusalOf bytes key value pairs (Memory k v) =
     (k ≡ key) × (v ≡ value) × (has_key (of_key bytes) (bytes key) pairs ≡ false)
 
--- The same of a pair whose value was made, where no equal key is stored.
+-- The same of a pair whose value was made because no equal key is stored.
 abbrev pub IsRefusalOfMade : {K V : Type 0} → (K → List ℕ) → K → (V → Type 0) → List (K × V) → MapInsertError K V → Type 0
 IsRefusalOfMade {K} {V} bytes key IsMade pairs error = (value : V) × IsMade value × IsRefusalOf bytes key value pairs error
 

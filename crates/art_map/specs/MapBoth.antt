@@ -4,7 +4,7 @@ use Rattle.art_map.specs.MapAnswers.{IsRefusalOf}
 use Rattle.art_map.specs.declared.map.both.BothInsertError.{BothInsertError}
 use Rattle.art_map.specs.declared.map.both.BothInsertError.TheVariants.{First, Second}
 
--- both pairs are returned, by what one of the two maps refused
+-- both pairs are returned, one of them in the error of its map
 abbrev pub IsRefusalOfBoth : {K V L W : Type 0} → (K → List ℕ) → (L → List ℕ) → K × V → List (K × V) → L × W → List (L × W) → BothInsertError K V L W → Type 0
 IsRefusalOfBoth bytes other_bytes pair pairs other others (First error back) =
     IsRefusalOf bytes pair.0 pair.1 pairs error × (back ≡ other)

@@ -1,4 +1,4 @@
--- What a closure or an iterator that was handed in did with a map.
+-- What a closure or an iterator that was passed did with a map.
 use Rattle.std.specs.Prelude.{◌≡◌, ℕ, false, List, [], ◌∷◌, Option, Some, None, MatchOption, Result, Ok, Err}
 use Rattle.std.specs.Borrow.{MutBor}
 use Rattle.std.specs.Fn.{CalledAtMut, FnOnceReturnsAtMut, Mut, Once}
@@ -9,7 +9,7 @@ use Rattle.art_map.specs.declared.map.MapMakeError.{MapMakeError}
 use Rattle.art_map.specs.declared.map.MapMakeError.TheVariants.{Insert, Make}
 use Rattle.art_map.specs.MapAnswers.{IsRefusalOf, value_at, with_value_at}
 
--- the pairs are as before where the key is not stored; else a call of f at its value left another, which the key has now
+-- the pairs are unchanged if the key is not stored; else a call of f on its value left another, which the key now has
 abbrev pub Modifies : {K V F : Type 0} → Once F (MutBor V × Unit {0}) (Unit {0} × (MutBor V × Unit {0})) → F → (K → List ℕ) → List ℕ →
     List (K × V) → List (K × V) → Type 0
 Modifies {K} {V} g f bytes key before after =
@@ -17,33 +17,33 @@ Modifies {K} {V} g f bytes key before after =
     (left : V) × FnOnceReturnsAtMut g f value tt left × (after ≡ with_value_at bytes key left before))
 
 module _ {K V F : Type 0} (g : Mut F (MutBor V × Unit {0}) (Unit {0} × (MutBor V × Unit {0}))) where
-  -- f was called at the value of each pair in turn and left another, which the key has now
+  -- f was called on the value of each pair in turn and left another one, which the key now has
   abbrev pub ChangesEach : F → List (K × V) → List (K × V) → F → Type 0
   ChangesEach f [] after left = (after ≡ []) × (f ≡ left)
   ChangesEach f (x ∷ xs) after left =
       (value : V) × (next : F) × (rest : List (K × V)) × CalledAtMut g f x.1 tt next value × ChangesEach next xs rest left ×
       (after ≡ (x.0, value) ∷ rest)
 
-  -- the same, whatever the closure is then
+  -- the same, with any last state of the closure
   abbrev pub ChangesValues : F → List (K × V) → List (K × V) → Type 0
   ChangesValues f before after = (left : F) × ChangesEach f before after left
 
--- the closure failed where no equal key is stored, and the key is handed back; or the pair with the value that it made is
+-- the closure failed, no equal key is stored, and the key is returned; or the pair with the made value is returned
 abbrev pub IsMakeRefusal : {K V E : Type 0} → (K → List ℕ) → K → (Result V E → Type 0) → List (K × V) → MapMakeError K V E → Type 0
 IsMakeRefusal bytes key IsMade pairs (Make k error) = (k ≡ key) × IsMade (Err error) × (has_key (of_key bytes) (bytes key) pairs ≡ false)
 IsMakeRefusal {K} {V} bytes key IsMade pairs (Insert error) = (value : V) × IsMade (Ok value) × IsRefusalOf bytes key value pairs error
 
--- the pairs that are left when others are put, one after another
+-- the pairs after others were put, one after another
 abbrev pub put_all : {K V : Type 0} → (K → List ℕ) → List (K × V) → List (K × V) → List (K × V)
 put_all bytes [] pairs = pairs
 put_all bytes (x ∷ xs) pairs = put_all bytes xs (put (of_key bytes) x pairs)
 
 module _ {I K V : Type 0} (steps : I → Option (K × V) → I → Type 0) (bytes : K → List ℕ) where
-  -- all that came of an iterator was put
+  -- all items of an iterator were put
   abbrev pub PutsAll : I → List (K × V) → I → List (K × V) → Type 0
   PutsAll from before to after = (xs : List (K × V)) × YieldsThen steps from xs None to × (after ≡ put_all bytes xs before)
 
-  -- what came before a pair was put, and that pair was refused; the iterator has the others
+  -- the items before a pair were put, and the pair was rejected; the iterator has the others
   abbrev pub PutsUntil : I → List (K × V) → MapInsertError K V → I → List (K × V) → Type 0
   PutsUntil from before error to after =
       (xs : List (K × V)) × (x : K × V) × YieldsThen steps from xs (Some x) to × (after ≡ put_all bytes xs before) × IsRefusalOf bytes x.0 x.1 after error

@@ -28,21 +28,21 @@ use Rattle.art_map.specs.declared.map.MapMakeError.{MapMakeError}
 use Rattle.art_map.specs.declared.map.position.Position.{Position}
 use Rattle.art_map.specs.declared.map.position.Position.TheVariants as positions
 
--- how many pairs gave way: one that came back, or those that were freed
+-- how many pairs were replaced: the one that was returned, or those that were freed
 abbrev pub gone_count : {K V : Type 0} → PrefixInsertResult K V → ℕ
 gone_count done = elim done.insert_result.existing_leaf [ None ↦ done.leafs_removed | Some leaf ↦ 1 ]
 
--- the tree has the leaf of the pair that there is, under this name
+-- there is a pair, and the tree has its leaf under this name
 abbrev pub NamesPair : {A : Type 0} → Tree OpaqueNodePtr A → Option A → LeafPtr → Type 0
 NamesPair {A} layout pair leaf = (x : A) × (pair ≡ Some x) × HasLeaf layout (leaf_name leaf) x
 
--- a call of f at the value of this leaf left another, which the leaf has now
+-- a call of f on the value of this leaf left another one, which the leaf now has
 abbrev pub ChangesLeaf : {K V F : Type 0} → Mut F (MutBor V × Unit {0}) (Unit {0} × (MutBor V × Unit {0})) → LeafPtr → F → Nodes K V → F → Nodes K V → Type 0
 ChangesLeaf {K} {V} g leaf f s left t =
     (node : LeafNode K V) × (value : V) × (nodes.get s.leaves leaf ≡ Some node) × CalledAtMut g f node.value tt left value ×
     (t ≡ with_leaf_value s leaf value)
 
--- the leaf of this name is there, with the key of these bytes
+-- this leaf exists, with the key of these bytes
 abbrev pub HasKeyAt : {K V : Type 0} → (K → List ℕ) → Nodes K V → LeafPtr → List ℕ → Type 0
 HasKeyAt {K} {V} bytes s leaf key = (node : LeafNode K V) × (nodes.get s.leaves leaf ≡ Some node) × (bytes node.key ≡ key)
 
@@ -58,7 +58,7 @@ pub record NamesLeafOf {K V : Type 0} (bytes : K → List ℕ) (P : ℕ) (s : No
   pub has : HasLeaf layout (leaf_name leaf) pair
   pub key_is : bytes pair.0 ≡ key
 
--- The leaf is that of the key; or the point is, where no key is equal or in conflict; or there is no tree; or a key is in conflict.
+-- The leaf is the key's; or the point is, and no key is equal or conflicts; or there is no tree; or a key conflicts.
 abbrev pub IsPositionOf : {K V : Type 0} → (K → List ℕ) → ℕ → Nodes K V → Option OpaqueNodePtr → List ℕ → Position → Type 0
 IsPositionOf bytes P s root key (positions.Leaf leaf) = NamesLeafOf bytes P s root key leaf
 IsPositionOf bytes P s root key (positions.Point point) =
@@ -68,19 +68,19 @@ IsPositionOf bytes P s root key positions.Bare = root ≡ None
 IsPositionOf bytes P s root key (positions.Refused error) =
     IsRefusedFor key error × (is_conflict (of_key bytes) key (pairs_at s root) ≡ true)
 
--- the pairs with a new one, where its key is not stored yet
+-- the pairs with a new one, if its key is not stored yet
 abbrev pub put_new : {K V : Type 0} → (K → List ℕ) → K × V → List (K × V) → List (K × V)
 put_new bytes new pairs = if has_key (of_key bytes) (bytes new.0) pairs then pairs else put (of_key bytes) new pairs
 
 module _ {K V : Type 0} (bytes : K → List ℕ) (P : ℕ) where
-  -- the pair is the only one, or it is handed back and there is none
+  -- the pair is the only one, or it is returned and there is none
   abbrev pub HasPlanted : K → V → Result (Unit {0}) (Refused K V) → Nodes K V → Option OpaqueNodePtr → ℕ → Type 0
   HasPlanted key value (Ok done) t root len = HoldsPairs (of_key bytes) P t root len ((key, value) ∷ [])
   HasPlanted key value (Err refused) t root len =
       HoldsPairs (of_key bytes) P t root len [] × (refused.key ≡ key) × (refused.value ≡ value)
 
 module _ {K V : Type 0} (bytes : K → List ℕ) (P : ℕ) (pairs : List (K × V)) where
-  -- the pair was put, or it is handed back and the pairs are as before
+  -- the pair was put, or it is returned and the pairs are unchanged
   abbrev pub HasPut : K → V → Result (Option (K × V)) (MapInsertError K V) → Nodes K V →
       Option OpaqueNodePtr → ℕ → Type 0
   HasPut key value (Ok replaced) t root len =
@@ -89,7 +89,7 @@ module _ {K V : Type 0} (bytes : K → List ℕ) (P : ℕ) (pairs : List (K × V
   HasPut key value (Err error) t root len =
       HoldsPairs (of_key bytes) P t root len pairs × IsRefusalOf bytes key value pairs error
 
-  -- the pair was put in the place of the one with an equal key, or it is handed back and the pairs are as before
+  -- the pair was inserted in place of the one with an equal key, or it is returned and the pairs are unchanged
   abbrev pub HasReplaced : K → V → Result (Option (K × V)) (MapInsertError K V) → Nodes K V → Option OpaqueNodePtr → ℕ → Type 0
   HasReplaced key value (Ok replaced) t root len =
       HoldsPairs (of_key bytes) P t root len (replace_key (of_key bytes) (key, value) pairs) ×
@@ -97,7 +97,7 @@ module _ {K V : Type 0} (bytes : K → List ℕ) (P : ℕ) (pairs : List (K × V
   HasReplaced key value (Err error) t root len =
       HoldsPairs (of_key bytes) P t root len pairs × IsRefusalOf bytes key value pairs error
 
-  -- the pair was put where its key was not stored, and the leaf of the key is told, or the pair is handed back and the pairs are as before
+  -- the pair was put if its key is new, and the key's leaf is returned; or the pair is, and the pairs are unchanged
   abbrev pub HasEntered : K → V → Result LeafPtr (MapInsertError K V) → Nodes K V → Option OpaqueNodePtr → ℕ → Type 0
   HasEntered key value (Ok leaf) t root len =
       HoldsPairs (of_key bytes) P t root len (put_new bytes (key, value) pairs) × NamesLeafOf bytes P t root (bytes key) leaf ×
@@ -105,18 +105,18 @@ module _ {K V : Type 0} (bytes : K → List ℕ) (P : ℕ) (pairs : List (K × V
   HasEntered key value (Err error) t root len =
       HoldsPairs (of_key bytes) P t root len pairs × IsRefusalOf bytes key value pairs error
 
-  -- the same with some value, which is a made one where the key was not stored
+  -- the same with some value, which was made if the key was not stored
   abbrev pub HasMade : K → (V → Type 0) → Result LeafPtr (MapInsertError K V) → Nodes K V → Option OpaqueNodePtr → ℕ → Type 0
   HasMade key IsMade result t root len =
       (value : V) × (has_key (of_key bytes) (bytes key) pairs ≡ false → IsMade value) × HasEntered key value result t root len
 
-  -- the same where the closure may have failed, and then the pairs are as before
+  -- the same with a closure that may fail; if it does, the pairs are unchanged
   abbrev pub HasTried : {E : Type 0} → K → (Result V E → Type 0) → Result LeafPtr (MapMakeError K V E) → Nodes K V → Option OpaqueNodePtr → ℕ → Type 0
   HasTried key IsMade (Ok leaf) t root len = HasMade key (λ value. IsMade (Ok value)) (Ok leaf) t root len
   HasTried key IsMade (Err error) t root len =
       HoldsPairs (of_key bytes) P t root len pairs × IsMakeRefusal bytes key IsMade pairs error
 
-  -- the pair was put in the place of those with related keys, or it is handed back, the pairs are as before, and it was not to take the place of just one
+  -- the pair replaced those with related keys; or it is returned, the pairs are unchanged, and not just one is related
   abbrev pub HasPutOver : K → V → Result ℕ (Refused K V) → Nodes K V → Option OpaqueNodePtr → ℕ → Type 0
   HasPutOver key value (Ok gone) t root len =
       HoldsPairs (of_key bytes) P t root len (overwrite (of_key bytes) (key, value) pairs) ×
@@ -125,7 +125,7 @@ module _ {K V : Type 0} (bytes : K → List ℕ) (P : ℕ) (pairs : List (K × V
       HoldsPairs (of_key bytes) P t root len pairs × (refused.key ≡ key) × (refused.value ≡ value) ×
       (length (related_to (of_key bytes) (bytes key) pairs) ≢ 1)
 
-  -- the pairs whose keys begin with a prefix were taken out, and so many they were
+  -- the pairs whose keys start with a prefix were removed, and this is their number
   abbrev pub HasTakenBelow : List ℕ → ℕ → Nodes K V → Option OpaqueNodePtr → ℕ → Type 0
   HasTakenBelow prefix removed t root len =
       HoldsPairs (of_key bytes) P t root len (not_below (of_key bytes) prefix pairs) ×
@@ -137,7 +137,7 @@ module _ {K V : Type 0} (bytes : K → List ℕ) (P : ℕ) (pairs : List (K × V
       (copies : List (K × V)) × AreClones is_key_clone is_value_clone pairs copies ×
       HoldsPairs (of_key bytes) P t root len copies
 
--- this pair was taken out, where there is one, and these are left
+-- this pair was removed, if there is one, and these are left
 abbrev pub HasTaken : {K V : Type 0} → (K → List ℕ) → ℕ → Option (K × V) → List (K × V) → Option (K × V) → Nodes K V →
     Option OpaqueNodePtr → ℕ → Type 0
 HasTaken bytes P pair left taken t root len = HoldsPairs (of_key bytes) P t root len left × (taken ≡ pair)

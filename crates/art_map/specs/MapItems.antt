@@ -17,18 +17,18 @@ module _ {K V : Type 0} where
   pairs_from s (suc n) (Some p) =
       elim (nodes.get s.leaves p) [ None ↦ [] | Some leaf ↦ pair_of leaf ∷ pairs_from s n leaf.next ]
 
-  -- the pairs that are left of a walk with so many leaves
+  -- the pairs that an iterator over so many leaves has left
   abbrev pub pairs_left : Nodes K V → Option (LeafPtr × LeafPtr) → ℕ → List (K × V)
   pairs_left s walk n = pairs_from s n (option_map (λ ends. ends.0) walk)
 
--- The walk is one of so many leaves of the store.
+-- The iterator is one over so many leaves of the store.
 pub record IsWalk {K V : Type 0} (s : Nodes K V) (walk : Option (LeafPtr × LeafPtr)) (len : ℕ) : Type 0 where
   pub names : List OpaqueNodePtr
   pub is : IsIteratorOf s walk names
   pub len_is : len ≡ length names
 
 module _ {K V : Type 0} where
-  -- how many leaves there are from this one to the last one, of at most so many
+  -- how many leaves there are from this one to the last one, at most so many
   unfoldable pub leaves_to : Nodes K V → LeafPtr → ℕ → Option LeafPtr → ℕ
   leaves_to s last zero leaf = 0
   leaves_to s last (suc n) None = 0
@@ -36,35 +36,35 @@ module _ {K V : Type 0} where
       if p.slot == last.slot then 1
       else elim (nodes.get s.leaves p) [ None ↦ 0 | Some leaf ↦ suc (leaves_to s last n leaf.next) ]
 
-  -- how many leaves a walk has, of at most so many
+  -- how many leaves an iterator has left, at most so many
   abbrev pub walk_len : Nodes K V → Option (LeafPtr × LeafPtr) → ℕ → ℕ
   walk_len s None n = 0
   walk_len s (Some ends) n = leaves_to s ends.1 n (Some ends.0)
 
-  -- the pairs that are left of a walk with at most so many leaves
+  -- the pairs that an iterator over at most so many leaves has left
   abbrev pub pairs_between : Nodes K V → Option (LeafPtr × LeafPtr) → ℕ → List (K × V)
   pairs_between s walk n = pairs_left s walk (walk_len s walk n)
 
--- The walk is one of at most so many leaves of the store.
+-- The iterator is one over at most so many leaves of the store.
 pub record IsRange {K V : Type 0} (s : Nodes K V) (walk : Option (LeafPtr × LeafPtr)) (at_most : ℕ) : Type 0 where
   pub names : List OpaqueNodePtr
   pub is : IsIteratorOf s walk names
   pub few : length names ≤ at_most
 
--- one was counted where a pair came
+-- the count is one less if a pair was returned
 abbrev pub CountsDown : {A : Type 0} → ℕ → Option A → ℕ → Type 0
 CountsDown old pair new = MatchOption pair (new ≡ old) (λ x. old ≡ suc new)
 
--- what a pair of borrows points to
+-- the pair that a pair of borrows points to
 abbrev pub deref_pair : {K V : Type 0} → Bor K × Bor V → K × V
 deref_pair p = (p.0.now, p.1.now)
 
 module _ {K V : Type 0} where
-  -- the first of the pairs came, and the others are left, or there was none
+  -- the first of the pairs was returned, and the others are left; or there was none
   abbrev pub TakesFirst : List (K × V) → Option (Bor K × Bor V) → List (K × V) → Type 0
   TakesFirst s r t = MatchOption r ((s ≡ []) × (t ≡ [])) (λ x. s ≡ deref_pair x ∷ t)
 
-  -- the last of them came
+  -- the same of the last pair
   abbrev pub TakesLast : List (K × V) → Option (Bor K × Bor V) → List (K × V) → Type 0
   TakesLast s r t = MatchOption r ((s ≡ []) × (t ≡ [])) (λ x. s ≡ t ++ deref_pair x ∷ [])
 
@@ -77,10 +77,10 @@ abbrev pub values_of : {K V : Type 0} → List (K × V) → List V
 values_of pairs = map (λ x. x.1) pairs
 
 module _ {A : Type 0} where
-  -- the first of a list came, by a borrow, and the others are left, or there was none
+  -- the first of a list was returned as a borrow, and the others are left; or there was none
   abbrev pub ShowsFirst : List A → Option (Bor A) → List A → Type 0
   ShowsFirst s r t = MatchOption r ((s ≡ []) × (t ≡ [])) (λ x. s ≡ x.now ∷ t)
 
-  -- the last of it came
+  -- the same of the last one
   abbrev pub ShowsLast : List A → Option (Bor A) → List A → Type 0
   ShowsLast s r t = MatchOption r ((s ≡ []) × (t ≡ [])) (λ x. s ≡ t ++ x.now ∷ [])

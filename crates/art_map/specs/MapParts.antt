@@ -1,4 +1,4 @@
--- Pairs that go out of a map: by the bounds of their keys, into another map, or out of one.
+-- Pairs that are removed from a map, by the bounds of their keys or one by one, or moved into another map.
 use Rattle.std.specs.Prelude.{◌≡◌, ℕ, not, List, ◌∷◌, ◌++◌, filter, Option, Some, None}
 use Rattle.std.specs.declared.ops.Bound.{Bound}
 use Rattle.art_model.specs.Keys.{is_before}
@@ -21,13 +21,13 @@ module _ {A : Type 0} (bytes : A → List ℕ) where
   abbrev pub keys_from : List ℕ → List A → List A
   keys_from key pairs = filter (λ x. not (is_before (bytes x) key)) pairs
 
-  -- the pairs without the one that was taken, where there was one
+  -- the pairs without the one that was removed, if there was one
   abbrev pub without : Option A → List A → List A
   without None pairs = pairs
   without (Some x) pairs = remove_key bytes (bytes x) pairs
 
 module _ {K V : Type 0} (bytes : K → List ℕ) where
-  -- some of the given pairs were put, in their order; the next one was refused, and the others are left
+  -- some of the given pairs were put, in order; the next one was rejected, and the others are left
   abbrev pub PutsSome : List (K × V) → List (K × V) → MapInsertError K V → List (K × V) → List (K × V) → Type 0
   PutsSome before given error after left =
       (xs : List (K × V)) × (x : K × V) × (given ≡ xs ++ x ∷ left) × (after ≡ put_all bytes xs before) × IsRefusalOf bytes x.0 x.1 after error

@@ -1,4 +1,4 @@
--- A place for a key, and what its pair takes there. No public clause cites this module.
+-- A place for a key, and the nodes that its pair needs there. No public clause cites this module.
 use Rattle.std.specs.Prelude.{◌≡◌, ◌<◌, ℕ, true, false, List, Option, Some, None}
 use Rattle.std.specs.Box.{boxed_slice_items}
 use Rattle.art_nodes.specs.Nodes.{Nodes}
@@ -13,20 +13,20 @@ use Rattle.art_map.specs.MapPairs.{pairs_at}
 use Rattle.art_map.specs.declared.map.MapInsertError.{MapInsertError}
 use Rattle.art_map.specs.declared.map.MapInsertError.TheVariants as errors
 
--- no key is in conflict with this one, its place is known, and what its pair takes there is promised
+-- no stored key conflicts with this one, its place is known, and the nodes that its pair needs there are promised
 abbrev pub IsReserved : {K V : Type 0} → (K → List ℕ) → ℕ → Nodes K V → Option OpaqueNodePtr → List ℕ → Option InsertPoint → Type 0
 IsReserved bytes P s root key None = (root ≡ None) × (0 < s.promise.leaves)
 IsReserved bytes P s root key (Some point) =
     (root ≡ Some point.root) × IsPointIn (of_key bytes) P s key point × (is_covered (placed_for s point.insert_kind) s.promise ≡ true) ×
     (is_conflict (of_key bytes) key (pairs_at s root) ≡ false)
 
--- why no place was reserved: a key is in conflict, or an allocation failed and the key is not stored
+-- why no place was reserved: a key conflicts, or an allocation failed and the key is not stored
 abbrev pub IsUnreserved : {K V : Type 0} → (K → List ℕ) → List ℕ → List (K × V) → InsertSearchError → Type 0
 IsUnreserved bytes key pairs (searches.Prefix error) =
     (boxed_slice_items error.byte_repr ≡ key) × (is_conflict (of_key bytes) key pairs ≡ true)
 IsUnreserved bytes key pairs (searches.Memory error) = has_key (of_key bytes) key pairs ≡ false
 
--- the pair is in the error of a search
+-- the error of a search, with the pair
 abbrev pub IsWithPair : {K V : Type 0} → K → V → InsertSearchError → MapInsertError K V → Type 0
 IsWithPair key value (searches.Prefix error) told = told ≡ errors.Conflict key value error
 IsWithPair key value (searches.Memory error) told = told ≡ errors.Memory key value

@@ -1,4 +1,4 @@
--- What two sets have together, by their lists of keys.
+-- Unions, intersections and differences of two sets, as lists of their keys.
 use Rattle.std.specs.Prelude.{◌≡◌, ℕ, ◌+◌, Option, Some, Bool, true, false, cond, not, List, filter}
 use Rattle.std.specs.List.{list_all, list_any}
 use Rattle.std.specs.Cmp.Lexicographic.{slice_cmp}
@@ -32,7 +32,7 @@ module _ {K : Type 0} (bytes : K → List ℕ) where
   abbrev pub union : List K → List K → List K
   union keys others = sorted_merge byte_order true keys others
 
-  -- the keys that just one of the sets has, in order
+  -- the keys that exactly one of the sets has, in order
   abbrev pub symmetric_difference : List K → List K → List K
   symmetric_difference keys others = sorted_merge byte_order false keys others
 
@@ -44,6 +44,6 @@ module _ {K : Type 0} (bytes : K → List ℕ) where
   abbrev pub is_disjoint : List K → List K → Bool
   is_disjoint keys others = not (list_any (has_equal others) keys)
 
--- both numbers are there, and this is their sum
+-- both numbers exist, and this is their sum
 abbrev pub IsSum : Option ℕ → Option ℕ → ℕ → Type 0
 IsSum a b sum = (n : ℕ) × (m : ℕ) × (a ≡ Some n) × (b ≡ Some m) × (sum ≡ n + m)

@@ -10,7 +10,7 @@ use Rattle.art_map.specs.declared.set.SetInsertError.{SetInsertError}
 use Rattle.art_map.specs.declared.set.SetInsertError.TheVariants.{Conflict, Memory}
 use denote.Ref.{Bor}
 
--- the keys with a new one in its place, where no equal key is stored yet
+-- the keys with a new one in its place, if no equal key is stored yet
 abbrev pub add_key : {K : Type 0} → (K → List ℕ) → K → List K → List K
 add_key bytes key keys = if has_key bytes (bytes key) keys then keys else add_in_order bytes key keys
 
@@ -18,37 +18,38 @@ add_key bytes key keys = if has_key bytes (bytes key) keys then keys else add_in
 abbrev pub as_pairs : {K : Type 0} → List K → List (K × Unit {0})
 as_pairs keys = map (λ k. (k, tt)) keys
 
--- The key is handed back: with its bytes where an unequal stored key is related, or for want of memory where no equal key is stored.
+-- The error returns the key: with its bytes if a stored key conflicts, or after a failed allocation if no equal key is
+-- stored.
 abbrev pub IsKeyRefusal : {K : Type 0} → (K → List ℕ) → K → List K → SetInsertError K → Type 0
 IsKeyRefusal bytes key keys (Conflict k error) =
     (k ≡ key) × (boxed_slice_items error.byte_repr ≡ bytes key) × (is_conflict bytes (bytes key) keys ≡ true)
 IsKeyRefusal bytes key keys (Memory k) = (k ≡ key) × (has_key bytes (bytes key) keys ≡ false)
 
--- a map's refusal of a pair without value, as one of its key
+-- the error of a map for a pair without a value, as one for its key
 abbrev pub key_error : {K : Type 0} → MapInsertError K (Unit {0}) → SetInsertError K
 key_error (of_map.Conflict k v error) = Conflict k error
 key_error (of_map.Memory k v) = Memory k
 
--- a call of f at the key of a pair
+-- a call of f on the key of a pair
 abbrev pub AsksKey : {F K : Type 0} → Mut F (Bor K × Unit {0}) Bool → F → K × Unit {0} → Bool → F → Type 0
 AsksKey g f x b left = CalledAt g f x.0 b left
 
--- the keys with others, added one after another
+-- the keys after others were added, one after another
 abbrev pub add_all : {K : Type 0} → (K → List ℕ) → List K → List K → List K
 add_all bytes [] keys = keys
 add_all bytes (k ∷ ks) keys = add_all bytes ks (add_key bytes k keys)
 
 module _ {I K : Type 0} (steps : I → Option K → I → Type 0) (bytes : K → List ℕ) where
-  -- all that came of an iterator was added
+  -- all items of an iterator were added
   abbrev pub AddsAll : I → List K → I → List K → Type 0
   AddsAll from before to after = (ks : List K) × YieldsThen steps from ks None to × (after ≡ add_all bytes ks before)
 
-  -- what came before a key was added, and that key was refused; the iterator has the others
+  -- the items before a key were added, and the key was rejected; the iterator has the others
   abbrev pub AddsUntil : I → List K → SetInsertError K → I → List K → Type 0
   AddsUntil from before error to after =
       (ks : List K) × (k : K) × YieldsThen steps from ks (Some k) to × (after ≡ add_all bytes ks before) × IsKeyRefusal bytes k after error
 
--- some of the given keys were added, in their order; the next one was refused, and the others are left
+-- some of the given keys were added, in order; the next one was rejected, and the others are left
 abbrev pub AddsSome : {K : Type 0} → (K → List ℕ) → List K → List K → SetInsertError K → List K → List K → Type 0
 AddsSome {K} bytes before given error after left =
     (ks : List K) × (k : K) × (given ≡ ks ++ k ∷ left) × (after ≡ add_all bytes ks before) × IsKeyRefusal bytes k after error

@@ -1,4 +1,4 @@
-//! An ordered map from keys of bytes to values, on an adaptive radix tree.
+//! Ordered maps and sets with keys of bytes, on an adaptive radix tree.
 #![tactic(auto)]
 
 pub mod map;

@@ -69,14 +69,14 @@ pub use split::SplitRefused;
 /// A pair that was not inserted.
 #[derive(Debug, Drop, Error)]
 pub enum MapInsertError<K, V> {
-    /// An unequal stored key is related to the key: one of the two is a prefix of the other.
+    /// A stored key conflicts with the key: they are unequal, and one of the two is a prefix of the other.
     #[error("{error}")]
     Conflict {
         key: K,
         value: V,
         error: InsertPrefixError,
     },
-    /// There was no memory, and no equal key is stored.
+    /// An allocation failed, and no equal key is stored.
     #[error("memory allocation failed")]
     Memory {
         key: K,
@@ -84,23 +84,23 @@ pub enum MapInsertError<K, V> {
     },
 }
 
-/// A value of an entry that was not made, or whose pair was not inserted.
+/// A value that was not made for an entry, or whose pair was not inserted.
 #[derive(Debug, Drop, Error)]
 pub enum MapMakeError<K, V, E> {
-    /// The closure failed, where no equal key is stored. The key that was handed in comes back.
+    /// The closure failed, and no equal key is stored. The key that was passed is returned.
     #[error("the value was not made")]
     Make { key: K, error: E },
-    /// The value was made, and comes back with its key.
+    /// The value was made, but not inserted. It is returned with its key.
     #[error("{0}")]
     Insert(MapInsertError<K, V>),
 }
 
-/// A removal that failed. No call returns one: a removal takes no memory.
+/// A failed removal. No call returns one: a removal allocates nothing.
 #[derive(Clone, Copy, PartialEq, Eq, Debug, Error)]
 #[error("memory allocation failed")]
 pub struct MapRefused;
 
-/// A map whose keys are in the order of their bytes, and none of which is a prefix of another.
+/// A map whose keys are in the order of their bytes. No key is a prefix of another.
 #[derive(Drop)]
 pub struct ByteMap<K: AsBytes, V, const P: usize> {
     store: NodeStore<K, V, P>,
@@ -129,7 +129,7 @@ impl<K: AsBytes + Drop, V: Drop, const P: usize> ByteMap<K, V, P> {
     ghost use Rattle.art_map.specs.MapAnswers.{IsRefusalOf, value_at};
     ghost use Rattle.art_map.specs.MapLends.{lends_put, lends_value};
 
-    /// Returns an empty map, and takes no memory.
+    /// Returns an empty map, without an allocation.
     pub fn new(alloc: Global) -> Self
         ensures { result ≡ [] }
     {
@@ -140,12 +140,12 @@ impl<K: AsBytes + Drop, V: Drop, const P: usize> ByteMap<K, V, P> {
         }
     }
 
-    /// Returns the allocator that the map takes its memory from.
+    /// Returns the allocator of the map.
     pub fn allocator(&self) -> Global {
         self.store.alloc()
     }
 
-    /// Returns the number of pairs.
+    /// Returns the number of pairs, in constant time.
     pub fn len(&self) -> usize
         ensures len { result ≡ length self.now }
         ensures sorted { IsMap (of_key K.bytes) self.now }
@@ -153,21 +153,21 @@ impl<K: AsBytes + Drop, V: Drop, const P: usize> ByteMap<K, V, P> {
         self.len
     }
 
-    /// Returns whether there is no pair.
+    /// Returns whether the map has no pairs.
     pub fn is_empty(&self) -> bool
         ensures { IsTrue result ↔ (self.now ≡ []) }
     {
         self.len == 0
     }
 
-    /// Returns whether a key with these bytes is stored, by one descent along them.
+    /// Returns whether a key with these bytes is stored. It is a single descent along them.
     pub fn contains_key(&self, key_bytes: &[u8]) -> bool
         ensures { result ≡ has_key (of_key K.bytes) key_bytes.now self.now }
     {
         self.get(key_bytes).is_some()
     }
 
-    /// Returns the value of the key with these bytes, or `None`, by one descent along them.
+    /// Returns the value of the key with these bytes, or `None` if it is not stored. It is a single descent along them.
     pub fn get(&self, key_bytes: &[u8]) -> Option<&V>
         ensures value { option_copied result ≡ value_at K.bytes key_bytes.now self.now }
         ensures sorted { IsMap (of_key K.bytes) self.now }
@@ -176,7 +176,7 @@ impl<K: AsBytes + Drop, V: Drop, const P: usize> ByteMap<K, V, P> {
         Some(&leaf.value)
     }
 
-    /// Returns the pair of the key with these bytes, or `None`. It costs what `get` does.
+    /// Returns the pair of the key with these bytes, or `None` if it is not stored. It costs what `get` does.
     pub fn get_key_value(&self, key_bytes: &[u8]) -> Option<(&K, &V)>
         ensures { option_map deref_pair result ≡
             first_of (with_key (of_key K.bytes) key_bytes.now self.now) }
@@ -185,7 +185,8 @@ impl<K: AsBytes + Drop, V: Drop, const P: usize> ByteMap<K, V, P> {
         Some((&leaf.key, &leaf.value))
     }
 
-    /// Returns the value of the key with these bytes, to be written, or `None`. It costs what `get` does.
+    /// Returns the value of the key with these bytes as `&mut V`, or `None` if it is not stored. It costs what `get`
+    /// does.
     pub fn get_mut(&mut self, key_bytes: &[u8]) -> Option<&mut V>
         ensures* writes_back { sem 𝓛
             (lends_value K.row V.row P.row K.AsBytes self.entry key_bytes.now result) }
@@ -195,8 +196,8 @@ impl<K: AsBytes + Drop, V: Drop, const P: usize> ByteMap<K, V, P> {
         self.store.value_mut(leaf)
     }
 
-    /// Returns the pair whose key is a prefix of the query, or `None`, by one descent along the query.
-    /// There is at most one such pair.
+    /// Returns the pair whose key is a prefix of the query, or `None`. There is at most one such pair. It is a single
+    /// descent along the query.
     pub fn longest_match(&self, query: &[u8]) -> Option<(&K, &V)>
         ensures pair { option_map deref_pair result ≡
             first_of (match_of (of_key K.bytes) query.now self.now) }
@@ -206,7 +207,7 @@ impl<K: AsBytes + Drop, V: Drop, const P: usize> ByteMap<K, V, P> {
         Some((&leaf.key, &leaf.value))
     }
 
-    /// Returns the first pair, or `None`. It reads one inner node for each level.
+    /// Returns the first pair, or `None` if there is none. It reads one inner node for each level.
     pub fn first_key_value(&self) -> Option<(&K, &V)>
         ensures { option_map deref_pair result ≡ first_of self.now }
     {
@@ -214,7 +215,7 @@ impl<K: AsBytes + Drop, V: Drop, const P: usize> ByteMap<K, V, P> {
         Some(pair_at(&self.store, leaf))
     }
 
-    /// Returns the last pair, or `None`. It reads one inner node for each level.
+    /// Returns the last pair, or `None` if there is none. It reads one inner node for each level.
     pub fn last_key_value(&self) -> Option<(&K, &V)>
         ensures { option_map deref_pair result ≡ last_of self.now }
     {
@@ -222,8 +223,10 @@ impl<K: AsBytes + Drop, V: Drop, const P: usize> ByteMap<K, V, P> {
         Some(pair_at(&self.store, leaf))
     }
 
-    /// Returns the pairs in the order of their keys, from both ends. A step of the walk takes no descent,
-    /// and no memory.
+    /// Returns an iterator over the pairs in the order of their keys, from both ends.
+    ///
+    /// This call descends to the first and the last pair. A step of the iteration follows a link between leaves.
+    /// Neither allocates.
     pub fn iter(&self) -> MapIter<'_, K, V, P>
         ensures pairs { result ≡ self.now }
         ensures sorted { IsMap (of_key K.bytes) self.now }
@@ -238,10 +241,10 @@ impl<K: AsBytes + Drop, V: Drop, const P: usize> ByteMap<K, V, P> {
         MapIterOf::new(&self.store, walk, self.len)
     }
 
-    /// Returns the pairs whose keys begin with these bytes, in the order of their keys.
+    /// Returns an iterator over the pairs whose keys start with these bytes, in the order of their keys.
     ///
-    /// It takes no memory. It reads at most one inner node for each of the bytes, and the ways to
-    /// the first and the last of the pairs; how many there are is not counted.
+    /// It allocates nothing. It reads at most one inner node for each of the bytes, descends from there to the first
+    /// and the last of the pairs, and reads one key. It does not count the pairs.
     pub fn prefix(&self, prefix: &[u8]) -> Range<'_, K, V, P>
         ensures pairs { result ≡ below (of_key K.bytes) prefix.now self.now }
         ensures sorted { IsMap (of_key K.bytes) self.now }
@@ -254,11 +257,11 @@ impl<K: AsBytes + Drop, V: Drop, const P: usize> ByteMap<K, V, P> {
         RangeOf::new(&self.store, walk, self.len)
     }
 
-    /// Returns the pairs whose keys are in a range, in the order of their keys: none where it runs
-    /// backwards.
+    /// Returns an iterator over the pairs whose keys are in a range, in the order of their keys. There are none if the
+    /// range runs backwards.
     ///
-    /// It takes no memory, and costs what `first_from` and `last_up_to` do together; how many pairs
-    /// there are is not counted.
+    /// It allocates nothing, and costs at most what `first_from` and `last_up_to` do together. It does not count the
+    /// pairs.
     pub fn range<'k, R: RangeBounds<&'k [u8]> + Drop>(&self, range: R) -> Range<'_, K, V, P>
         ensures pairs { R.has_bounds range → result ≡ between (of_key K.bytes)
             (bound_map (λ b. b.now) (R.start_bound range))
@@ -283,11 +286,10 @@ impl<K: AsBytes + Drop, V: Drop, const P: usize> ByteMap<K, V, P> {
         RangeOf::new(&self.store, walk, self.len)
     }
 
-    /// Returns the first pair whose key is after a bound, or at it where that is included.
+    /// Returns the first pair whose key is after a bound, or at it if that is included; `None` if there is none.
     ///
-    /// It takes no memory. It goes down the tree once with the bound's bytes, and from there to two
-    /// leaves; where a prefix is longer than what its node stores of it, it also goes down to a leaf
-    /// below that node.
+    /// It allocates nothing. It descends once along the bytes of the bound, and from where this ends to at most two
+    /// leaves. Prefixes that are not stored whole are all read from the same leaf, which takes a further descent.
     pub fn first_from(&self, from: Bound<&[u8]>) -> Option<(&K, &V)>
         ensures pair { option_map deref_pair result ≡ first_of (between (of_key K.bytes)
             (bound_map (λ b. b.now) from.entry) Unbounded self.now) }
@@ -297,8 +299,8 @@ impl<K: AsBytes + Drop, V: Drop, const P: usize> ByteMap<K, V, P> {
         Some(pair_at(&self.store, leaf))
     }
 
-    /// Returns the last pair whose key is before a bound, or at it where that is included. It costs
-    /// what `first_from` does.
+    /// Returns the last pair whose key is before a bound, or at it if that is included; `None` if there is none. It
+    /// costs what `first_from` does.
     pub fn last_up_to(&self, to: Bound<&[u8]>) -> Option<(&K, &V)>
         ensures { option_map deref_pair result ≡ last_of (between (of_key K.bytes) Unbounded
             (bound_map (λ b. b.now) to.entry) self.now) }
@@ -307,7 +309,7 @@ impl<K: AsBytes + Drop, V: Drop, const P: usize> ByteMap<K, V, P> {
         Some(pair_at(&self.store, leaf))
     }
 
-    /// Returns the keys as they rise, from both ends.
+    /// Returns an iterator over the keys in ascending order, from both ends. It costs what `iter` does.
     pub fn keys(&self) -> Keys<'_, K, V, P>
         ensures keys { result ≡ keys_of self.now }
         ensures sorted { IsMap (of_key K.bytes) self.now }
@@ -316,7 +318,7 @@ impl<K: AsBytes + Drop, V: Drop, const P: usize> ByteMap<K, V, P> {
         KeysOf::new(self.iter())
     }
 
-    /// Returns the values in the order of their keys, from both ends.
+    /// Returns an iterator over the values in the order of their keys, from both ends. It costs what `iter` does.
     pub fn values(&self) -> Values<'_, K, V, P>
         ensures values { result ≡ values_of self.now }
         ensures sorted { IsMap (of_key K.bytes) self.now }
@@ -325,10 +327,15 @@ impl<K: AsBytes + Drop, V: Drop, const P: usize> ByteMap<K, V, P> {
         ValuesOf::new(self.iter())
     }
 
-    /// Puts a pair in, by one descent. Where an equal key is stored, that key stays and gets the value, and
-    /// the key that was handed in comes back with the old value. An error hands the pair back: `Conflict`
-    /// where an unequal stored key is related to the key, `Memory` where there was none for a new key, or
-    /// for the bytes of a key in conflict. There is no error where an equal key is stored.
+    /// Inserts a pair. If an equal key is stored, that key stays and gets the value, and the key that was passed is
+    /// returned with the old value.
+    ///
+    /// An error returns the pair, and the map is unchanged: `Conflict` if a stored key conflicts with the key, `Memory`
+    /// if an allocation fails, for a new key or for the bytes of a conflicting one. It never fails if an equal key is
+    /// stored.
+    ///
+    /// It is one descent along the bytes of the key. Prefixes that are not stored whole are all read from the same
+    /// leaf, which takes a further descent.
     pub fn insert(&mut self, key: K, value: V) -> Result<Option<(K, V)>, MapInsertError<K, V>>
         ensures pairs { OnOk result (self.new ≡ put (of_key K.bytes) (key, value) self.old) }
         ensures replaced { IfOk result (λ replaced.
@@ -348,9 +355,10 @@ impl<K: AsBytes + Drop, V: Drop, const P: usize> ByteMap<K, V, P> {
         put_in(&mut self.store, &mut self.root, &mut self.len, key, value)
     }
 
-    /// Returns the value of a key, to be written, by one descent. Where no equal key is stored the pair
-    /// is put in first; a key that is stored stays, with its value. The errors are those of `insert`. For
-    /// keys that mostly are stored, `get_mut` and then `insert` is cheaper.
+    /// Returns the value of a key as `&mut V`. If no equal key is stored, the pair is inserted first; a stored key
+    /// stays, with its value.
+    ///
+    /// Errors and cost are those of `insert`. If most keys are stored already, `get_mut` and then `insert` is cheaper.
     pub fn get_or_insert(&mut self, key: K, value: V) -> Result<&mut V, MapInsertError<K, V>>
         ensures* writes_back { sem 𝓛
             (lends_put K.row V.row P.row K.AsBytes self.entry key result) }
@@ -363,9 +371,10 @@ impl<K: AsBytes + Drop, V: Drop, const P: usize> ByteMap<K, V, P> {
         self.value_or_insert(key, None, value)
     }
 
-    /// Returns an entry, which is the map with a key: it reads or changes the key's value, or puts the
-    /// key in. This reads no node. Each call of the entry that needs the key's leaf goes down the tree
-    /// once; an `or_` call after an `and_modify` that found the leaf does not.
+    /// Returns an entry: the map with a key, which reads or changes the key's value, or inserts the key.
+    ///
+    /// This reads no node. Each call of the entry that needs the key's leaf takes a descent, except an `or_` call after
+    /// an `and_modify` that found the leaf.
     pub fn entry(&mut self, key: K) -> Entry<'_, K, V, P>
         ensures same_map { result.map.ghost_name ≡ self.entry.ghost_name }
         ensures pairs { result.map.now ≡ self.old }
@@ -378,9 +387,12 @@ impl<K: AsBytes + Drop, V: Drop, const P: usize> ByteMap<K, V, P> {
         }
     }
 
-    /// Puts a pair in, in the place of all pairs whose keys are prefixes of its key or begin with it, and
-    /// returns how many gave way. A stored key that is equal stays and gets the value. It is refused only
-    /// for want of memory, and takes none where just one pair gives way.
+    /// Inserts a pair and removes every conflicting one (those whose keys are a prefix of its key, or start with it).
+    /// Returns how many pairs it replaced. If an equal key is stored, that key stays and gets the value, which counts
+    /// as one. What is replaced is dropped.
+    ///
+    /// It fails only if an allocation fails; the error returns the pair, and the map is unchanged. It allocates unless
+    /// it replaces exactly one pair. It descends as `insert` does, and frees all nodes that are replaced.
     pub fn insert_over(&mut self, key: K, value: V) -> Result<usize, Refused<K, V>>
         ensures pairs { OnOk result (self.new ≡ overwrite (of_key K.bytes) (key, value) self.old) }
         ensures gone { IfOk result (λ gone.
@@ -395,10 +407,11 @@ impl<K: AsBytes + Drop, V: Drop, const P: usize> ByteMap<K, V, P> {
         put_over(&mut self.store, &mut self.root, &mut self.len, key, value)
     }
 
-    // ---- Removals. None of them takes memory, and none fails: see `NodeStore` for the slots that it keeps. Three return
-    // a `Result` which is always `Ok`.
+    // ---- Removals. None of them allocates, and none fails: see `NodeStore` for the slots that it keeps. Three return
+    // a `Result` that is always `Ok`.
 
-    /// Removes the pair of the key with these bytes, by one descent, and returns it. It never fails.
+    /// Removes the pair of the key with these bytes, and returns it; `None` if it is not stored. It never fails. It is
+    /// a single descent.
     pub fn remove(&mut self, key_bytes: &[u8]) -> Result<Option<(K, V)>, MapRefused>
         ensures succeeds { IsOk result }
         ensures pairs { self.new ≡ remove_key (of_key K.bytes) key_bytes.now self.old }
@@ -411,7 +424,7 @@ impl<K: AsBytes + Drop, V: Drop, const P: usize> ByteMap<K, V, P> {
         Ok(self.remove_by(key_bytes))
     }
 
-    /// Removes the first pair and returns it. It never fails.
+    /// Removes the first pair and returns it; `None` if there is none. It never fails. It is a single descent.
     pub fn pop_first(&mut self) -> Result<Option<(K, V)>, MapRefused>
         ensures succeeds { IsOk result }
         ensures pairs { self.new ≡ without_first self.old }
@@ -421,7 +434,7 @@ impl<K: AsBytes + Drop, V: Drop, const P: usize> ByteMap<K, V, P> {
         Ok(take_first(&mut self.store, &mut self.root, &mut self.len))
     }
 
-    /// Removes the last pair and returns it. It never fails.
+    /// Removes the last pair and returns it; `None` if there is none. It never fails. It is a single descent.
     pub fn pop_last(&mut self) -> Result<Option<(K, V)>, MapRefused>
         ensures succeeds { IsOk result }
         ensures pairs { self.new ≡ without_last self.old }
@@ -431,7 +444,8 @@ impl<K: AsBytes + Drop, V: Drop, const P: usize> ByteMap<K, V, P> {
         Ok(take_last(&mut self.store, &mut self.root, &mut self.len))
     }
 
-    /// Removes the first of the pairs whose keys start with these bytes, and returns it.
+    /// Removes the first pair whose key starts with these bytes, and returns it; `None` if there is none. It never
+    /// fails. It costs what `prefix` and `remove` do together.
     pub fn pop_first_below(&mut self, prefix: &[u8]) -> Option<(K, V)>
         ensures pairs { self.new ≡ without_below (of_key K.bytes) prefix.now 1 self.old }
         ensures removed { result ≡ first_of (below (of_key K.bytes) prefix.now self.old) }
@@ -440,8 +454,8 @@ impl<K: AsBytes + Drop, V: Drop, const P: usize> ByteMap<K, V, P> {
         take_below(&mut self.store, &mut self.root, &mut self.len, prefix)
     }
 
-    /// Removes all pairs whose keys start with these bytes, at once, and returns how many. It descends as `prefix`
-    /// does, and frees all nodes below the one that it comes to.
+    /// Removes all pairs whose keys start with these bytes, at once, and returns how many. It never fails. It descends
+    /// as `prefix` does, and frees all nodes below the one where this descent ends.
     pub fn remove_prefix(&mut self, prefix: &[u8]) -> usize
         ensures pairs { self.new ≡ not_below (of_key K.bytes) prefix.now self.old }
         ensures removed { result ≡ length (below (of_key K.bytes) prefix.now self.old) }
@@ -449,8 +463,8 @@ impl<K: AsBytes + Drop, V: Drop, const P: usize> ByteMap<K, V, P> {
         take_all_below(&mut self.store, &mut self.root, &mut self.len, prefix)
     }
 
-    /// Takes out all pairs, and takes no memory. It goes over the slabs, down no tree. The store keeps
-    /// the room of the nodes for later ones.
+    /// Removes all pairs, and allocates nothing. It frees slab by slab, without a descent. The store keeps the slots
+    /// for later nodes.
     pub fn clear(&mut self)
         ensures { self.new ≡ [] }
     {
@@ -461,9 +475,11 @@ impl<K: AsBytes + Drop, V: Drop, const P: usize> ByteMap<K, V, P> {
 impl<K: AsBytes + Clone + Drop, V: Clone + Drop, const P: usize> ByteMap<K, V, P> {
     ghost use Rattle.art_model.specs.Clones.{AreClones, KeepBytes};
 
-    /// Returns a map of clones of all pairs, with a store of its own. An `Err` is for want of memory, for
-    /// a node or for the clone of a key or a value. Its slots are copied one by one; where most of those for
-    /// leaves are vacant, its nodes are, down the tree.
+    /// Returns a map with clones of all pairs, in a store of its own. It fails only if an allocation fails, such as
+    /// that of a node or of the clone of a key or a value.
+    ///
+    /// It copies slot by slot. If more than half of the slots for leaves are vacant, it copies node by node down the
+    /// tree.
     pub fn clone(&self) -> Result<Self, AllocError>
         requires { KeepBytes K.bytes K.is_clone }
         ensures { IfOk result (AreClones K.is_clone V.is_clone self.now) }
@@ -478,7 +494,7 @@ impl<K: AsBytes + Clone + Drop, V: Clone + Drop, const P: usize> ByteMap<K, V, P
         })
     }
 
-    // The same, node by node down the tree, with room for these nodes alone.
+    // The same, node by node down the tree, with slots for these nodes alone.
     fn clone_tree(&self) -> Result<Self, AllocError>
         requires { KeepBytes K.bytes K.is_clone }
         ensures { IfOk result (AreClones K.is_clone V.is_clone self.now) }
@@ -512,8 +528,7 @@ impl<'a, K: AsBytes + Drop, V: Drop, const P: usize> IntoIterator for &'a ByteMa
     }
 }
 
-/// The value of the key with these bytes, which has to be stored: that is a condition of the index, and
-/// no check at run time.
+/// The value of the key with these bytes. That the key is stored is a condition of the index, not a check at run time.
 impl<'b, K: AsBytes + Drop, V: Drop, const P: usize> Index<&'b [u8]> for ByteMap<K, V, P> {
     type Output = V;
 
@@ -550,7 +565,7 @@ fn bound_of<'k, 'r>(bound: Bound<&'r &'k [u8]>) -> Bound<&'k [u8]>
     }
 }
 
-// The pair of a leaf that is there.
+// The pair of a leaf in the store.
 fn pair_at<K: AsBytes + Drop, V: Drop, const P: usize>(
     store: &NodeStore<K, V, P>,
     leaf: LeafPtr,
@@ -564,7 +579,7 @@ fn pair_at<K: AsBytes + Drop, V: Drop, const P: usize>(
     (&leaf.key, &leaf.value)
 }
 
-// Puts a pair into the tree, or its value to the equal key that is stored.
+// Inserts a pair into the tree. An equal stored key gets the value.
 fn put_in<K: AsBytes + Drop, V: Drop, const P: usize>(
     store: &mut NodeStore<K, V, P>,
     root: &mut Option<OpaqueNodePtr>,
@@ -603,7 +618,7 @@ fn put_in<K: AsBytes + Drop, V: Drop, const P: usize>(
     }
 }
 
-// The error that hands back what was refused for want of memory.
+// The error with the pair for which an allocation failed.
 fn without_memory<K, V>(refused: Refused<K, V>) -> MapInsertError<K, V>
     ensures { result ≡ errors.Memory refused.key refused.value }
 {
@@ -613,7 +628,7 @@ fn without_memory<K, V>(refused: Refused<K, V>) -> MapInsertError<K, V>
     }
 }
 
-// Puts a pair into the tree, in the place of all pairs with related keys.
+// Inserts a pair into the tree, in place of all pairs with related keys.
 fn put_over<K: AsBytes + Drop, V: Drop, const P: usize>(
     store: &mut NodeStore<K, V, P>,
     root: &mut Option<OpaqueNodePtr>,
@@ -644,7 +659,7 @@ fn put_over<K: AsBytes + Drop, V: Drop, const P: usize>(
     }
 }
 
-// How many pairs gave way: one that came back, or those that were freed.
+// How many pairs were replaced: the one that was returned, or those that were freed.
 fn count_gone<K, V>(done: &PrefixInsertResult<K, V>) -> usize
     ensures { result ≡ gone_count done.now }
 {
@@ -662,12 +677,12 @@ fn one_more<K: AsBytes + Drop, V: Drop, const P: usize>(
     requires { len < map.len store.now.leaves }
     ensures { result ≡ len + 1 }
 {
-    // Its contract says that there are fewer than can be counted.
+    // Its contract states that the leaves are fewer than a `usize` can count.
     let _count = store.leaf_count();
     len + 1
 }
 
-// Begins the tree with a pair.
+// Plants the tree with a pair.
 fn begin<K: AsBytes + Drop, V: Drop, const P: usize>(
     store: &mut NodeStore<K, V, P>,
     root: &mut Option<OpaqueNodePtr>,
@@ -712,7 +727,7 @@ fn copy_tree<K: AsBytes + Clone + Drop, V: Clone + Drop, const P: usize>(
     Ok(copy.root)
 }
 
-// Takes the pair of a key out of the tree.
+// Removes the pair of a key from the tree.
 #[inline(always)]
 fn take_key<Q: KeyQuery, K: AsBytes + Drop, V: Drop, const P: usize>(
     store: &mut NodeStore<K, V, P>,
@@ -736,7 +751,7 @@ fn take_key<Q: KeyQuery, K: AsBytes + Drop, V: Drop, const P: usize>(
     Some(take_out(store, root, len, name, point))
 }
 
-// Takes the first of the pairs whose keys begin with a prefix out of the tree.
+// Removes the first pair whose key starts with a prefix from the tree.
 fn take_below<K: AsBytes + Drop, V: Drop, const P: usize>(
     store: &mut NodeStore<K, V, P>,
     root: &mut Option<OpaqueNodePtr>,
@@ -763,7 +778,7 @@ fn take_below<K: AsBytes + Drop, V: Drop, const P: usize>(
     Some(take_out(store, root, len, name, point))
 }
 
-// Takes the first pair out of the tree.
+// Removes the first pair from the tree.
 #[inline(always)]
 fn take_first<K: AsBytes + Drop, V: Drop, const P: usize>(
     store: &mut NodeStore<K, V, P>,
@@ -782,7 +797,7 @@ fn take_first<K: AsBytes + Drop, V: Drop, const P: usize>(
     Some(take_out(store, root, len, name, point))
 }
 
-// Takes the last pair out of the tree.
+// Removes the last pair from the tree.
 #[inline(always)]
 fn take_last<K: AsBytes + Drop, V: Drop, const P: usize>(
     store: &mut NodeStore<K, V, P>,
@@ -801,7 +816,7 @@ fn take_last<K: AsBytes + Drop, V: Drop, const P: usize>(
     Some(take_out(store, root, len, name, point))
 }
 
-// Takes all pairs out, with the tree.
+// Removes all pairs, with the tree.
 fn take_all<K: AsBytes + Drop, V: Drop, const P: usize>(
     store: &mut NodeStore<K, V, P>,
     root: &mut Option<OpaqueNodePtr>,
@@ -816,7 +831,7 @@ fn take_all<K: AsBytes + Drop, V: Drop, const P: usize>(
     *len = 0;
 }
 
-// Takes the pair of a point out of the tree.
+// Removes the pair of a point from the tree.
 #[inline(always)]
 fn take_out<K: AsBytes + Drop, V: Drop, const P: usize>(
     store: &mut NodeStore<K, V, P>,

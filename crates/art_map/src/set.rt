@@ -32,15 +32,15 @@ pub use split::SetSplitRefused;
 /// A key that was not inserted.
 #[derive(Debug, Drop, Error)]
 pub enum SetInsertError<K> {
-    /// An unequal stored key is related to the key: one of the two is a prefix of the other.
+    /// A stored key conflicts with the key: they are unequal, and one of the two is a prefix of the other.
     #[error("{error}")]
     Conflict { key: K, error: InsertPrefixError },
-    /// There was no memory, and no equal key is stored.
+    /// An allocation failed, and no equal key is stored.
     #[error("memory allocation failed")]
     Memory { key: K },
 }
 
-/// A set of keys in the order of their bytes, none of which is a prefix of another.
+/// A set of keys in the order of their bytes. No key is a prefix of another.
 #[derive(Drop)]
 pub struct ByteSet<K: AsBytes, const P: usize> {
     map: ByteMap<K, (), P>,
@@ -60,7 +60,7 @@ impl<K: AsBytes, const P: usize> Model for ByteSet<K, P> {
 }
 
 impl<K: AsBytes + Drop, const P: usize> ByteSet<K, P> {
-    /// Returns an empty set, and takes no memory.
+    /// Returns an empty set, without an allocation.
     pub fn new(alloc: Global) -> Self
         ensures { result ≡ [] }
     {
@@ -69,7 +69,7 @@ impl<K: AsBytes + Drop, const P: usize> ByteSet<K, P> {
         }
     }
 
-    /// Returns the number of keys.
+    /// Returns the number of keys, in constant time.
     pub fn len(&self) -> usize
         ensures len { result ≡ length self.now }
         ensures sorted { IsMap K.bytes self.now }
@@ -77,21 +77,21 @@ impl<K: AsBytes + Drop, const P: usize> ByteSet<K, P> {
         self.map.len()
     }
 
-    /// Returns whether there is no key.
+    /// Returns whether the set has no keys.
     pub fn is_empty(&self) -> bool
         ensures { IsTrue result ↔ (self.now ≡ []) }
     {
         self.len() == 0
     }
 
-    /// Returns whether a key with these bytes is stored, by one descent along them.
+    /// Returns whether a key with these bytes is stored. It is a single descent along them.
     pub fn contains(&self, key_bytes: &[u8]) -> bool
         ensures { result ≡ has_key K.bytes key_bytes.now self.now }
     {
         self.map.contains_key(key_bytes)
     }
 
-    /// Returns the stored key with these bytes, or `None`, by one descent along them.
+    /// Returns the stored key with these bytes, or `None`. It is a single descent along them.
     pub fn get(&self, key_bytes: &[u8]) -> Option<&K>
         ensures { option_copied result ≡ first_of (with_key K.bytes key_bytes.now self.now) }
     {
@@ -101,7 +101,7 @@ impl<K: AsBytes + Drop, const P: usize> ByteSet<K, P> {
         }
     }
 
-    /// Returns the first key, or `None`. It reads one inner node for each level.
+    /// Returns the first key, or `None` if there is none. It reads one inner node for each level.
     pub fn first(&self) -> Option<&K>
         ensures { option_copied result ≡ first_of self.now }
     {
@@ -111,7 +111,7 @@ impl<K: AsBytes + Drop, const P: usize> ByteSet<K, P> {
         }
     }
 
-    /// Returns the last key, or `None`. It reads one inner node for each level.
+    /// Returns the last key, or `None` if there is none. It reads one inner node for each level.
     pub fn last(&self) -> Option<&K>
         ensures { option_copied result ≡ last_of self.now }
     {
@@ -121,7 +121,7 @@ impl<K: AsBytes + Drop, const P: usize> ByteSet<K, P> {
         }
     }
 
-    /// Returns the keys as they rise, from both ends.
+    /// Returns an iterator over the keys in ascending order, from both ends. It costs what `iter` of a `ByteMap` does.
     pub fn iter(&self) -> Keys<'_, K, (), P>
         ensures keys { result ≡ self.now }
         ensures sorted { IsMap K.bytes self.now }
@@ -130,10 +130,11 @@ impl<K: AsBytes + Drop, const P: usize> ByteSet<K, P> {
         self.map.keys()
     }
 
-    /// Puts a key in, and returns whether it was new. Where an equal key is stored, that key stays and
-    /// the one that was handed in is dropped. An error hands the key back: `Conflict` where an unequal
-    /// stored key is related to it, `Memory` for want of memory. There is no error where an equal key is
-    /// stored.
+    /// Inserts a key, and returns whether it is new. If an equal key is stored, that key stays and the one that was
+    /// passed is dropped.
+    ///
+    /// An error returns the key, and the set is unchanged: `Conflict` if a stored key conflicts with it, `Memory` if an
+    /// allocation fails. It never fails if an equal key is stored. It costs what `insert` of a `ByteMap` does.
     pub fn insert(&mut self, key: K) -> Result<bool, SetInsertError<K>>
         ensures keys { OnOk result (self.new ≡ add_key K.bytes key self.old) }
         ensures added { IfOk result (λ added.
@@ -150,8 +151,8 @@ impl<K: AsBytes + Drop, const P: usize> ByteSet<K, P> {
         Ok(replaced.is_none())
     }
 
-    /// Puts a key in, in the place of the equal one that is stored, which comes back. Both have the same
-    /// bytes. It is refused as `insert` is.
+    /// Inserts a key in place of the equal one that is stored, which is returned. Both have the same bytes. Errors and
+    /// cost are those of `insert`.
     pub fn replace(&mut self, key: K) -> Result<Option<K>, SetInsertError<K>>
         ensures keys { OnOk result (self.new ≡ replace_key K.bytes key self.old) }
         ensures replaced { IfOk result (λ replaced.
@@ -168,9 +169,9 @@ impl<K: AsBytes + Drop, const P: usize> ByteSet<K, P> {
         }
     }
 
-    // ---- Removals. None of them takes memory, and none fails.
+    // ---- Removals. None of them allocates, and none fails.
 
-    /// Removes the key with these bytes, and returns whether it was there.
+    /// Removes the key with these bytes, and returns whether it was stored. It is a single descent.
     pub fn remove(&mut self, key_bytes: &[u8]) -> bool
         ensures keys { self.new ≡ remove_key K.bytes key_bytes.now self.old }
         ensures removed { result ≡ has_key K.bytes key_bytes.now self.old }
@@ -178,7 +179,7 @@ impl<K: AsBytes + Drop, const P: usize> ByteSet<K, P> {
         self.remove_by(key_bytes)
     }
 
-    /// Removes the key with these bytes, and returns it.
+    /// Removes the key with these bytes, and returns it; `None` if it is not stored. It is a single descent.
     pub fn take(&mut self, key_bytes: &[u8]) -> Option<K>
         ensures keys { self.new ≡ remove_key K.bytes key_bytes.now self.old }
         ensures removed { result ≡ remove_reply K.bytes key_bytes.now self.old }
@@ -187,7 +188,7 @@ impl<K: AsBytes + Drop, const P: usize> ByteSet<K, P> {
         Some(key)
     }
 
-    /// Removes the first key and returns it.
+    /// Removes the first key and returns it; `None` if there is none. It is a single descent.
     pub fn pop_first(&mut self) -> Option<K>
         ensures keys { self.new ≡ without_first self.old }
         ensures removed { result ≡ first_of self.old }
@@ -196,7 +197,7 @@ impl<K: AsBytes + Drop, const P: usize> ByteSet<K, P> {
         Some(key)
     }
 
-    /// Removes the last key and returns it.
+    /// Removes the last key and returns it; `None` if there is none. It is a single descent.
     pub fn pop_last(&mut self) -> Option<K>
         ensures keys { self.new ≡ without_last self.old }
         ensures removed { result ≡ last_of self.old }
@@ -205,16 +206,16 @@ impl<K: AsBytes + Drop, const P: usize> ByteSet<K, P> {
         Some(key)
     }
 
-    /// Takes out all keys, and takes no memory. It goes over the slabs, down no tree. The store keeps the
-    /// room of the nodes for later ones.
+    /// Removes all keys, and allocates nothing. It frees slab by slab, without a descent. The store keeps the slots for
+    /// later nodes.
     pub fn clear(&mut self)
         ensures { self.new ≡ [] }
     {
         self.map.clear();
     }
 
-    /// Moves the keys into their order in memory, as `compact` of a `ByteMap` does: a walk then reads
-    /// memory from front to back. An `Err` is for want of memory, and then nothing has moved.
+    /// Moves the keys into their order in memory, as `compact` of a `ByteMap` does: an iteration then reads memory from
+    /// front to back. It fails only if an allocation fails, and then nothing has moved.
     pub fn compact(&mut self) -> Result<(), AllocError>
         ensures same { self.new ≡ self.old }
     {
@@ -256,7 +257,7 @@ impl<K: AsBytes + fmt::Debug + Drop, const P: usize> fmt::Debug for ByteSet<K, P
     }
 }
 
-// The error of a map's insertion, without the value.
+// The error of an insertion into a map, without the value.
 fn without_value<K>(error: MapInsertError<K, ()>) -> SetInsertError<K>
     ensures { result ≡ key_error error }
 {

@@ -1,4 +1,4 @@
-//! Tests of the map and of sets, by public calls. There is nothing here but tests.
+//! Tests of the map and of sets, by public calls. There are only tests here.
 #![tactic(auto)]
 
 #[cfg(test)]

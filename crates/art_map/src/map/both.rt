@@ -1,4 +1,4 @@
-//! A pair is inserted into each of two maps, or into neither.
+//! Inserting a pair into each of two maps, or into neither.
 ghost use Rattle.std.specs.Prelude.{◌≡◌, ◌≢◌, ℕ, false, Ok, Some, IfOk, IfErr, IsOk, OnErr, OnOk, IsTrue};
 ghost use Rattle.art_model.specs.Pairs.{is_conflict, of_key, put, put_reply};
 ghost use Rattle.art_model.specs.Promises.{is_covered};
@@ -19,7 +19,7 @@ use art_writing::insert::{
 use std::alloc::AllocError;
 use thiserror::Error;
 
-/// Two pairs that were not inserted: the one that failed is in the error, the other one beside it.
+/// Two pairs that were not inserted: the error has the one that failed, and the other one is beside it.
 #[derive(Debug, Drop, Error)]
 pub enum BothInsertError<K, V, L, W> {
     /// The map that was called failed.
@@ -37,10 +37,12 @@ pub enum BothInsertError<K, V, L, W> {
 }
 
 impl<K: AsBytes + Drop, V: Drop, const P: usize> ByteMap<K, V, P> {
-    /// Inserts a pair here and another one into another map, or neither. Each is inserted as by `insert`, with the
-    /// errors of `insert`: an error returns both pairs, and both maps are unchanged.
+    /// Inserts a pair into this map and another pair into another map, or neither. Each is inserted as by `insert`.
     ///
-    /// It costs what two insertions do. The memory for the pair here is reserved before the other one is inserted.
+    /// The errors are those of `insert`. An error returns both pairs, and both maps are unchanged.
+    ///
+    /// It costs what two insertions do. The memory for the pair of this map is reserved before the other pair is
+    /// inserted.
     pub fn insert_both<L: AsBytes + Drop, W: Drop, const Q: usize>(
         &mut self,
         pair: (K, V),
@@ -87,7 +89,7 @@ impl<K: AsBytes + Drop, V: Drop, const P: usize> ByteMap<K, V, P> {
     }
 }
 
-// Finds the place of a key, and reserves what its pair takes there; `None` is the place in no tree.
+// Finds the place of a key, and reserves the nodes that its pair needs there. `None` is the place in an empty map.
 fn reserve_place<K: AsBytes + Drop, V: Drop, const P: usize>(
     store: &mut NodeStore<K, V, P>,
     root: Option<OpaqueNodePtr>,
@@ -116,7 +118,7 @@ fn reserve_place<K: AsBytes + Drop, V: Drop, const P: usize>(
     }
 }
 
-// Reserves what an insertion of a kind places.
+// Reserves the nodes that an insertion of this kind places.
 fn reserve_for<K: AsBytes + Drop, V: Drop, const P: usize>(
     store: &mut NodeStore<K, V, P>,
     kind: InsertKind,
@@ -138,7 +140,7 @@ fn reserve_for<K: AsBytes + Drop, V: Drop, const P: usize>(
     }
 }
 
-// The kind of the node by which a full one is replaced when it gets a child more.
+// The kind of the node that replaces a full one for a further child; `None` if the node has room.
 fn larger_for<K: AsBytes + Drop, V: Drop, const P: usize>(
     store: &NodeStore<K, V, P>,
     name: InnerPtr,
@@ -164,7 +166,7 @@ fn with_pair<K, V>(error: InsertSearchError, key: K, value: V) -> MapInsertError
     }
 }
 
-// Puts a pair into the tree at the place that is reserved for it.
+// Inserts a pair into the tree at its reserved place.
 fn put_reserved<K: AsBytes + Drop, V: Drop, const P: usize>(
     store: &mut NodeStore<K, V, P>,
     root: &mut Option<OpaqueNodePtr>,

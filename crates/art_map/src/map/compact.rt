@@ -1,4 +1,4 @@
-//! The leaves of a map, moved into the order of its keys.
+//! Moving the leaves of a map into the order of its keys.
 ghost use Rattle.std.specs.Prelude.{◌≡◌};
 
 use super::ByteMap;
@@ -7,14 +7,13 @@ use art_reading::minmax::minimum_unchecked;
 use std::alloc::AllocError;
 
 impl<K: AsBytes + Drop, V: Drop, const P: usize> ByteMap<K, V, P> {
-    /// Moves the pairs into the order of their keys in memory, so that a walk reads memory from front to
-    /// back, and returns `Ok` once they stand so. No pair is cloned, and the map stays the same. An `Err`
-    /// is for want of memory, and then nothing has moved.
+    /// Moves the pairs into the order of their keys in memory, so that an iteration reads memory from front to back. No
+    /// pair is cloned, and the map is unchanged. It fails only if an allocation fails, and then nothing has moved.
     ///
-    /// It costs a walk over all leaves and inner nodes. It takes room for as many leaves as there are, and
-    /// a word for each one that the old room could hold, and gives back these words and the old room. It
-    /// pays before many walks of a map that is written rarely: pairs that are inserted later stand behind
-    /// the others again.
+    /// It costs a step for each leaf and for each place of an inner node. It allocates slots for as many leaves as
+    /// there are, and a word for each of the old slots, and frees these words and the old slots. This pays off before
+    /// many iterations over a map that rarely changes: pairs that are inserted later are again behind the others. A map
+    /// with at most one pair is left alone.
     pub fn compact(&mut self) -> Result<(), AllocError>
         ensures same { self.new ≡ self.old }
     {

@@ -1,4 +1,4 @@
-//! Equality, order and hashes of maps, which are those of their pairs in the order of the keys' bytes.
+//! Equality, order and hashes of maps: those of their pairs, in the order of the keys' bytes.
 ghost use Rattle.std.specs.Prelude.{◌≡◌, ◌&&◌, ◌++◌};
 ghost use Rattle.std.specs.Hash as fed;
 ghost use Rattle.std.specs.List.{fold};
@@ -82,7 +82,7 @@ fn same_pair<K: PartialEq, V: PartialEq>(a: &K, x: &V, b: &K, y: &V) -> bool
     a.eq(b) && x.eq(y)
 }
 
-// Whether as many pairs are left, and each is equal to the other one in its place.
+// Returns whether both have equally many pairs left, each equal to the other's at the same position.
 fn same_pairs<K: PartialEq, V: PartialEq, S: Leaves<K, V>>(
     left: MapIterOf<'_, K, V, S>,
     right: MapIterOf<'_, K, V, S>,
@@ -118,7 +118,7 @@ fn partial_order_of_pair<K: PartialOrd, V: PartialOrd>(
     }
 }
 
-// The order of two walks: that of the first pairs that differ, and else a shorter one comes first.
+// The order of two iterators: that of the first two pairs that differ. If none do, a shorter one is less.
 fn partial_order_of<K: PartialOrd, V: PartialOrd, S: Leaves<K, V>>(
     left: MapIterOf<'_, K, V, S>,
     right: MapIterOf<'_, K, V, S>,
@@ -152,7 +152,7 @@ fn order_of_pair<K: Ord, V: Ord>(a: &K, x: &V, b: &K, y: &V) -> Ordering
     }
 }
 
-// The same, where any two pairs can be compared.
+// The same, if any two pairs can be compared.
 fn order_of<K: Ord, V: Ord, S: Leaves<K, V>>(
     left: MapIterOf<'_, K, V, S>,
     right: MapIterOf<'_, K, V, S>,

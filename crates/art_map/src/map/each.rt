@@ -1,4 +1,4 @@
-//! Each value of a map, to be changed by a closure.
+//! Changing each value of a map by a closure.
 ghost use Rattle.std.specs.Prelude.{◌≡◌, IsSome};
 ghost use Rattle.std.specs.FinMap as map;
 ghost use Rattle.art_model.specs.Pairs.{of_key};
@@ -13,10 +13,10 @@ use art_nodes::node::{AsBytes, LeafPtr, OpaqueNodePtr};
 use art_nodes::store::NodeStore;
 
 impl<K: AsBytes + Drop, V: Drop, const P: usize> ByteMap<K, V, P> {
-    /// Calls the closure at each value, in the order of the keys, to change it in place. The keys stay.
+    /// Calls the closure on each value, in the order of the keys, to change it in place. The keys stay.
     ///
-    /// It replaces an iterator over `&mut V`: each value costs one step of an iteration. It allocates
-    /// nothing and never fails.
+    /// It replaces an iterator over `&mut V`: each value costs one step of an iteration. It allocates nothing and never
+    /// fails.
     pub fn for_each_value<F: FnMut(&mut V)>(&mut self, mut f: F)
         requires { F.IsAlwaysCallable f }
         ensures values { ChangesValues F.FnMut f self.old self.new }
@@ -25,8 +25,8 @@ impl<K: AsBytes + Drop, V: Drop, const P: usize> ByteMap<K, V, P> {
         self.for_each_value_by_ref(&mut f);
     }
 
-    /// Does what `for_each_value` does, with a closure that the caller keeps. The closure is called once
-    /// at each value, and not once more: its last state is the one that these calls lead to.
+    /// Does what `for_each_value` does, with a closure that the caller keeps. The closure is called exactly once on
+    /// each value: its last state is the one that these calls lead to.
     pub fn for_each_value_by_ref<F: FnMut(&mut V)>(&mut self, f: &mut F)
         requires { F.IsAlwaysCallable f.old }
         ensures values { ChangesEach F.FnMut f.old self.old self.new f.new }
@@ -37,7 +37,7 @@ impl<K: AsBytes + Drop, V: Drop, const P: usize> ByteMap<K, V, P> {
     }
 }
 
-// Calls the closure at each value of the tree, in the order of the keys.
+// Calls the closure on each value of the tree, in the order of the keys.
 fn change_values<K: AsBytes + Drop, V: Drop, const P: usize, F: FnMut(&mut V)>(
     store: &mut NodeStore<K, V, P>,
     root: Option<OpaqueNodePtr>,
@@ -56,7 +56,7 @@ fn change_values<K: AsBytes + Drop, V: Drop, const P: usize, F: FnMut(&mut V)>(
     }
 }
 
-// Calls the closure at the value of a leaf.
+// Calls the closure on the value of a leaf.
 fn change_value<K: AsBytes + Drop, V: Drop, const P: usize, F: FnMut(&mut V)>(
     store: &mut NodeStore<K, V, P>,
     leaf: LeafPtr,

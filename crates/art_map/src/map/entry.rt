@@ -20,7 +20,7 @@ pub struct EntryOf<'a, K, M> {
     pub(crate) leaf: Option<LeafPtr>,
 }
 
-/// The same, of a map whose keys these are.
+/// The entry of a `ByteMap` with such keys.
 pub type Entry<'a, K, V, const P: usize> = EntryOf<'a, K, ByteMap<K, V, P>>;
 
 impl<'a, K: AsBytes + Drop, V: Drop, const P: usize> EntryOf<'a, K, ByteMap<K, V, P>> {
@@ -31,7 +31,7 @@ impl<'a, K: AsBytes + Drop, V: Drop, const P: usize> EntryOf<'a, K, ByteMap<K, V
         &self.key
     }
 
-    /// Returns the value of the key, where it is stored, by one way down the tree.
+    /// Returns the value of the key, or `None` if it is not stored. It is a single descent.
     pub fn get(&self) -> Option<&V>
         ensures { option_copied result ≡
             value_at K.bytes (K.bytes self.now.key) self.now.map.now }
@@ -39,8 +39,10 @@ impl<'a, K: AsBytes + Drop, V: Drop, const P: usize> EntryOf<'a, K, ByteMap<K, V
         self.map.get(self.key.as_bytes())
     }
 
-    /// Returns the entry, after a call of the closure at the key's value, where it is stored. It takes a
-    /// descent, and keeps the leaf that it finds: an `or_` call takes none then, but a look at that leaf.
+    /// Calls the closure on the value of the key, if that is stored, and returns the entry.
+    ///
+    /// It is a single descent. The entry keeps the leaf that it finds: an `or_` call that follows reads this leaf and
+    /// does not descend.
     pub fn and_modify<F: FnOnce(&mut V)>(self, f: F) -> Self
         requires { (value : MutBor V) →
             value_at K.bytes (K.bytes self.key) self.map.now ≡ Some value.now → F.pre f value }
@@ -54,8 +56,8 @@ impl<'a, K: AsBytes + Drop, V: Drop, const P: usize> EntryOf<'a, K, ByteMap<K, V
         EntryOf { map, key, leaf }
     }
 
-    /// Removes the pair of the key, and returns it; `None` where no equal key is stored. It costs what `remove` of the
-    /// map does, and never fails.
+    /// Removes the pair of the key, and returns it; `None` if no equal key is stored. It costs what `remove` of the map
+    /// does, and never fails.
     pub fn remove(self) -> Option<(K, V)>
         ensures removed { result ≡ remove_reply (of_key K.bytes)
             (K.bytes self.entry.key) self.entry.map.now }
@@ -66,8 +68,8 @@ impl<'a, K: AsBytes + Drop, V: Drop, const P: usize> EntryOf<'a, K, ByteMap<K, V
         map.remove_by(key.as_bytes())
     }
 
-    /// Returns the value of the key, to be written. Where no equal key is stored the pair is put in
-    /// first, by the same descent. The errors are those of `insert`.
+    /// Returns the value of the key as `&mut V`. If no equal key is stored, the pair is inserted first, by the same
+    /// descent. The errors are those of `insert`.
     pub fn or_insert(self, value: V) -> Result<&'a mut V, MapInsertError<K, V>>
         ensures* writes_back { sem 𝓛 (lends_put K.row V.row P.row K.AsBytes
             self.entry.map self.entry.key result) }
@@ -82,8 +84,8 @@ impl<'a, K: AsBytes + Drop, V: Drop, const P: usize> EntryOf<'a, K, ByteMap<K, V
         map.value_or_insert(key, leaf, value)
     }
 
-    /// Returns what `or_insert` does, with a value that is made of the key. The closure is called where
-    /// no equal key is stored, also where the pair is refused then and comes back.
+    /// Returns what `or_insert` does, with a value that is made from the key. The closure is called only if no equal
+    /// key is stored. It is called even if the insertion fails; the error returns the pair.
     pub fn or_insert_with_key<F: FnOnce(&K) -> V>(
         self,
         make: F,
@@ -104,8 +106,8 @@ impl<'a, K: AsBytes + Drop, V: Drop, const P: usize> EntryOf<'a, K, ByteMap<K, V
         map.value_or_make(key, leaf, make)
     }
 
-    /// Returns what `or_insert` does, with a value that is made. The closure is called where no equal key
-    /// is stored, also where the pair is refused then and comes back.
+    /// Returns what `or_insert` does, with a value that is made. The closure is called only if no equal key is stored.
+    /// It is called even if the insertion fails; the error returns the pair.
     pub fn or_insert_with<F: FnOnce() -> V>(
         self,
         make: F,
@@ -124,8 +126,8 @@ impl<'a, K: AsBytes + Drop, V: Drop, const P: usize> EntryOf<'a, K, ByteMap<K, V
         self.or_insert_with_key(|_| make())
     }
 
-    /// Returns what `or_insert_with` does, of a closure that may fail. Where it does, its error is returned with the
-    /// key, and the map is as before.
+    /// Returns what `or_insert_with` does, with a closure that may fail. If it does, its error is returned with the
+    /// key, and the map is unchanged.
     pub fn or_try_insert_with<E: Drop, F: FnOnce() -> Result<V, E>>(
         self,
         make: F,
@@ -145,7 +147,7 @@ impl<'a, K: AsBytes + Drop, V: Drop, const P: usize> EntryOf<'a, K, ByteMap<K, V
         map.value_or_try(key, leaf, make)
     }
 
-    /// Returns what `or_insert` does, with the value that is the default of its type.
+    /// Returns what `or_insert` does, with the default value of the type.
     pub fn or_default(self) -> Result<&'a mut V, MapInsertError<K, V>>
     where
         V: Default,

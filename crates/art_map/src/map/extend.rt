@@ -1,4 +1,4 @@
-//! Pairs of an iterator are put in.
+//! Inserting the pairs of an iterator.
 ghost use Rattle.std.specs.Prelude.{IfErr, OnOk};
 ghost use Rattle.std.specs.Iterator.{IsFinite};
 ghost use Rattle.art_map.specs.MapCalls.{PutsAll, PutsUntil};
@@ -7,9 +7,10 @@ use super::{ByteMap, MapInsertError};
 use art_nodes::node::AsBytes;
 
 impl<K: AsBytes + Drop, V: Drop, const P: usize> ByteMap<K, V, P> {
-    /// Puts in the pairs that come, one after another, as `insert` does. It stops at the first one that is
-    /// refused, which the error hands back: those before it stay in the map, and the others stay in the
-    /// iterator. The errors are those of `insert`.
+    /// Inserts the pairs of an iterator, one after another, as `insert` does.
+    ///
+    /// It stops at the first pair that can't be inserted, which the error returns: the pairs before it stay in the map,
+    /// and the others stay in the iterator. The errors are those of `insert`.
     pub fn extend<I: Iterator<Item = (K, V)>>(
         &mut self,
         pairs: &mut I,

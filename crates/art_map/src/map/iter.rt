@@ -1,4 +1,4 @@
-//! The pairs of a map, in order.
+//! Iteration over the pairs of a map, in order.
 ghost use Rattle.std.specs.Prelude.{◌≡◌, ◌<◌, ◌^◌, length, IfSome, Some, ⊤};
 ghost use Rattle.std.specs.Iterator.{UpTo, at_most};
 ghost use Rattle.std.specs.Iterator.SizeHint.{IsWithinCount};
@@ -11,13 +11,13 @@ use std::alloc::AllocError;
 use std::iter::FusedIterator;
 use std::marker::Model;
 
-/// Leaves that a walk goes over.
+/// The leaves that an iterator reads.
 pub trait Leaves<K, V> {
     ghost use Rattle.art_nodes.specs.Nodes.{Nodes};
 
     ghost seen: { Self → Nodes K V };
 
-    /// Returns the pair of the first leaf that is left, of at most so many.
+    /// Returns the pair of the first leaf that is left, or `None`. At most `at_most` leaves are left.
     fn step(&self, walk: &mut RawIterator, at_most: &mut usize) -> Option<(&K, &V)>
         requires { IsRange (seen self.now) walk.old at_most.old }
         ensures range { IsRange (seen self.now) walk.new at_most.new }
@@ -25,7 +25,7 @@ pub trait Leaves<K, V> {
             (pairs_between (seen self.now) walk.new at_most.new) }
         ensures count { CountsDown at_most.old result at_most.new };
 
-    /// Returns the pair of the last leaf that is left, of at most so many.
+    /// Returns the pair of the last leaf that is left, or `None`. At most `at_most` leaves are left.
     fn step_back(&self, walk: &mut RawIterator, at_most: &mut usize) -> Option<(&K, &V)>
         requires { IsRange (seen self.now) walk.old at_most.old }
         ensures range { IsRange (seen self.now) walk.new at_most.new }
@@ -52,13 +52,13 @@ impl<K: AsBytes + Drop, V: Drop, const P: usize> Leaves<K, V> for NodeStore<K, V
     }
 }
 
-/// The pairs of a map by rising keys, seen as the list of those that have not come yet.
+/// An iterator over the pairs of a map, by ascending keys. Contracts see it as the list of the pairs that are left.
 #[derive(Drop)]
 pub struct MapIterOf<'a, K, V, S: Leaves<K, V>> {
     store: &'a S,
     walk: RawIterator,
     len: usize,
-    // None: it names the lifetime of what is lent.
+    // Always `None`: it names the lifetime of the borrowed pairs.
     nothing: Option<(&'a K, &'a V)>,
 }
 

@@ -1,4 +1,4 @@
-//! A value of a map, which is changed, or made where its key is new.
+//! The value of a key as `&mut V`, and values that are made for new keys.
 ghost use Rattle.std.specs.Prelude.{◌≡◌, false, IfErr, IfOk, Ok, OnOk, Some};
 ghost use Rattle.std.specs.Borrow.{Bor, MutBor, sem};
 ghost use Rattle.std.specs.Fn.{FnOnceReturnsAt};
@@ -14,8 +14,8 @@ use art_nodes::node::{AsBytes, LeafPtr};
 use art_reading::lookup::search_unchecked;
 
 impl<K: AsBytes + Drop, V: Drop, const P: usize> ByteMap<K, V, P> {
-    /// Returns what `get_or_insert` does, with a value that is made of the key. The closure is called where no
-    /// equal key is stored, also where the pair is refused then and comes back.
+    /// Returns what `get_or_insert` does, with a value that is made from the key. The closure is called only if no
+    /// equal key is stored. It is called even if the insertion fails; the error returns the pair.
     pub fn get_or_insert_with<F: FnOnce(&K) -> V>(
         &mut self,
         key: K,
@@ -36,7 +36,7 @@ impl<K: AsBytes + Drop, V: Drop, const P: usize> ByteMap<K, V, P> {
         self.value_or_make(key, None, make)
     }
 
-    // Calls the closure at the value of the key with these bytes, and returns its leaf.
+    // Calls the closure on the value of the key with these bytes, and returns its leaf.
     pub(super) fn modify<F: FnOnce(&mut V)>(&mut self, key_bytes: &[u8], f: F) -> Option<LeafPtr>
         requires { (value : MutBor V) →
             value_at K.bytes key_bytes.now self.old ≡ Some value.now → F.pre f value }
@@ -83,7 +83,7 @@ impl<K: AsBytes + Drop, V: Drop, const P: usize> ByteMap<K, V, P> {
         Ok(value)
     }
 
-    // The same with a value that is made where no equal key is stored.
+    // The same, with a value that is made if no equal key is stored.
     pub(super) fn value_or_make<F: FnOnce(&K) -> V>(
         &mut self,
         key: K,
@@ -120,7 +120,7 @@ impl<K: AsBytes + Drop, V: Drop, const P: usize> ByteMap<K, V, P> {
         Ok(value)
     }
 
-    // The same with a closure that may fail to make the value.
+    // The same, with a closure that may fail to make the value.
     pub(super) fn value_or_try<E: Drop, F: FnOnce() -> Result<V, E>>(
         &mut self,
         key: K,

@@ -1,4 +1,4 @@
-//! The pairs of a map by value, in order.
+//! Iteration over the pairs of a map by value, in order.
 ghost use Rattle.std.specs.Prelude.{◌≡◌, length, IfSome, Some};
 ghost use Rattle.std.specs.Iterator.{UpTo, YieldsFirst, YieldsLast, at_most, item_count};
 ghost use Rattle.std.specs.Iterator.SizeHint.{IsWithinCount};
@@ -14,8 +14,8 @@ use art_reading::minmax::{maximum_unchecked, minimum_unchecked};
 use std::iter::FusedIterator;
 use std::marker::Model;
 
-/// The pairs of a map by rising keys, by value, seen as the list of those that have not come yet. Those
-/// are dropped with it.
+/// An owning iterator over the pairs of a map, by ascending keys. Contracts see it as the list of the pairs that are
+/// left. These are dropped with it.
 #[derive(Drop)]
 pub struct IntoIter<K, V, const P: usize> {
     store: NodeStore<K, V, P>,
@@ -88,7 +88,8 @@ impl<K: AsBytes + Drop, V: Drop, const P: usize> IntoIterator for ByteMap<K, V, 
     }
 }
 
-/// The keys of a map as they rise, by value, seen as the list of those that have not come yet.
+/// An owning iterator over the keys of a map, in ascending order. Contracts see it as the list of the keys that are
+/// left.
 #[derive(Drop)]
 pub struct IntoKeys<K, V, const P: usize> {
     pairs: IntoIter<K, V, P>,
@@ -150,7 +151,8 @@ impl<K: AsBytes + Drop, V: Drop, const P: usize> DoubleEndedIterator for IntoKey
 
 impl<K: AsBytes + Drop, V: Drop, const P: usize> FusedIterator for IntoKeys<K, V, P> {}
 
-/// The values of a map by rising keys, by value, seen as the list of those that have not come yet.
+/// An owning iterator over the values of a map, by ascending keys. Contracts see it as the list of the values that are
+/// left.
 #[derive(Drop)]
 pub struct IntoValues<K, V, const P: usize> {
     pairs: IntoIter<K, V, P>,
@@ -213,7 +215,7 @@ impl<K: AsBytes + Drop, V: Drop, const P: usize> DoubleEndedIterator for IntoVal
 impl<K: AsBytes + Drop, V: Drop, const P: usize> FusedIterator for IntoValues<K, V, P> {}
 
 impl<K: AsBytes + Drop, V: Drop, const P: usize> ByteMap<K, V, P> {
-    /// Returns the keys as they rise, by value.
+    /// Returns an owning iterator over the keys in ascending order. It never fails.
     pub fn into_keys(self) -> IntoKeys<K, V, P>
         ensures { result ≡ keys_of self }
     {
@@ -222,7 +224,7 @@ impl<K: AsBytes + Drop, V: Drop, const P: usize> ByteMap<K, V, P> {
         }
     }
 
-    /// Returns the values in the order of their keys, by value.
+    /// Returns an owning iterator over the values in the order of their keys. It never fails.
     pub fn into_values(self) -> IntoValues<K, V, P>
         ensures { result ≡ values_of self }
     {
@@ -232,7 +234,7 @@ impl<K: AsBytes + Drop, V: Drop, const P: usize> ByteMap<K, V, P> {
     }
 }
 
-// The walk of all leaves of a map.
+// The iterator over all leaves of a map.
 pub(super) fn whole_walk<K: AsBytes + Drop, V: Drop, const P: usize>(
     store: &NodeStore<K, V, P>,
     root: Option<OpaqueNodePtr>,
@@ -250,7 +252,7 @@ pub(super) fn whole_walk<K: AsBytes + Drop, V: Drop, const P: usize>(
     RawIterator::new(store, first, last)
 }
 
-// Takes the first leaf that is left out of the store.
+// Removes the first leaf that is left from the store, and returns its pair.
 fn take_next<K: AsBytes + Drop, V: Drop, const P: usize>(
     store: &mut NodeStore<K, V, P>,
     walk: &mut RawIterator,
@@ -267,7 +269,7 @@ fn take_next<K: AsBytes + Drop, V: Drop, const P: usize>(
     Some((leaf.key, leaf.value))
 }
 
-// Takes the last leaf that is left out of the store.
+// Removes the last leaf that is left from the store, and returns its pair.
 fn take_next_back<K: AsBytes + Drop, V: Drop, const P: usize>(
     store: &mut NodeStore<K, V, P>,
     walk: &mut RawIterator,

@@ -1,4 +1,4 @@
-//! The keys of a map, and its values, in order.
+//! Iteration over the keys of a map, and over its values, in order.
 ghost use Rattle.std.specs.Prelude.{◌≡◌, ◌<◌, ◌^◌, length, IfSome, Some, ⊤};
 ghost use Rattle.std.specs.Iterator.{UpTo, at_most};
 ghost use Rattle.std.specs.Iterator.SizeHint.{IsWithinCount};
@@ -10,7 +10,7 @@ use std::alloc::AllocError;
 use std::iter::FusedIterator;
 use std::marker::Model;
 
-/// The keys of a map as they rise, seen as the list of those that have not come yet.
+/// An iterator over the keys of a map, in ascending order. Contracts see it as the list of the keys that are left.
 #[derive(Drop)]
 pub struct KeysOf<'a, K, V, S: Leaves<K, V>> {
     pairs: MapIterOf<'a, K, V, S>,
@@ -97,7 +97,7 @@ impl<'a, K, V, S: Leaves<K, V>> DoubleEndedIterator for KeysOf<'a, K, V, S> {
 
 impl<'a, K, V, S: Leaves<K, V>> FusedIterator for KeysOf<'a, K, V, S> {}
 
-/// The values of a map by rising keys, seen as the list of those that have not come yet.
+/// An iterator over the values of a map, by ascending keys. Contracts see it as the list of the values that are left.
 #[derive(Drop)]
 pub struct ValuesOf<'a, K, V, S: Leaves<K, V>> {
     pairs: MapIterOf<'a, K, V, S>,

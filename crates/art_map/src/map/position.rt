@@ -1,4 +1,4 @@
-//! Where a key is in a map, or comes in.
+//! Where a key is in a map, or is inserted.
 ghost use Rattle.std.specs.Prelude.{◌≡◌, ℕ, IsTrue, false};
 ghost use Rattle.std.specs.Borrow.{Bor};
 ghost use Rattle.std.specs.Fn.{FnOnceReturnsAt};
@@ -13,20 +13,20 @@ use art_writing::insert::{
     InsertKind, InsertPoint, InsertSearchError, plant, search_for_insert_point,
 };
 
-// Where a key is in a tree, or comes in.
+// Where a key is in a tree, or is inserted.
 #[derive(Drop)]
 pub(super) enum Position {
     /// The leaf of the key.
     Leaf(LeafPtr),
-    /// Where its leaf comes in.
+    /// Where its leaf is inserted.
     Point(InsertPoint),
     /// There is no tree yet.
     Bare,
-    /// It may not come in.
+    /// It can't be inserted.
     Refused(InsertSearchError),
 }
 
-// Where a key is, or comes in.
+// Where a key is, or is inserted.
 pub(super) fn position_of<K: AsBytes + Drop, V: Drop, const P: usize>(
     store: &NodeStore<K, V, P>,
     root: Option<OpaqueNodePtr>,
@@ -48,7 +48,7 @@ pub(super) fn position_of<K: AsBytes + Drop, V: Drop, const P: usize>(
     }
 }
 
-// Where a key is, or comes in. A leaf that had the key is looked at first, since it may have it still.
+// Where a key is, or is inserted. A leaf that had the key is read first, since it may still have it.
 pub(super) fn position_near<K: AsBytes + Drop, V: Drop, const P: usize>(
     store: &NodeStore<K, V, P>,
     root: Option<OpaqueNodePtr>,
@@ -67,7 +67,7 @@ pub(super) fn position_near<K: AsBytes + Drop, V: Drop, const P: usize>(
     position_of(store, root, key_bytes)
 }
 
-// Whether a leaf is there, with the key of these bytes.
+// Returns whether this leaf exists and has the key with these bytes.
 fn has_key_at<K: AsBytes + Drop, V: Drop, const P: usize>(
     store: &NodeStore<K, V, P>,
     leaf: LeafPtr,
@@ -81,7 +81,7 @@ fn has_key_at<K: AsBytes + Drop, V: Drop, const P: usize>(
     node.key.as_bytes() == key_bytes
 }
 
-// The leaf of a key: that which it has, or a new one with the value at its place.
+// The leaf of a key: the one that it has, or a new one with the value at its place.
 pub(super) fn enter<K: AsBytes + Drop, V: Drop, const P: usize>(
     store: &mut NodeStore<K, V, P>,
     root: &mut Option<OpaqueNodePtr>,
@@ -123,7 +123,7 @@ pub(super) fn enter<K: AsBytes + Drop, V: Drop, const P: usize>(
     }
 }
 
-// The leaf of a key: that which it has, or a new one with the value that is made of the key.
+// The leaf of a key: the one that it has, or a new one with the value that is made from the key.
 pub(super) fn leaf_made<K: AsBytes + Drop, V: Drop, const P: usize, F: FnOnce(&K) -> V>(
     store: &mut NodeStore<K, V, P>,
     root: &mut Option<OpaqueNodePtr>,
@@ -147,7 +147,7 @@ pub(super) fn leaf_made<K: AsBytes + Drop, V: Drop, const P: usize, F: FnOnce(&K
     enter(store, root, len, position, key, value)
 }
 
-// The same with a closure that may fail to make the value.
+// The same, with a closure that may fail to make the value.
 pub(super) fn leaf_tried<
     K: AsBytes + Drop,
     V: Drop,

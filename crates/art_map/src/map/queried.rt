@@ -1,4 +1,4 @@
-//! Calls of a map by a key that is not made, as by a text and the byte that ends it.
+//! Calls of a map by a key that is not built, such as a text and the byte that ends it.
 ghost use Rattle.std.specs.Prelude.{◌≡◌, option_copied};
 ghost use Rattle.std.specs.Borrow.{sem};
 ghost use Rattle.std.specs.Option.{option_copied_mut, option_map};
@@ -12,7 +12,7 @@ use art_nodes::node::AsBytes;
 use art_reading::lookup::{Asked, KeyQuery, find_unchecked, search_for};
 
 impl<K: AsBytes + Drop, V: Drop, const P: usize> ByteMap<K, V, P> {
-    /// Returns the value of the key that is looked for, or `None`. It costs what `get` does.
+    /// Returns the value of the key that is asked for, or `None` if it is not stored. It costs what `get` does.
     pub fn get_by<Q: KeyQuery>(&self, query: Q) -> Option<&V>
         ensures value { option_copied result ≡ value_at K.bytes (Q.key query) self.now }
         ensures sorted { IsMap (of_key K.bytes) self.now }
@@ -21,7 +21,7 @@ impl<K: AsBytes + Drop, V: Drop, const P: usize> ByteMap<K, V, P> {
         Some(&leaf.value)
     }
 
-    /// Returns the pair of the key that is looked for, or `None`. It costs what `get` does.
+    /// Returns the pair of the key that is asked for, or `None` if it is not stored. It costs what `get` does.
     pub fn get_key_value_by<Q: KeyQuery>(&self, query: Q) -> Option<(&K, &V)>
         ensures { option_map deref_pair result ≡
             first_of (with_key (of_key K.bytes) (Q.key query) self.now) }
@@ -30,7 +30,8 @@ impl<K: AsBytes + Drop, V: Drop, const P: usize> ByteMap<K, V, P> {
         Some((&leaf.key, &leaf.value))
     }
 
-    /// Returns the value of the key that is looked for, to be written, or `None`. It costs what `get` does.
+    /// Returns the value of the key that is asked for as `&mut V`, or `None` if it is not stored. It costs what `get`
+    /// does.
     pub fn get_mut_by<Q: KeyQuery>(&mut self, query: Q) -> Option<&mut V>
         ensures* writes_back { sem 𝓛
             (lends_value K.row V.row P.row K.AsBytes self.entry (Q.key query) result) }
@@ -40,14 +41,15 @@ impl<K: AsBytes + Drop, V: Drop, const P: usize> ByteMap<K, V, P> {
         self.store.value_mut(leaf)
     }
 
-    /// Returns whether the key that is looked for is stored. It costs what `get` does.
+    /// Returns whether the key that is asked for is stored. It costs what `get` does.
     pub fn contains_key_by<Q: KeyQuery>(&self, query: Q) -> bool
         ensures { result ≡ has_key (of_key K.bytes) (Q.key query) self.now }
     {
         self.get_by(query).is_some()
     }
 
-    /// Removes the pair of the key that is looked for, and returns it. It costs what `remove` does.
+    /// Removes the pair of the key that is asked for, and returns it; `None` if it is not stored. It never fails. It
+    /// costs what `remove` does.
     pub fn remove_by<Q: KeyQuery>(&mut self, query: Q) -> Option<(K, V)>
         ensures pairs { self.new ≡ remove_key (of_key K.bytes) (Q.key query) self.old }
         ensures removed { result ≡ remove_reply (of_key K.bytes) (Q.key query) self.old }

@@ -1,4 +1,4 @@
-//! The pairs of a part of a map, in order.
+//! Iteration over the pairs of a part of a map, in order.
 ghost use Rattle.std.specs.Prelude.{◌≡◌, ◌<◌, ◌^◌, length, IfSome, IsSome, ⊤};
 ghost use Rattle.std.specs.Iterator.{UpTo, at_most};
 ghost use Rattle.std.specs.Iterator.SizeHint.{IsWithinCount};
@@ -11,14 +11,14 @@ use std::alloc::AllocError;
 use std::iter::FusedIterator;
 use std::marker::Model;
 
-/// Pairs of a map that stand one after another, by rising keys, seen as the list of those that have not
-/// come yet. Their number is not known before they have come: `size_hint` has only an upper bound.
+/// An iterator over adjacent pairs of a map, by ascending keys. Contracts see it as the list of the pairs that are
+/// left. Their number is not known: `size_hint` has only an upper bound.
 #[derive(Drop)]
 pub struct RangeOf<'a, K, V, S: Leaves<K, V>> {
     store: &'a S,
     walk: RawIterator,
     at_most: usize,
-    // None: it names the lifetime of what is lent.
+    // Always `None`: it names the lifetime of the borrowed pairs.
     nothing: Option<(&'a K, &'a V)>,
 }
 

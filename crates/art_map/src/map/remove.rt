@@ -1,4 +1,4 @@
-//! All pairs with a prefix are removed at once.
+//! Removing all pairs with a prefix at once.
 ghost use Rattle.art_map.specs.MapChanges.{HasTakenBelow};
 ghost use Rattle.art_map.specs.MapPairs.{HoldsPairs, pairs_at};
 ghost use Rattle.art_model.specs.Pairs.{of_key};
@@ -7,7 +7,7 @@ use art_nodes::node::{AsBytes, OpaqueNodePtr};
 use art_nodes::store::NodeStore;
 use art_writing::delete::search_for_prefix_delete_point;
 
-/// Takes all pairs whose keys start with a prefix out of the tree, and returns how many.
+/// Removes all pairs whose keys start with a prefix from the tree, and returns how many.
 pub(super) fn take_all_below<K: AsBytes + Drop, V: Drop, const P: usize>(
     store: &mut NodeStore<K, V, P>,
     root: &mut Option<OpaqueNodePtr>,

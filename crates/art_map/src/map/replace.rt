@@ -1,4 +1,4 @@
-//! A pair in the place of the one with an equal key.
+//! Replacing the pair with an equal key.
 ghost use Rattle.std.specs.Prelude.{◌≡◌, false, IfErr, IfOk, OnErr, OnOk};
 ghost use Rattle.art_model.specs.Pairs.{first_of, is_conflict, of_key, replace_key, with_key};
 ghost use Rattle.art_map.specs.MapAnswers.{IsRefusalOf};
@@ -11,7 +11,7 @@ use art_nodes::node::{AsBytes, OpaqueNodePtr};
 use art_nodes::store::NodeStore;
 
 impl<K: AsBytes + Drop, V: Drop, const P: usize> ByteMap<K, V, P> {
-    // Puts a pair in, in the place of the one with an equal key, which comes back.
+    // Inserts a pair in place of the one with an equal key, which is returned.
     pub(crate) fn replace(
         &mut self,
         key: K,
@@ -30,7 +30,7 @@ impl<K: AsBytes + Drop, V: Drop, const P: usize> ByteMap<K, V, P> {
     }
 }
 
-// Puts a pair into the tree, in the place of the one with an equal key.
+// Inserts a pair into the tree, in place of the one with an equal key.
 fn replace_in<K: AsBytes + Drop, V: Drop, const P: usize>(
     store: &mut NodeStore<K, V, P>,
     root: &mut Option<OpaqueNodePtr>,

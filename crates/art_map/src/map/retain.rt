@@ -1,4 +1,4 @@
-//! The pairs that a closure picks are kept.
+//! Keeping the pairs for which a closure returns true.
 ghost use Rattle.std.specs.Prelude.{◌≡◌, Some};
 ghost use Rattle.std.specs.Range.Bound.{bound_map};
 ghost use Rattle.art_model.specs.Pairs.{IsMap, of_key};
@@ -17,7 +17,8 @@ impl<K: AsBytes + Drop, V: Drop, const P: usize> ByteMap<K, V, P> {
     /// Keeps the pairs for which the closure returns true, and removes the others. The closure is called once for each
     /// pair, in the order of the keys.
     ///
-    /// It never fails. A pair that stays costs a step of an iteration, one that is removed two descents more.
+    /// It allocates nothing and never fails. Each pair costs a step of an iteration. One that is removed costs what
+    /// `range` and `remove` do besides.
     pub fn retain<F: FnMut(&K, &V) -> bool>(&mut self, mut f: F)
         requires { F.IsAlwaysCallable f }
         ensures pairs { RetainsAll (AsksPair F.FnMut) f self.old self.new }
@@ -25,8 +26,8 @@ impl<K: AsBytes + Drop, V: Drop, const P: usize> ByteMap<K, V, P> {
         self.retain_by_ref(&mut f);
     }
 
-    /// Does what `retain` does, with a closure that the caller keeps. The closure is called once for each pair, and not
-    /// once more: its last state is the one that these calls lead to.
+    /// Does what `retain` does, with a closure that the caller keeps. The closure is called exactly once for each pair:
+    /// its last state is the one that these calls lead to.
     pub fn retain_by_ref<F: FnMut(&K, &V) -> bool>(&mut self, f: &mut F)
         requires { F.IsAlwaysCallable f.old }
         ensures pairs { Retains (AsksPair F.FnMut) f.old self.old self.new f.new }
@@ -38,7 +39,7 @@ impl<K: AsBytes + Drop, V: Drop, const P: usize> ByteMap<K, V, P> {
         }
     }
 
-    // Takes out the first pair after another one of which the closure returns false.
+    // Removes the first pair after another one for which the closure returns false.
     fn take_refused<F: FnMut(&K, &V) -> bool>(
         &mut self,
         last: &Option<(K, V)>,
@@ -54,7 +55,7 @@ impl<K: AsBytes + Drop, V: Drop, const P: usize> ByteMap<K, V, P> {
     }
 }
 
-// Takes the first pair after another one of which the closure returns false out of the tree.
+// Removes the first pair after another one for which the closure returns false from the tree.
 fn take_refused<K: AsBytes + Drop, V: Drop, const P: usize, F: FnMut(&K, &V) -> bool>(
     store: &mut NodeStore<K, V, P>,
     root: &mut Option<OpaqueNodePtr>,
@@ -78,7 +79,7 @@ fn take_refused<K: AsBytes + Drop, V: Drop, const P: usize, F: FnMut(&K, &V) -> 
     Some(take_out(store, root, len, name, point))
 }
 
-// The point of the first pair after another one of which the closure returns false.
+// The point of the first pair after another one for which the closure returns false.
 fn find_refused<K: AsBytes + Drop, V: Drop, const P: usize, F: FnMut(&K, &V) -> bool>(
     store: &NodeStore<K, V, P>,
     root: OpaqueNodePtr,
@@ -103,7 +104,7 @@ fn find_refused<K: AsBytes + Drop, V: Drop, const P: usize, F: FnMut(&K, &V) -> 
     None
 }
 
-// The bound after the key of a pair, where there is one.
+// The bound after the key of a pair, if there is one.
 fn bound_after<K: AsBytes, V>(last: &Option<(K, V)>) -> Bound<&[u8]>
     ensures { bound_map (λ b. b.now) result ≡ after_pair (of_key K.bytes) last.now }
 {

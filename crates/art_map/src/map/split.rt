@@ -1,4 +1,4 @@
-//! Pairs that are removed by the bounds of their keys, and those that move into another map.
+//! Removing pairs by the bounds of their keys, and moving pairs into another map.
 ghost use Rattle.std.specs.Prelude.{◌≡◌, ◌++◌, ◌∷◌, [], length, IfErr, IfOk, OnErr, OnOk};
 ghost use Rattle.std.specs.Range.Bound.{bound_map};
 ghost use Rattle.std.specs.declared.ops.Bound.TheVariants.{Included, Unbounded};
@@ -16,7 +16,7 @@ use art_reading::range::range_unchecked;
 use art_writing::delete::search_for_delete_point_by_lengths;
 use std::ops::{Bound, RangeBounds};
 
-/// What a `split_off` that ran out of memory had done: the map that it was filling, and the next pair.
+/// The state of a `split_off` in which an allocation failed: the map with the pairs that had moved, and the next pair.
 #[derive(Drop)]
 pub struct SplitRefused<K: AsBytes, V, const P: usize> {
     pub moved: ByteMap<K, V, P>,
@@ -25,7 +25,7 @@ pub struct SplitRefused<K: AsBytes, V, const P: usize> {
 }
 
 impl<K: AsBytes + Drop, V: Drop, const P: usize> ByteMap<K, V, P> {
-    /// Removes the first pair whose key is in a range, and returns it; `None` where no key is. It never fails.
+    /// Removes the first pair whose key is in a range, and returns it; `None` if there is none. It never fails.
     ///
     /// It costs what `range` and `remove` do together, and allocates nothing.
     pub fn pop_first_in<'k, R: RangeBounds<&'k [u8]> + Drop>(&mut self, range: R) -> Option<(K, V)>
@@ -39,8 +39,8 @@ impl<K: AsBytes + Drop, V: Drop, const P: usize> ByteMap<K, V, P> {
 
     /// Removes all pairs whose keys are in a range, and returns how many. It never fails.
     ///
-    /// Each pair costs what `pop_first_in` does; it allocates nothing. For the keys with a prefix
-    /// `remove_prefix` removes all at once.
+    /// Each pair costs what `pop_first_in` does; it allocates nothing. For the keys with a prefix, `remove_prefix`
+    /// removes all at once.
     pub fn remove_range<'k, R: RangeBounds<&'k [u8]> + Drop>(&mut self, range: R) -> usize
         ensures pairs { R.has_bounds range → self.new ≡ not_between (of_key K.bytes)
             (bound_map (λ b. b.now) (R.start_bound range))
@@ -54,8 +54,8 @@ impl<K: AsBytes + Drop, V: Drop, const P: usize> ByteMap<K, V, P> {
 
     /// Moves the pairs with this key and those after it into a new map, and returns it.
     ///
-    /// Each pair that moves costs a removal and an insertion. Out of memory, the pairs that moved are in the error's
-    /// map, the next one is in the error, and the others stay: no pair is lost.
+    /// Each pair that moves costs a removal and an insertion. If an allocation fails, the error has the map with the
+    /// pairs that had moved, and the next pair. The others stay: no pair is lost.
     pub fn split_off(&mut self, key_bytes: &[u8]) -> Result<Self, SplitRefused<K, V, P>>
         ensures stay { OnOk result (self.new ≡ keys_before (of_key K.bytes) key_bytes.now self.old) }
         ensures moved { IfOk result (λ moved.
@@ -85,11 +85,12 @@ impl<K: AsBytes + Drop, V: Drop, const P: usize> ByteMap<K, V, P> {
         Ok(moved)
     }
 
-    /// Moves all pairs of another map into this one, in the order of their keys, as `insert` puts them in. The other
-    /// map is empty then.
+    /// Moves all pairs of another map into this one, in the order of their keys, as `insert` does. This leaves the
+    /// other map empty.
     ///
-    /// It stops at the first pair that is refused, which the error returns: those before it have moved, and those
-    /// after it are still in the other map. The errors are those of `insert`.
+    /// It stops at the first pair that can't be inserted, which the error returns: the pairs before it have moved, and
+    /// those after it are still in the other map. The errors are those of `insert`. Each pair costs a removal and an
+    /// insertion.
     pub fn append(&mut self, other: &mut Self) -> Result<(), MapInsertError<K, V>>
         ensures pairs { OnOk result (self.new ≡ put_all K.bytes other.old self.old) }
         ensures emptied { OnOk result (other.new ≡ []) }
@@ -130,7 +131,7 @@ impl<K: AsBytes + Drop, V: Drop, const P: usize> ByteMap<K, V, P> {
     }
 }
 
-// Takes the first of the pairs whose keys are between two bounds out of the tree.
+// Removes the first pair whose key is between two bounds from the tree.
 fn take_between<K: AsBytes + Drop, V: Drop, const P: usize>(
     store: &mut NodeStore<K, V, P>,
     root: &mut Option<OpaqueNodePtr>,

@@ -11,11 +11,11 @@ use art_nodes::node::AsBytes;
 use art_reading::lookup::{longest_text_unchecked, shortest_text_unchecked};
 
 impl<K: AsBytes + Drop, V: Drop, const P: usize> ByteMap<K, V, P> {
-    /// Returns the pair with the longest text that is a prefix of the query, or `None`. Each key has to be a text
-    /// and then `end`, which is less than each byte of a text; a text may be a prefix of another.
+    /// Returns the pair with the longest text that is a prefix of the query, or `None` if there is none. Each key must
+    /// be a text and then `end`, which is less than each byte of a text; a text may be a prefix of another.
     ///
-    /// It descends along the query. Where the text that it finds is not a prefix of the query, it descends
-    /// once more, along the bytes that both share. It takes no memory.
+    /// It descends along the query. If the text that it finds is not a prefix of the query, it descends once more,
+    /// along the bytes that both share. It allocates nothing.
     pub fn longest_text(&self, query: &[u8], end: u8) -> Option<(&K, &V)>
         requires { AreEnded (of_key K.bytes) end self.now }
         ensures pair { option_map deref_pair result ≡
@@ -26,10 +26,10 @@ impl<K: AsBytes + Drop, V: Drop, const P: usize> ByteMap<K, V, P> {
         Some(pair_at(&self.store, leaf))
     }
 
-    /// Returns the pair with the shortest text that is a prefix of the query and has at least so many bytes, or
-    /// `None`. It asks for what `longest_text` does.
+    /// Returns the pair with the shortest text that is a prefix of the query and has at least `at_least` bytes, or
+    /// `None` if there is none. Its condition is that of `longest_text`.
     ///
-    /// It is a single descent along the query, and takes no memory.
+    /// It is a single descent along the query, and allocates nothing.
     pub fn shortest_text(&self, query: &[u8], end: u8, at_least: usize) -> Option<(&K, &V)>
         requires { AreEnded (of_key K.bytes) end self.now }
         ensures pair { option_map deref_pair result ≡

@@ -1,4 +1,4 @@
-//! What two sets have together. All walks are in the order of the keys' bytes.
+//! Union, intersection and difference of two sets. All iterators are in the order of the keys' bytes.
 ghost use Rattle.std.specs.Prelude.{◌≡◌, ℕ, cond, not, ◌&&◌, ◌||◌, List, length, drop, IfSome, ⊤};
 ghost use Rattle.std.specs.Iterator.{at_most};
 ghost use Rattle.std.specs.Set.{sorted_merge};
@@ -16,8 +16,8 @@ use std::iter::FusedIterator;
 use std::marker::Model;
 
 impl<K: AsBytes + Drop, const P: usize> ByteSet<K, P> {
-    /// Returns the keys that the other set has too, as they rise. Each key is looked up in it, so it
-    /// costs least on the smaller set.
+    /// Returns an iterator over the keys that the other set also has, in ascending order. It looks up each key in the
+    /// other set, so that it costs least if called on the smaller one.
     pub fn intersection<'a>(&'a self, other: &'a ByteSet<K, P>) -> Intersection<'a, K, P>
         ensures { result ≡ intersection K.bytes self.now other.now }
     {
@@ -28,7 +28,8 @@ impl<K: AsBytes + Drop, const P: usize> ByteSet<K, P> {
         }
     }
 
-    /// Returns the keys that the other set lacks, as they rise. Each key is looked up in it.
+    /// Returns an iterator over the keys that the other set lacks, in ascending order. It looks up each key in the
+    /// other set.
     pub fn difference<'a>(&'a self, other: &'a ByteSet<K, P>) -> Difference<'a, K, P>
         ensures { result ≡ difference K.bytes self.now other.now }
     {
@@ -39,8 +40,8 @@ impl<K: AsBytes + Drop, const P: usize> ByteSet<K, P> {
         }
     }
 
-    /// Returns the keys of both sets as they rise; of two equal keys this set's. It is two walks, and
-    /// looks no key up.
+    /// Returns an iterator over the keys of both sets, in ascending order; of two equal keys it returns this set's. It
+    /// iterates over both sets, without lookups.
     pub fn union<'a>(&'a self, other: &'a ByteSet<K, P>) -> Union<'a, K, P>
         ensures { result ≡ union K.bytes self.now other.now }
     {
@@ -51,8 +52,8 @@ impl<K: AsBytes + Drop, const P: usize> ByteSet<K, P> {
         }
     }
 
-    /// Returns the keys that just one of the sets has, as they rise. It is two walks, and looks no key
-    /// up.
+    /// Returns an iterator over the keys that exactly one of the sets has, in ascending order. It iterates over both
+    /// sets, without lookups.
     pub fn symmetric_difference<'a>(
         &'a self,
         other: &'a ByteSet<K, P>,
@@ -66,7 +67,7 @@ impl<K: AsBytes + Drop, const P: usize> ByteSet<K, P> {
         }
     }
 
-    /// Returns whether the other set has each key. Keys are looked up in it until one decides.
+    /// Returns whether the other set has each key of this one. It looks up keys in the other set until one is missing.
     pub fn is_subset(&self, other: &ByteSet<K, P>) -> bool
         ensures { result ≡ is_subset K.bytes self.now other.now }
     {
@@ -74,15 +75,16 @@ impl<K: AsBytes + Drop, const P: usize> ByteSet<K, P> {
         lacking.next().is_none()
     }
 
-    /// Returns whether each key of the other set is in this one. Keys of the other set are looked up in
-    /// this one until one decides.
+    /// Returns whether this set has each key of the other one. It looks up keys of the other set in this one until one
+    /// is missing.
     pub fn is_superset(&self, other: &ByteSet<K, P>) -> bool
         ensures { result ≡ is_subset K.bytes other.now self.now }
     {
         other.is_subset(self)
     }
 
-    /// Returns whether the other set has none of the keys. Keys are looked up in it until one decides.
+    /// Returns whether the sets have no key in common. It looks up keys of this set in the other one until one is
+    /// found.
     pub fn is_disjoint(&self, other: &ByteSet<K, P>) -> bool
         ensures { result ≡ is_disjoint K.bytes self.now other.now }
     {
@@ -91,9 +93,8 @@ impl<K: AsBytes + Drop, const P: usize> ByteSet<K, P> {
     }
 }
 
-/// Which keys two sets have together: their union has the keys of either, their intersection those of
-/// both, their difference those of the first that the second lacks, and their symmetric difference
-/// those of just one.
+/// The union of two sets has the keys of either, the intersection those of both, the difference those of the first that
+/// the second lacks, and the symmetric difference those of exactly one.
 pub fn keys_of_two_sets<K: AsBytes>()
     ensures union { (keys others : List K) (key : List ℕ) →
         has_key K.bytes key (union K.bytes keys others) ≡
@@ -117,7 +118,7 @@ pub trait HasKey<K> {
 
     ghost has: { Self → K → Bool };
 
-    /// Returns whether a key with the bytes of this one is there.
+    /// Returns whether a key with the same bytes as this one is stored.
     fn has(&self, key: &K) -> bool
         ensures { result ≡ has self.now key.now };
 }
@@ -130,8 +131,8 @@ impl<K: AsBytes + Drop, const P: usize> HasKey<K> for ByteSet<K, P> {
     }
 }
 
-/// The keys of a set that another set has, or those that it lacks, seen as the list of those that have
-/// not come yet.
+/// An iterator over the keys of a set that another set has, or over those that it lacks. Contracts see it as the list
+/// of the keys that are left.
 #[derive(Drop)]
 pub struct SelectedOf<'a, K, S: Leaves<K, ()>, O: HasKey<K>> {
     keys: KeysOf<'a, K, (), S>,
@@ -139,7 +140,7 @@ pub struct SelectedOf<'a, K, S: Leaves<K, ()>, O: HasKey<K>> {
     wanted: bool,
 }
 
-/// The keys of a set that another set has too.
+/// The keys of a set that another set also has.
 pub type Intersection<'a, K, const P: usize> = SelectedOf<
     'a,
     K,
@@ -212,7 +213,7 @@ fn next_selected<'a, K, S: Leaves<K, ()>, O: HasKey<K>>(
     None
 }
 
-// The keys of a set with the next one in sight.
+// The keys of a set, with a look at the next one.
 #[derive(Drop)]
 struct PeekedOf<'a, K, S: Leaves<K, ()>> {
     head: Option<&'a K>,
@@ -256,7 +257,7 @@ impl<'a, K, S: Leaves<K, ()>> PeekedOf<'a, K, S> {
         PeekedOf { head, rest }
     }
 
-    // Returns how many keys are left, if that fits.
+    // Returns how many keys are left, if that fits a `usize`.
     fn count(&self) -> Option<usize>
         ensures { IfSome result (λ count. count ≡ length self.now) }
     {
@@ -287,8 +288,8 @@ impl<'a, K, S: Leaves<K, ()>> PeekedOf<'a, K, S> {
     }
 }
 
-/// The keys of two sets, merged by their bytes, seen as the list of those that have not come yet. Of two
-/// equal keys the first set's comes, or neither.
+/// An iterator over the keys of two sets, merged by their bytes. Of two equal keys it returns the first set's, or
+/// neither. Contracts see it as the list of the keys that are left.
 #[derive(Drop)]
 pub struct MergedOf<'a, K: AsBytes, S: Leaves<K, ()>> {
     left: PeekedOf<'a, K, S>,
@@ -299,7 +300,7 @@ pub struct MergedOf<'a, K: AsBytes, S: Leaves<K, ()>> {
 /// The keys of either of two sets.
 pub type Union<'a, K, const P: usize> = MergedOf<'a, K, NodeStore<K, (), P>>;
 
-/// The keys that just one of two sets has.
+/// The keys that exactly one of two sets has.
 pub type SymmetricDifference<'a, K, const P: usize> = MergedOf<'a, K, NodeStore<K, (), P>>;
 
 impl<'a, K: AsBytes, S: Leaves<K, ()>> Model for MergedOf<'a, K, S> {
@@ -348,7 +349,7 @@ impl<'a, K: AsBytes, S: Leaves<K, ()>> Iterator for MergedOf<'a, K, S> {
 
 impl<'a, K: AsBytes, S: Leaves<K, ()>> FusedIterator for MergedOf<'a, K, S> {}
 
-// Returns the sum of two numbers, where there are both and it fits.
+// Returns the sum of two numbers, if both exist and it fits.
 fn sum(a: Option<usize>, b: Option<usize>) -> Option<usize>
     ensures { IfSome result (IsSum a b) }
 {
@@ -358,7 +359,7 @@ fn sum(a: Option<usize>, b: Option<usize>) -> Option<usize>
     a.checked_add(b)
 }
 
-// The lesser one of the next keys. Where they are equal the first walk's, or the key after both.
+// The lesser of the two next keys. If they are equal, the one of the first iterator, or a key after both.
 fn next_merged<'a, K: AsBytes, S: Leaves<K, ()>>(
     left: &mut PeekedOf<'a, K, S>,
     right: &mut PeekedOf<'a, K, S>,

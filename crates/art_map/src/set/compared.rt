@@ -1,4 +1,4 @@
-//! Equality, order and hashes of sets, which are those of their keys in the order of their bytes.
+//! Equality, order and hashes of sets: those of their keys, in the order of their bytes.
 ghost use Rattle.std.specs.Hash as fed;
 ghost use Rattle.std.specs.Hash.{items_Alike};
 ghost use Rattle.std.specs.Cmp.Lexicographic.{lists_agrees, lists_equiv, lists_per, lists_po, lists_ties, lists_total, pointwise, slice_cmp, slice_partial_cmp};

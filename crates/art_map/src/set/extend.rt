@@ -1,4 +1,4 @@
-//! Keys of an iterator are put in.
+//! Inserting the keys of an iterator.
 ghost use Rattle.std.specs.Prelude.{IfErr, OnOk};
 ghost use Rattle.std.specs.Iterator.{IsFinite};
 ghost use Rattle.art_map.specs.SetKeys.{AddsAll, AddsUntil};
@@ -7,9 +7,10 @@ use super::{ByteSet, SetInsertError};
 use art_nodes::node::AsBytes;
 
 impl<K: AsBytes + Drop, const P: usize> ByteSet<K, P> {
-    /// Puts in the keys that come, one after another, as `insert` does. It stops at the first one that is
-    /// refused, which the error hands back: those before it stay in the set, and the others stay in the
-    /// iterator. The errors are those of `insert`.
+    /// Inserts the keys of an iterator, one after another, as `insert` does.
+    ///
+    /// It stops at the first key that can't be inserted, which the error returns: the keys before it stay in the set,
+    /// and the others stay in the iterator. The errors are those of `insert`.
     pub fn extend<I: Iterator<Item = K>>(&mut self, keys: &mut I) -> Result<(), SetInsertError<K>>
         requires can { I.can_next keys.old }
         requires ends { IsFinite (I.remaining keys.old) }

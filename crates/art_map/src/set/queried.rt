@@ -1,4 +1,4 @@
-//! Calls of a set by a key that is not made, as by a text and the byte that ends it.
+//! Calls of a set by a key that is not built, such as a text and the byte that ends it.
 ghost use Rattle.std.specs.Prelude.{◌≡◌, option_copied};
 ghost use Rattle.art_model.specs.Pairs.{first_of, has_key, last_of, remove_key};
 ghost use Rattle.art_model.specs.Texts.{AreEnded, texts_in_front};
@@ -9,14 +9,15 @@ use art_nodes::node::AsBytes;
 use art_reading::lookup::KeyQuery;
 
 impl<K: AsBytes + Drop, const P: usize> ByteSet<K, P> {
-    /// Returns whether the key that is looked for is stored. It costs what `contains` does.
+    /// Returns whether the key that is asked for is stored. It costs what `contains` does.
     pub fn contains_by<Q: KeyQuery>(&self, query: Q) -> bool
         ensures { result ≡ has_key K.bytes (Q.key query) self.now }
     {
         self.map.contains_key_by(query)
     }
 
-    /// Removes the key that is looked for, and returns whether it was stored. It costs what `remove` does.
+    /// Removes the key that is asked for, and returns whether it was stored. It never fails. It costs what `remove`
+    /// does.
     pub fn remove_by<Q: KeyQuery>(&mut self, query: Q) -> bool
         ensures keys { self.new ≡ remove_key K.bytes (Q.key query) self.old }
         ensures removed { result ≡ has_key K.bytes (Q.key query) self.old }
@@ -24,8 +25,8 @@ impl<K: AsBytes + Drop, const P: usize> ByteSet<K, P> {
         self.map.remove_by(query).is_some()
     }
 
-    /// Returns the key with the longest text that is a prefix of the query, or `None`. It asks for what
-    /// `longest_text` of the map does, and costs the same.
+    /// Returns the key with the longest text that is a prefix of the query, or `None` if there is none. Condition and
+    /// cost are those of `longest_text` of a `ByteMap`.
     pub fn longest_text(&self, query: &[u8], end: u8) -> Option<&K>
         requires { AreEnded K.bytes end self.now }
         ensures { option_copied result ≡ last_of (texts_in_front K.bytes query.now self.now) }
@@ -36,8 +37,8 @@ impl<K: AsBytes + Drop, const P: usize> ByteSet<K, P> {
         }
     }
 
-    /// Returns the key with the shortest text that is a prefix of the query and has at least so many bytes, or `None`.
-    /// It asks for what `longest_text` of the map does, and costs what `shortest_text` of the map does.
+    /// Returns the key with the shortest text that is a prefix of the query and has at least `at_least` bytes, or
+    /// `None` if there is none. Condition and cost are those of `shortest_text` of a `ByteMap`.
     pub fn shortest_text(&self, query: &[u8], end: u8, at_least: usize) -> Option<&K>
         requires { AreEnded K.bytes end self.now }
         ensures { option_copied result ≡

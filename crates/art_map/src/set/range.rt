@@ -1,4 +1,4 @@
-//! The keys of a part of a set, in order.
+//! Iteration over the keys of a part of a set, in order.
 ghost use Rattle.std.specs.Prelude.{◌≡◌, ◌<◌, ◌^◌, length, option_copied, IfSome, IsSome, ⊤};
 ghost use Rattle.std.specs.Iterator.{UpTo, at_most};
 ghost use Rattle.std.specs.Iterator.SizeHint.{IsWithinCount};
@@ -17,8 +17,8 @@ use std::iter::FusedIterator;
 use std::marker::Model;
 use std::ops::{Bound, RangeBounds};
 
-/// Keys of a set that stand one after another, as they rise, seen as the list of those that have not come
-/// yet. Their number is not known before they have come: `size_hint` has only an upper bound.
+/// An iterator over adjacent keys of a set, in ascending order. Contracts see it as the list of the keys that are left.
+/// Their number is not known: `size_hint` has only an upper bound.
 #[derive(Drop)]
 pub struct KeyRangeOf<'a, K, S: Leaves<K, ()>> {
     pairs: RangeOf<'a, K, (), S>,
@@ -99,8 +99,8 @@ impl<'a, K, S: Leaves<K, ()>> DoubleEndedIterator for KeyRangeOf<'a, K, S> {
 impl<'a, K, S: Leaves<K, ()>> FusedIterator for KeyRangeOf<'a, K, S> {}
 
 impl<K: AsBytes + Drop, const P: usize> ByteSet<K, P> {
-    /// Returns the keys that begin with these bytes, as they rise. It costs what `prefix` of the map
-    /// does.
+    /// Returns an iterator over the keys that start with these bytes, in ascending order. It costs what `prefix` of a
+    /// `ByteMap` does.
     pub fn prefix(&self, prefix: &[u8]) -> KeyRange<'_, K, P>
         ensures keys { result ≡ below K.bytes prefix.now self.now }
         ensures sorted { IsMap K.bytes self.now }
@@ -109,8 +109,8 @@ impl<K: AsBytes + Drop, const P: usize> ByteSet<K, P> {
         KeyRangeOf::new(self.map.prefix(prefix))
     }
 
-    /// Returns the keys in a range, as they rise; none where it runs backwards. It costs what `range` of
-    /// the map does.
+    /// Returns an iterator over the keys in a range, in ascending order. There are none if the range runs backwards. It
+    /// costs what `range` of a `ByteMap` does.
     pub fn range<'k, R: RangeBounds<&'k [u8]> + Drop>(&self, range: R) -> KeyRange<'_, K, P>
         ensures keys { R.has_bounds range → result ≡ between K.bytes
             (bound_map (λ b. b.now) (R.start_bound range))
@@ -121,8 +121,8 @@ impl<K: AsBytes + Drop, const P: usize> ByteSet<K, P> {
         KeyRangeOf::new(self.map.range(range))
     }
 
-    /// Returns the first key after a bound, or at it where that is included. It costs what `first_from`
-    /// of the map does.
+    /// Returns the first key after a bound, or at it if that is included; `None` if there is none. It costs what
+    /// `first_from` of a `ByteMap` does.
     pub fn first_from(&self, from: Bound<&[u8]>) -> Option<&K>
         ensures { option_copied result ≡ first_of (between K.bytes
             (bound_map (λ b. b.now) from.entry) Unbounded self.now) }
@@ -133,8 +133,8 @@ impl<K: AsBytes + Drop, const P: usize> ByteSet<K, P> {
         }
     }
 
-    /// Returns the last key before a bound, or at it where that is included. It costs what `first_from`
-    /// does.
+    /// Returns the last key before a bound, or at it if that is included; `None` if there is none. It costs what
+    /// `first_from` does.
     pub fn last_up_to(&self, to: Bound<&[u8]>) -> Option<&K>
         ensures { option_copied result ≡ last_of (between K.bytes Unbounded
             (bound_map (λ b. b.now) to.entry) self.now) }

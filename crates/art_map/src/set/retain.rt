@@ -1,4 +1,4 @@
-//! The keys that a closure picks are kept.
+//! Keeping the keys for which a closure returns true.
 ghost use Rattle.std.specs.Prelude.{◌≡◌};
 ghost use Rattle.std.specs.Fn.{CalledAt};
 ghost use Rattle.art_model.specs.Pairs.{of_key};
@@ -10,7 +10,7 @@ use art_nodes::node::AsBytes;
 
 impl<K: AsBytes + Drop, const P: usize> ByteSet<K, P> {
     /// Keeps the keys for which the closure returns true, and removes the others. The closure is called once for each
-    /// key, in their order. It never fails.
+    /// key, in ascending order. It never fails. It costs what `retain` of a `ByteMap` does.
     pub fn retain<F: FnMut(&K) -> bool>(&mut self, mut f: F)
         requires { F.IsAlwaysCallable f }
         ensures keys { RetainsAll (CalledAt F.FnMut) f self.old self.new }
@@ -18,7 +18,7 @@ impl<K: AsBytes + Drop, const P: usize> ByteSet<K, P> {
         self.retain_by_ref(&mut f);
     }
 
-    /// Does what `retain` does, with a closure that the caller keeps, as `retain_by_ref` of a `ByteMap`.
+    /// Does what `retain` does, with a closure that the caller keeps, as `retain_by_ref` of a `ByteMap` does.
     pub fn retain_by_ref<F: FnMut(&K) -> bool>(&mut self, f: &mut F)
         requires { F.IsAlwaysCallable f.old }
         ensures keys { Retains (CalledAt F.FnMut) f.old self.old self.new f.new }

@@ -1,4 +1,4 @@
-//! Keys that are removed by their bounds, and those that move into another set.
+//! Removing keys by their bounds, and moving keys into another set.
 #![tactic(auto, using(crate::proofs::SetParts::part_laws))]
 
 ghost use Rattle.std.specs.Prelude.{◌≡◌, ◌++◌, ◌∷◌, [], length, IfErr, IfOk, OnErr, OnOk};
@@ -12,7 +12,7 @@ use super::{ByteSet, SetInsertError};
 use art_nodes::node::AsBytes;
 use std::ops::RangeBounds;
 
-/// What a `split_off` that ran out of memory had done: the set that it was filling, and the next key.
+/// The state of a `split_off` in which an allocation failed: the set with the keys that had moved, and the next key.
 #[derive(Drop)]
 pub struct SetSplitRefused<K: AsBytes, const P: usize> {
     pub moved: ByteSet<K, P>,
@@ -20,8 +20,8 @@ pub struct SetSplitRefused<K: AsBytes, const P: usize> {
 }
 
 impl<K: AsBytes + Drop, const P: usize> ByteSet<K, P> {
-    /// Removes the first key in a range, and returns it; `None` where no key is. It costs what `pop_first_in` of the
-    /// map does.
+    /// Removes the first key in a range, and returns it; `None` if there is none. It never fails. It costs what
+    /// `pop_first_in` of a `ByteMap` does.
     pub fn pop_first_in<'k, R: RangeBounds<&'k [u8]> + Drop>(&mut self, range: R) -> Option<K>
         ensures removed { R.has_bounds range → result ≡ first_of (between K.bytes
             (bound_map (λ b. b.now) (R.start_bound range))
@@ -32,7 +32,8 @@ impl<K: AsBytes + Drop, const P: usize> ByteSet<K, P> {
         Some(key)
     }
 
-    /// Removes all keys in a range, and returns how many. It costs what `remove_range` of the map does.
+    /// Removes all keys in a range, and returns how many. It never fails. It costs what `remove_range` of a `ByteMap`
+    /// does.
     pub fn remove_range<'k, R: RangeBounds<&'k [u8]> + Drop>(&mut self, range: R) -> usize
         ensures keys { R.has_bounds range → self.new ≡ not_between K.bytes
             (bound_map (λ b. b.now) (R.start_bound range))
@@ -44,9 +45,10 @@ impl<K: AsBytes + Drop, const P: usize> ByteSet<K, P> {
         self.map.remove_range(range)
     }
 
-    /// Moves this key and those after it into a new set, and returns it. It costs what `split_off` of the map does.
+    /// Moves this key and those after it into a new set, and returns it. It costs what `split_off` of a `ByteMap` does.
     ///
-    /// Out of memory, the keys that moved are in the error's set, the next one is in the error, and the others stay.
+    /// If an allocation fails, the error has the set with the keys that had moved, and the next key. The others stay:
+    /// no key is lost.
     pub fn split_off(&mut self, key_bytes: &[u8]) -> Result<Self, SetSplitRefused<K, P>>
         ensures stay { OnOk result (self.new ≡ keys_before K.bytes key_bytes.now self.old) }
         ensures moved { IfOk result (λ moved. moved ≡ keys_from K.bytes key_bytes.now self.old) }
@@ -65,11 +67,12 @@ impl<K: AsBytes + Drop, const P: usize> ByteSet<K, P> {
         }
     }
 
-    /// Moves all keys of another set into this one, in their order, as `insert` puts them in. The other set is empty
-    /// then.
+    /// Moves all keys of another set into this one, in ascending order, as `insert` does. This leaves the other set
+    /// empty.
     ///
-    /// It stops at the first key that is refused, which the error returns: those before it have moved, and those after
-    /// it are still in the other set. The errors are those of `insert`.
+    /// It stops at the first key that can't be inserted, which the error returns: the keys before it have moved, and
+    /// those after it are still in the other set. The errors are those of `insert`. Each key costs a removal and an
+    /// insertion.
     pub fn append(&mut self, other: &mut Self) -> Result<(), SetInsertError<K>>
         ensures keys { OnOk result (self.new ≡ add_all K.bytes other.old self.old) }
         ensures emptied { OnOk result (other.new ≡ []) }

@@ -1,5 +1,5 @@
-//! Drawn calls of a map beside the same ones of a `BTreeMap`. The keys have one length, so that none is
-//! a prefix of another.
+//! Drawn calls of a map, compared with the same calls of a `BTreeMap`. The keys have one length, so that none is a
+//! prefix of another.
 use super::calls::Removal;
 use art_operations::map::ByteMap;
 use art_test_support::expected::as_expected;
@@ -23,7 +23,7 @@ fn copied(pair: Option<(&Key, &u32)>) -> Option<(Key, u32)> {
     Some((*key, *value))
 }
 
-// A question to both, and whether they return the same.
+// Queries both, and returns whether they return the same.
 fn agree_on_question(map: &Map, model: &BTreeMap<Key, u32>, key: Key, question: usize) -> bool {
     match question {
         0 => map.get(&key).copied() == model.get(&key).copied(),
@@ -33,12 +33,12 @@ fn agree_on_question(map: &Map, model: &BTreeMap<Key, u32>, key: Key, question: 
     }
 }
 
-// A key with the value that is its own, if there is one.
+// A key with its value, if there is one.
 fn pair_with(key: Key, value: Option<u32>) -> Option<(Key, u32)> {
     Some((key, value?))
 }
 
-// A removal from both, and whether they return the same.
+// Removes a pair from both, and returns whether they return the same.
 pub(super) fn agree_on_removal(map: &mut Map, model: &mut Model, removal: Removal<Key>) -> bool {
     match removal {
         Removal::Key(key) => map.remove(&key).unwrap() == pair_with(key, model.remove(&key)),
@@ -55,7 +55,7 @@ fn agree_on_insertion(map: &mut Map, model: &mut BTreeMap<Key, u32>, key: Key, v
     }
 }
 
-// A call of both, and whether they return the same.
+// Calls both, and returns whether they return the same.
 pub(super) fn agree_on_call(
     map: &mut Map,
     model: &mut BTreeMap<Key, u32>,
@@ -95,7 +95,7 @@ fn agree_from_back(map: &Map, model: &BTreeMap<Key, u32>) -> bool {
     agree & own.next_back().is_none()
 }
 
-// The same from both ends, and in number.
+// The same from both ends, and equally many.
 pub(super) fn agree_on_pairs(map: &Map, model: &BTreeMap<Key, u32>) -> bool {
     agree_from_front(map, model) && agree_from_back(map, model) && map.len() == model.len()
 }
@@ -115,7 +115,7 @@ fn differ_at(map: &mut Map, model: &mut BTreeMap<Key, u32>, calls: usize) -> Opt
     None
 }
 
-// The same, and whether they have the same pairs then.
+// The same, and whether they then have the same pairs.
 fn compared(map: &mut Map, model: &mut BTreeMap<Key, u32>, calls: usize) -> (Option<usize>, bool) {
     (differ_at(map, model, calls), agree_on_pairs(map, model))
 }
@@ -127,7 +127,7 @@ fn drawn_calls_answer_as_those_of_a_btree_map(rt: HostRuntime) -> Result<(), Fai
     as_expected(Some((seen, (None, true))))
 }
 
-// Writes the value of a key in both, and says whether both had the same.
+// Writes the value of a key in both, and returns whether both had the same.
 fn agree_on_get_mut(map: &mut Map, model: &mut Model, key: Key, value: u32) -> bool {
     let Some(own) = map.get_mut(&key) else {
         return model.get(&key).is_none();
@@ -142,7 +142,7 @@ fn agree_on_get_mut(map: &mut Map, model: &mut Model, key: Key, value: u32) -> b
     agree
 }
 
-// The same, where the key is put in first if it is new.
+// The same, with a new key inserted first.
 fn agree_on_get_or_insert(map: &mut Map, model: &mut Model, key: Key, value: u32) -> bool {
     let Ok(own) = map.get_or_insert(key, 7) else {
         return false;
@@ -158,7 +158,7 @@ fn agree_on_get_or_insert(map: &mut Map, model: &mut Model, key: Key, value: u32
     agree
 }
 
-// Puts a key in by its entry, and says whether both have the same value then.
+// Inserts a key by its entry, and returns whether both then have the same value.
 fn agree_on_or_insert(map: &mut Map, model: &mut Model, key: Key, value: u32) -> bool {
     let Ok(own) = map.entry(key).or_insert(value) else {
         return false;
@@ -170,7 +170,7 @@ fn agree_on_or_insert(map: &mut Map, model: &mut Model, key: Key, value: u32) ->
     stored == *entry.or_insert(value)
 }
 
-// Writes the value of a key that is stored by its entry, and says whether both have the same pair then.
+// Writes the value of a stored key by its entry, and returns whether both then have the same pair.
 fn agree_on_and_modify(map: &mut Map, model: &mut Model, key: Key, value: u32) -> bool {
     let entry = map.entry(key).and_modify(|stored| *stored = value);
     let own = entry.get().copied();
@@ -181,7 +181,7 @@ fn agree_on_and_modify(map: &mut Map, model: &mut Model, key: Key, value: u32) -
         && copied(map.get_key_value(&key)) == copied(model.get_key_value(&key))
 }
 
-// A write of the value of a key in both, by one of four calls, and whether they agree.
+// Writes the value of a key in both, by one of four calls, and returns whether they agree.
 fn agree_on_write(map: &mut Map, model: &mut Model, key: Key, value: u32, call: usize) -> bool {
     match call {
         0 => agree_on_get_mut(map, model, key, value),
@@ -216,7 +216,7 @@ fn agree_on_parts(map: &Map, model: &BTreeMap<Key, u32>) -> bool {
     agree_on_keys(map, model) && agree_on_values(map, model)
 }
 
-// The number of the first write or call after which they differ, if they do. All 300 calls they are cleared.
+// The number of the first write or call after which they differ, if they do. Every 300 calls they are cleared.
 fn differ_at_write(map: &mut Map, model: &mut BTreeMap<Key, u32>, calls: usize) -> Option<usize> {
     let mut numbers = Numbers::new(2);
     for call in 0..calls {
@@ -255,7 +255,7 @@ fn agree_on_order(map: &Map, other: &Map, model: &Model, beside: &Model) -> bool
         && map.partial_cmp(other) == model.partial_cmp(beside)
 }
 
-// Puts drawn pairs into both.
+// Inserts drawn pairs into both.
 fn fill_both(map: &mut Map, model: &mut Model, numbers: &mut Numbers) -> bool {
     let mut agree = true;
     for _ in 0..numbers.below(30) {
@@ -265,14 +265,14 @@ fn fill_both(map: &mut Map, model: &mut Model, numbers: &mut Numbers) -> bool {
     agree
 }
 
-// Whether as many pairs stay that pass a test, and they are the same ones.
+// Whether both keep the same pairs that pass a test.
 fn agree_on_retained(map: &mut Map, model: &mut Model, rest: u32) -> bool {
     map.retain(|key, value| value.wrapping_add(key[1] as u32) % 5 != rest);
     model.retain(|key, value| value.wrapping_add(key[1] as u32) % 5 != rest);
     agree_on_pairs(map, model)
 }
 
-// Whether they are the same once each value was changed by the sum of those before it.
+// Whether they are the same after each value is changed by the sum of those before it.
 fn agree_on_each_value(map: &mut Map, model: &mut Model) -> bool {
     let mut sum = 0u32;
     map.for_each_value(|value| {
@@ -287,15 +287,15 @@ fn agree_on_each_value(map: &mut Map, model: &mut Model) -> bool {
     agree_on_pairs(map, model)
 }
 
-// Whether they are the same when each has taken the pairs of another one.
+// Whether they are the same after each has received the pairs of another one.
 fn agree_on_extended(map: &mut Map, more: Map, model: &mut Model, others: &mut Model) -> bool {
     let mut pairs = more.into_iter();
     let extended = map.extend(&mut pairs).is_ok() && model.append(others).is_ok();
     extended && pairs.next().is_none() && agree_on_pairs(map, model)
 }
 
-// Whether they are the same once they have taken drawn pairs, which compare as those of the other one, and have changed
-// their values and let some go.
+// Whether they are the same after both receive drawn pairs, change their values and remove some. The order of both and
+// of the drawn pairs is compared too.
 fn agree_in_round(map: &mut Map, model: &mut Model, numbers: &mut Numbers, alloc: Global) -> bool {
     let (mut more, mut others) = (ByteMap::new(alloc), BTreeMap::new(alloc));
     let agree = [

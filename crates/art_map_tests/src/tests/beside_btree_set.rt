@@ -1,5 +1,5 @@
-//! Drawn calls of sets beside the same ones of `BTreeSet`s. The keys have one length, so that none is a
-//! prefix of another.
+//! Drawn calls of sets, compared with the same calls of `BTreeSet`s. The keys have one length, so that none is a prefix
+//! of another.
 use art_operations::set::ByteSet;
 use art_test_support::expected::as_expected;
 use art_test_support::numbers::Numbers;
@@ -17,12 +17,12 @@ fn drawn_key(numbers: &mut Numbers) -> Key {
     [numbers.below(5) as u8, numbers.below(12) as u8]
 }
 
-// Whether neither call was refused, and both returned the same.
+// Whether neither call failed, and both returned the same.
 fn are_same<T: PartialEq + Drop>(own: Option<T>, other: Option<T>) -> bool {
     own.is_some() && own == other
 }
 
-// A change of both, and whether they return the same.
+// Changes both, and returns whether they return the same.
 fn agree_on_change(set: &mut Set, model: &mut Model, key: Key, call: usize) -> bool {
     match call {
         0 => set.remove(&key) == model.remove(&key),
@@ -34,7 +34,7 @@ fn agree_on_change(set: &mut Set, model: &mut Model, key: Key, call: usize) -> b
     }
 }
 
-// Questions to both, and whether they return the same.
+// Queries both, and returns whether they return the same.
 fn agree_on_questions(set: &Set, model: &Model, key: Key) -> bool {
     set.contains(&key) == model.contains(&key)
         && set.get(&key) == model.get(&key)
@@ -57,7 +57,7 @@ fn agree_on_keys(set: &Set, model: &Model) -> bool {
     agree & front.next().is_none() & back.next_back().is_none()
 }
 
-// Whether the parts below the first byte of a key are the same.
+// Whether both have the same keys with the first byte of this key.
 fn agree_below(set: &Set, model: &Model, key: Key) -> bool {
     let mut below = set.prefix(&key[..1]);
     let mut agree = true;
@@ -82,7 +82,7 @@ fn beside_key(model: &Model, key: Key) -> (Option<Key>, Option<Key>) {
     (after, up_to)
 }
 
-// Whether the parts below a prefix, and after and before a key, are the same.
+// Whether both have the same keys with a prefix, and the same ones after and before a key.
 fn agree_on_parts(set: &Set, model: &Model, key: Key) -> bool {
     let bytes = &key[..];
     let (after, before) = (Bound::Excluded(bytes), Bound::Included(bytes));
@@ -96,7 +96,7 @@ fn agree_on_parts(set: &Set, model: &Model, key: Key) -> bool {
     found == [next, next, last, last] && agree_below(set, model, key)
 }
 
-// Whether what two sets have together is the same.
+// Whether both pairs of sets have the same unions, intersections and differences.
 fn agree_on_walks(set: &Set, other: &Set, model: &Model, beside: &Model) -> bool {
     let (of_one, of_the_model) = (
         set.symmetric_difference(other),
@@ -111,7 +111,8 @@ fn agree_on_walks(set: &Set, other: &Set, model: &Model, beside: &Model) -> bool
     agree == [true; 4] && agree_on_copies(set, other)
 }
 
-// Whether a copy of what two sets have together goes on by itself, from as many keys at most as they have.
+// Whether clones of a union and of an intersection continue on their own. A union has at most as many keys as both
+// sets.
 fn agree_on_copies(set: &Set, other: &Set) -> bool {
     let (mut all, both) = (set.union(other), set.intersection(other));
     let hint = all.size_hint() == (0, set.len().checked_add(other.len()));
@@ -135,7 +136,7 @@ fn agree_on_order(set: &Set, other: &Set, model: &Model, beside: &Model) -> bool
         && set.partial_cmp(other) == model.partial_cmp(beside)
 }
 
-// Whether the same keys stay of both, of which one in five goes.
+// Whether both keep the same keys after one key in five is removed.
 fn agree_on_retained(set: &mut Set, model: &mut Model, rest: u8) -> bool {
     set.retain(|key| key[1] % 5 != rest);
     model.retain(|key| key[1] % 5 != rest);

@@ -7,7 +7,7 @@ use std::test::Fail;
 /// A map with keys of one byte.
 pub type Map = ByteMap<[u8; 1], u32, 4>;
 
-/// Puts the keys from 1 to 5 in, with the same values, and says whether all are there.
+/// Inserts the keys from 1 to 5, with the same values, and returns whether all are stored.
 pub fn fill(map: &mut Map) -> bool {
     for byte in 1..6u8 {
         if map.insert([byte], byte as u32).is_err() {
@@ -17,7 +17,7 @@ pub fn fill(map: &mut Map) -> bool {
     map.len() == 5
 }
 
-/// Puts the keys from 1 to 60 in, with the same values, and says whether all are there.
+/// Inserts the keys from 1 to 60, with the same values, and returns whether all are stored.
 pub fn fill_many(map: &mut Map) -> bool {
     for byte in 1..61u8 {
         if map.insert([byte], byte as u32).is_err() {
@@ -44,7 +44,7 @@ pub fn remove(map: &mut Map, removal: Removal<[u8; 1]>) -> Option<([u8; 1], u32)
     }
 }
 
-// Whether a map was filled, the pair that a removal returns then, and how many are left.
+// Whether a map was filled, the pair that a removal then returns, and how many are left.
 fn removed(map: &mut Map, removal: Removal<[u8; 1]>) -> (bool, Option<([u8; 1], u32)>, usize) {
     let filled = fill(map);
     let pair = remove(map, removal);
@@ -69,13 +69,13 @@ fn a_parent_shrinks_for_the_last(rt: HostRuntime) -> Result<(), Fail> {
     as_expected(Some((seen, (true, Some(([5], 5)), 4))))
 }
 
-/// The value of a pair, where there is one.
+/// The value of a pair, if there is one.
 pub fn value_of<K>(pair: Option<(&K, &u32)>) -> Option<u32> {
     let (_, value) = pair?;
     Some(*value)
 }
 
-// How many pairs are left of a walk, and the value that comes then from the front.
+// How many pairs an iterator has left, and the value that it then returns from the front.
 fn front(iter: &mut MapIter<'_, [u8; 1], u32, 4>) -> (usize, Option<u32>) {
     (iter.len(), value_of(iter.next()))
 }
@@ -85,7 +85,7 @@ fn back(iter: &mut MapIter<'_, [u8; 1], u32, 4>) -> (usize, Option<u32>) {
     (iter.len(), value_of(iter.next_back()))
 }
 
-// The values that come from both ends in turn, and how many are left before each.
+// The values from both ends in turn, and how many are left before each.
 fn from_both_ends(map: &Map) -> [(usize, Option<u32>); 6] {
     let mut iter = map.iter();
     [
@@ -117,8 +117,8 @@ fn pairs_come_from_both_ends(rt: HostRuntime) -> Result<(), Fail> {
     as_expected(Some((seen, (true, came))))
 }
 
-// What the calls that only read return: whether there is no pair, and whether two keys are there; the values of both,
-// and the first and the last one.
+// What queries return: whether there is no pair, and whether two keys are stored; the values of both, and the first and
+// the last one.
 type Asked = ([bool; 3], [Option<u32>; 4]);
 
 fn asked(map: &Map) -> Asked {
@@ -137,7 +137,7 @@ fn asked(map: &Map) -> Asked {
     )
 }
 
-// Whether a map was filled, what is returned of it then and once it is cleared, and whether it was filled again.
+// Whether a map was filled, what queries return then and after it is cleared, and whether it was filled again.
 fn cleared(map: &mut Map) -> (bool, Asked, Asked, bool) {
     let is_filled = fill(map);
     let before = asked(map);
@@ -170,7 +170,7 @@ fn a_map_is_printed_in_order(rt: HostRuntime) -> Result<(), Fail> {
     as_expected(Some((seen, (true, Some(true)))))
 }
 
-// Two values of a clone, and how many pairs it has once one was taken out of it.
+// Two values of a clone, and how many pairs it has after one is removed.
 fn changed(copy: &mut Map) -> ([Option<u32>; 2], usize) {
     let values = [copy.get(&[1]).copied(), copy.get(&[5]).copied()];
     let is_removed = remove(copy, Removal::Key([1])).is_some();
@@ -185,7 +185,7 @@ fn cloned(map: &Map) -> Option<([Option<u32>; 2], usize)> {
     }
 }
 
-// Whether a map was filled, the same of it, and how many pairs it has then.
+// Whether a map was filled, the same of it, and how many pairs it then has.
 fn filled_and_cloned(map: &mut Map) -> (bool, Option<([Option<u32>; 2], usize)>, usize) {
     (fill(map), cloned(map), map.len())
 }
@@ -196,7 +196,7 @@ fn a_clone_goes_its_own_way(rt: HostRuntime) -> Result<(), Fail> {
     as_expected(Some((seen, (true, Some(([Some(1), Some(5)], 4)), 5))))
 }
 
-// The same where 60 pairs were put in.
+// The same with 60 pairs.
 fn many_cloned(map: &mut Map) -> (bool, Option<([Option<u32>; 2], usize)>, usize) {
     (fill_many(map), cloned(map), map.len())
 }
@@ -207,7 +207,7 @@ fn a_clone_of_many_goes_its_own_way(rt: HostRuntime) -> Result<(), Fail> {
     as_expected(Some((seen, (true, Some(([Some(1), Some(5)], 59)), 60))))
 }
 
-// Takes the keys from 6 to 60 out, and says whether five are left.
+// Removes the keys from 6 to 60, and returns whether five are left.
 fn empty_most(map: &mut Map) -> bool {
     for byte in 6..61u8 {
         drop(map.remove(&[byte]));
@@ -215,7 +215,7 @@ fn empty_most(map: &mut Map) -> bool {
     map.len() == 5
 }
 
-// The same where five of 60 are left.
+// The same if five of 60 are left.
 fn few_left_cloned(map: &mut Map) -> (bool, Option<([Option<u32>; 2], usize)>, usize) {
     (fill_many(map) && empty_most(map), cloned(map), map.len())
 }

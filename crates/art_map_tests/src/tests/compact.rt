@@ -10,7 +10,7 @@ use std::alloc::Global;
 use std::collections::BTreeMap;
 use std::test::Fail;
 
-// Puts keys in out of their order, each with its byte as its value, and says whether all are there.
+// Inserts keys in no order, each with its byte as its value, and returns whether all are stored.
 fn fill_unsorted(map: &mut Map) -> bool {
     for byte in [7u8, 2, 9, 4, 6, 1] {
         drop(map.insert([byte], byte as u32));
@@ -33,7 +33,7 @@ fn digits(map: &Map) -> [u32; 2] {
     [front, back]
 }
 
-// Whether a map is filled and compact, its digits then, and what two keys have.
+// Whether a map is filled and compacted, its digits then, and the values of two keys.
 fn compacted(map: &mut Map) -> ([bool; 2], [u32; 2], [Option<u32>; 2]) {
     let is_filled = fill_unsorted(map);
     let is_compact = map.compact().is_ok();
@@ -47,8 +47,8 @@ fn a_compact_map_has_the_same_pairs(rt: HostRuntime) -> Result<(), Fail> {
     as_expected(Some((seen, ([true; 2], [124_679, 976_421], [Some(4), None]))))
 }
 
-// Of a compact map: whether a pair goes in between two others, another one that goes out, and the digits then; and the
-// same digits once the map is compact again.
+// For a compact map: whether a pair is inserted between two others, another one that is removed, and the digits then;
+// and the same digits after the map is compacted again.
 fn changed(map: &mut Map) -> (bool, Option<([u8; 1], u32)>, [[u32; 2]; 2]) {
     fill_unsorted(map);
     let is_compact = map.compact().is_ok();
@@ -65,12 +65,12 @@ fn a_compact_map_is_changed(rt: HostRuntime) -> Result<(), Fail> {
     as_expected(Some((seen, (true, Some(([7], 7)), [[124_569, 965_421]; 2]))))
 }
 
-// Whether a map is made compact, and its digits then.
+// Whether a map is compacted, and its digits then.
 fn made_compact(map: &mut Map) -> (bool, [u32; 2]) {
     (map.compact().is_ok(), digits(map))
 }
 
-// The same of a map with no pair, with one and with two.
+// The same for a map with no pair, with one and with two.
 fn of_few(map: &mut Map) -> [(bool, [u32; 2]); 3] {
     let none = made_compact(map);
     drop(map.insert([8], 8));
@@ -86,7 +86,7 @@ fn a_map_of_few_pairs_is_compact(rt: HostRuntime) -> Result<(), Fail> {
     as_expected(Some((seen, [(true, [0, 0]), (true, [8, 8]), (true, [38, 83])])))
 }
 
-// Puts the keys below a number in, in steps of 7, and says whether they come in their order once the map is compact.
+// Inserts the keys below a number, in steps of 7, and returns whether they are in order after the map is compacted.
 fn is_in_order(map: &mut Map, count: u8) -> bool {
     for step in 0..count as u32 {
         let byte = (step * 7 % count as u32) as u8;
@@ -112,8 +112,8 @@ fn leaves_of_each_kind_of_node_are_moved(rt: HostRuntime) -> Result<(), Fail> {
     as_expected(Some((seen, [true; 4])))
 }
 
-// The number of the first call after which a map and a `BTreeMap` differ, if they do, where the map is made compact all
-// 40 calls.
+// The number of the first call after which a map and a `BTreeMap` differ, if they do. The map is compacted every 40
+// calls.
 fn differ_at(map: &mut Drawn, model: &mut Model, calls: usize) -> Option<usize> {
     let mut numbers = Numbers::new(5);
     for call in 0..calls {
@@ -137,7 +137,7 @@ fn drawn_calls_of_a_compact_map_answer_as_those_of_a_btree_map(
     as_expected(Some((seen, None)))
 }
 
-// Whether a map is refused while there is no memory, and its digits then.
+// Whether `compact` fails while all memory is held, and the digits then.
 fn starve(alloc: Global, map: &mut Map) -> Option<(bool, [u32; 2])> {
     fill_unsorted(map);
     let held = all_memory(alloc).ok()?;
@@ -152,7 +152,7 @@ fn without_memory_no_map_is_made_compact(rt: HostRuntime) -> Result<(), Fail> {
     as_expected(Some((seen, Some((true, [124_679, 976_421])))))
 }
 
-// Whether a map is refused, and its digits then.
+// Whether `compact` fails while an allocation may fail, and the digits then.
 fn refuse(alloc: Global, map: &mut Map) -> (bool, [u32; 2]) {
     fill_unsorted(map);
     begin_refusals(alloc);
@@ -171,7 +171,7 @@ fn refused_each_compact_moves_no_pair(rt: HostRuntime) -> Result<(), Fail> {
     Ok(())
 }
 
-// Whether a set of three keys is compact, and its keys then.
+// Whether a set of three keys is compacted, and its keys then.
 fn keys_of_compact(set: &mut ByteSet<[u8; 1], 4>) -> (bool, [Option<[u8; 1]>; 4]) {
     for byte in [3u8, 1, 2] {
         drop(set.insert([byte]));

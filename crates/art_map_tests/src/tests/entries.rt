@@ -1,4 +1,4 @@
-//! Drawn calls of a map's entries beside those of a `BTreeMap`.
+//! Drawn calls of a map's entries, compared with those of a `BTreeMap`.
 use super::beside_btree::{Key, Map, Model, agree_on_pairs, drawn_key};
 use art_operations::map::{ByteMap, MapMakeError};
 use art_test_support::expected::{as_expected, same};
@@ -6,7 +6,7 @@ use art_test_support::numbers::Numbers;
 use std::collections::BTreeMap;
 use std::test::Fail;
 
-// The value of a key that is put in with one that is made, in both.
+// Whether both have the same value of a key, which is inserted with a value that is made.
 fn agree_on_made(map: &mut Map, model: &mut Model, key: Key, value: u32) -> bool {
     let Ok(own) = map.entry(key).or_insert_with(|| value) else {
         return false;
@@ -22,7 +22,7 @@ fn agree_on_made(map: &mut Map, model: &mut Model, key: Key, value: u32) -> bool
     agree
 }
 
-// The same, with one that is made of the key.
+// The same, with a value that is made from the key.
 fn agree_on_made_of_key(map: &mut Map, model: &mut Model, key: Key) -> bool {
     let Ok(own) = map.entry(key).or_insert_with_key(|key| key[1] as u32) else {
         return false;
@@ -34,7 +34,7 @@ fn agree_on_made_of_key(map: &mut Map, model: &mut Model, key: Key) -> bool {
     stored == *entry.or_insert_with_key(|key| key[1] as u32)
 }
 
-// A value, where it is even.
+// A value, if it is even.
 fn even(value: u32) -> Result<u32, u32> {
     if value % 2 == 0 {
         return Ok(value);
@@ -42,7 +42,8 @@ fn even(value: u32) -> Result<u32, u32> {
     Err(value)
 }
 
-// The value of a key that is put in with an even one, or the odd one that is not; `None` for a refusal.
+// The value of a key that is inserted with an even value, or the odd value that is not inserted; `None` if the
+// insertion fails.
 fn even_at(map: &mut Map, key: Key, value: u32) -> Result<u32, Option<u32>> {
     match map.entry(key).or_try_insert_with(|| even(value)) {
         Ok(own) => Ok(*own),
@@ -51,7 +52,7 @@ fn even_at(map: &mut Map, key: Key, value: u32) -> Result<u32, Option<u32>> {
     }
 }
 
-// The same, with one that is made where it is even.
+// Whether both agree on a value that is made if it is even.
 fn agree_on_even(map: &mut Map, model: &mut Model, key: Key, value: u32) -> bool {
     let Ok(entry) = model.entry(key) else {
         return false;
@@ -63,7 +64,7 @@ fn agree_on_even(map: &mut Map, model: &mut Model, key: Key, value: u32) -> bool
     even_at(map, key, value) == other
 }
 
-// The same, with the default.
+// Whether both have the same value of a key, which is inserted with the default value.
 fn agree_on_default(map: &mut Map, model: &mut Model, key: Key) -> bool {
     let Ok(own) = map.entry(key).or_default() else {
         return false;
@@ -75,7 +76,7 @@ fn agree_on_default(map: &mut Map, model: &mut Model, key: Key) -> bool {
     stored == *entry.or_default()
 }
 
-// The value of a key that is changed where it is stored, and else put in.
+// Whether both have the same value of a key, which is changed if it is stored and else inserted.
 fn agree_on_changed(map: &mut Map, model: &mut Model, key: Key, value: u32) -> bool {
     let own = map
         .entry(key)
@@ -94,7 +95,7 @@ fn agree_on_changed(map: &mut Map, model: &mut Model, key: Key, value: u32) -> b
             .or_insert(value)
 }
 
-// Whether a walk tells how many are left, and its copy goes on by itself.
+// Whether an iterator knows how many pairs are left, and its clone continues on its own.
 fn agree_on_walks(map: &Map, model: &Model) -> bool {
     let mut pairs = map.iter();
     let hint = pairs.size_hint() == model.iter().size_hint();
@@ -116,7 +117,7 @@ fn agree_on_call(map: &mut Map, model: &mut Model, numbers: &mut Numbers) -> boo
     }
 }
 
-// The number of the first call after which they differ, if they do. All 400 calls they are cleared.
+// The number of the first call after which they differ, if they do. Every 400 calls they are cleared.
 fn differ_at_call(map: &mut Map, model: &mut Model, calls: usize) -> Option<usize> {
     let mut numbers = Numbers::new(5);
     for call in 0..calls {
@@ -142,7 +143,7 @@ fn drawn_entries_answer_as_those_of_a_btree_map(rt: HostRuntime) -> Result<(), F
     as_expected(Some(((differ, agree_on_pairs(&map, &model)), (None, true))))
 }
 
-// What comes back of a closure that fails: nothing where the key is stored.
+// What is returned if a closure fails: nothing if the key is stored.
 fn failed(map: &mut Map, key: Key, why: u32) -> Option<(Key, u32)> {
     let refused = map.entry(key).or_try_insert_with(|| Err(why)).err();
     let Some(MapMakeError::Make { key, error }) = refused else {
@@ -151,7 +152,7 @@ fn failed(map: &mut Map, key: Key, why: u32) -> Option<(Key, u32)> {
     Some((key, error))
 }
 
-// The value of a key after a closure that doesn't.
+// The value of a key after a closure that does not fail.
 fn tried(map: &mut Map, key: Key, value: u32) -> Option<u32> {
     let made: Result<u32, u32> = Ok(value);
     let Ok(stored) = map.entry(key).or_try_insert_with(|| made) else {
@@ -160,7 +161,7 @@ fn tried(map: &mut Map, key: Key, value: u32) -> Option<u32> {
     Some(*stored)
 }
 
-// Both at a key that is new, and at one that is stored; and how many pairs there are after the first and the last.
+// Both for a new key and for a stored one; and how many pairs there are after the first and the last.
 fn tried_twice(map: &mut Map) -> ([Option<(Key, u32)>; 2], [Option<u32>; 2], [usize; 2]) {
     let (new, none) = (failed(map, [1, 1], 9), map.len());
     let (made, stored) = (tried(map, [1, 1], 5), tried(map, [1, 1], 6));

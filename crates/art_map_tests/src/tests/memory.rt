@@ -1,4 +1,4 @@
-//! Calls without memory.
+//! Calls while allocations fail.
 use super::calls::{Map, Removal, fill, fill_many, remove, value_of};
 use art_operations::map::{ByteMap, MapInsertError};
 use art_test_support::expected::{as_expected, same};
@@ -16,7 +16,7 @@ fn without_memory_nothing_is_granted(rt: HostRuntime) -> Result<(), Fail> {
     same((refused, granted), (true, true))
 }
 
-// Whether an insertion is refused for want of memory, with its pair.
+// Whether an insertion fails for lack of memory, and returns its pair.
 fn is_refused(map: &mut Map, byte: u8, value: u32) -> bool {
     match map.insert([byte], value) {
         Err(MapInsertError::Memory { key, value: back }) => key == [byte] && back == value,
@@ -24,7 +24,7 @@ fn is_refused(map: &mut Map, byte: u8, value: u32) -> bool {
     }
 }
 
-// The same for all related keys.
+// The same for an insertion that replaces all related keys.
 fn is_refused_over(map: &mut Map, byte: u8, value: u32) -> bool {
     match map.insert_over([byte], value) {
         Err(refused) => refused.key == [byte] && refused.value == value,
@@ -32,7 +32,7 @@ fn is_refused_over(map: &mut Map, byte: u8, value: u32) -> bool {
     }
 }
 
-// Whether the first insertions of a map are refused, while there is no memory, and how many pairs it has then.
+// Whether the first insertions into a map fail while all memory is held, and how many pairs it then has.
 fn starve_new(alloc: Global, map: &mut Map) -> Option<([bool; 2], usize)> {
     let held = all_memory(alloc).ok()?;
     let refused = [is_refused(map, 1, 2), is_refused_over(map, 1, 2)];
@@ -46,7 +46,7 @@ fn without_memory_a_first_insertion_is_refused(rt: HostRuntime) -> Result<(), Fa
     as_expected(Some((seen, Some(([true, true], 0)))))
 }
 
-// Whether the first insertion of a map is refused, with its pair, and how many pairs it has then.
+// Whether the first insertion into a map fails and returns its pair, and how many pairs it then has.
 fn insert_first(alloc: Global, map: &mut Map) -> (bool, usize) {
     begin_refusals(alloc);
     let is_refused = is_refused(map, 1, 2);
@@ -64,7 +64,7 @@ fn refused_each_first_insertion_hands_the_pair_back(rt: HostRuntime) -> Result<(
     Ok(())
 }
 
-// Whether a removal returns the pair of this byte, which the map no longer has.
+// Whether a removal returns the pair of this byte, which the map then no longer has.
 fn is_removed(map: &mut Map, removal: Removal<[u8; 1]>, byte: u8) -> bool {
     let before = map.len();
     remove(map, removal) == Some(([byte], byte as u32))
@@ -72,7 +72,7 @@ fn is_removed(map: &mut Map, removal: Removal<[u8; 1]>, byte: u8) -> bool {
         && !map.contains_key(&[byte])
 }
 
-// What calls that ask for no memory return in a map of five pairs, of which the third gets its value again.
+// What calls that need no memory return for a map of five pairs, the third of which gets its value again.
 fn answers(map: &mut Map) -> ([Option<u32>; 3], bool) {
     let values = [
         map.get(&[3]).copied(),
@@ -85,7 +85,7 @@ fn answers(map: &mut Map) -> ([Option<u32>; 3], bool) {
     (values, matches!(map.insert_over([3], 3), Ok(1)))
 }
 
-// The same while every allocation fails, and whether pairs are removed then.
+// The same while all memory is held, and whether pairs are then removed.
 fn starve(alloc: Global, map: &mut Map) -> Option<([Option<u32>; 3], [bool; 4])> {
     let held = all_memory(alloc).ok()?;
     let (values, is_over) = answers(map);
@@ -114,7 +114,7 @@ fn without_memory_pairs_are_found_and_removed(rt: HostRuntime) -> Result<(), Fai
 // A map with keys of any length.
 type OfAnyLen = ByteMap<Vec<u8>, u32, 4>;
 
-// How many pairs give way to this one, while there is no memory.
+// How many pairs this one replaces while all memory is held.
 fn starve_over(alloc: Global, map: &mut OfAnyLen, key: Vec<u8>, value: u32) -> Option<usize> {
     let held = all_memory(alloc).ok()?;
     let gone = map.insert_over(key, value).ok();
@@ -122,7 +122,7 @@ fn starve_over(alloc: Global, map: &mut OfAnyLen, key: Vec<u8>, value: u32) -> O
     gone
 }
 
-// The same where just one longer key is stored, with how many pairs there are then, and the values of both keys.
+// The same if exactly one longer key is stored, with how many pairs there then are, and the values of both keys.
 fn starve_over_longer(
     alloc: Global,
     map: &mut OfAnyLen,
@@ -141,7 +141,7 @@ fn without_memory_a_longer_key_gives_way(rt: HostRuntime) -> Result<(), Fail> {
 
 type Deep = ByteMap<[u8; 5], u32, 4>;
 
-// Puts these keys in. Returns whether none is refused.
+// Inserts these keys. Returns whether all insertions succeed.
 fn insert_each(map: &mut Deep, keys: &[[u8; 5]]) -> bool {
     for key in keys {
         if map.insert(*key, 0).is_err() {
@@ -151,8 +151,8 @@ fn insert_each(map: &mut Deep, keys: &[[u8; 5]]) -> bool {
     true
 }
 
-// Puts in keys of five first bytes, and below each of four of these bytes keys of four nodes of the smallest kind, which
-// are as many as a store has room for before it asks for more.
+// Inserts keys with five first bytes. With four of these bytes there are keys that take four nodes of the smallest kind
+// each: together as many as a store has slots for before it allocates more.
 fn fill_deep(map: &mut Deep) -> bool {
     for first in 1..=5u8 {
         if map.insert([first, 2, 0, 0, 0], 7).is_err() {
@@ -173,7 +173,7 @@ fn fill_deep(map: &mut Deep) -> bool {
     map.len() == 21
 }
 
-// Puts in keys for which no inner node is placed, until one is refused. Returns whether one was.
+// Inserts keys for which no inner node is placed, until an insertion fails. Returns whether one did.
 fn crowd_deep(map: &mut Deep) -> bool {
     for first in 1..=4u8 {
         for byte in 3..=4u8 {
@@ -191,7 +191,7 @@ fn crowd_deep(map: &mut Deep) -> bool {
     false
 }
 
-// Whether the pair of the fifth first byte is taken out, by its key or with all below its first byte.
+// Whether the pair with the fifth first byte is removed, by its key or with all keys that start with this byte.
 fn take_fifth(map: &mut Deep, is_whole: bool) -> bool {
     if is_whole {
         map.remove_prefix(&[5]) == 1
@@ -200,8 +200,7 @@ fn take_fifth(map: &mut Deep, is_whole: bool) -> bool {
     }
 }
 
-// Whether an insertion is refused while there is no memory, and then a removal for which a smaller node is placed is
-// made.
+// Whether an insertion fails while all memory is held, and then a removal succeeds for which a smaller node is placed.
 fn starve_deep(alloc: Global, map: &mut Deep, is_whole: bool) -> Option<[bool; 3]> {
     let held = all_memory(alloc).ok()?;
     let is_full = crowd_deep(map);
@@ -230,7 +229,7 @@ fn is_clone_refused(map: &Map) -> bool {
     map.clone().is_err()
 }
 
-// Whether clones of a map and of an empty one are refused, while there is no memory.
+// Whether clones of a map and of an empty one fail while all memory is held.
 fn starve_clones(alloc: Global, map: &Map, empty: &Map) -> Option<[bool; 2]> {
     let held = all_memory(alloc).ok()?;
     let refused = [is_clone_refused(map), is_clone_refused(empty)];
@@ -238,7 +237,7 @@ fn starve_clones(alloc: Global, map: &Map, empty: &Map) -> Option<[bool; 2]> {
     Some(refused)
 }
 
-// Whether a map was filled, the same of it and of an empty one, and how many pairs it has then.
+// Whether a map was filled, the same of it and of an empty one, and how many pairs it then has.
 fn starve_clones_of_filled(
     alloc: Global,
     map: &mut Map,
@@ -254,7 +253,7 @@ fn without_memory_no_pair_is_cloned(rt: HostRuntime) -> Result<(), Fail> {
     as_expected(Some((seen, (true, Some([true, false]), 5))))
 }
 
-// Whether a map was filled, whether a clone of it is refused, and how many pairs it has then.
+// Whether a map was filled, whether a clone of it fails, and how many pairs it then has.
 fn clone_many(alloc: Global, map: &mut Map) -> (bool, bool, usize) {
     let is_filled = fill_many(map);
     begin_refusals(alloc);

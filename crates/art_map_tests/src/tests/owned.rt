@@ -1,4 +1,4 @@
-//! The pairs of a map by value.
+//! Iteration over the pairs of a map by value.
 use super::calls::{Map, fill};
 use art_operations::map::ByteMap;
 use art_test_support::expected::as_expected;

@@ -1,5 +1,5 @@
-//! Parts of a map: the pairs below a prefix, those between two bounds, and those next to a bound; worked, and
-//! drawn beside a `BTreeMap`.
+//! Parts of a map: the pairs with a prefix, those between two bounds, and those next to a bound. Some are worked out by
+//! hand, others are drawn and compared with a `BTreeMap`.
 ghost use Rattle.std.specs.Prelude.{◌<◌, ◌^◌, length};
 
 use super::calls::value_of;
@@ -14,10 +14,10 @@ use std::test::Fail;
 /// Keys of one length, so that none is a prefix of another.
 type Key = [u8; 4];
 
-/// One byte of a prefix is stored.
+/// A map whose nodes store one byte of a prefix.
 type Map = ByteMap<Key, u32, 1>;
 
-// Under 1, 1 are four keys that share more bytes than are stored; under 2 is one key, and under 3 are two.
+// Four keys start with 1, 1, one key with 2, and two with 3.
 static KEYS: [Key; 7] = [
     [1, 1, 1, 4],
     [1, 1, 1, 6],
@@ -28,7 +28,7 @@ static KEYS: [Key; 7] = [
     [3, 9, 0, 0],
 ];
 
-// Puts the keys in, with their places as values, and says whether all are there.
+// Inserts the keys, with their positions as values, and returns whether all are stored.
 fn fill(map: &mut Map) -> bool {
     let mut value = 0;
     for key in KEYS.iter() {
@@ -55,14 +55,14 @@ fn seen(mut part: Range<'_, Key, u32, 1>) -> Seen
     (ends, part.count())
 }
 
-// How many pairs a part says that it has at most, before its first pair and after it.
+// The bounds that a part has for the number of its pairs, before its first pair and after it.
 fn hints(mut part: Range<'_, Key, u32, 1>) -> [(usize, Option<usize>); 2] {
     let before = part.size_hint();
     part.next();
     [before, part.size_hint()]
 }
 
-// Whether a map was filled, and what two of its parts say.
+// Whether a map was filled, and these bounds of two of its parts.
 fn bounded(map: &mut Map) -> (bool, [[(usize, Option<usize>); 2]; 2]) {
     let filled = fill(map);
     (filled, [hints(map.prefix(&[])), hints(map.prefix(&[1, 2]))])
@@ -76,7 +76,7 @@ fn a_part_has_at_most_the_pairs_that_are_left(rt: HostRuntime) -> Result<(), Fai
     as_expected(Some((seen, (true, [whole, empty]))))
 }
 
-// Whether a map was filled, and what is below some prefixes.
+// Whether a map was filled, and the pairs with some prefixes.
 fn below(map: &mut Map) -> (bool, [Seen; 6]) {
     let filled = fill(map);
     let parts = [
@@ -103,7 +103,7 @@ fn pairs_below_a_prefix_come_from_both_ends(rt: HostRuntime) -> Result<(), Fail>
     as_expected(Some((below(&mut ByteMap::new(rt.alloc())), (true, expected))))
 }
 
-// The same of some bounds.
+// The same for some bounds.
 fn between(map: &mut Map) -> (bool, [Seen; 6]) {
     let filled = fill(map);
     let (low, high): (&[u8], &[u8]) = (&[1, 1, 1, 6], &[3, 0, 0, 7]);
@@ -164,7 +164,7 @@ fn pairs_next_to_a_bound_are_found(rt: HostRuntime) -> Result<(), Fail> {
     as_expected(Some((beside(&mut ByteMap::new(rt.alloc())), (true, expected))))
 }
 
-// Whether a map was filled, how many pairs went with each of some prefixes, and the values that are left at
+// Whether a map was filled, how many pairs were removed with each of some prefixes, and the values that are left at
 // both ends.
 fn removed(map: &mut Map) -> (bool, [usize; 4], [Option<u32>; 2]) {
     let filled = fill(map);
@@ -189,7 +189,7 @@ fn pairs_below_a_prefix_go(rt: HostRuntime) -> Result<(), Fail> {
 
 // ---- drawn calls
 
-// Few bytes in front, so that many keys share them, and many at the end, so that nodes are large.
+// Few first bytes, so that many keys share them, and many last bytes, so that nodes are large.
 fn drawn_key(numbers: &mut Numbers) -> Key {
     [
         numbers.below(2) as u8,
@@ -229,7 +229,7 @@ pub(super) fn is_between(from: Bound<&[u8]>, to: Bound<&[u8]>, key: &[u8]) -> bo
     is_from(from, key) && is_up_to(to, key)
 }
 
-// What of the pairs is asked for.
+// Which of the pairs are asked for.
 #[derive(Clone, Copy)]
 enum Part<'a> {
     Below(&'a [u8]),
@@ -270,7 +270,7 @@ fn copied(pair: Option<(&Key, &u32)>) -> Option<(Key, u32)> {
     Some((*key, *value))
 }
 
-// Whether a part of the map has these pairs, each taken from an end that is drawn.
+// Whether a part of the map has these pairs, each returned from a drawn end.
 fn agree_from_both(
     mut own: Range<'_, Key, u32, 1>,
     pairs: &[(Key, u32)],
@@ -288,7 +288,7 @@ fn agree_from_both(
     agree & own.next().is_none() & own.next_back().is_none()
 }
 
-// Whether a part of the map has the same pairs as of the other one, in order from the front.
+// Whether a part of the map has the same pairs as that of the model, in order from the front.
 fn agree_from_front(map: &Map, model: &BTreeMap<Key, u32>, part: Part<'_>) -> bool {
     let mut own = part_of(map, part);
     let mut agree = true;
@@ -312,7 +312,7 @@ fn agree_from_back(map: &Map, model: &BTreeMap<Key, u32>, part: Part<'_>) -> boo
     agree & own.next_back().is_none()
 }
 
-// Whether a part of the map has the pairs of the other one, each taken from an end that is drawn.
+// Whether a part of the map has the pairs of that of the model, each returned from a drawn end.
 fn agree_from_drawn_ends(
     map: &Map,
     model: &BTreeMap<Key, u32>,
@@ -326,7 +326,7 @@ fn agree_from_drawn_ends(
     }
 }
 
-// The same from either end, and from both in turn.
+// The same from either end, and from drawn ends.
 fn agree_on_part(
     map: &Map,
     model: &BTreeMap<Key, u32>,
@@ -339,13 +339,13 @@ fn agree_on_part(
         && agree_from_drawn_ends(map, model, part, alloc, numbers)
 }
 
-// Whether the pairs next to two bounds are the ends of the parts that begin and end there.
+// Whether the pairs next to two bounds are the ends of the parts that start and end there.
 fn agree_on_ends(map: &Map, from: Bound<&[u8]>, to: Bound<&[u8]>) -> bool {
     map.first_from(from) == map.range((from, Bound::Unbounded)).next()
         && map.last_up_to(to) == map.range((Bound::Unbounded, to)).next_back()
 }
 
-// The same of drawn parts.
+// The same for drawn parts.
 fn agree_on_drawn(
     map: &Map,
     model: &BTreeMap<Key, u32>,
@@ -360,14 +360,14 @@ fn agree_on_drawn(
         && agree_on_ends(map, from, to)
 }
 
-// A removal of all pairs below a prefix from both, and whether they say that as many went.
+// Removes all pairs with a prefix from both, and returns whether they report the same number.
 fn agree_on_removal_below(map: &mut Map, model: &mut BTreeMap<Key, u32>, prefix: &[u8]) -> bool {
     let before = model.len();
     model.retain(|key, _| !key.starts_with(prefix));
     map.remove_prefix(prefix) == before.saturating_sub(model.len())
 }
 
-// A change of both, and whether they return the same.
+// Changes both, and returns whether they return the same.
 fn agree_on_change(
     map: &mut Map,
     model: &mut BTreeMap<Key, u32>,

@@ -7,7 +7,7 @@ use std::test::Fail;
 
 type Map = ByteMap<Vec<u8>, u32, 4>;
 
-// The bytes of a key of at most two.
+// The bytes of a key of at most two bytes.
 type Bytes = [Option<u8>; 2];
 
 fn bytes_of(key: &[u8]) -> Bytes {
@@ -54,7 +54,7 @@ fn put_over(map: &mut Map, alloc: Global, key: &[u8], value: u32) -> Option<usiz
     map.insert_over(key, value).ok()
 }
 
-// The length and the value of the key that is the match of a query.
+// The length of the key that matches a query, and its value.
 fn matched(map: &Map, query: &[u8]) -> Option<(usize, u32)> {
     let (key, value) = map.longest_match(query)?;
     Some((key.len(), *value))
@@ -97,7 +97,7 @@ fn put_three(map: &mut Map, alloc: Global, pairs: [(&[u8], u32); 3]) -> [Told; 3
     ]
 }
 
-// The same where the last key is related to another, and what is seen of the map then.
+// The same if the last key is related to another one, and the pairs that the map then has.
 fn refused(map: &mut Map, alloc: Global) -> ([Told; 3], Seen) {
     let told = put_three(map, alloc, [(&[2], 1), (&[1], 2), (&[1, 1], 3)]);
     (told, seen(map))
@@ -111,7 +111,7 @@ fn related_keys_are_refused(rt: HostRuntime) -> Result<(), Fail> {
     as_expected(Some((seen, (told, left))))
 }
 
-// The pairs that come off both ends in turn, and how many are left.
+// The pairs that are removed from both ends in turn, and how many are left.
 type Popped = ([Option<(Bytes, u32)>; 3], usize);
 
 fn popped(map: &mut Map) -> Popped {
@@ -123,8 +123,8 @@ fn popped(map: &mut Map) -> Popped {
     (pairs, map.len())
 }
 
-// What the insertions of two keys return, of which one is put in twice; how many pairs there are then, and that key's
-// value; and what comes off the ends.
+// What three insertions of two keys return; how many pairs there then are, and the value of the key that is inserted
+// twice; and what is removed from the ends.
 fn replaced(map: &mut Map, alloc: Global) -> ([Told; 3], (usize, Option<u32>), Popped) {
     let told = put_three(map, alloc, [(&[2], 1), (&[1], 2), (&[2], 5)]);
     let counted = (map.len(), map.get(&[2]).copied());
@@ -139,7 +139,7 @@ fn an_equal_key_gets_the_value(rt: HostRuntime) -> Result<(), Fail> {
     as_expected(Some((seen, (told, (2, Some(5)), popped))))
 }
 
-// How many keys give way to each of six, and what is seen of the map then.
+// How many keys each of six replaces, and the pairs that the map then has.
 fn put_six_over(map: &mut Map, alloc: Global) -> ([Option<usize>; 6], Seen) {
     let gone = [
         put_over(map, alloc, &[1, 1], 1),
@@ -160,7 +160,7 @@ fn all_related_keys_give_way(rt: HostRuntime) -> Result<(), Fail> {
     as_expected(Some((seen, (gone, left))))
 }
 
-// What the insertions of two keys return, and the matches of five queries then.
+// What the insertions of two keys return, and then the matches of five queries.
 fn queried(map: &mut Map, alloc: Global) -> ([Told; 2], [Option<(usize, u32)>; 5]) {
     let told = [put(map, alloc, &[1], 7), put(map, alloc, &[2, 2], 8)];
     let found = [

@@ -32,7 +32,7 @@ static WAYS: [Way; 6] = [
     Way::ByAClosure,
 ];
 
-// ---- the 256 keys of one byte, which are under one node
+// ---- the 256 keys of one byte, which are children of one node
 
 fn fill_all(map: &mut Map) -> bool {
     for byte in 0..=255u8 {
@@ -59,7 +59,7 @@ fn remove_some(map: &mut Map, way: Way, byte: u8) -> usize {
     }
 }
 
-// Removes so often as there are bytes. Returns how many pairs there were.
+// Removes as often as there are bytes. Returns how many pairs there were.
 fn remove_all(map: &mut Map, way: Way) -> usize {
     let mut removed = 0usize;
     for byte in 0..=255u8 {
@@ -68,7 +68,7 @@ fn remove_all(map: &mut Map, way: Way) -> usize {
     removed
 }
 
-// The same while every allocation fails, with how many pairs are left.
+// The same while all memory is held, with how many pairs are left.
 fn starve(alloc: Global, map: &mut Map, way: Way) -> Option<(usize, usize)> {
     let held = all_memory(alloc).ok()?;
     let removed = remove_all(map, way);
@@ -103,7 +103,7 @@ fn fill_set(set: &mut Set) -> bool {
     set.len() == 256
 }
 
-// Whether both ends and two other keys are removed, each in its own way.
+// Whether the keys at both ends and two others are removed, each in its own way.
 fn are_removed(set: &mut Set, byte: u8) -> bool {
     let taken = byte.wrapping_add(140);
     set.pop_first() == Some([byte])
@@ -112,7 +112,7 @@ fn are_removed(set: &mut Set, byte: u8) -> bool {
         && set.take(&[taken]) == Some([taken])
 }
 
-// Whether half of the keys are removed so, and then the others by a closure.
+// Whether half of the keys are removed in this way, and then the others by a closure.
 fn is_emptied(set: &mut Set) -> bool {
     let mut all = true;
     for byte in 0..32u8 {
@@ -123,7 +123,7 @@ fn is_emptied(set: &mut Set) -> bool {
     all && left == 128 && set.is_empty()
 }
 
-// The same while every allocation fails.
+// The same while all memory is held.
 fn is_emptied_without_memory(alloc: Global, set: &mut Set) -> Option<bool> {
     let held = all_memory(alloc).ok()?;
     let is_emptied = is_emptied(set);
@@ -144,7 +144,7 @@ fn without_memory_256_keys_are_removed(rt: HostRuntime) -> Result<(), Fail> {
 
 // ---- drawn maps
 
-// Puts drawn pairs into both. Returns how many there are then.
+// Inserts drawn pairs into both. Returns how many there then are.
 fn fill_drawn(map: &mut DrawnMap, model: &mut Model, numbers: &mut Numbers) -> Option<usize> {
     for _ in 0..400 {
         let (key, value) = (drawn_key(numbers), numbers.value());
@@ -163,7 +163,7 @@ fn drawn_removal(numbers: &mut Numbers) -> Removal<Key> {
     }
 }
 
-// Whether so many drawn removals return the same of both, and the same pairs are left.
+// Whether so many drawn removals return the same for both, and leave the same pairs.
 fn agree_on_removals(
     map: &mut DrawnMap,
     model: &mut Model,
@@ -177,7 +177,7 @@ fn agree_on_removals(
     agree && agree_on_pairs(map, model)
 }
 
-// The same while every allocation fails, and whether nothing is left.
+// The same while all memory is held, and whether nothing is left.
 fn starve_drawn(
     alloc: Global,
     map: &mut DrawnMap,

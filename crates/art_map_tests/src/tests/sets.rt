@@ -59,13 +59,13 @@ fn ends_of_a_set_are_taken(rt: HostRuntime) -> Result<(), Fail> {
     )))
 }
 
-// A key of one byte, which is the same for each tag.
+// A key of one byte, the same one for each tag.
 fn tagged(alloc: Global, tag: u32) -> Option<Tagged> {
     let bytes = [7u8].to_vec(alloc).ok()?;
     Some(Tagged { bytes, tag })
 }
 
-// Whether a first key replaces none, the tag of the one that a second replaces, and that of the stored one.
+// Whether a first key replaces none, the tag of the key that a second one replaces, and that of the stored key.
 fn replaced_in(set: &mut ByteSet<Tagged, 4>, alloc: Global) -> Option<(bool, u32, u32)> {
     let first = set.replace(tagged(alloc, 1)?).ok()?;
     let second = set.replace(tagged(alloc, 2)?).ok()??;

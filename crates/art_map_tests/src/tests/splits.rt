@@ -1,5 +1,5 @@
-//! Pairs that are removed by the bounds of their keys, and those that move into another map: drawn beside a
-//! `BTreeMap`, and while every allocation fails.
+//! Pairs that are removed by the bounds of their keys, and those that move into another map: drawn and compared with a
+//! `BTreeMap`, and while all memory is held.
 use super::beside_btree::{Key, Map, Model, agree_on_pairs, drawn_key};
 use super::ranges::{drawn_bound, is_between};
 use art_operations::map::ByteMap;
@@ -11,7 +11,7 @@ use std::collections::BTreeMap;
 use std::ops::Bound;
 use std::test::Fail;
 
-// Puts a pair into both.
+// Inserts a pair into both.
 fn put_both(map: &mut Map, model: &mut Model, numbers: &mut Numbers) -> bool {
     let (key, value) = (drawn_key(numbers), numbers.value());
     map.insert(key, value).is_ok() && model.insert(key, value).is_ok()
@@ -36,14 +36,14 @@ fn agree_on_pop(map: &mut Map, model: &mut Model, from: Bound<&[u8]>, to: Bound<
     map.pop_first_in((from, to)) == first
 }
 
-// Whether as many pairs between two bounds are removed from both.
+// Whether equally many pairs between two bounds are removed from both.
 fn agree_on_range(map: &mut Map, model: &mut Model, from: Bound<&[u8]>, to: Bound<&[u8]>) -> bool {
     let before = model.len();
     model.retain(|key, _| !is_between(from, to, key));
     map.remove_range((from, to)) == before.saturating_sub(model.len())
 }
 
-// Whether both are split at a key into the same maps, and are the same once the second part is appended, with a pair
+// Whether both are split at a key into the same maps, and are the same after the second part is appended, with a pair
 // that may replace one.
 fn agree_on_split(map: &mut Map, model: &mut Model, numbers: &mut Numbers) -> bool {
     let key = drawn_key(numbers);
@@ -59,7 +59,7 @@ fn agree_on_split(map: &mut Map, model: &mut Model, numbers: &mut Numbers) -> bo
     split && put && joined && tail.is_empty() && agree_on_pairs(map, model)
 }
 
-// A change of both, and whether they agree.
+// Changes both, and returns whether they agree.
 fn agree_on_change(map: &mut Map, model: &mut Model, numbers: &mut Numbers) -> bool {
     let (low, high) = (drawn_key(numbers), drawn_key(numbers));
     let (from, to) = (drawn_bound(numbers, &low), drawn_bound(numbers, &high));
@@ -89,7 +89,7 @@ fn drawn_parts_go_as_those_of_a_btree_map(rt: HostRuntime) -> Result<(), Fail> {
     as_expected(Some((seen, None)))
 }
 
-// Puts the keys [0, 0] to [0, 9] in, with the last byte as value.
+// Inserts the keys [0, 0] to [0, 9], with the last byte as value.
 fn fill(map: &mut Map) -> bool {
     for byte in 0..10u8 {
         if map.insert([0, byte], byte as u32).is_err() {
@@ -99,8 +99,7 @@ fn fill(map: &mut Map) -> bool {
     true
 }
 
-// What a split and an append leave while every allocation fails: how many pairs moved, the pair that did not, and how
-// many are left; and the same of the append.
+// What a split leaves while all memory is held: how many pairs moved, the pair that did not, and how many are left.
 type Refused = (usize, (Key, u32), usize);
 
 fn split_refused(alloc: Global, map: &mut Map) -> Option<Refused> {

@@ -11,7 +11,7 @@ use Rattle.art_map.proofs.Items.{no_pairs}
 use Rattle.art_map.proofs.Puts.{accepted, at_some, canonical_root, left_holds, pair_more, same_many, stays}
 use Rattle.art_map.proofs.map.put_in.Goals as goal
 
--- a search that accepts no key has met a conflict
+-- a search without a point for the key has found a conflict
 conflicts : {K V : Type 0} (bytes : K × V → List ℕ) (pairs : List (K × V)) {spelled key : List ℕ} → (is_conflict bytes spelled pairs ≡ false → false ≡ true) → spelled ≡ key →
     is_conflict bytes key pairs ≡ true
 conflicts bytes pairs {spelled} refused same = subst (λ k. is_conflict bytes k pairs ≡ true) same (not_false (is_conflict bytes spelled pairs) (λ free. false≢true (refused free)))
