@@ -1,10 +1,10 @@
 //! Calls for one key, and for the whole map. All but `new` return a code; on a map that was freed they return `FREED`
 //! and do nothing.
-ghost use Rattle.std.specs.Prelude.{◌≡◌, ◌≢◌, ◌<◌, ◌≤◌, [], length, Some, None};
+ghost use Rattle.std.specs.Prelude.{◌≡◌, ◌≢◌, ◌<◌, ◌≤◌, [], length, IfOk, None, OnErr, OnOk, Some};
 ghost use Rattle.std.specs.Option.{option_map};
 ghost use Rattle.art_keyed.specs.KeyedPairs.{strings_below, strings_in_front};
 ghost use Rattle.art_keys.specs.Escapes.{escape};
-ghost use Rattle.art_model.specs.Pairs.{first_of, last_of, of_key, put, remove_key};
+ghost use Rattle.art_model.specs.Pairs.{first_of, last_of, of_key, put, remove_key, remove_reply};
 ghost use Rattle.string_map.specs.Calls.{Answers, Changes, Tells, code_of, done, no_memory, value_of};
 ghost use Rattle.art_map.specs.MapItems.{deref_pair};
 ghost use Rattle.string_map.specs.Shown.{Shows, ShowsPair, pair_of};
@@ -14,7 +14,7 @@ use super::codes::{ABSENT, DONE, FREED, NO_MEMORY, TOO_LONG};
 use super::pairs::Pair;
 use art_keyed::map::TreeMap;
 use art_keys::escaped::Escaped;
-use std::alloc::Global;
+use std::alloc::{AllocError, Global};
 
 /// Returns an empty map. It allocates nothing.
 pub fn new(alloc: Global) -> StringMap
@@ -136,7 +136,7 @@ pub fn remove(map: &mut StringMap, key: &[u8], value: &mut u64) -> u32
     let Some(pairs) = &mut map.pairs else {
         return FREED;
     };
-    match pairs.remove_text(map.alloc, key) {
+    match take(pairs, map.alloc, key) {
         Ok(Some((_, old))) => {
             *value = old;
             DONE
@@ -144,6 +144,25 @@ pub fn remove(map: &mut StringMap, key: &[u8], value: &mut u64) -> u32
         Ok(None) => ABSENT,
         Err(_) => NO_MEMORY,
     }
+}
+
+// Removes the pair of a text. The key of a text with a byte 0 or 1 is built first, which allocates.
+fn take(
+    pairs: &mut TreeMap<Escaped, u64, 16>,
+    alloc: Global,
+    text: &[u8],
+) -> Result<Option<(Escaped, u64)>, AllocError>
+    ensures pairs { OnOk result
+        (pairs.new ≡ remove_key (of_key escape) (escape text.now) pairs.old) }
+    ensures removed { IfOk result (λ removed.
+        removed ≡ remove_reply (of_key escape) (escape text.now) pairs.old) }
+    ensures kept { OnErr result (pairs.new ≡ pairs.old) }
+{
+    if Escaped::is_plain(text) {
+        return Ok(pairs.remove_text(text));
+    }
+    let key = Escaped::encode(alloc, text)?;
+    Ok(pairs.remove(&key))
 }
 
 /// Writes how many keys start with a prefix. Returns `DONE`, or `NO_MEMORY` if an allocation fails.

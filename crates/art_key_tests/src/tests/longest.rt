@@ -485,7 +485,7 @@ fn words_are_counted_by_their_texts(rt: HostRuntime) -> Result<(), Fail> {
 }
 
 // What is found, and removed, by texts with bytes 0 and 1.
-fn escaped_parts(map: &mut Bytes<4>, alloc: Global) -> Option<([bool; 4], [usize; 4])> {
+fn escaped_parts(map: &mut Bytes<4>, alloc: Global) -> Option<([bool; 5], [usize; 4])> {
     for text in [b"a\0", b"a\x01", b"ab", b"b\0"] {
         let _ = map
             .insert(Escaped::encode(alloc, text.as_slice()).ok()?, 1)
@@ -501,7 +501,12 @@ fn escaped_parts(map: &mut Bytes<4>, alloc: Global) -> Option<([bool; 4], [usize
         map.prefix_text(alloc, b"a").ok()?.count(),
         map.prefix_text(alloc, b"b\0").ok()?.count(),
     ];
-    let gone = map.remove_prefix(&Escaped::encode(alloc, b"a").ok()?);
+    if !Escaped::is_plain(b"a") || !Escaped::is_plain(b"ab") {
+        return None;
+    }
+    let is_removed = map.remove_text(b"ab").is_some();
+    let gone = map.remove_prefix_text(b"a");
+    let found = [found[0], found[1], found[2], found[3], is_removed];
     Some((found, [below[0], below[1], gone, map.len()]))
 }
 
@@ -510,6 +515,6 @@ fn texts_of_any_bytes_are_found_by_their_parts(rt: HostRuntime) -> Result<(), Fa
     let alloc = rt.alloc();
     same(
         escaped_parts(&mut TreeMap::new(alloc), alloc),
-        Some(([true, true, false, true], [3, 1, 3, 1])),
+        Some(([true, true, false, true, true], [3, 1, 2, 1])),
     )
 }

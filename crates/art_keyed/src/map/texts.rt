@@ -275,4 +275,26 @@ impl<V: Drop, const P: usize> TreeMap<Escaped, V, P> {
         }
         Ok(self.map.prefix(text))
     }
+
+    /// Removes the pair of a text's key, and returns it; `None` if it is not stored. It never fails.
+    ///
+    /// The text must have no byte 0 or 1 (`Escaped::is_plain`). `remove` removes any key.
+    pub fn remove_text(&mut self, text: &[u8]) -> Option<(Escaped, V)>
+        requires { IsPlain text.now }
+        ensures pairs { self.new ≡ remove_key (of_key escape) (escape text.now) self.old }
+        ensures removed { result ≡ remove_reply (of_key escape) (escape text.now) self.old }
+    {
+        self.map.remove_by(EndedQuery { text, end: 0 })
+    }
+
+    /// Removes all pairs whose strings start with a text, at once, and returns how many. It never fails.
+    ///
+    /// The text must have no byte 0 or 1 (`Escaped::is_plain`). `remove_prefix` takes any key.
+    pub fn remove_prefix_text(&mut self, text: &[u8]) -> usize
+        requires { IsPlain text.now }
+        ensures pairs { self.new ≡ strings_not_below (λ string. string) text.now self.old }
+        ensures removed { result ≡ length (strings_below (λ string. string) text.now self.old) }
+    {
+        self.map.remove_prefix(text)
+    }
 }
