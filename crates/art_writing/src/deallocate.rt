@@ -77,7 +77,7 @@ pub fn deallocate_tree<K: AsBytes + Drop, V: Drop, const PREFIX_LEN: usize>(
 // An inner node may be without children.
 //
 // It keeps neither a list of what is left nor a stack: the remaining nodes are one tree all the time. A root with one
-// child is freed, and the child is the root. A root with more is attached below its last child, which is the root then.
+// child is freed, and the child is the root. A root with more children loses the last one, and is joined to its tree.
 pub(crate) fn free_nodes<K: AsBytes + Drop, V: Drop, const P: usize>(
     store: &mut NodeStore<K, V, P>,
     root: OpaqueNodePtr,
@@ -115,8 +115,9 @@ pub(crate) fn free_nodes<K: AsBytes + Drop, V: Drop, const P: usize>(
     }
 }
 
-// Joins two trees: the first replaces the end that the first children of the second lead to, and that end is freed.
-// Returns the root of both, and how many leaves were freed.
+// Joins two trees. The chain of first children of the second one is reversed: each node on it has the node above it in
+// the place of its first child, and the topmost has the first tree. The node at the end of the chain is freed. Returns
+// the root of both, and how many leaves were freed.
 fn hang<K: AsBytes + Drop, V: Drop, const P: usize>(
     store: &mut NodeStore<K, V, P>,
     left: OpaqueNodePtr,
