@@ -21,7 +21,7 @@ use Rattle.art_model.proofs.radix.TreeLaws.{one_child, have_two_children}
 use Rattle.art_reading.specs.Iterators.{IsIteratorOf, TakesEnd}
 use Rattle.art_map.specs.MapItems.{IsWalk, pairs_left}
 use Rattle.art_map.proofs.Items.{first_ended, first_step, first_walk, last_ended, last_step, last_walk, whole_len, whole_pairs, whole_walk}
-use Rattle.art_keeping.specs.KeptKeys.{Key, key_bytes}
+use Rattle.art_engine.specs.KeptKeys.{Key, key_bytes}
 use Rattle.art_engine.specs.declared.pairs.Order.{Order}
 use Rattle.art_engine.specs.declared.pairs.Order.TheVariants.{Rising, Falling}
 use Rattle.art_engine.specs.Texts.{end_of, gap_after, in_order, pairs_text, row_text, entry_text}
