@@ -1,12 +1,12 @@
 //! Finds for each number on standard input the longest code that it starts with, in a table that a file has.
 #![tactic(auto)]
 
-use dial_codes::answers::serve;
-use dial_codes::table::{LineError, Table, TableError, read_table};
 use std::io::{BufReader, BufWriter};
 use std::process::ExitCode;
 use std::rt::{Env, Files};
 use std::{env, fs, io};
+use text_programs::dial_codes::answers::serve;
+use text_programs::dial_codes::table::{LineError, Table, TableError, read_table};
 
 // What is printed for `--help`, and if no table is named.
 const USAGE: &str = "usage: dial_plan TABLE";

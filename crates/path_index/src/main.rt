@@ -1,12 +1,12 @@
 //! Answers lines of standard input about the paths that a file has, a line each.
 #![tactic(auto)]
 
-use path_indexes::answers::serve;
-use path_indexes::index::{Index, IndexError, PathError, read_index};
 use std::io::{BufReader, BufWriter};
 use std::process::ExitCode;
 use std::rt::{Env, Files};
 use std::{env, fs, io};
+use text_programs::path_indexes::answers::serve;
+use text_programs::path_indexes::index::{Index, IndexError, PathError, read_index};
 
 // What is printed for `--help`, and if no file is named.
 const USAGE: &str = "usage: path_index FILE";

@@ -1,12 +1,12 @@
 //! Finds for each address on standard input the longest route of a file that covers it.
 #![tactic(auto)]
 
-use ip_routes::answers::serve;
-use ip_routes::table::{LineError, Table, TableError, read_table};
 use std::io::{BufReader, BufWriter};
 use std::process::ExitCode;
 use std::rt::{Env, Files};
 use std::{env, fs, io};
+use text_programs::ip_routes::answers::serve;
+use text_programs::ip_routes::table::{LineError, Table, TableError, read_table};
 
 // What is printed for `--help`, and if no file is named.
 const USAGE: &str = "usage: route_table FILE";

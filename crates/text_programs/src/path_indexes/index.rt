@@ -1,0 +1,101 @@
+//! An index of paths.
+ghost use Rattle.std.specs.Prelude.{◌≡◌, IfErr, IfOk, IfSome, OnErr, OnOk};
+ghost use Rattle.art_operations.specs.Ended.{HasNoZero};
+ghost use Rattle.art_operations.specs.MapItems.{keys_of};
+ghost use Rattle.text_lines.specs.Lines.{lines};
+ghost use Rattle.text_programs.specs.Paths.{AddsPath, IsFaultOf, IsIndexOf, IsRefusedFor};
+
+use art_operations::keys::{EndError, Terminated};
+use art_operations::tree_map::TreeMap;
+use std::alloc::{AllocError, Global};
+use std::io;
+use std::io::{BufRead, ErrorKind};
+use text_lines::lines::next_line;
+use thiserror::Error;
+
+/// Paths in the order of their bytes.
+pub type Index = TreeMap<Terminated, (), 16>;
+
+/// Why a path was not added to an index.
+#[derive(Clone, Copy, PartialEq, Eq, Debug, Drop, Error)]
+pub enum PathError {
+    #[error("a zero byte stands in the path")]
+    Zero,
+    #[error("no memory")]
+    NoMemory,
+}
+
+/// Why there is no index.
+#[derive(Debug, Drop, Error)]
+pub enum IndexError {
+    #[error("line {0}: {1}")]
+    Line(u64, PathError),
+    #[error("{0}")]
+    Input(io::Error),
+}
+
+/// Reads an index to the end of the input: a line for each path. A path that occurs again is stored once.
+pub fn read_index<R: BufRead>(alloc: Global, input: &mut R) -> Result<Index, IndexError>
+    ensures index { IfOk result (λ index. IfSome (R.remaining input.old) (λ text.
+        IsIndexOf (lines text) (keys_of index))) }
+    ensures refused { IfErr result (λ error. IfSome (R.remaining input.old) (λ text.
+        IsRefusedFor (lines text) error)) }
+{
+    let mut index = TreeMap::new(alloc);
+    let mut line = Vec::new(alloc);
+    for number in 1..u64::MAX {
+        match next_line(input, &mut line) {
+            Ok(true) => {}
+            Ok(false) => {
+                // `rises` says that the paths rise.
+                index.rises();
+                return Ok(index);
+            }
+            Err(error) => return Err(IndexError::Input(error)),
+        }
+        match add_path(&mut index, alloc, &line) {
+            Ok(()) => {}
+            Err(error) => return Err(IndexError::Line(number, error)),
+        }
+    }
+    Err(IndexError::Input(io::Error::from(ErrorKind::FileTooLarge)))
+}
+
+/// Adds a path, unless it is stored already.
+pub fn add_path(index: &mut Index, alloc: Global, path: &[u8]) -> Result<(), PathError>
+    ensures added { OnOk result (AddsPath path.now (keys_of index.old) (keys_of index.new)) }
+    ensures accepted { OnOk result (HasNoZero path.now) }
+    ensures fault { IfErr result (IsFaultOf path.now) }
+    ensures kept { OnErr result (index.new ≡ index.old) }
+{
+    let key = key_of(alloc, path)?;
+    match index.insert(key, ()) {
+        Ok(_) => Ok(()),
+        Err(_) => Err(PathError::NoMemory),
+    }
+}
+
+// Returns the key of a path.
+fn key_of(alloc: Global, path: &[u8]) -> Result<Terminated, PathError>
+    ensures key { IfOk result (λ key. key ≡ path.now) }
+    ensures accepted { OnOk result (HasNoZero path.now) }
+    ensures fault { IfErr result (IsFaultOf path.now) }
+{
+    let Ok(bytes) = copy_with_room(alloc, path) else {
+        return Err(PathError::NoMemory);
+    };
+    match Terminated::new(bytes) {
+        Ok(key) => Ok(key),
+        Err(EndError::InnerZero { .. }) => Err(PathError::Zero),
+        Err(EndError::Memory { .. }) => Err(PathError::NoMemory),
+    }
+}
+
+// Returns the bytes, with room for one more.
+fn copy_with_room(alloc: Global, bytes: &[u8]) -> Result<Vec<u8>, AllocError>
+    ensures { IfOk result (λ copy. copy.items ≡ bytes.now) }
+{
+    let mut copy = Vec::with_capacity(alloc, bytes.len().saturating_add(1))?;
+    copy.extend_from_slice(bytes)?;
+    Ok(copy)
+}
