@@ -4,7 +4,7 @@ use Rattle.std.specs.List.{list_any}
 use Rattle.std.specs.List.Sorted.{IsPermutation}
 use Rattle.std.proofs.lemmas.Bool.{and_parts, false≢true, or_cases}
 use Rattle.std.proofs.lemmas.List.{length-map, map-append}
-use Rattle.std.proofs.lemmas.List.Sorted.{IsPermutation-map, IsPermutation-refl, IsPermutation-push_more}
+use Rattle.std.proofs.lemmas.List.Sorted.{IsPermutation-map, IsPermutation-push_more}
 use Rattle.std.proofs.lemmas.List.Sorted.{list_any-IsPermutation}
 use Rattle.art_model.specs.Keys.{are_same}
 use Rattle.art_model.proofs.keys.Keys.{same_equal}
@@ -14,20 +14,7 @@ use Rattle.text_programs.specs.declared.dial_codes.table.LineError.TheVariants.{
 use Rattle.text_programs.specs.declared.dial_codes.table.Named.{Named}
 use Rattle.text_programs.specs.Entries.{code_of, entries_of, is_code, line_of}
 use Rattle.text_programs.specs.CodeRows.{HasLine, IsFaultBeside, numbered, rows_of}
-use Rattle.text_programs.specs.CodeTables.{AreLinesOf, IsFaultOf, IsRefusedAt, IsRepeatedAt, IsTableOf}
-
--- The lines are those of entries, and the table has these with their numbers.
-pub record IsFilledBy (rows : List (List ℕ × List ℕ × ℕ)) (ls : List (List ℕ)) : Type 0 where
-  pub entries : List (List ℕ × List ℕ)
-  pub lines_are : AreLinesOf ls entries
-  pub same : IsPermutation (numbered 1 entries) rows
-
-pub no_entries : (rows : List (List ℕ × List ℕ × ℕ)) → rows ≡ [] → IsFilledBy rows []
-no_entries rows e = record {
-  entries = [];
-  lines_are = record { are = refl; codes = tt };
-  same = subst (IsPermutation []) (sym e) (IsPermutation-refl []);
-}
+use Rattle.text_programs.specs.CodeTables.{IsCodeFault, IsFaultOf, IsFilledBy, IsRepeatedAt, IsTableOf}
 
 numbered-append : (n : ℕ) (entries : List (List ℕ × List ℕ)) (e : List ℕ × List ℕ) → numbered n (entries ++ e ∷ []) ≡ numbered n entries ++ (e.0, e.1, n + length entries) ∷ []
 numbered-append n [] e = let k : n ≡ n + 0 = omega arith in ap (λ m. (e.0, e.1, m) ∷ []) k
@@ -36,15 +23,15 @@ numbered-append n (x ∷ entries) e =
     ap (λ rows. (x.0, x.1, n) ∷ rows) (numbered-append (n + 1) entries e ∙ ap (λ m. numbered (n + 1) entries ++ (e.0, e.1, m) ∷ []) k)
 
 -- with the entry of one more line
-pub one_entry_more : (rows others : List (List ℕ × List ℕ × ℕ)) (number : ℕ) (line seen : List ℕ) → seen ≡ line → HasLine seen number rows others →
+pub one_entry_more : (rows others : List (List ℕ × List ℕ × ℕ)) (number : ℕ) (line : List ℕ) → HasLine line number rows others →
     (before : List (List ℕ)) → number ≡ length before + 1 → IsFilledBy rows before → IsFilledBy others (before ++ line ∷ [])
-one_entry_more rows others number line seen e has before n h =
+one_entry_more rows others number line has before n h =
     let many : length before ≡ length h.entries = ap length h.lines_are.are ∙ length-map h.entries line_of in
     let last : 1 + length h.entries ≡ number = omega arith in
     record {
       entries = h.entries ++ has.entry ∷ [];
       lines_are = record {
-        are = ap (λ ls. ls ++ line ∷ []) h.lines_are.are ∙ ap (λ l. map line_of h.entries ++ l ∷ []) (sym e ∙ has.is) ∙ sym (map-append line_of h.entries (has.entry ∷ []));
+        are = ap (λ ls. ls ++ line ∷ []) h.lines_are.are ∙ ap (λ l. map line_of h.entries ++ l ∷ []) has.is ∙ sym (map-append line_of h.entries (has.entry ∷ []));
         codes = Each-append (λ entry. is_code (code_of entry) ≡ true) h.entries (has.entry ∷ []) h.lines_are.codes (has.code, tt);
       };
       same = subst (λ rs. IsPermutation rs others)
@@ -100,15 +87,6 @@ fault_is line entries rows (Repeated n) same (code, name, is, any) =
     (code, name, is, repeated_at code n entries (list_any-IsPermutation (λ row. are_same code row.0 && eqb row.2 n) (numbered 1 entries) rows same ∙ any))
 fault_is line entries rows NoMemory same h = tt
 
-pub refused_at : (rows : List (List ℕ × List ℕ × ℕ)) (number : ℕ) (line seen : List ℕ) (fault : LineError) → seen ≡ line → IsFaultBeside seen rows fault →
-    (before after : List (List ℕ)) → number ≡ length before + 1 → IsFilledBy rows before → IsRefusedAt (before ++ line ∷ after) number fault
-refused_at rows number line seen fault e is before after n h = record {
-  entries = h.entries;
-  before = before;
-  line = line;
-  after = after;
-  lines_are = refl;
-  before_are = h.lines_are;
-  number_is = n;
-  is = fault_is line h.entries rows fault h.same (subst (λ l. IsFaultBeside l rows fault) e is);
-}
+pub code_fault : (rows : List (List ℕ × List ℕ × ℕ)) (line : List ℕ) (fault : LineError) → IsFaultBeside line rows fault →
+    (before : List (List ℕ)) → IsFilledBy rows before → IsCodeFault before line fault
+code_fault rows line fault is before h = (h.entries, h.lines_are, fault_is line h.entries rows fault h.same is)

@@ -1,23 +1,23 @@
 -- The routes that cover an address are those whose strings are prefixes of the address's.
-use Rattle.std.proofs.Common.{◌≡◌, ℕ, suc, ◌+◌, ◌-◌, ◌*◌, ◌/◌, ◌^◌, ◌<◌, ◌≤◌, Bool, true, false, if◌then◌else◌, ◌&&◌, eqb, eq-eqb, eqb-true, List, [], ◌∷◌, ◌++◌, length, filter, map, Option, Some, None, refl, ap, ap₂, sym, ◌∙◌, subst, arith, ◌⊎◌, inl, inr}
+use Rattle.std.proofs.Common.{◌≡◌, ℕ, ◌+◌, ◌-◌, ◌*◌, ◌/◌, ◌^◌, ◌<◌, ◌≤◌, Bool, true, false, ◌&&◌, eqb, eq-eqb, eqb-true, List, [], ◌∷◌, ◌++◌, length, Some, None, refl, ap, ap₂, sym, ◌∙◌, subst, arith}
 use Rattle.std.specs.List.{AllByRecursion as Each}
 use Rattle.std.specs.Ordering.{is_lt, nat_cmp}
 use Rattle.std.specs.Cmp.Lexicographic.{slice_cmp}
 use Rattle.std.specs.declared.net.ip_addr.IpAddr.{IpAddr}
-use Rattle.std.proofs.lemmas.Bool.{and_parts, false≢true}
+use Rattle.std.proofs.lemmas.Bool.{and_parts}
 use Rattle.std.proofs.lemmas.Nat.{shl-shr, shr_below}
 use Rattle.art_model.specs.Footprints.{IsIn}
 use Rattle.art_model.specs.Keys.{is_before, is_front}
 use Rattle.art_model.specs.Pairs.{Pairwise, last_of}
 use Rattle.art_model.proofs.keys.Keys.{front_is}
-use Rattle.art_model.proofs.lists.Filters.{filter_passes, last_each, none_passes}
+use Rattle.art_model.proofs.lists.Filters.{last_each, none_passes}
 use Rattle.art_model.proofs.lists.Lists.{Each-weaker, each_from, each_in, each_map, in_map}
 use Rattle.art_operations.specs.KeyedPairs.{RiseBy, strings_in_front}
 use Rattle.text_programs.specs.declared.ip_routes.network.Network.{Network}
 use Rattle.text_programs.specs.declared.ip_routes.table.Source.{Source}
 use Rattle.text_programs.specs.Addresses.{cleared, covers, host_bits, number_of, version_of, width}
 use Rattle.text_programs.specs.Bits.{bits}
-use Rattle.text_programs.specs.Routes.{IsAnswer, IsLongest, Route}
+use Rattle.text_programs.specs.Routes.{IsAnswer}
 use Rattle.text_programs.specs.Strings.{HaveStrings, IsString, network_of, route_of, routes_of, string_of}
 use Rattle.text_programs.specs.Written.{IsNetwork}
 use Rattle.text_programs.proofs.BitLemmas.{bits_apart, bits_front, length-bits}

@@ -1,3 +1,5 @@
+-- tables that are read from lines, and that answer lines
+mod LineTableLemmas
 -- the words of a text, and how often each occurs
 mod WordTexts
 mod Tallies
@@ -5,11 +7,9 @@ mod WordLines
 -- codes with names, and the longest one that a number starts with
 mod EntryLemmas
 mod CodeTableLemmas
-mod CodeReplyLemmas
 -- paths, and requests about them
 mod RequestLines
 mod PathParts
-mod PathIndexLemmas
 mod PathReplyLemmas
 -- routes, and the longest one that covers an address
 mod ListLemmas
@@ -18,5 +18,4 @@ mod StringLemmas
 mod WrittenLemmas
 mod CoverLemmas
 mod RouteTableLemmas
-mod RouteReplyLemmas
 mod RouteExamples

@@ -1,17 +1,16 @@
 -- A table of routes that is read line by line.
-use Rattle.std.proofs.Common.{◌≡◌, ◌≢◌, ℕ, ◌+◌, ◌^◌, ◌<◌, Bool, true, false, not, if◌then◌else◌, List, [], ◌∷◌, ◌++◌, length, map, filter, Option, Some, None, refl, ap, sym, ◌∙◌, subst, arith, ◌⊎◌, inl, inr}
-use Rattle.std.specs.List.{All, AllByRecursion as Each}
+use Rattle.std.proofs.Common.{◌≡◌, ◌≢◌, ℕ, ◌+◌, Bool, true, false, not, if◌then◌else◌, List, [], ◌∷◌, ◌++◌, length, Option, Some, None, refl, ap, sym, ◌∙◌, subst, arith}
+use Rattle.std.specs.List.{AllByRecursion as Each}
 use Rattle.std.specs.List.Sorted.{IsPermutation}
 use Rattle.std.specs.Option.{option_map}
 use Rattle.std.proofs.lemmas.Bool.{false≢true}
 use Rattle.std.proofs.lemmas.List.{append_cancel_right}
-use Rattle.std.proofs.lemmas.List.Elements.{All-from_recursion, All-head, All-tail}
-use Rattle.std.proofs.lemmas.List.Sorted.{All-permutation, IsPermutation-cons, IsPermutation-map, IsPermutation-middle, IsPermutation-push_more, IsPermutation-refl, IsPermutation-sym, IsPermutation-trans}
+use Rattle.std.proofs.lemmas.List.Sorted.{IsPermutation-cons, IsPermutation-map, IsPermutation-middle, IsPermutation-push_more, IsPermutation-refl, IsPermutation-sym, IsPermutation-trans}
 use Rattle.art_model.specs.Footprints.{IsIn}
 use Rattle.art_model.specs.Keys.{are_same, is_before}
-use Rattle.art_model.specs.Pairs.{Pairwise, add_in_order, first_of, of_key, put, remove_key, with_key}
+use Rattle.art_model.specs.Pairs.{add_in_order, first_of, of_key, put, with_key}
 use Rattle.art_model.proofs.keys.Keys.{front_same, same_equal}
-use Rattle.art_model.proofs.lists.Filters.{Each-add, filter_all, filter_passes, none_passes}
+use Rattle.art_model.proofs.lists.Filters.{Each-add, filter_all, none_passes}
 use Rattle.art_model.proofs.lists.Lists.{Each-weaker, each_from, each_in, each_map, in_map}
 use Rattle.art_model.proofs.pairs.Puts.{first_none, put-new}
 use Rattle.art_operations.specs.Ended.{ended}
@@ -23,7 +22,7 @@ use Rattle.text_programs.specs.declared.ip_routes.table.LineError.TheVariants as
 use Rattle.text_programs.specs.declared.ip_routes.table.Source.{Source}
 use Rattle.text_programs.specs.Routes.{Route}
 use Rattle.text_programs.specs.Strings.{HaveStrings, IsString, network_of, route_of, routes_of, string_of}
-use Rattle.text_programs.specs.RouteTables.{Adds, AreLinesFrom, AreLinesOf, IsFaultBeside, IsRefusedAt, IsRouteOf, IsTableOf, IsTwice}
+use Rattle.text_programs.specs.RouteTables.{Adds, AreLinesFrom, IsFaultBeside, IsRouteFault, IsRouteOf, IsTableOf, IsTwice}
 use Rattle.text_programs.specs.Written.{IsNetwork, IsWritten}
 
 -- ---- pairs in the order of their keys
@@ -125,17 +124,6 @@ module _ (line : List ℕ) (number : ℕ) (network : Network) (key : List ℕ) (
 
 -- ---- all lines
 
--- The lines are those of routes, and the table has these.
-abbrev pub IsFilledBy : List Route → List (List ℕ) → Type 0
-IsFilledBy table ls = IsTableOf ls table
-
-pub no_routes : (table : List Route) → table ≡ [] → IsFilledBy table []
-no_routes table e = record {
-  routes = [];
-  lines_are = record { are = tt; apart = tt };
-  same = subst (IsPermutation []) (sym e) (IsPermutation-refl []);
-}
-
 lines_more : (n : ℕ) (ls : List (List ℕ)) (routes : List Route) (line : List ℕ) (route : Route) → AreLinesFrom n ls routes → IsRouteOf line (n + length ls) route →
     AreLinesFrom n (ls ++ line ∷ []) (routes ++ route ∷ [])
 lines_more n [] [] line route h k = let none : n + 0 ≡ n = omega arith in (subst (λ m. IsRouteOf line m route) none k, tt)
@@ -146,14 +134,14 @@ lines_more n (l ∷ ls) (r ∷ rs) line route h k =
     (h.0, lines_more (n + 1) ls rs line route h.1 (subst (λ m. IsRouteOf line m route) next k))
 
 -- with the route of one more line
-pub one_route_more : (table next : List Route) (number : ℕ) (line seen : List ℕ) → seen ≡ line → Adds seen number table next →
-    (before : List (List ℕ)) → number ≡ length before + 1 → IsFilledBy table before → IsFilledBy next (before ++ line ∷ [])
-one_route_more table next number line seen e adds before n h =
+pub one_route_more : (table next : List Route) (number : ℕ) (line : List ℕ) → Adds line number table next →
+    (before : List (List ℕ)) → number ≡ length before + 1 → IsTableOf before table → IsTableOf (before ++ line ∷ []) next
+one_route_more table next number line adds before n h =
     let place : number ≡ 1 + length before = omega arith in
     record {
       routes = h.routes ++ adds.route ∷ [];
       lines_are = record {
-        are = lines_more 1 before h.routes line adds.route h.lines_are.are (subst (λ m. IsRouteOf line m adds.route) place (subst (λ l. IsRouteOf l number adds.route) e adds.is));
+        are = lines_more 1 before h.routes line adds.route h.lines_are.are (subst (λ m. IsRouteOf line m adds.route) place adds.is);
         apart = Pairwise-push (λ a b. a.network ≢ b.network) h.routes adds.route h.lines_are.apart
             (Each-permutation (λ other. other.network ≢ adds.route.network) table h.routes (IsPermutation-sym h.routes table h.same) adds.is_new);
       };
@@ -174,15 +162,6 @@ fault_is line routes table (Why.Twice n) same h = record {
 }
 fault_is line routes table Why.NoMemory same h = tt
 
-pub refused_at : (table : List Route) (number : ℕ) (line seen : List ℕ) (fault : LineError) → seen ≡ line → IsFaultBeside seen table fault →
-    (before after : List (List ℕ)) → number ≡ length before + 1 → IsFilledBy table before → IsRefusedAt (before ++ line ∷ after) number fault
-refused_at table number line seen fault e is before after n h = record {
-  routes = h.routes;
-  before = before;
-  line = line;
-  after = after;
-  lines_are = refl;
-  before_are = h.lines_are;
-  number_is = n;
-  is = fault_is line h.routes table fault h.same (subst (λ l. IsFaultBeside l table fault) e is);
-}
+pub route_fault : (table : List Route) (line : List ℕ) (fault : LineError) → IsFaultBeside line table fault →
+    (before : List (List ℕ)) → IsTableOf before table → IsRouteFault before line fault
+route_fault table line fault is before h = (h.routes, h.lines_are, fault_is line h.routes table fault h.same is)

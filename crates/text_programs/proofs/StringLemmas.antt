@@ -1,12 +1,12 @@
 -- Networks as strings.
-use Rattle.std.proofs.Common.{◌≡◌, ◌≢◌, ℕ, zero, suc, ◌+◌, ◌-◌, ◌*◌, ◌/◌, ◌%◌, ◌^◌, ◌<◌, ◌≤◌, List, [], ◌∷◌, ◌++◌, length, refl, ap, ap₂, sym, ◌∙◌, subst, arith}
+use Rattle.std.proofs.Common.{◌≡◌, ℕ, ◌+◌, ◌-◌, ◌*◌, ◌/◌, ◌^◌, ◌<◌, ◌≤◌, List, ◌∷◌, length, ap, ap₂, sym, ◌∙◌, subst, arith}
 use Rattle.std.proofs.lemmas.Nat.{shr_below}
 use Rattle.text_programs.specs.declared.ip_routes.network.Network.{Network}
-use Rattle.text_programs.specs.Addresses.{cleared, host_bits, width}
+use Rattle.text_programs.specs.Addresses.{host_bits, width}
 use Rattle.text_programs.specs.Bits.{bits}
 use Rattle.text_programs.specs.Strings.{IsString, network_of, number_after, string_of}
 use Rattle.text_programs.specs.Written.{IsNetwork}
-use Rattle.text_programs.proofs.BitLemmas.{bits_apart, bits_front, length-bits, number_after-bits}
+use Rattle.text_programs.proofs.BitLemmas.{length-bits, number_after-bits}
 
 pub whole_width : (width length : ℕ) → length ≤ width → width ≡ length + (width - length)
 whole_width width length low = omega arith

@@ -2,11 +2,10 @@
 use Rattle.std.specs.Prelude.{◌≡◌, ◌≢◌, ℕ, ◌+◌, true, List, ◌∷◌, ◌++◌, length, map, ⊤}
 use Rattle.std.specs.List.{AllByRecursion as Each}
 use Rattle.std.specs.List.Sorted.{IsPermutation}
+use Rattle.text_programs.specs.CodeRows.{numbered}
 use Rattle.text_programs.specs.Entries.{code_of, is_code, line_of}
 use Rattle.text_programs.specs.declared.dial_codes.table.LineError.{LineError}
 use Rattle.text_programs.specs.declared.dial_codes.table.LineError.TheVariants.{NoEntry, Repeated, NoMemory}
-use Rattle.text_programs.specs.declared.dial_codes.table.TableError.{TableError}
-use Rattle.text_programs.specs.declared.dial_codes.table.TableError.TheVariants.{Line, Input}
 
 -- The lines are those of these entries.
 pub record AreLinesOf (ls : List (List ℕ)) (entries : List (List ℕ × List ℕ)) : Type 0 where
@@ -18,6 +17,12 @@ pub record IsTableOf (ls : List (List ℕ)) (table : List (List ℕ × List ℕ)
   pub entries : List (List ℕ × List ℕ)
   pub lines_are : AreLinesOf ls entries
   pub same : IsPermutation entries table
+
+-- The lines are those of entries, and the rows of a table are these with their numbers.
+pub record IsFilledBy (rows : List (List ℕ × List ℕ × ℕ)) (ls : List (List ℕ)) : Type 0 where
+  pub entries : List (List ℕ × List ℕ)
+  pub lines_are : AreLinesOf ls entries
+  pub same : IsPermutation (numbered 1 entries) rows
 
 -- The entry of the line of this number has this code.
 pub record IsRepeatedAt (code : List ℕ) (number : ℕ) (entries : List (List ℕ × List ℕ)) : Type 0 where
@@ -34,18 +39,6 @@ IsFaultOf line entries NoEntry = (code name : List ℕ) → is_code code ≡ tru
 IsFaultOf line entries (Repeated earlier) = (code name : List ℕ) × (line ≡ line_of (code, name)) × IsRepeatedAt code earlier entries
 IsFaultOf line entries NoMemory = ⊤
 
--- The lines before this one are those of entries, and it has this fault.
-pub record IsRefusedAt (ls : List (List ℕ)) (number : ℕ) (fault : LineError) : Type 0 where
-  pub entries : List (List ℕ × List ℕ)
-  pub before : List (List ℕ)
-  pub line : List ℕ
-  pub after : List (List ℕ)
-  pub lines_are : ls ≡ before ++ line ∷ after
-  pub before_are : AreLinesOf before entries
-  pub number_is : number ≡ length before + 1
-  pub is : IsFaultOf line entries fault
-
--- a line has a fault, or the input can't be read
-abbrev pub IsRefusedFor : List (List ℕ) → TableError → Type 0
-IsRefusedFor ls (Line number fault) = IsRefusedAt ls number fault
-IsRefusedFor ls (Input error) = ⊤
+-- the lines before this one are those of entries, and it has this fault
+abbrev pub IsCodeFault : List (List ℕ) → List ℕ → LineError → Type 0
+IsCodeFault before line fault = (entries : List (List ℕ × List ℕ)) × AreLinesOf before entries × IsFaultOf line entries fault

@@ -1,3 +1,5 @@
+-- tables that are read from lines, and that answer lines
+pub mod LineTables
 -- the words of a text, and how often each occurs
 pub mod Words
 pub mod Counts

@@ -1,5 +1,5 @@
 -- What a table of routes has of a text, and why there is none.
-use Rattle.std.specs.Prelude.{◌≡◌, ◌≢◌, ℕ, ◌+◌, List, [], ◌∷◌, ◌++◌, length, ⊤}
+use Rattle.std.specs.Prelude.{◌≡◌, ◌≢◌, ℕ, ◌+◌, List, [], ◌∷◌, ⊤}
 use Rattle.std.specs.List.{AllByRecursion as Each}
 use Rattle.std.specs.List.Sorted.{IsPermutation}
 use Rattle.art_operations.specs.Footprints.{IsIn}
@@ -7,8 +7,6 @@ use Rattle.art_operations.specs.Pairs.{Pairwise}
 use Rattle.text_programs.specs.declared.ip_routes.network.Network.{Network}
 use Rattle.text_programs.specs.declared.ip_routes.table.LineError.{LineError}
 use Rattle.text_programs.specs.declared.ip_routes.table.LineError.TheVariants as Why
-use Rattle.text_programs.specs.declared.ip_routes.table.TableError.{TableError}
-use Rattle.text_programs.specs.declared.ip_routes.table.TableError.TheVariants.{Line, Input}
 use Rattle.text_programs.specs.Routes.{Route}
 use Rattle.text_programs.specs.Written.{IsFaultOf, IsNetwork, IsWritten}
 
@@ -61,18 +59,6 @@ IsFaultBeside line routes (Why.Route error) = IsFaultOf line error
 IsFaultBeside line routes (Why.Twice earlier) = IsTwice line earlier routes
 IsFaultBeside line routes Why.NoMemory = ⊤
 
--- The lines before this one are those of routes, and it has this fault.
-pub record IsRefusedAt (ls : List (List ℕ)) (number : ℕ) (fault : LineError) : Type 0 where
-  pub routes : List Route
-  pub before : List (List ℕ)
-  pub line : List ℕ
-  pub after : List (List ℕ)
-  pub lines_are : ls ≡ before ++ line ∷ after
-  pub before_are : AreLinesOf before routes
-  pub number_is : number ≡ length before + 1
-  pub is : IsFaultBeside line routes fault
-
--- a line has a fault, or the input can't be read
-abbrev pub IsRefusedFor : List (List ℕ) → TableError → Type 0
-IsRefusedFor ls (Line number fault) = IsRefusedAt ls number fault
-IsRefusedFor ls (Input error) = ⊤
+-- the lines before this one are those of routes, and it has this fault
+abbrev pub IsRouteFault : List (List ℕ) → List ℕ → LineError → Type 0
+IsRouteFault before line fault = (routes : List Route) × AreLinesOf before routes × IsFaultBeside line routes fault

@@ -3,5 +3,7 @@
 
 pub mod dial_codes;
 pub mod ip_routes;
+pub mod line_tables;
 pub mod path_indexes;
+pub mod running;
 pub mod word_counts;

@@ -1,62 +1,66 @@
-//! Answers numbers with the entries with the longest codes that they start with.
-ghost use Rattle.std.specs.Prelude.{◌≡◌, [], IfOk, IfSome, OnOk, Some};
-ghost use Rattle.std.specs.Io.Buffered.{reader_remaining, writer_buffer, writer_contents};
+//! What a table of codes has of a text, and how it answers numbers.
+ghost use Rattle.std.specs.Prelude.{◌≡◌, OnOk, Some};
 ghost use Rattle.std.specs.Io.KnownBytes.{Appends};
-ghost use Rattle.text_lines.specs.Lines.{lines};
+ghost use Rattle.text_programs.specs.CodeReplies.{reply_of, reply_with};
 ghost use Rattle.text_programs.specs.Entries.{entries_of};
-ghost use Rattle.text_programs.specs.CodeReplies.{AreAnswered, reply_of, reply_with};
 
 use crate::dial_codes::entry::is_code;
-use crate::dial_codes::table::{Table, find};
+use crate::dial_codes::table::{LineError, Table, add_line, find};
+use crate::line_tables::LineTable;
+use art_operations::tree_map::TreeMap;
 use std::alloc::Global;
 use std::io;
-use std::io::{BufReader, BufWriter, ErrorKind, Read, Write};
-use text_lines::lines::{next_line, write_out};
+use std::io::Write;
 
-/// Answers each line of the input, which is a number, with the entry with the longest code that it starts with, or with
-/// `none`. At a line that is no number it stops, and returns which line that is.
-///
-/// Replies are written out before it waits for a line. While the next line is already available they are collected in
-/// the output, which has a buffer for that.
-pub fn answer_numbers<R: Read, W: Write>(
-    alloc: Global,
-    table: &Table,
-    input: &mut BufReader<R>,
-    output: &mut W,
-) -> io::Result<Option<u64>>
-    ensures { IfOk result (λ refused. IfSome (reader_remaining R.remaining input.old) (λ text.
-        AreAnswered (entries_of table.now) (lines text) refused
-        (W.contents output.old) (W.contents output.new))) }
-{
-    let mut line = Vec::new(alloc);
-    for number in 1..u64::MAX {
-        if !next_line(input, &mut line)? {
-            return Ok(None);
-        }
-        if !is_code(&line) {
-            return Ok(Some(number));
-        }
-        answer_number(table, &line, output)?;
-        write_out(input, output)?;
+/// A line of the table is that of an entry, and no two have equal codes. A line that is a number gets the entry with the
+/// longest code that it starts with, or `none`.
+impl LineTable for Table {
+    ghost use Rattle.art_model.specs.Texts.{TextsRise};
+    ghost use Rattle.text_programs.specs.CodeReplies.{IsCodeReply, IsNoNumber};
+    ghost use Rattle.text_programs.specs.CodeRows.{rows_of};
+    ghost use Rattle.text_programs.specs.CodeTables.{IsCodeFault, IsFilledBy, IsTableOf};
+    ghost use Rattle.text_programs.specs.Entries.{code_of};
+
+    type Fault = LineError;
+
+    ghost HasLines = { λ table ls. IsFilledBy (rows_of table) ls };
+
+    ghost IsRead = { λ table ls.
+        IsTableOf ls (entries_of table) × TextsRise code_of (entries_of table) };
+
+    ghost IsFaultAfter = { IsCodeFault };
+
+    ghost IsReplyTo = { λ table. IsCodeReply (entries_of table) };
+
+    ghost AsksForNothing = { IsNoNumber };
+
+    fn start(alloc: Global) -> Self {
+        TreeMap::new(alloc)
     }
-    Err(io::Error::from(ErrorKind::FileTooLarge))
-}
 
-/// Does what `answer_numbers` does, and flushes the output.
-pub fn serve<R: Read, W: Write + Drop>(
-    alloc: Global,
-    table: &Table,
-    input: &mut BufReader<R>,
-    output: &mut BufWriter<W>,
-) -> io::Result<Option<u64>>
-    ensures answered { IfOk result (λ refused. IfSome (reader_remaining R.remaining input.old) (λ text.
-        AreAnswered (entries_of table.now) (lines text) refused
-        (writer_contents W.contents output.old) (writer_contents W.contents output.new))) }
-    ensures flushed { OnOk result (writer_buffer output.new ≡ []) }
-{
-    let refused = answer_numbers(alloc, table, input, output)?;
-    output.flush()?;
-    Ok(refused)
+    fn add(&mut self, alloc: Global, line: &[u8], number: u64) -> Result<(), LineError> {
+        add_line(self, alloc, line, number)
+    }
+
+    fn finish(&self) {
+        // `rises` says that the codes rise.
+        self.rises();
+    }
+
+    fn answer<W: Write>(&self, line: &[u8], output: &mut W) -> io::Result<bool> {
+        if !is_code(line) {
+            return Ok(false);
+        }
+        answer_number(self, line, output)?;
+        Ok(true)
+    }
+
+    fn is_of_line(fault: &LineError) -> bool {
+        match fault {
+            LineError::NoEntry | LineError::Repeated(_) => true,
+            LineError::NoMemory => false,
+        }
+    }
 }
 
 // Writes the entry with the longest code that the number starts with, or `none`, as a line.

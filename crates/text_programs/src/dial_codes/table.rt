@@ -1,22 +1,16 @@
 //! A table of codes with names.
-ghost use Rattle.std.specs.Prelude.{◌≡◌, IfErr, IfOk, IfSome, List, OnErr, OnOk, ℕ};
+ghost use Rattle.std.specs.Prelude.{◌≡◌, IfErr, IfSome, List, OnErr, OnOk, ℕ};
 ghost use Rattle.std.specs.Option.{option_map};
 ghost use Rattle.art_model.specs.Footprints.{IsIn};
 ghost use Rattle.art_model.specs.Keys.{IsFront};
 ghost use Rattle.art_model.specs.Pairs.{last_of, match_of};
-ghost use Rattle.art_model.specs.Texts.{TextsRise};
-ghost use Rattle.text_lines.specs.Lines.{lines};
 ghost use Rattle.text_programs.specs.Entries.{IsNoLonger, code_of, entries_of, entry_of};
 ghost use Rattle.text_programs.specs.CodeRows.{HasLine, IsFaultBeside, rows_of};
-ghost use Rattle.text_programs.specs.CodeTables.{IsRefusedFor, IsTableOf};
 
 use crate::dial_codes::entry::parse_entry;
 use art_operations::keys::Terminated;
 use art_operations::tree_map::TreeMap;
 use std::alloc::Global;
-use std::io;
-use std::io::{BufRead, ErrorKind};
-use text_lines::lines::next_line;
 use thiserror::Error;
 
 /// The name of a code, and the number of the line that has it.
@@ -38,42 +32,6 @@ pub enum LineError {
     Repeated(u64),
     #[error("no memory")]
     NoMemory,
-}
-
-/// Why there is no table.
-#[derive(Debug, Drop, Error)]
-pub enum TableError {
-    #[error("line {0}: {1}")]
-    Line(u64, LineError),
-    #[error("{0}")]
-    Input(io::Error),
-}
-
-/// Reads a table to its end: a line for each entry, and no two equal codes.
-pub fn read_table<R: BufRead>(alloc: Global, input: &mut R) -> Result<Table, TableError>
-    ensures table { IfOk result (λ table. IfSome (R.remaining input.old) (λ text.
-        IsTableOf (lines text) (entries_of table))) }
-    ensures rise { IfOk result (λ table. TextsRise code_of (entries_of table)) }
-    ensures refused { IfErr result (λ error. IfSome (R.remaining input.old) (λ text.
-        IsRefusedFor (lines text) error)) }
-{
-    let mut table = TreeMap::new(alloc);
-    let mut line = Vec::new(alloc);
-    for number in 1..u64::MAX {
-        match next_line(input, &mut line) {
-            Ok(true) => {}
-            Ok(false) => {
-                table.rises();
-                return Ok(table);
-            }
-            Err(error) => return Err(TableError::Input(error)),
-        }
-        match add_line(&mut table, alloc, &line, number) {
-            Ok(()) => {}
-            Err(error) => return Err(TableError::Line(number, error)),
-        }
-    }
-    Err(TableError::Input(io::Error::from(ErrorKind::FileTooLarge)))
 }
 
 /// Adds the entry of the line of a number.

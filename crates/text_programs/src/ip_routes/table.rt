@@ -1,10 +1,9 @@
 //! A table of routes.
-ghost use Rattle.std.specs.Prelude.{◌≡◌, ◌≢◌, [], IfErr, IfOk, IfSome, OnErr, OnOk};
+ghost use Rattle.std.specs.Prelude.{◌≡◌, ◌≢◌, [], IfErr, IfOk, OnErr, OnOk};
 ghost use Rattle.std.specs.Option.{option_map};
-ghost use Rattle.text_lines.specs.Lines.{lines};
 ghost use Rattle.text_programs.specs.Routes.{IsAnswer};
 ghost use Rattle.text_programs.specs.Strings.{string_of};
-ghost use Rattle.text_programs.specs.RouteTables.{Adds, IsFaultBeside, IsRefusedFor, IsTableOf};
+ghost use Rattle.text_programs.specs.RouteTables.{Adds, IsFaultBeside};
 ghost use Rattle.text_programs.specs.Written.{IsNetwork};
 
 use crate::ip_routes::bits::first_bits;
@@ -13,11 +12,8 @@ use crate::ip_routes::route::{RouteError, parse_route};
 use art_operations::keys::Terminated;
 use art_operations::tree_map::TreeMap;
 use std::alloc::{AllocError, Global};
-use std::io;
-use std::io::{BufRead, ErrorKind};
 use std::marker::Model;
 use std::net::IpAddr;
-use text_lines::lines::next_line;
 use thiserror::Error;
 
 /// A line that writes a route, and its number.
@@ -36,15 +32,6 @@ pub enum LineError {
     Twice(u64),
     #[error("no memory")]
     NoMemory,
-}
-
-/// Why there is no table.
-#[derive(Debug, Drop, Error)]
-pub enum TableError {
-    #[error("line {0}: {1}")]
-    Line(u64, LineError),
-    #[error("{0}")]
-    Input(io::Error),
 }
 
 /// Routes, of which no two have the same network. Contracts see the list of them.
@@ -129,27 +116,4 @@ fn key_of(alloc: Global, network: Network) -> Result<Terminated, AllocError>
         Some(key) => Ok(key),
         None => unreachable!(),
     }
-}
-
-/// Reads a table to its end: a line for each route, and no two of a network.
-pub fn read_table<R: BufRead>(alloc: Global, input: &mut R) -> Result<Table, TableError>
-    ensures table { IfOk result (λ table. IfSome (R.remaining input.old) (λ text.
-        IsTableOf (lines text) table)) }
-    ensures refused { IfErr result (λ error. IfSome (R.remaining input.old) (λ text.
-        IsRefusedFor (lines text) error)) }
-{
-    let mut table = Table::new(alloc);
-    let mut line = Vec::new(alloc);
-    for number in 1..u64::MAX {
-        match next_line(input, &mut line) {
-            Ok(true) => {}
-            Ok(false) => return Ok(table),
-            Err(error) => return Err(TableError::Input(error)),
-        }
-        match table.add_line(alloc, &line, number) {
-            Ok(()) => {}
-            Err(error) => return Err(TableError::Line(number, error)),
-        }
-    }
-    Err(TableError::Input(io::Error::from(ErrorKind::FileTooLarge)))
 }

@@ -1,66 +1,66 @@
-//! Answers lines, one after another.
-ghost use Rattle.std.specs.Prelude.{◌≡◌, [], IfOk, IfSome, OnOk, option_copied};
-ghost use Rattle.std.specs.Io.Buffered.{reader_remaining, writer_buffer, writer_contents};
+//! What an index has of a text, and how it answers requests.
+ghost use Rattle.std.specs.Prelude.{OnOk, option_copied};
 ghost use Rattle.std.specs.Io.KnownBytes.{Appends};
 ghost use Rattle.art_operations.specs.MapItems.{keys_of};
-ghost use Rattle.text_lines.specs.Lines.{lines};
+ghost use Rattle.text_programs.specs.PathReplies.{found_line, path_line, path_lines, reply_to, told_line};
 ghost use Rattle.text_programs.specs.Requests.{IsRequest};
-ghost use Rattle.text_programs.specs.PathReplies.{AreAnswered, found_line, path_line, path_lines, reply_to, told_line};
 
-use crate::path_indexes::index::Index;
+use crate::line_tables::LineTable;
+use crate::path_indexes::index::{Index, PathError, add_path};
 use crate::path_indexes::parts::{
     Part, count_below, first, is_stored, last, part_below, part_between,
 };
 use crate::path_indexes::request::Request;
 use art_operations::keys::Terminated;
+use art_operations::tree_map::TreeMap;
 use std::alloc::Global;
 use std::io;
-use std::io::{BufReader, BufWriter, ErrorKind, Read, Write};
-use text_lines::lines::{next_line, write_out};
+use std::io::Write;
 
-/// Answers each line of the input. At a line that is no valid request it stops, and returns the number of that line.
-///
-/// Replies are written out before it waits for a line. While the next line is already available they are collected in
-/// the output, which has a buffer for that.
-pub fn answer_requests<R: Read, W: Write>(
-    alloc: Global,
-    index: &Index,
-    input: &mut BufReader<R>,
-    output: &mut W,
-) -> io::Result<Option<u64>>
-    ensures { IfOk result (λ refused. IfSome (reader_remaining R.remaining input.old) (λ text.
-        AreAnswered (keys_of index.now) (lines text) refused
-        (W.contents output.old) (W.contents output.new))) }
-{
-    let mut line = Vec::new(alloc);
-    for number in 1..u64::MAX {
-        if !next_line(input, &mut line)? {
-            return Ok(None);
-        }
-        let Some(request) = Request::parse(&line) else {
-            return Ok(Some(number));
-        };
-        answer(index, request, output)?;
-        write_out(input, output)?;
+/// A line of the index is a path. One that occurs again is stored once. A line that is a request gets its reply.
+impl LineTable for Index {
+    ghost use Rattle.text_programs.specs.PathReplies.{IsNoRequest, IsPathReply};
+    ghost use Rattle.text_programs.specs.Paths.{ArePathsOf, IsIndexOf, IsPathFault};
+
+    type Fault = PathError;
+
+    ghost HasLines = { λ index ls. ArePathsOf (keys_of index) ls };
+
+    ghost IsRead = { λ index ls. IsIndexOf ls (keys_of index) };
+
+    ghost IsFaultAfter = { IsPathFault };
+
+    ghost IsReplyTo = { λ index. IsPathReply (keys_of index) };
+
+    ghost AsksForNothing = { IsNoRequest };
+
+    fn start(alloc: Global) -> Self {
+        TreeMap::new(alloc)
     }
-    Err(io::Error::from(ErrorKind::FileTooLarge))
-}
 
-/// Does what `answer_requests` does, and flushes the output.
-pub fn serve<R: Read, W: Write + Drop>(
-    alloc: Global,
-    index: &Index,
-    input: &mut BufReader<R>,
-    output: &mut BufWriter<W>,
-) -> io::Result<Option<u64>>
-    ensures answered { IfOk result (λ refused. IfSome (reader_remaining R.remaining input.old) (λ text.
-        AreAnswered (keys_of index.now) (lines text) refused
-        (writer_contents W.contents output.old) (writer_contents W.contents output.new))) }
-    ensures flushed { OnOk result (writer_buffer output.new ≡ []) }
-{
-    let refused = answer_requests(alloc, index, input, output)?;
-    output.flush()?;
-    Ok(refused)
+    fn add(&mut self, alloc: Global, line: &[u8], _number: u64) -> Result<(), PathError> {
+        add_path(self, alloc, line)
+    }
+
+    fn finish(&self) {
+        // `rises` says that the paths rise.
+        self.rises();
+    }
+
+    fn answer<W: Write>(&self, line: &[u8], output: &mut W) -> io::Result<bool> {
+        let Some(request) = Request::parse(line) else {
+            return Ok(false);
+        };
+        answer(self, request, output)?;
+        Ok(true)
+    }
+
+    fn is_of_line(fault: &PathError) -> bool {
+        match fault {
+            PathError::Zero => true,
+            PathError::NoMemory => false,
+        }
+    }
 }
 
 /// Writes the reply to a request. It allocates nothing.

@@ -1,16 +1,12 @@
 //! An index of paths.
-ghost use Rattle.std.specs.Prelude.{◌≡◌, IfErr, IfOk, IfSome, OnErr, OnOk};
+ghost use Rattle.std.specs.Prelude.{◌≡◌, IfErr, IfOk, OnErr, OnOk};
 ghost use Rattle.art_operations.specs.Ended.{HasNoZero};
 ghost use Rattle.art_operations.specs.MapItems.{keys_of};
-ghost use Rattle.text_lines.specs.Lines.{lines};
-ghost use Rattle.text_programs.specs.Paths.{AddsPath, IsFaultOf, IsIndexOf, IsRefusedFor};
+ghost use Rattle.text_programs.specs.Paths.{AddsPath, IsFaultOf};
 
 use art_operations::keys::{EndError, Terminated};
 use art_operations::tree_map::TreeMap;
 use std::alloc::{AllocError, Global};
-use std::io;
-use std::io::{BufRead, ErrorKind};
-use text_lines::lines::next_line;
 use thiserror::Error;
 
 /// Paths in the order of their bytes.
@@ -23,42 +19,6 @@ pub enum PathError {
     Zero,
     #[error("no memory")]
     NoMemory,
-}
-
-/// Why there is no index.
-#[derive(Debug, Drop, Error)]
-pub enum IndexError {
-    #[error("line {0}: {1}")]
-    Line(u64, PathError),
-    #[error("{0}")]
-    Input(io::Error),
-}
-
-/// Reads an index to the end of the input: a line for each path. A path that occurs again is stored once.
-pub fn read_index<R: BufRead>(alloc: Global, input: &mut R) -> Result<Index, IndexError>
-    ensures index { IfOk result (λ index. IfSome (R.remaining input.old) (λ text.
-        IsIndexOf (lines text) (keys_of index))) }
-    ensures refused { IfErr result (λ error. IfSome (R.remaining input.old) (λ text.
-        IsRefusedFor (lines text) error)) }
-{
-    let mut index = TreeMap::new(alloc);
-    let mut line = Vec::new(alloc);
-    for number in 1..u64::MAX {
-        match next_line(input, &mut line) {
-            Ok(true) => {}
-            Ok(false) => {
-                // `rises` says that the paths rise.
-                index.rises();
-                return Ok(index);
-            }
-            Err(error) => return Err(IndexError::Input(error)),
-        }
-        match add_path(&mut index, alloc, &line) {
-            Ok(()) => {}
-            Err(error) => return Err(IndexError::Line(number, error)),
-        }
-    }
-    Err(IndexError::Input(io::Error::from(ErrorKind::FileTooLarge)))
 }
 
 /// Adds a path, unless it is stored already.

@@ -1,4 +1,4 @@
-use Rattle.std.proofs.Common.{refl, sym}
+use Rattle.std.proofs.Common.{refl}
 use Rattle.text_programs.proofs.EntryLemmas.{line_comes, name_is_stored, none_is_stored}
 use Rattle.text_programs.proofs.dial_codes.table.add_line.Goals as goal
 

@@ -1,4 +1,4 @@
-use Rattle.std.proofs.Common.{◌∙◌, ◌-◌, ◌/◌, ◌^◌, ap, is_some, sym, subst}
+use Rattle.std.proofs.Common.{◌∙◌, ◌/◌, ◌^◌, ap, is_some, sym, subst}
 use Rattle.std.proofs.lemmas.Bool.{false≢true}
 use Rattle.art_operations.specs.Ended.{HasNoZero}
 use Rattle.text_programs.specs.Addresses.{host_bits}
