@@ -1,5 +1,5 @@
 -- The lines still to be written of a traversal of nodes.
-use Rattle.std.proofs.Common.{◌≡◌, ◌≢◌, ℕ, zero, suc, ◌+◌, List, [], ◌∷◌, ◌++◌, length, codes, Option, Some, None, IfSome, OnOk, Result, Ok, Err, refl, ap, sym, ◌∙◌, subst, append_assoc, append-nil, arith, inl, inr}
+use Rattle.std.proofs.Common.{◌≡◌, ◌≢◌, ℕ, zero, suc, ◌+◌, List, [], ◌∷◌, ◌++◌, length, codes, Option, Some, None, IfSome, OnOk, Result, Ok, Err, refl, ap, sym, ◌∙◌, subst, append_assoc, append-nil, arith}
 use Rattle.std.specs.FinMap as map
 use Rattle.std.specs.Io.KnownBytes.{Appends}
 use Rattle.std.specs.Option.{option_map}
@@ -14,15 +14,14 @@ use Rattle.art_model.specs.Layouts.{Node, AreDistinct, HoldsBelow, IsLayout, inn
 use Rattle.art_model.specs.Pairs.{last_of, of_key}
 use Rattle.art_model.specs.Radix.{all_unmarked, bytes_of, unmarked}
 use Rattle.art_model.specs.Stores.{header_at, held_inner, node_at, tree_node}
-use Rattle.art_model.specs.Trees.{NodeHeader, Subtrees, Tree, child, inner, leaf, no_child}
+use Rattle.art_model.specs.Trees.{Subtrees, Tree, child, inner, leaf, no_child}
 use Rattle.art_model.proofs.lists.Pairwises.{Pairwise-left, Pairwise-right}
 use Rattle.art_model.proofs.stores.Views.{held_in_inner}
 use Rattle.art_engine.specs.KeptKeys.{Key, key_bytes}
 use Rattle.art_engine.specs.NodeWalks.{children_of, reversed_children, one_deeper, pending_root, after_turn}
 use Rattle.art_engine.specs.declared.keeping.walk.Pending.{Pending}
 use Rattle.art_engine.specs.NodeLines.{children_text, indent, inner_text, line_at, lines_of, node_text, nodes_text, tree_text}
-use Rattle.art_engine.specs.Shown.{AppendsUnlessNoMemory}
-use Rattle.art_engine.proofs.Rows.{appends_more, appends_none}
+use Rattle.text_lines.proofs.Writing.{appends_more, appends_none}
 
 -- an indent continues by two spaces
 indent_next : (n : ℕ) → indent n ++ codes "  " ≡ indent (suc n)

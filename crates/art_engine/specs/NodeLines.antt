@@ -1,8 +1,7 @@
 -- The lines of a tree's nodes: each node's line, and after that of an inner node those of its children's trees.
-use Rattle.std.specs.Prelude.{ℕ, zero, suc, List, [], ◌∷◌, ◌++◌, length, codes, Option, Some, None}
+use Rattle.std.specs.Prelude.{ℕ, zero, suc, List, [], ◌++◌, length, codes, Option, Some, None}
 use Rattle.std.specs.Fmt.{decimal}
 use Rattle.art_parts.specs.Kinds.{kind_text}
-use Rattle.art_parts.specs.declared.names.OpaqueNodePtr.{OpaqueNodePtr}
 use Rattle.art_engine.specs.KeyTexts.{key_word}
 use Rattle.art_model.specs.Layouts.{Node, inner_node, leaf_node}
 use Rattle.art_model.specs.Pairs.{of_key}

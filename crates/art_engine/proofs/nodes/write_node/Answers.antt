@@ -1,4 +1,4 @@
-use Rattle.std.proofs.Common.{rules, append_assoc}
+use Rattle.std.proofs.Common.{rules}
 use Rattle.std.proofs.lemmas.Grind.{common_steps}
 use Rattle.art_inner.specs.Views.{ref_view}
 use Rattle.art_model.specs.Layouts.{inner_node}
