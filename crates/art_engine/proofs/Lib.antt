@@ -1,5 +1,12 @@
-mod Keys
-mod NodeWalks
+mod Numbers
+mod KeyLemmas
+mod KeyWords
+mod Requests
+mod Subtrees
+mod SingleReplies
+mod Walks
+mod ShownKeys
+mod NodeRows
 mod Replied
 mod Rows
 mod Serving

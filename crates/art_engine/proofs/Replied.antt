@@ -1,16 +1,16 @@
 -- What is appended for a request whose command was run.
 use Rattle.std.proofs.Common.{◌≡◌, ℕ, List, [], ◌∷◌, ◌++◌, codes, Option, Some, OnOk, Result, Ok, Err, inl, inr}
 use Rattle.std.specs.Io.KnownBytes.{Appends}
-use Rattle.art_lines.specs.declared.line.Request.{Request}
-use Rattle.art_lines.specs.declared.line.Request.TheVariants.{Insert, Prefix, Delete, First, Last, Clone, Find, Longest, Walk, Back, Nodes, Check}
+use Rattle.art_engine.specs.declared.lines.Request.{Request}
+use Rattle.art_engine.specs.declared.lines.Request.TheVariants.{Insert, Prefix, Delete, First, Last, Clone, Find, Longest, Walk, Back, Nodes, Check}
 use Rattle.art_operations.specs.Runs.{IsRun}
 use Rattle.art_operations.specs.declared.run.Command.{Command}
 use Rattle.art_operations.specs.declared.run.Reply.{Reply}
 use Rattle.art_operations.specs.declared.run.Side.{Side}
-use Rattle.art_keeping.specs.Commands.{AsksForCommand, IsCommandFor}
-use Rattle.art_keeping.specs.KeptTrees.{state_of, state_before}
-use Rattle.art_keeping.specs.KeptKeys.{Key, key_bytes}
-use Rattle.art_keeping.specs.declared.tree.KeptTree.{KeptTree}
+use Rattle.art_engine.specs.Commands.{AsksForCommand, IsCommandFor}
+use Rattle.art_engine.specs.KeptTrees.{state_of, state_before}
+use Rattle.art_engine.specs.KeptKeys.{Key, key_bytes}
+use Rattle.art_engine.specs.declared.keeping.tree.KeptTree.{KeptTree}
 use Rattle.art_engine.specs.Shown.{IsReplied}
 use Rattle.art_engine.specs.Texts.{reply_text}
 

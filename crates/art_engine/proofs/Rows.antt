@@ -20,23 +20,12 @@ use Rattle.art_model.proofs.stores.Canonical.{tree_radix}
 use Rattle.art_model.proofs.radix.TreeLaws.{one_child, have_two_children}
 use Rattle.art_reading.specs.Iterators.{IsIteratorOf, TakesEnd}
 use Rattle.art_map.specs.MapItems.{IsWalk, pairs_left}
+use Rattle.text_lines.proofs.Writing.{appends_more, appends_none}
 use Rattle.art_map.proofs.Items.{first_ended, first_step, first_walk, last_ended, last_step, last_walk, whole_len, whole_pairs, whole_walk}
-use Rattle.art_keeping.specs.KeptKeys.{Key, key_bytes}
+use Rattle.art_engine.specs.KeptKeys.{Key, key_bytes}
 use Rattle.art_engine.specs.declared.pairs.Order.{Order}
 use Rattle.art_engine.specs.declared.pairs.Order.TheVariants.{Rising, Falling}
 use Rattle.art_engine.specs.Texts.{end_of, gap_after, in_order, pairs_text, row_text, entry_text}
-
--- ---- bytes that are appended
-
-pub appends_none : (old : Option (List ℕ)) → Appends old old []
-appends_none None = tt
-appends_none (Some xs) = sym (append-nil xs)
-
-pub appends_more : (a b c : Option (List ℕ)) (xs ys : List ℕ) → Appends a b xs → Appends b c ys → Appends a c (xs ++ ys)
-appends_more None b c xs ys h k = tt
-appends_more (Some p) None c xs ys h k = absurd h
-appends_more (Some p) (Some q) None xs ys h k = absurd k
-appends_more (Some p) (Some q) (Some r) xs ys h k = k ∙ ap (λ bs. bs ++ ys) h ∙ append_assoc p xs ys
 
 -- ---- rows
 

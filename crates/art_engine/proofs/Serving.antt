@@ -2,11 +2,11 @@
 use Rattle.std.proofs.Common.{◌≡◌, ℕ, ◌+◌, List, [], ◌∷◌, ◌++◌, length, Option, Some, None, IfSome, Result, Ok, Err, IfOk, IsOk, IsOkAnd, ◌≢◌, refl, ap, sym, subst, inl, inr, arith, append_assoc, append-nil}
 use Rattle.std.proofs.lemmas.Bool.{false≢true}
 use Rattle.std.specs.Io.KnownBytes.{Appends, Keeps}
-use Rattle.art_lines.specs.declared.line.Request.{Request}
-use Rattle.art_keeping.specs.declared.status.Ending.{Ending}
-use Rattle.art_keeping.specs.declared.status.Ending.TheVariants.{Input, BadLine}
-use Rattle.art_keeping.specs.declared.tree.KeptTree.{KeptTree}
-use Rattle.art_keeping.specs.KeptTrees.{state_of}
+use Rattle.art_engine.specs.declared.lines.Request.{Request}
+use Rattle.art_engine.specs.declared.keeping.status.Ending.{Ending}
+use Rattle.art_engine.specs.declared.keeping.status.Ending.TheVariants.{Input, BadLine}
+use Rattle.art_engine.specs.declared.keeping.tree.KeptTree.{KeptTree}
+use Rattle.art_engine.specs.KeptTrees.{state_of}
 use Rattle.text_lines.proofs.Writing.{appends_kept, keeps_both, keeps_itself}
 use Rattle.text_lines.specs.Lines.{lines}
 use Rattle.art_engine.specs.Shown.{IsReplied}

@@ -1,3 +1,9 @@
+pub mod KeyTexts
+pub mod CommandLines
+pub mod KeptKeys
+pub mod KeptTrees
+pub mod Commands
+pub mod NodeWalks
 pub mod Texts
 pub mod NodeLines
 pub mod Shown

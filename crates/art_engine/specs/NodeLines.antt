@@ -1,15 +1,14 @@
 -- The lines of a tree's nodes: each node's line, and after that of an inner node those of its children's trees.
-use Rattle.std.specs.Prelude.{ℕ, zero, suc, List, [], ◌∷◌, ◌++◌, length, codes, Option, Some, None}
+use Rattle.std.specs.Prelude.{ℕ, zero, suc, List, [], ◌++◌, length, codes, Option, Some, None}
 use Rattle.std.specs.Fmt.{decimal}
 use Rattle.art_parts.specs.Kinds.{kind_text}
-use Rattle.art_parts.specs.declared.names.OpaqueNodePtr.{OpaqueNodePtr}
-use Rattle.art_lines.specs.KeyTexts.{key_word}
+use Rattle.art_engine.specs.KeyTexts.{key_word}
 use Rattle.art_model.specs.Layouts.{Node, inner_node, leaf_node}
 use Rattle.art_model.specs.Pairs.{of_key}
 use Rattle.art_model.specs.Radix.{bytes_of}
 use Rattle.art_model.specs.Trees.{NodeHeader, Subtrees, Tree, child, inner, leaf, no_child, tree_of}
-use Rattle.art_keeping.specs.KeptKeys.{Key, key_bytes}
-use Rattle.art_keeping.specs.NodeWalks.{one_deeper}
+use Rattle.art_engine.specs.KeptKeys.{Key, key_bytes}
+use Rattle.art_engine.specs.NodeWalks.{one_deeper}
 use Rattle.art_engine.specs.Texts.{entry_text}
 
 -- two spaces for each inner node above

@@ -4,13 +4,13 @@ use Rattle.std.specs.Fmt.{decimal}
 use Rattle.std.specs.List.{AllByRecursion as Each, AllZip}
 use Rattle.std.specs.Io.KnownBytes.{Appends, Keeps}
 use Rattle.art_parts.specs.LeafClones.{IsPairClone}
-use Rattle.art_lines.specs.CommandLines.{HasSmallValue, line_of}
-use Rattle.art_lines.specs.declared.line.Request.{Request}
-use Rattle.art_keeping.specs.declared.status.Ending.{Ending}
-use Rattle.art_keeping.specs.declared.status.Ending.TheVariants.{Input, BadLine}
-use Rattle.art_keeping.specs.declared.tree.KeptTree.{KeptTree}
-use Rattle.art_keeping.specs.KeptKeys.{Key}
-use Rattle.art_keeping.specs.KeptTrees.{state_of}
+use Rattle.art_engine.specs.CommandLines.{HasSmallValue, line_of}
+use Rattle.art_engine.specs.declared.lines.Request.{Request}
+use Rattle.art_engine.specs.declared.keeping.status.Ending.{Ending}
+use Rattle.art_engine.specs.declared.keeping.status.Ending.TheVariants.{Input, BadLine}
+use Rattle.art_engine.specs.declared.keeping.tree.KeptTree.{KeptTree}
+use Rattle.art_engine.specs.KeptKeys.{Key}
+use Rattle.art_engine.specs.KeptTrees.{state_of}
 use Rattle.art_engine.specs.Shown.{IsReplied}
 
 -- the line writes the request, and its value is one that a request can have

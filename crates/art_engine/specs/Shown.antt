@@ -1,8 +1,8 @@
 -- What is appended for a request that asks to see the tree.
 use Rattle.std.specs.Prelude.{◌≡◌, ℕ, ◌⊎◌, List, [], ◌∷◌, ◌++◌, reverse, codes, Option, Some, None, Result, IfErr, IfOk, IfSome, IsOkAnd}
 use Rattle.std.specs.Io.KnownBytes.{Appends}
-use Rattle.art_lines.specs.declared.line.Request.{Request}
-use Rattle.art_lines.specs.declared.line.Request.TheVariants.{Walk, Back, Nodes, Check}
+use Rattle.art_engine.specs.declared.lines.Request.{Request}
+use Rattle.art_engine.specs.declared.lines.Request.TheVariants.{Walk, Back, Nodes, Check}
 use Rattle.art_model.specs.Canonical.{IsCanonical}
 use Rattle.art_model.specs.Faults.{out_of_memory}
 use Rattle.art_model.specs.Pairs.{of_key}
@@ -13,10 +13,10 @@ use Rattle.art_operations.specs.declared.run.Reply.{Reply}
 use Rattle.art_operations.specs.declared.run.Side.{Side}
 use Rattle.art_operations.specs.declared.well_formed.MalformedTreeError.{MalformedTreeError}
 use Rattle.art_operations.specs.declared.well_formed.WellFormedTreeStats.{WellFormedTreeStats}
-use Rattle.art_keeping.specs.declared.tree.KeptTree.{KeptTree}
-use Rattle.art_keeping.specs.Commands.{AsksForCommand, IsCommandFor}
-use Rattle.art_keeping.specs.KeptTrees.{state_of, state_before}
-use Rattle.art_keeping.specs.KeptKeys.{Key, key_bytes}
+use Rattle.art_engine.specs.declared.keeping.tree.KeptTree.{KeptTree}
+use Rattle.art_engine.specs.Commands.{AsksForCommand, IsCommandFor}
+use Rattle.art_engine.specs.KeptTrees.{state_of, state_before}
+use Rattle.art_engine.specs.KeptKeys.{Key, key_bytes}
 use Rattle.art_engine.specs.NodeLines.{nodes_text}
 use Rattle.art_engine.specs.Texts.{check_text, pairs_text, reply_text}
 

@@ -2,8 +2,8 @@
 use Rattle.std.specs.Prelude.{ℕ, zero, suc, true, false, List, [], ◌∷◌, ◌++◌, flat_map, reverse, codes, Option, Some, None, Result, Ok, Err}
 use Rattle.std.specs.Box.{boxed_slice_items}
 use Rattle.std.specs.Fmt.{decimal}
-use Rattle.art_lines.specs.KeyTexts.{key_word}
-use Rattle.art_keeping.specs.KeptKeys.{Key}
+use Rattle.art_engine.specs.KeyTexts.{key_word}
+use Rattle.art_engine.specs.KeptKeys.{Key}
 use Rattle.art_reading.specs.declared.descent.End.{End}
 use Rattle.art_reading.specs.declared.descent.End.TheVariants.{First, Last}
 use Rattle.art_engine.specs.declared.pairs.Order.{Order}

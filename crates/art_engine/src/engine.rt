@@ -2,20 +2,20 @@
 ghost use Rattle.std.specs.Prelude.{◌≡◌, ◌≢◌, ◌≤◌, [], None, IfOk, IfSome, OnOk};
 ghost use Rattle.std.specs.Io.Buffered.{reader_remaining, writer_buffer, writer_contents};
 ghost use Rattle.art_parts.specs.LeafClones.{IsPairClone};
-ghost use Rattle.art_keeping.specs.Commands.{IsAnswered, IsCommandFor};
-ghost use Rattle.art_keeping.specs.KeptTrees.{IsKept};
+ghost use Rattle.art_engine.specs.Commands.{IsAnswered, IsCommandFor};
+ghost use Rattle.art_engine.specs.KeptTrees.{IsKept};
 ghost use Rattle.art_engine.specs.Served.{AllAsk, AreServed, AreServedAnew, OneAsksForNothing};
 ghost use Rattle.art_engine.specs.Shown.{IsReplied, IsShown};
 ghost use Rattle.text_lines.specs.Lines.{lines};
 
 use crate::checks::write_check;
+use crate::keeping::commands::command_of;
+use crate::keeping::status::{Ending, status_of};
+use crate::keeping::tree::KeptTree;
+use crate::lines::Request;
 use crate::nodes::write_nodes;
 use crate::pairs::{Order, write_pairs};
 use crate::replies::{write_no_memory, write_reply};
-use art_keeping::commands::command_of;
-use art_keeping::status::{Ending, status_of};
-use art_keeping::tree::KeptTree;
-use art_lines::line::Request;
 use std::alloc::{AllocError, Global};
 use std::io;
 use std::io::{BufReader, BufWriter, ErrorKind, Read, Write};

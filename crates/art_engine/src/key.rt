@@ -8,7 +8,7 @@ pub struct ShownKey<'a>(pub &'a [u8]);
 
 impl fmt::Display for ShownKey<'_> {
     ghost use Rattle.std.specs.Prelude.{Some};
-    ghost use Rattle.art_lines.specs.KeyTexts.{key_word};
+    ghost use Rattle.art_engine.specs.KeyTexts.{key_word};
 
     ghost output = { λ key. Some (key_word key.0.now) };
 

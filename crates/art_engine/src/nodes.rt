@@ -4,13 +4,13 @@ ghost use Rattle.std.specs.Io.KnownBytes.{Appends};
 ghost use Rattle.art_model.specs.Canonical.{IsCanonical};
 ghost use Rattle.art_model.specs.Pairs.{of_key};
 ghost use Rattle.art_model.specs.Stores.{node_at};
-ghost use Rattle.art_keeping.specs.KeptKeys.{IsTreeIn, Key, key_bytes};
+ghost use Rattle.art_engine.specs.KeptKeys.{IsTreeIn, Key, key_bytes};
 ghost use Rattle.art_engine.specs.NodeLines.{line_at, node_text, nodes_text};
 ghost use Rattle.art_engine.specs.Shown.{AppendsUnlessNoMemory};
 
+use crate::keeping::walk::{Pending, reserve_walk, turn};
 use crate::key::ShownKey;
 use crate::replies::write_no_memory;
-use art_keeping::walk::{Pending, reserve_walk, turn};
 use art_nodes::node::{NodePtr, OpaqueNodePtr};
 use art_nodes::store::NodeStore;
 use std::io::{ErrorKind, Write};

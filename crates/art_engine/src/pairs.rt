@@ -7,7 +7,7 @@ ghost use Rattle.art_model.specs.Canonical.{IsCanonical};
 ghost use Rattle.art_model.specs.Pairs.{of_key};
 ghost use Rattle.art_model.specs.Stores.{pair_of};
 ghost use Rattle.art_reading.specs.Iterators.{IsIteratorOf, TakesEnd};
-ghost use Rattle.art_keeping.specs.KeptKeys.{IsLinkedTreeIn, Key, key_bytes};
+ghost use Rattle.art_engine.specs.KeptKeys.{IsLinkedTreeIn, Key, key_bytes};
 ghost use Rattle.art_engine.specs.Texts.{end_of, gap_after, pairs_text, in_order, entry_text};
 
 use crate::key::ShownKey;

@@ -3,7 +3,7 @@
 
 use std::io;
 use std::io::{BufReader, BufWriter};
-use word_counts::counts::report;
+use text_programs::word_counts::counts::report;
 
 fn main(rt: HostRuntime) -> io::Result<()> {
     let alloc = rt.alloc();

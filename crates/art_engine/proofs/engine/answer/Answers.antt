@@ -1,5 +1,5 @@
 use Rattle.std.proofs.Common.{refl}
-use Rattle.art_engine.proofs.Replied.{asks_for, no_memory_replied, run_replied}
+use Rattle.art_engine.proofs.Replied.{no_memory_replied, run_replied}
 use Rattle.art_engine.proofs.engine.answer.Goals as goal
 
 pub returns-in-Err-clause-replied : goal.returns-in-Err-clause-replied

@@ -2,7 +2,7 @@ use Rattle.std.proofs.Common.{rules, true, false, sym, ◌+◌, ◌∙◌, subst
 use Rattle.std.specs.Io.Buffered.{reader_remaining}
 use Rattle.text_lines.proofs.LineParts.{read_as}
 use Rattle.text_lines.proofs.Reading.{begins, ends, goes_on, stops}
-use Rattle.art_keeping.specs.declared.status.Ending.TheVariants.{Input, BadLine}
+use Rattle.art_engine.specs.declared.keeping.status.Ending.TheVariants.{Input, BadLine}
 use Rattle.art_engine.specs.Served.{AreServed, AsksForNothing}
 use Rattle.art_engine.proofs.Serving.{GoesOn, all_served, none_served, one_line_more, refused_here}
 use Rattle.art_engine.proofs.engine.answer_lines.Goals as goal

@@ -1,6 +1,6 @@
 use Rattle.std.proofs.Common.{IfSome}
 use Rattle.std.specs.Io.Buffered.{reader_remaining}
-use Rattle.art_keeping.specs.KeptTrees.{IsKept}
+use Rattle.art_engine.specs.KeptTrees.{IsKept}
 use Rattle.text_lines.proofs.Reading.{IsReadTo}
 use Rattle.art_engine.proofs.Serving.{GoesOn}
 use Rattle.art_engine.proofs.engine.answer_lines.Given as goal

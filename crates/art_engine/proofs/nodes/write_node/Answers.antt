@@ -1,9 +1,9 @@
-use Rattle.std.proofs.Common.{rules, append_assoc}
+use Rattle.std.proofs.Common.{rules}
 use Rattle.std.proofs.lemmas.Grind.{common_steps}
 use Rattle.art_inner.specs.Views.{ref_view}
 use Rattle.art_model.specs.Layouts.{inner_node}
 use Rattle.art_model.specs.Stores.{header_at}
-use Rattle.art_engine.proofs.NodeWalks.{inner_seen_at, line_written}
+use Rattle.art_engine.proofs.NodeRows.{inner_seen_at, line_written}
 use Rattle.art_engine.proofs.nodes.write_node.Goals as goal
 
 pub returns-in-Some-inner : goal.returns-in-Some-inner

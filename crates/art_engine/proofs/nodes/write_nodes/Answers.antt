@@ -1,9 +1,9 @@
 use Rattle.std.proofs.Common.{◌≡◌, rules, suc, [], ◌∷◌, ◌++◌, length, ap, sym, ◌∙◌, arith, subst, inr}
 use Rattle.std.specs.List.{AllByRecursion as Each}
-use Rattle.art_keeping.specs.NodeWalks.{HasRoom, pending_root, after_turn}
-use Rattle.art_keeping.proofs.Subtrees.{IsPendingTree, tree_taken, trees_turned}
+use Rattle.art_engine.specs.NodeWalks.{HasRoom, pending_root, after_turn}
+use Rattle.art_engine.proofs.Subtrees.{IsPendingTree, tree_taken, trees_turned}
 use Rattle.art_engine.specs.NodeLines.{nodes_text}
-use Rattle.art_engine.proofs.NodeWalks.{begins, ends, goes_on}
+use Rattle.art_engine.proofs.NodeRows.{begins, ends, goes_on}
 use Rattle.art_engine.proofs.nodes.write_nodes.Goals as goal
 
 pub push_reserved-requires : goal.push_reserved-requires

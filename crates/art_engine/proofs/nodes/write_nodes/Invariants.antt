@@ -4,11 +4,11 @@ use Rattle.std.specs.Vec.{vec_capacity}
 use Rattle.art_parts.specs.declared.names.OpaqueNodePtr.{OpaqueNodePtr}
 use Rattle.art_model.specs.Canonical.{IsCanonical}
 use Rattle.art_model.specs.Pairs.{of_key}
-use Rattle.art_keeping.specs.KeptKeys.{Key, key_bytes}
-use Rattle.art_keeping.specs.NodeWalks.{HasRoom, left_after}
-use Rattle.art_keeping.proofs.Subtrees.{IsPendingTree}
+use Rattle.art_engine.specs.KeptKeys.{Key, key_bytes}
+use Rattle.art_engine.specs.NodeWalks.{HasRoom, left_after}
+use Rattle.art_engine.proofs.Subtrees.{IsPendingTree}
 use Rattle.art_engine.specs.NodeLines.{nodes_text}
-use Rattle.art_engine.proofs.NodeWalks.{IsWritten}
+use Rattle.art_engine.proofs.NodeRows.{IsWritten}
 use Rattle.art_engine.proofs.nodes.write_nodes.Given as goal
 
 -- what is left after so many steps stands for trees, there is room for what will be, and the lines so far are written

@@ -11,7 +11,7 @@ use Rattle.art_model.specs.Stores.{pair_of}
 use Rattle.art_model.specs.Trees.{Tree}
 use Rattle.art_model.proofs.leaves.Segments.{tree_segment}
 use Rattle.art_reading.specs.Iterators.{IsIteratorOf}
-use Rattle.art_keeping.specs.KeptKeys.{IsLinkedTreeIn}
+use Rattle.art_engine.specs.KeptKeys.{IsLinkedTreeIn}
 use Rattle.art_engine.proofs.Rows.{row_goes_on, rows_begin, rows_end}
 use Rattle.art_engine.proofs.pairs.write_pairs.Goals as goal
 

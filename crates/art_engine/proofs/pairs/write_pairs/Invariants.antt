@@ -3,7 +3,7 @@ use Rattle.art_parts.specs.declared.names.OpaqueNodePtr.{OpaqueNodePtr}
 use Rattle.art_model.specs.Canonical.{IsCanonical}
 use Rattle.art_model.specs.Pairs.{of_key}
 use Rattle.art_reading.specs.Iterators.{IsIteratorOf}
-use Rattle.art_keeping.specs.KeptKeys.{Key, key_bytes}
+use Rattle.art_engine.specs.KeptKeys.{Key, key_bytes}
 use Rattle.art_engine.proofs.Rows.{IsRow}
 use Rattle.art_engine.proofs.pairs.write_pairs.Given as goal
 

@@ -2,7 +2,7 @@ use Rattle.std.proofs.Common.{◌≡◌, ◌∷◌, ◌++◌, flat_map, refl, ap
 use Rattle.std.specs.Fmt.{decimal}
 use Rattle.std.proofs.lemmas.Grind.{put_two}
 use Rattle.std.proofs.lemmas.List.{take_all}
-use Rattle.art_engine.proofs.Keys.{dotted, spelled, spelled_is}
+use Rattle.art_engine.proofs.ShownKeys.{dotted, spelled, spelled_is}
 use Rattle.art_engine.proofs.key.ShownKeyDisplay.fmt.Goals as goal
 
 pub returns-clause-writes : goal.returns-clause-writes

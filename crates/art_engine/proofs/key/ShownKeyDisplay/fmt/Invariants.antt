@@ -1,6 +1,6 @@
 use Rattle.std.proofs.Common.{take, flat_map}
 use Rattle.std.specs.Fmt.{HasWritten, IsPlainFormatter}
-use Rattle.art_engine.proofs.Keys.{dotted}
+use Rattle.art_engine.proofs.ShownKeys.{dotted}
 use Rattle.art_engine.proofs.key.ShownKeyDisplay.fmt.Given as goal
 
 -- the bytes so far are written, each after a dot

@@ -1,7 +1,7 @@
 use Rattle.std.proofs.Common.{◌+◌, codes, refl}
 use Rattle.std.proofs.lemmas.Grind.{put_two}
 use Rattle.art_engine.specs.NodeLines.{indent}
-use Rattle.art_engine.proofs.NodeWalks.{indent_more}
+use Rattle.art_engine.proofs.NodeRows.{indent_more}
 use Rattle.art_engine.proofs.nodes.LineStartDisplay.fmt.Goals as goal
 
 pub loop-preserved : goal.loop-preserved

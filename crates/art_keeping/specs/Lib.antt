@@ -1,4 +1,0 @@
-pub mod KeptKeys
-pub mod KeptTrees
-pub mod Commands
-pub mod NodeWalks

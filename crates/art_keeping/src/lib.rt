@@ -1,7 +1,0 @@
-//! What `artrun` keeps from line to line: the tree that its commands have left.
-#![tactic(auto)]
-
-pub mod commands;
-pub mod status;
-pub mod tree;
-pub mod walk;

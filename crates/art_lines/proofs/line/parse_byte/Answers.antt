@@ -1,6 +1,0 @@
-use Rattle.std.proofs.Common.{rules}
-use Rattle.art_lines.proofs.Numbers.{too_large}
-use Rattle.art_lines.proofs.line.parse_byte.Goals as goal
-
-pub returns-clause-none : goal.returns-clause-none
-returns-clause-none c = rw c.ok.ensures.value (too_large c.args.digits.now c.in_ok-parse_number.field-0 c.try_from.result (search rules) c.in_ok-parse_number.ensures.value c.try_from.ensures)

@@ -1,4 +1,0 @@
-//! What the lines of `artrun` ask for.
-#![tactic(auto)]
-
-pub mod line;

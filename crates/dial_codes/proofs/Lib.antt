@@ -1,3 +1,0 @@
-mod EntryLemmas
-mod TableLemmas
-mod ReplyLemmas

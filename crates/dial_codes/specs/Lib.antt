@@ -1,4 +1,0 @@
-pub mod Entries
-pub mod Rows
-pub mod Tables
-pub mod Replies

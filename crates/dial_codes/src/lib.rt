@@ -1,6 +1,0 @@
-//! A table of codes with names, and the longest code that a number starts with.
-#![tactic(auto)]
-
-pub mod answers;
-pub mod entry;
-pub mod table;

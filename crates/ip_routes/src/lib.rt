@@ -1,8 +1,0 @@
-//! A table of IP routes, and the longest one that covers an address.
-#![tactic(auto)]
-
-pub mod answers;
-pub mod bits;
-pub mod network;
-pub mod route;
-pub mod table;

@@ -1,4 +1,0 @@
-mod RequestLines
-mod PathParts
-mod Filling
-mod Replying

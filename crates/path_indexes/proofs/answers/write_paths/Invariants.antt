@@ -1,7 +1,0 @@
-use Rattle.text_lines.proofs.Writing.{AreWritten}
-use Rattle.path_indexes.specs.Replies.{path_line}
-use Rattle.path_indexes.proofs.answers.write_paths.Given as goal
-
--- the paths so far are written
-abbrev pub invariant-loop-path : goal.invariant-loop-path
-invariant-loop-path g l = AreWritten (λ x. path_line x.0) l.fn.part l.path-iterator (g.W.Write.contents l.initial.output) (g.W.Write.contents l.output)

@@ -1,8 +1,0 @@
-use Rattle.std.proofs.Common.{length, ap, ◌∙◌}
-use Rattle.path_indexes.proofs.PathParts.{all_came}
-use Rattle.path_indexes.proofs.parts.count_below.Goals as goal
-
-pub returns : goal.returns
-returns c =
-    let (pairs, drained, is) = c.count.ensures.ran in
-    is ∙ all_came c.part_below.result pairs drained ∙ ap length c.part_below.ensures.paths

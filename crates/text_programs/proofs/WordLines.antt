@@ -1,0 +1,54 @@
+-- A text whose words are counted line by line.
+use Rattle.std.proofs.Common.{◌≡◌, ◌≢◌, ℕ, ◌+◌, ◌<◌, true, false, zero, suc, List, [], ◌∷◌, ◌++◌, length, get_or, flat_map, Option, Some, None, IfSome, OnOk, Result, Ok, Err, refl, ap, sym, ◌∙◌, subst, arith, append-nil}
+use Rattle.std.specs.Io.KnownBytes.{Appends, Keeps}
+use Rattle.std.specs.List.{AllByRecursion as Each, slice_split}
+use Rattle.std.specs.List as list
+use Rattle.std.proofs.lemmas.Bool.{false≢true}
+use Rattle.std.proofs.lemmas.List.Concat.{flat_map-append}
+use Rattle.art_model.proofs.lists.Lists.{Each-weaker}
+use Rattle.art_operations.specs.Ended.{HasNoZero}
+use Rattle.art_operations.specs.Keys.{is_before}
+use Rattle.art_operations.specs.Pairs.{Pairwise}
+use Rattle.text_lines.proofs.Writing.{appends_kept}
+use Rattle.text_lines.specs.Lines.{lines}
+use Rattle.text_programs.specs.Counts.{AppendsCounts, HasTimes, IsCountOf, line_of}
+use Rattle.text_programs.specs.Words.{is_filled, is_gap, words}
+use Rattle.text_programs.proofs.WordTexts.{IsWhole, whole_parts, words_of_lines}
+
+-- the words of a text are its parts that are filled
+pub counted_parts : (before : List (List ℕ)) (text : List ℕ) (ps : List (List ℕ)) (counts : List (List ℕ × ℕ)) → ps ≡ slice_split is_gap text →
+    HasTimes (before ++ list.filter is_filled ps) counts → HasTimes (before ++ words text) counts
+counted_parts before text ps counts e h = subst (λ q. HasTimes (before ++ list.filter is_filled q) counts) e h
+
+each_at : (P : List ℕ → Type 0) (xs : List (List ℕ)) → Each P xs → (k : ℕ) (d : List ℕ) → k < length xs → P (get_or xs k d)
+each_at P [] h k d below = absurd (omega arith)
+each_at P (x ∷ xs) h zero d below = h.0
+each_at P (x ∷ xs) h (suc k) d below = each_at P xs h.1 k d (omega arith)
+
+-- a part of a text has no zero
+pub part_plain : (text word : List ℕ) (k : ℕ) → k < length (slice_split is_gap text) → word ≡ get_or (slice_split is_gap text) k word → HasNoZero word
+part_plain text word k below is =
+    Each-weaker (λ b. is_gap b ≡ false) (λ b. b ≢ 0) (λ b e z. false≢true (sym e ∙ ap is_gap z)) word
+    (subst IsWhole (sym is) (each_at IsWhole (slice_split is_gap text) (whole_parts text) k word below))
+
+pub no_words : (counts : List (List ℕ × ℕ)) → counts ≡ [] → HasTimes (flat_map words []) counts
+no_words counts e = subst (HasTimes []) (sym e) (record { each = λ word. refl })
+
+-- with the words of one more line
+pub one_line_more : (counts others : List (List ℕ × ℕ)) (number : ℕ) (line seen : List ℕ) → seen ≡ line →
+    ((ws : List (List ℕ)) → HasTimes ws counts → HasTimes (ws ++ words seen) others) → (before : List (List ℕ)) → number ≡ length before + 1 →
+    HasTimes (flat_map words before) counts → HasTimes (flat_map words (before ++ line ∷ [])) others
+one_line_more counts others number line seen e more before n h =
+    subst (λ ws. HasTimes ws others) (ap (λ l. flat_map words before ++ words l) e ∙ sym (flat_map-append words before (line ∷ []) ∙ ap (λ ws. flat_map words before ++ ws) (append-nil (words line))))
+    (more (flat_map words before) h)
+
+pub count_is : (text : Option (List ℕ)) (counts : List (List ℕ × ℕ)) → Pairwise (λ x y. is_before x.0 y.0 ≡ true) counts →
+    IfSome text (λ bs. HasTimes (flat_map words (lines bs)) counts) → IfSome text (λ bs. IsCountOf (words bs) counts)
+count_is None counts rising h = tt
+count_is (Some bs) counts rising h = record { rising = rising; numbers = subst (λ ws. HasTimes ws counts) (words_of_lines bs) h }
+
+pub reported : {E : Type 0} (counts : List (List ℕ × ℕ)) (text old now next : Option (List ℕ)) (r : Result (Unit {0}) E) → IfSome text (λ bs. IsCountOf (words bs) counts) →
+    Appends old now (flat_map line_of counts) → Keeps now next → OnOk r (IfSome text (λ bs. AppendsCounts (words bs) old next))
+reported counts text old now next (Err e) is writes stays = tt
+reported counts None old now next (Ok u) is writes stays = tt
+reported counts (Some bs) old now next (Ok u) is writes stays = (counts, is, appends_kept old now next _ writes stays)

@@ -1,0 +1,7 @@
+use Rattle.text_lines.proofs.Writing.{AreWritten}
+use Rattle.text_programs.specs.PathReplies.{path_line}
+use Rattle.text_programs.proofs.path_indexes.answers.write_paths.Given as goal
+
+-- the paths so far are written
+abbrev pub invariant-loop-path : goal.invariant-loop-path
+invariant-loop-path g l = AreWritten (λ x. path_line x.0) l.fn.part l.path-iterator (g.W.Write.contents l.initial.output) (g.W.Write.contents l.output)

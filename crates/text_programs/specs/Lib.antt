@@ -1,0 +1,22 @@
+-- tables that are read from lines, and that answer lines
+pub mod LineTables
+-- the words of a text, and how often each occurs
+pub mod Words
+pub mod Counts
+-- codes with names, and the longest one that a number starts with
+pub mod Entries
+pub mod CodeRows
+pub mod CodeTables
+pub mod CodeReplies
+-- paths, and requests about them
+pub mod Paths
+pub mod Requests
+pub mod PathReplies
+-- routes, and the longest one that covers an address
+pub mod Addresses
+pub mod Written
+pub mod Bits
+pub mod Routes
+pub mod Strings
+pub mod RouteTables
+pub mod RouteReplies

@@ -1,0 +1,9 @@
+//! What programs over texts do, a module each: they read a text line by line, and write what a map knows of it.
+#![tactic(auto)]
+
+pub mod dial_codes;
+pub mod ip_routes;
+pub mod line_tables;
+pub mod path_indexes;
+pub mod running;
+pub mod word_counts;

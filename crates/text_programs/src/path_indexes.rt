@@ -1,0 +1,6 @@
+//! Paths in memory, and requests about them.
+
+pub mod answers;
+pub mod index;
+pub mod parts;
+pub mod request;

@@ -1,3 +1,0 @@
-mod Texts
-mod Tallies
-mod Lines
