@@ -68,24 +68,28 @@ module _ (token : List ℕ) (old new : Open) (ends : Ends) (was : Agree old ends
         (λ other. (was token).1 time small ∙ ap (listed_at time) is ∙ no_end time before off ∙ sym (no_end time end other))))
         (λ other off. elsewhere token drops other (end_of other old) off (elsewhere token lists other (end_of other old) off (was other)))
 
--- where the first end is not before a time, no session ends before it
-pub none_earlier : (n : ℕ) (sessions : Open) (ends : Ends) → Agree sessions ends → HaveKeys (AreKeys (HasBytes 8) (λ text. ⊤)) ends → RiseBy (pair_cmp nat_cmp (slice_cmp nat_cmp)) ends →
-    IfSome (first_of ends) (λ first. n ≤ first.0.0) → (token : List ℕ) → IfSome (end_of token sessions) (λ end. n ≤ end)
-none_earlier n sessions ends agrees keys rise first token = go (end_of token sessions) refl
-  where
-    go : (o : Option ℕ) → end_of token sessions ≡ o → IfSome o (λ end. n ≤ end)
-    go None e = tt
-    go (Some end) e =
-        let is : IsListed token (Some end) ends = subst (λ o. IsListed token o ends) e (agrees token) in
-        let listed : value_of end_bytes (end, token) ends ≡ Some tt = is.1 end is.0 ∙ (rw (eq-eqb end end refl) refl) in
-        known_from_first end_bytes (AreKeys (HasBytes 8) (λ text. ⊤)) (joins_injective (HasBytes 8) (bytes_high_first 8) (λ text. ⊤) escape number_of (λ bytes. 8) unescape ended_length (numbers_come_back 8) escape_comes_back)
-        (end, token) tt (is.0, tt) (pair_cmp nat_cmp (slice_cmp nat_cmp)) (λ key. n ≤ key.0) (λ x y upto less. let more = firsts_rise (slice_cmp nat_cmp) x y less in omega arith) ends keys rise first listed
+module _ (sessions : Open) (ends : Ends) (agrees : Agree sessions ends) where
+  -- where an end is listed, the session ends then
+  pub ended : (token : List ℕ) (end : ℕ) → end < 2 ^ 64 → value_of end_bytes (end, token) ends ≡ Some tt → end_of token sessions ≡ Some end
+  ended token end fits listed = go (end_of token sessions) (sym ((agrees token).1 end fits) ∙ listed)
+    where
+      go : (o : Option ℕ) → listed_at end o ≡ Some tt → o ≡ Some end
+      go None is = absurd cc
+      go (Some time) is = by_time (eqb_tells end time)
+        where
+          by_time : ((eqb end time ≡ true) × (end ≡ time)) ⊎ ((eqb end time ≡ false) × (end ≢ time)) → Some time ≡ Some end
+          by_time (inl (e, same)) = ap Some (sym same)
+          by_time (inr (e, off)) = let wrong : None ≡ Some tt = rw e at is in absurd cc
 
--- where an end is listed, the session ends then
-pub listed_end : (time : ℕ) (o : Option ℕ) → listed_at time o ≡ Some tt → o ≡ Some time
-listed_end time None is = absurd cc
-listed_end time (Some end) is = go (eqb_tells time end)
-  where
-    go : ((eqb time end ≡ true) × (time ≡ end)) ⊎ ((eqb time end ≡ false) × (time ≢ end)) → Some end ≡ Some time
-    go (inl (e, same)) = ap Some (sym same)
-    go (inr (e, off)) = let wrong : None ≡ Some tt = rw e at is in absurd cc
+  -- what is known of the first end, and so of each later one, is known of the end of each session
+  pub known_of_ends : (Known : ℕ → Type 0) → ((a b : ℕ) → Known a → a ≤ b → Known b) → HaveKeys (AreKeys (HasBytes 8) (λ text. ⊤)) ends → RiseBy (pair_cmp nat_cmp (slice_cmp nat_cmp)) ends →
+      IfSome (first_of ends) (λ first. Known first.0.0) → (token : List ℕ) → IfSome (end_of token sessions) Known
+  known_of_ends Known later keys rise first token = go (end_of token sessions) refl
+    where
+      go : (o : Option ℕ) → end_of token sessions ≡ o → IfSome o Known
+      go None e = tt
+      go (Some end) e =
+          let is : IsListed token (Some end) ends = subst (λ o. IsListed token o ends) e (agrees token) in
+          let listed : value_of end_bytes (end, token) ends ≡ Some tt = is.1 end is.0 ∙ (rw (eq-eqb end end refl) refl) in
+          known_from_first end_bytes (AreKeys (HasBytes 8) (λ text. ⊤)) (joins_injective (HasBytes 8) (bytes_high_first 8) (λ text. ⊤) escape number_of (λ bytes. 8) unescape ended_length (numbers_come_back 8) escape_comes_back)
+          (end, token) tt (is.0, tt) (pair_cmp nat_cmp (slice_cmp nat_cmp)) (λ key. Known key.0) (λ x y known less. later x.0 y.0 known (firsts_rise (slice_cmp nat_cmp) x y less)) ends keys rise first listed
