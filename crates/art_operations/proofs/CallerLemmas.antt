@@ -1,9 +1,22 @@
 -- Lemmas for callers' proofs that no clause states: about canonical roots, disjoint trees, iterations and folds, what stays while nodes are removed, and maps.
-use Rattle.std.specs.Prelude.{◌≡◌, ℕ, List, length, false}
+use Rattle.std.proofs.Common.{◌≡◌, ◌≢◌, ◌<◌, ◌≤◌, ◌⊎◌, inl, inr, ℕ, List, [], ◌∷◌, length, Bool, true, false, Some, IfSome, refl, subst, arith}
+use Rattle.std.proofs.lemmas.Bool.{cases_order, le-ltb, ne_eqb}
+use Rattle.std.proofs.lemmas.Cmp.{nat_list_cmp_total}
+use Rattle.std.specs.FinMap.{nat_cmp-IsAntisymmetric, slice_cmp-IsAntisymmetric}
 use Rattle.std.specs.List.{AllByRecursion as Each}
+use Rattle.std.specs.Ordering.{nat_cmp}
+use Rattle.std.specs.declared.cmp.Ordering.{Ordering}
+use Rattle.std.specs.declared.cmp.Ordering.TheVariants.{Less, Greater}
+use Rattle.art_parts.proofs.NameLemmas.{same_or_not}
 use Rattle.art_keys.specs.FixedLaws.{fixed_no_prefixes}
+use Rattle.art_keys.specs.Joins.{pair_cmp}
+use Rattle.art_keys.specs.Prefixes.{AreInjective}
+use Rattle.art_keyed.specs.KeyedPairs.{HaveKeys, RiseBy}
+use Rattle.art_keyed.specs.KeyedValues.{value_of}
 use Rattle.art_keyed.proofs.Keyed.{never_in_conflict}
-use Rattle.art_model.specs.Pairs.{is_conflict, of_key}
+use Rattle.art_model.proofs.keys.Keys.{same_equal}
+use Rattle.art_model.specs.Keys.{are_same}
+use Rattle.art_model.specs.Pairs.{first_of, is_conflict, of_key}
 pub use Rattle.art_model.proofs.stores.Canonical.{tree_radix}
 pub use Rattle.art_model.proofs.stores.StoreLaws.{has_children}
 pub use Rattle.art_model.proofs.stores.Apart.{apart_of_none, apart_turned, both_beside, both_changed, both_same, both_turned, others_apart, root_of_first, same_apart, same_tree, tree_kept}
@@ -28,3 +41,36 @@ pub same_length_free : {K V : Type 0} (bytes : K → List ℕ) (n : ℕ) (key : 
     is_conflict (of_key bytes) (bytes key) pairs ≡ false
 same_length_free {K} {V} bytes n =
     never_in_conflict V (λ key. length (bytes key) ≡ n) bytes (λ a b of_a of_b front. fixed_no_prefixes n (bytes a) (bytes b) of_a of_b front)
+
+-- strings are the same or not
+pub same_or_other : (a b : List ℕ) → (a ≡ b) ⊎ (a ≢ b)
+same_or_other = same_or_not (slice_cmp-IsAntisymmetric nat_cmp-IsAntisymmetric) nat_list_cmp_total
+
+-- of two joined keys, the lesser one has no greater first number
+pub firsts_rise : {B : Type 0} (by_second : B → B → Ordering) (x y : ℕ × B) → pair_cmp nat_cmp by_second x y ≡ Less → x.0 ≤ y.0
+firsts_rise by_second x y less = go (cases_order x.0 y.0)
+  where
+    go : (x.0 ≡ y.0) ⊎ ((x.0 < y.0) ⊎ (y.0 < x.0)) → x.0 ≤ y.0
+    go (inl same) = omega arith
+    go (inr (inl h)) = omega arith
+    go (inr (inr h)) = let wrong : Greater ≡ Less = rw (le-ltb x.0 y.0 (omega arith), ne_eqb x.0 y.0 (λ e. omega arith)) at less in absurd cc
+
+module _ {K V : Type 0} (bytes : K → List ℕ) (is_key : K → Type 0) (law : AreInjective is_key bytes) (key : K) (value : V) (of_key' : is_key key) where
+  -- what is known of each key is known of one that is found
+  pub known_of_found : (Known : K → Type 0) (pairs : List (K × V)) → HaveKeys is_key pairs → HaveKeys Known pairs → value_of bytes key pairs ≡ Some value → Known key
+  known_of_found Known [] keys all is = absurd cc
+  known_of_found Known (x ∷ xs) keys all is = go (known_of_found Known xs keys.1 all.1) (are_same (bytes key) (bytes x.0)) refl
+    where
+      go : (value_of bytes key xs ≡ Some value → Known key) → (b : Bool) → are_same (bytes key) (bytes x.0) ≡ b → Known key
+      go rest true e = subst Known (law x.0 key keys.0 of_key' (same_equal (bytes key) (bytes x.0) e)) all.0
+      go rest false e = rest (rw e at is)
+
+  -- what is known of the first key and of each key after one of which it is known, is known of a key that is found
+  pub known_from_first : (order : K → K → Ordering) (Known : K → Type 0) → ((x y : K) → Known x → order x y ≡ Less → Known y) → (pairs : List (K × V)) → HaveKeys is_key pairs →
+      RiseBy order pairs → IfSome (first_of pairs) (λ first. Known first.0) → value_of bytes key pairs ≡ Some value → Known key
+  known_from_first order Known after [] keys rise first is = absurd cc
+  known_from_first order Known after (x ∷ xs) keys rise first is = known_of_found Known (x ∷ xs) keys (first, all xs rise.0) is
+    where
+      all : (ys : List (K × V)) → Each (λ y. order x.0 y.0 ≡ Less) ys → HaveKeys Known ys
+      all [] less = tt
+      all (y ∷ ys) less = (after x.0 y.0 first less.0, all ys less.1)

@@ -13,8 +13,7 @@ use Rattle.art_operations.specs.Joins.{AreKeys, pair_cmp}
 use Rattle.art_operations.specs.KeyedPairs.{HaveKeys, RiseBy}
 use Rattle.art_operations.specs.KeyedValues.{KeepsOtherKeys, value_of}
 use Rattle.art_operations.specs.Numbers.{HasBytes, number_of}
-use Rattle.art_operations.proofs.CallerLemmas.{escape_comes_back, joins_injective, numbers_come_back}
-use Rattle.uses.proofs.Firsts.{firsts_rise, known_from_first, same_or_other}
+use Rattle.art_operations.proofs.CallerLemmas.{escape_comes_back, firsts_rise, joins_injective, known_from_first, numbers_come_back, same_or_other}
 use Rattle.uses.specs.Sessions.{Agree, Changes, Ends, IsListed, Open, end_bytes, end_of, listed_at}
 
 -- under one key there is this now, and under each other one what was
@@ -24,7 +23,7 @@ Sets key o old new = (value_of end_bytes key new ≡ o) × KeepsOtherKeys (AreKe
 no_end : (time end : ℕ) → time ≢ end → listed_at time (Some end) ≡ None
 no_end time end off = rw (ne_eqb time end off) refl
 
-module _ (token : List ℕ) {end : ℕ} {o : Option (Unit {0})} {before after : Ends} (sets : Sets (end, token) o before after) where
+module _ (token : List ℕ) (end : ℕ) (o : Option (Unit {0})) (before after : Ends) (sets : Sets (end, token) o before after) where
   at : (time : ℕ) → time < 2 ^ 64 → (v : Option (Unit {0})) → (time ≡ end → o ≡ v) → (time ≢ end → value_of end_bytes (time, token) before ≡ v) → value_of end_bytes (time, token) after ≡ v
   at time fits v here off = go (eqb_tells time end)
     where
@@ -48,25 +47,25 @@ module _ (token : List ℕ) (old new : Open) (ends : Ends) (was : Agree old ends
   pub opened : (end : ℕ) (after : Ends) → end_of token old ≡ None → end < 2 ^ 64 → Changes token (Some end) old new → Sets (end, token) (Some tt) ends after → Agree new after
   opened end after none fits changes lists =
       agree token (Some end) old new changes after
-      (fits, λ time small. at token lists time small (listed_at time (Some end)) (λ same. rw (eq-eqb time end same) refl) (λ off. (was token).1 time small ∙ ap (listed_at time) none ∙ sym (no_end time end off)))
-      (λ other off. elsewhere token lists other (end_of other old) off (was other))
+      (fits, λ time small. at token end (Some tt) ends after lists time small (listed_at time (Some end)) (λ same. rw (eq-eqb time end same) refl) (λ off. (was token).1 time small ∙ ap (listed_at time) none ∙ sym (no_end time end off)))
+      (λ other off. elsewhere token end (Some tt) ends after lists other (end_of other old) off (was other))
 
   module _ (before : ℕ) (is : end_of token old ≡ Some before) where
     -- a session is closed
     pub closed : (after : Ends) → Changes token None old new → Sets (before, token) None ends after → Agree new after
     closed after changes drops =
         agree token None old new changes after
-        (tt, λ time small. at token drops time small None (λ same. refl) (λ off. (was token).1 time small ∙ ap (listed_at time) is ∙ no_end time before off))
-        (λ other off. elsewhere token drops other (end_of other old) off (was other))
+        (tt, λ time small. at token before None ends after drops time small None (λ same. refl) (λ off. (was token).1 time small ∙ ap (listed_at time) is ∙ no_end time before off))
+        (λ other off. elsewhere token before None ends after drops other (end_of other old) off (was other))
 
     -- the end of a session moves
     pub moved : (end : ℕ) (mid after : Ends) → before ≢ end → end < 2 ^ 64 → Changes token (Some end) old new → Sets (end, token) (Some tt) ends mid → Sets (before, token) None mid after → Agree new after
     moved end mid after differ fits changes lists drops =
         agree token (Some end) old new changes after
-        (fits, λ time small. at token drops time small (listed_at time (Some end)) (λ same. sym (no_end time end (λ e. differ (sym same ∙ e))))
-        (λ off. at token lists time small (listed_at time (Some end)) (λ same. rw (eq-eqb time end same) refl)
+        (fits, λ time small. at token before None mid after drops time small (listed_at time (Some end)) (λ same. sym (no_end time end (λ e. differ (sym same ∙ e))))
+        (λ off. at token end (Some tt) ends mid lists time small (listed_at time (Some end)) (λ same. rw (eq-eqb time end same) refl)
         (λ other. (was token).1 time small ∙ ap (listed_at time) is ∙ no_end time before off ∙ sym (no_end time end other))))
-        (λ other off. elsewhere token drops other (end_of other old) off (elsewhere token lists other (end_of other old) off (was other)))
+        (λ other off. elsewhere token before None mid after drops other (end_of other old) off (elsewhere token end (Some tt) ends mid lists other (end_of other old) off (was other)))
 
 module _ (sessions : Open) (ends : Ends) (agrees : Agree sessions ends) where
   -- where an end is listed, the session ends then

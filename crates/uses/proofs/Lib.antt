@@ -1,4 +1,3 @@
 pub mod Longest
 pub mod Both
 pub mod Agree
-pub mod Firsts

@@ -21,27 +21,28 @@ pub type Place = JoinedArray<U64Key, I64Key, 16>;
 /// What users did, by user and time. The events of one user stand together, in the order of their times.
 pub type Events = TreeMap<Place, u32, 4>;
 
+/// Returns the key of a user and a time.
+pub fn place(user: u64, time: i64) -> Place
+    ensures { result ≡ (user, time) }
+{
+    JoinedArray::join(&U64Key::from(user), &I64Key::from(time))
+}
+
 /// Inserts an event, or replaces the one of the user at that time. It fails only if an allocation fails, and then
 /// nothing has changed.
-pub fn put_event(
-    events: &mut Events,
-    user: u64,
-    time: i64,
-    event: u32,
-) -> Result<(), AllocError>
-    ensures pairs { OnOk result
-        (events.new ≡ put (of_key place_bytes) ((user, time), event) events.old) }
+pub fn put_event(events: &mut Events, at: Place, event: u32) -> Result<(), AllocError>
+    ensures pairs { OnOk result (events.new ≡ put (of_key place_bytes) (at, event) events.old) }
     ensures kept { OnErr result (events.new ≡ events.old) }
 {
-    events.insert(place(user, time), event)?;
+    events.insert(at, event)?;
     Ok(())
 }
 
 /// Returns the event of a user at a time, if any.
-pub fn event_at(events: &Events, user: u64, time: i64) -> Option<u32>
-    ensures { result ≡ value_of place_bytes (user, time) events.now }
+pub fn event_at(events: &Events, at: Place) -> Option<u32>
+    ensures { result ≡ value_of place_bytes at events.now }
 {
-    events.get(&place(user, time)).copied()
+    events.get(&at).copied()
 }
 
 /// Returns the events of a user, from both ends.
@@ -84,24 +85,17 @@ pub fn count_events(alloc: Global) -> Option<(usize, Option<(i64, u32)>)>
     ensures { IfSome result (λ told. told ≡ (2, Some (negsuc 9, 103))) }
 {
     let mut events: Events = TreeMap::new(alloc);
-    let Ok(_) = put_event(&mut events, 2, 20, 100) else {
+    let Ok(_) = put_event(&mut events, place(2, 20), 100) else {
         return None;
     };
-    let Ok(_) = put_event(&mut events, 2, 35, 101) else {
+    let Ok(_) = put_event(&mut events, place(2, 35), 101) else {
         return None;
     };
-    let Ok(_) = put_event(&mut events, 1, 15, 102) else {
+    let Ok(_) = put_event(&mut events, place(1, 15), 102) else {
         return None;
     };
-    let Ok(_) = put_event(&mut events, 2, -10, 103) else {
+    let Ok(_) = put_event(&mut events, place(2, -10), 103) else {
         return None;
     };
     Some((count_between(&events, 2, -10, 30), first_event(&events, 2)))
-}
-
-// Returns the key of a user and a time.
-fn place(user: u64, time: i64) -> Place
-    ensures { result ≡ (user, time) }
-{
-    JoinedArray::join(&U64Key::from(user), &I64Key::from(time))
 }

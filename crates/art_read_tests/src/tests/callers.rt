@@ -124,11 +124,20 @@ fn add_all(routes: &mut Routes, alloc: Global) -> usize {
     count
 }
 
+// How many routes a query starts with.
+fn count_all(routes: &Routes, query: &[u8]) -> usize {
+    let mut count = 0usize;
+    for _ in all(routes, query) {
+        count = count.saturating_add(1);
+    }
+    count
+}
+
 // How many queries find what they have to.
 fn count_right(routes: &Routes) -> usize {
     let mut count = 0usize;
     for (query, found, number) in QUERIES.iter() {
-        let is_right = longest(routes, *query) == *found && all(routes, *query).count() == *number;
+        let is_right = longest(routes, *query) == *found && count_all(routes, *query) == *number;
         count = count.saturating_add(is_right as usize);
     }
     count

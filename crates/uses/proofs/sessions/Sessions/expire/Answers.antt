@@ -5,7 +5,7 @@ use Rattle.uses.proofs.sessions.Sessions.expire.Goals as goal
 pub returns-in_default-clause-expired : goal.returns-in_default-clause-expired
 returns-in_default-clause-expired c =
     rw (← c.self.view_is) (refl, known_of_ends c.self.inside.by_token c.self.inside.by_end c.self.invariant (λ end. c.args.now < end) (λ a b known upto. omega (arith, known, upto))
-    c.first_key_value.ensures.known c.rises.ensures (let none = c.in_default in ?))
+    c.first_key_value.ensures.known c.rises.ensures (rw (sym c.in_default.ensures.pair) tt))
 
 pub returns-then-now-end-clause-expired : goal.returns-then-now-end-clause-expired
 returns-then-now-end-clause-expired c =
