@@ -18,12 +18,21 @@ abbrev pub Changes : List ℕ → Option ℕ → Open → Open → Type 0
 Changes token end old new =
     (end_of token new ≡ end) × ((other : List ℕ) → other ≢ token → end_of other new ≡ end_of other old)
 
--- all sessions end later; or the one that ends first, and not later, is closed, with this token and end
+-- there is a session that ends first, and it ends up to this time
+abbrev pub EndsBy : Option (List ℕ × ℕ) → ℕ → Type 0
+EndsBy None end = ⊥
+EndsBy (Some first) end = first.1 ≤ end
+
+-- this token and end are those of the session that ends first, if any is open
+abbrev pub IsFirst : Option (List ℕ × ℕ) → Open → Type 0
+IsFirst first sessions =
+    IfSome first (λ first. end_of first.0 sessions ≡ Some first.1) ×
+    ((token : List ℕ) → IfSome (end_of token sessions) (EndsBy first))
+
+-- all sessions end later; or the first one, which does not, is closed
 abbrev pub Expires : ℕ → Option (List ℕ × ℕ) → Open → Open → Type 0
 Expires now None old new = (new ≡ old) × ((token : List ℕ) → IfSome (end_of token old) (λ end. now < end))
-Expires now (Some closed) old new =
-    (closed.1 ≤ now) × (end_of closed.0 old ≡ Some closed.1) × Changes closed.0 None old new ×
-    ((token : List ℕ) → IfSome (end_of token old) (λ end. closed.1 ≤ end))
+Expires now (Some first) old new = (first.1 ≤ now) × IsFirst (Some first) old × Changes first.0 None old new
 
 -- the listed ends, each with its token
 abbrev pub Ends : Type 0

@@ -1,5 +1,5 @@
 //! An index of events by user and time. None of its lookups allocates.
-ghost use Rattle.std.specs.Prelude.{◌≡◌, ◌<◌, ◌^◌, length, negsuc, Some, IfSome, OnErr, OnOk};
+ghost use Rattle.std.specs.Prelude.{◌≡◌, ◌<◌, ◌^◌, length, OnErr, OnOk};
 ghost use Rattle.std.specs.Int.{bytes_high_first};
 ghost use Rattle.std.specs.Option.{option_map};
 ghost use Rattle.std.specs.Ordering.{int_cmp, nat_cmp};
@@ -13,7 +13,7 @@ ghost use Rattle.uses.specs.Events.{of_user, place_bytes};
 use art_operations::keys::{I64Key, JoinedArray, U64Key};
 use art_operations::map::Range;
 use art_operations::tree_map::TreeMap;
-use std::alloc::{AllocError, Global};
+use std::alloc::AllocError;
 
 /// A user and a time, as a key.
 pub type Place = JoinedArray<U64Key, I64Key, 16>;
@@ -77,25 +77,4 @@ pub fn count_between(events: &Events, user: u64, from: i64, to: i64) -> usize
         (Included (user, from)) (Excluded (user, to)) events.now) }
 {
     events_between(events, user, from, to).count()
-}
-
-/// Inserts four events of two users, and returns how many the user 2 has from time -10 up to time 30, and the first
-/// event of that user, with its time. `None` if an allocation fails.
-pub fn count_events(alloc: Global) -> Option<(usize, Option<(i64, u32)>)>
-    ensures { IfSome result (λ told. told ≡ (2, Some (negsuc 9, 103))) }
-{
-    let mut events: Events = TreeMap::new(alloc);
-    let Ok(_) = put_event(&mut events, place(2, 20), 100) else {
-        return None;
-    };
-    let Ok(_) = put_event(&mut events, place(2, 35), 101) else {
-        return None;
-    };
-    let Ok(_) = put_event(&mut events, place(1, 15), 102) else {
-        return None;
-    };
-    let Ok(_) = put_event(&mut events, place(2, -10), 103) else {
-        return None;
-    };
-    Some((count_between(&events, 2, -10, 30), first_event(&events, 2)))
 }

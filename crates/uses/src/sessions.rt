@@ -1,7 +1,7 @@
 //! Sessions by their tokens and by their ends, in two maps that always agree.
 ghost use Rattle.std.specs.Prelude.{◌≡◌, length, IfOk, OnErr, OnOk};
 ghost use Rattle.std.specs.Option.{option_map, unwrap_or};
-ghost use Rattle.uses.specs.Sessions.{Changes, Expires, end_of};
+ghost use Rattle.uses.specs.Sessions.{Changes, Expires, IsFirst, end_of};
 
 use art_operations::keys::{Escaped, Joined, Unsigned};
 use art_operations::tree_map::TreeMap;
@@ -116,13 +116,19 @@ impl Sessions {
         ensures kept { OnErr result (self.new ≡ self.old) }
     {
         let key = Escaped::encode(alloc, token)?;
-        let Some(end) = self.by_token.get(&key).copied() else {
+        self.close_key(alloc, &key)
+    }
+
+    /// Returns the token and the end of the session that ends first; `None` if all are closed.
+    pub fn first(&self, alloc: Global) -> Result<Option<(Escaped, u64)>, AllocError>
+        ensures { IfOk result (λ first. IsFirst first self.now) }
+    {
+        self.by_end.rises();
+        let Some((key, _)) = self.by_end.first_key_value() else {
             return Ok(None);
         };
-        let end_key = key_of_end(alloc, &key, end)?;
-        self.by_token.remove(&key);
-        self.by_end.remove(&end_key);
-        Ok(Some(end))
+        let (end, token) = key.split(alloc)?;
+        Ok(Some((token, end.get())))
     }
 
     /// Closes the session that ends first, if it ends up to a time, and returns its token and its end; `None` if all
@@ -131,18 +137,29 @@ impl Sessions {
         ensures expired { IfOk result (λ expired. Expires now expired self.old self.new) }
         ensures kept { OnErr result (self.new ≡ self.old) }
     {
-        self.by_end.rises();
-        let Some((key, _)) = self.by_end.first_key_value() else {
+        let Some((token, end)) = self.first(alloc)? else {
             return Ok(None);
         };
-        let (end, token) = key.split(alloc)?;
-        let end = end.get();
         if now < end {
             return Ok(None);
         }
-        self.by_end.pop_first();
-        self.by_token.remove(&token);
+        self.close_key(alloc, &token)?;
         Ok(Some((token, end)))
+    }
+
+    // Closes the session of a key, and returns its end.
+    fn close_key(&mut self, alloc: Global, key: &Escaped) -> Result<Option<u64>, AllocError>
+        ensures found { IfOk result (λ end. end ≡ end_of key.now self.old) }
+        ensures closed { OnOk result (Changes key.now None self.old self.new) }
+        ensures kept { OnErr result (self.new ≡ self.old) }
+    {
+        let Some(end) = self.by_token.get(key).copied() else {
+            return Ok(None);
+        };
+        let end_key = key_of_end(alloc, key, end)?;
+        self.by_token.remove(key);
+        self.by_end.remove(&end_key);
+        Ok(Some(end))
     }
 }
 
