@@ -2,12 +2,16 @@
 use Rattle.std.proofs.Common.{◌≡◌, ◌≢◌, ◌<◌, ◌≤◌, ◌⊎◌, inl, inr, ℕ, List, [], ◌∷◌, length, Bool, true, false, Option, Some, IfSome, refl, ap, sym, subst, arith}
 use Rattle.std.proofs.lemmas.Bool.{cases_order, le-ltb, ne_eqb}
 use Rattle.std.proofs.lemmas.Cmp.{nat_list_cmp_total}
+use Rattle.std.proofs.lemmas.Iterator.Consumers.{YieldsList-from_first, count_from_yields_List}
+use Rattle.std.specs.Borrow.{Bor}
 use Rattle.std.specs.FinMap.{nat_cmp-IsAntisymmetric, slice_cmp-IsAntisymmetric}
+use Rattle.std.specs.Iterator.{Drains}
 use Rattle.std.specs.List.{AllByRecursion as Each}
 use Rattle.std.specs.Ordering.{nat_cmp}
 use Rattle.std.specs.declared.cmp.Ordering.{Ordering}
 use Rattle.std.specs.declared.cmp.Ordering.TheVariants.{Less, Greater}
 use Rattle.art_parts.proofs.NameLemmas.{same_or_not}
+use Rattle.art_map.specs.MapItems.{TakesFirst, deref_pair}
 use Rattle.art_keys.specs.FixedLaws.{fixed_no_prefixes}
 use Rattle.art_keys.specs.Joins.{pair_cmp}
 use Rattle.art_keys.specs.Prefixes.{AreInjective}
@@ -41,6 +45,10 @@ pub same_length_free : {K V : Type 0} (bytes : K → List ℕ) (n : ℕ) (key : 
     is_conflict (of_key bytes) (bytes key) pairs ≡ false
 same_length_free {K} {V} bytes n =
     never_in_conflict V (λ key. length (bytes key) ≡ n) bytes (λ a b of_a of_b front. fixed_no_prefixes n (bytes a) (bytes b) of_a of_b front)
+
+-- `count` of an iterator over pairs is how many are left
+pub pairs_counted : {K V : Type 0} (pairs : List (K × V)) (count : ℕ) → (items : List (Bor K × Bor V)) × Drains TakesFirst pairs items × (count ≡ length items) → count ≡ length pairs
+pairs_counted pairs count ran = count_from_yields_List pairs count ran (YieldsList-from_first deref_pair (λ pairs. pairs) pairs refl)
 
 -- strings are the same or not
 pub same_or_other : (a b : List ℕ) → (a ≡ b) ⊎ (a ≢ b)
