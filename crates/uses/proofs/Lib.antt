@@ -1,2 +1,3 @@
 pub mod Longest
 pub mod Both
+pub mod Agree

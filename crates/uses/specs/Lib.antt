@@ -2,6 +2,5 @@ pub mod Longest
 pub mod Inventory
 pub mod Leases
 pub mod Events
-pub mod Indexes
 pub mod Tally
 pub mod Sessions

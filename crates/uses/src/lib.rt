@@ -23,14 +23,16 @@ use art_operations::lookup::{prefix_search_unchecked, search_unchecked};
 use art_operations::minmax::{maximum_unchecked, minimum_unchecked};
 use art_operations::visitor::{Visitor, visit_with};
 
+pub mod copies;
 pub mod counts;
+pub mod events;
 pub mod given;
-pub mod index;
 pub mod inventory;
 pub mod keys;
 pub mod leases;
 pub mod months;
 pub mod parts;
+pub mod routes;
 pub mod sessions;
 pub mod tally;
 

@@ -1,5 +1,4 @@
-use Rattle.std.proofs.Common.{ap, sym, subst, ◌∙◌, ◌≡◌, ◌+◌, ◌-◌, ◌^◌}
-use Rattle.std.specs.Prelude.{min}
+use Rattle.std.proofs.Common.{ap, subst, ◌∙◌, ◌≡◌, ◌+◌, ◌-◌, ◌^◌, min}
 use Rattle.std.specs.Option.{unwrap_or}
 use Rattle.uses.specs.Tally.{count_of}
 use Rattle.uses.proofs.tally.add.Goals as goal

@@ -1,9 +1,0 @@
-use Rattle.std.proofs.Common.{ap, length, refl, ◌∙◌}
-use Rattle.std.proofs.lemmas.Iterator.Consumers.{YieldsList-from_first, count_from_yields_List}
-use Rattle.art_operations.specs.MapItems.{deref_pair}
-use Rattle.uses.proofs.index.count_between.Goals as goal
-
-pub returns : goal.returns
-returns c =
-    count_from_yields_List c.range.result c.count.result c.count.ensures.ran (YieldsList-from_first deref_pair (λ pairs. pairs) c.range.result refl)
-    ∙ ap length (c.range.ensures.pairs tt)
