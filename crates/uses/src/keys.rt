@@ -1,4 +1,4 @@
-//! Maps of keys that are never in conflict, as a user has them.
+//! Maps of keys that never conflict, as a caller uses them.
 ghost use Rattle.std.specs.Prelude.{◌≡◌, Some, IfSome, OnErr, OnOk};
 ghost use Rattle.std.specs.Cmp.Lexicographic.{slice_cmp};
 ghost use Rattle.std.specs.Ordering.{nat_cmp};
@@ -12,10 +12,10 @@ use art_operations::keys::{Escaped, Terminated, U16Key};
 use art_operations::tree_map::TreeMap;
 use std::alloc::{AllocError, Global};
 
-/// Words with their numbers. Any word may be the beginning of another.
+/// Words with their numbers. A word may be a prefix of another one.
 pub type Words = TreeMap<Escaped, u64, 16>;
 
-/// Puts a word in. The only error is want of memory.
+/// Inserts a word. Fails only if an allocation fails; then the words are unchanged.
 pub fn put_word(
     words: &mut Words,
     alloc: Global,
@@ -30,14 +30,15 @@ pub fn put_word(
     Ok(())
 }
 
-/// Does nothing, and tells that the words rise as their bytes do, and not as their escapes.
+/// Does nothing; its contract states that the words are in ascending order of their own bytes, and not only of their
+/// escapes.
 pub fn words_rise(words: &Words)
     ensures { RiseBy (slice_cmp nat_cmp) words.now }
 {
     words.rises();
 }
 
-/// Returns the number of a name, and takes no memory.
+/// Returns the number of a name, or `None` if the name is not stored. It allocates nothing.
 pub fn number_of_name(names: &TreeMap<Terminated, u64, 16>, name: &str) -> Option<u64>
     ensures { result ≡ value_at ended (ended name.now) names.now }
 {
