@@ -1,3 +1,4 @@
+mod callers;
 mod clones;
 mod iterator;
 mod kept_keys;

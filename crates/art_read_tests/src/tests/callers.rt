@@ -1,7 +1,7 @@
 //! What a caller builds of maps: sessions in two of them, events by user and time, routes.
-use art_node_support::expected::same;
 use art_nodes::node::AsBytes;
 use art_operations::tree_map::TreeMap;
+use art_test_support::expected::same;
 use std::alloc::Global;
 use std::test::Fail;
 use uses::events::{Events, count_between, event_at, events_of, first_event, place, put_event};
@@ -148,5 +148,8 @@ fn a_query_finds_the_routes_that_it_starts_with(rt: HostRuntime) -> Result<(), F
     let mut routes = TreeMap::new(rt.alloc());
     let added = add_all(&mut routes, rt.alloc());
     let refused = add(&mut routes, rt.alloc(), b"a\0", 7).is_err();
-    same((added, refused, count_right(&routes), routes.len()), (4, true, 6, 3))
+    same(
+        (added, refused, count_right(&routes), routes.len()),
+        (4, true, 6, 3),
+    )
 }
