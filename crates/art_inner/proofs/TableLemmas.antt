@@ -126,6 +126,10 @@ move_back (a ∷ []) zero m n d within e = absurd (omega (arith, within))
 move_back (a ∷ b ∷ old) zero m n d within e = ap (λ (k : ℕ). a ∷ take k (a ∷ b ∷ old)) (sym e)
 move_back (a ∷ old) (suc p) m n d within e = ap (λ xs. a ∷ xs) (move_back old p m n d (omega (arith, within)) e)
 
+-- those from a place on moved one place to the back, and the last one dropped
+abbrev pub moved_to : {X : Type 0} → ℕ → List X → List X
+moved_to place old = take (suc place) old ++ take (length old - 1 - place) (drop place old)
+
 -- a value moves one place to the back
 pub moved_back : {X : Type 0} (old part : List X) (at place : ℕ) (d x : X) → at < place → place < length old →
     part ≡ take (suc place) old ++ take (length old - 1 - place) (drop place old) → x ≡ get_or part (place - 1) d →

@@ -1,5 +1,5 @@
 -- Children whose bytes, kinds and slots are in three lists. No public clause cites this module.
-use Rattle.std.specs.Prelude.{◌≡◌, length, ℕ, suc, List, [], ◌∷◌, if◌then◌else◌, nat_lt}
+use Rattle.std.specs.Prelude.{◌≡◌, ◌-◌, length, take, drop, ℕ, suc, List, [], ◌∷◌, ◌++◌, if◌then◌else◌, nat_lt}
 use Rattle.art_inner.specs.Inner.{Children}
 use Rattle.art_parts.specs.declared.names.NodeType.{NodeType}
 use Rattle.art_inner.specs.declared.rows.Rows.{Rows}
@@ -23,3 +23,7 @@ AreAligned r = (length r.kinds.now ≡ length r.bytes.now) × (length r.slots.no
 -- the children that borrowed lists stand for
 abbrev pub rows_of : Rows → Children
 rows_of r = rows r.bytes.now r.kinds.now r.slots.now
+
+-- a value inserted at a place of a list, whose last value goes
+abbrev pub inserted : {X : Type 0} → List X → ℕ → X → List X
+inserted xs at x = take at xs ++ x ∷ take (length xs - 1 - at) (drop at xs)

@@ -24,11 +24,11 @@ invariant_of-self g c =
     let s = shows_of c.self.inside c.args.self.now c.self.told c.self.told2 c.self.invariant c.self.view_is in
     let room : c.self.inside.len < g.row.N = omega (arith, table_length c.self.inside c.args.self.now s, c.requires.room) in
     let made =
-    (table_inserted c.self.inside c.args.self.now s c.args.at c.args.byte c.requires.place c.args.child c.insert_into.new.part c.insert_into-2.new.part c.insert_into-3.new.part room
+    (table_inserted c.self.inside c.args.self.now s c.args.at c.args.byte c.requires.place c.args.child c.insert_into.new.bytes c.insert_into.new.kinds c.insert_into.new.slots room
     c.requires.absent
-    c.insert_into.ensures c.insert_into-2.ensures c.insert_into-3.ensures) in (
+    c.insert_into.ensures.bytes c.insert_into.ensures.kinds c.insert_into.ensures.slots) in (
       omega (arith, room),
-      length_around c.self.inside.kinds c.insert_into-2.new.part g.row.N (c.self.inside.len + 1) (omega (arith, room)) s.kinds c.insert_into-2.auto.part,
+      length_around c.self.inside.kinds c.insert_into.new.kinds g.row.N (c.self.inside.len + 1) (omega (arith, room)) s.kinds c.insert_into.auto.kinds,
       subst IsRising (sym made) (IsRising-put_child _ _ _ s.rising),
     )
 
@@ -36,6 +36,6 @@ pub returns : goal.returns
 returns g c =
     let s = shows_of c.self.inside c.args.self.now c.self.told c.self.told2 c.self.invariant c.self.view_is in
     let room : c.self.inside.len < g.row.N = omega (arith, table_length c.self.inside c.args.self.now s, c.requires.room) in
-    table_inserted c.self.inside c.args.self.now s c.args.at c.args.byte c.requires.place c.args.child c.insert_into.new.part c.insert_into-2.new.part c.insert_into-3.new.part room
+    table_inserted c.self.inside c.args.self.now s c.args.at c.args.byte c.requires.place c.args.child c.insert_into.new.bytes c.insert_into.new.kinds c.insert_into.new.slots room
     c.requires.absent
-    c.insert_into.ensures c.insert_into-2.ensures c.insert_into-3.ensures
+    c.insert_into.ensures.bytes c.insert_into.ensures.kinds c.insert_into.ensures.slots
