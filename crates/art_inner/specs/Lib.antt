@@ -10,6 +10,7 @@ pub mod InnerRenamed
 pub mod NewNames
 -- their tables
 pub mod Tables
+pub mod AnyTables
 pub mod Rows
 pub mod Spans
 pub mod Direct

@@ -1,10 +1,9 @@
 //! Inner nodes of any kind.
 ghost use Rattle.std.specs.Prelude.{◌≡◌, ◌≢◌, ◌-◌, min, ◌<◌, ◌≤◌, length, Some, All, slice_get, IsTrue, ◌↔◌, ⊤};
 
+use crate::child_table::{AnyTable, ChildTable, KindTable};
 use crate::children::Children;
-use crate::inner::{InnerNode, InnerNode4, InnerNode16, InnerNode48, InnerNodeDirect};
-use crate::places::Places;
-use crate::table::{get_by_lanes, get_of_four};
+use crate::inner::{InnerNode, InnerNode4, InnerNode16, InnerNode48, InnerNodeDirect, InnerNodeOf};
 use art_parts::header::{FromHeader, Header};
 use art_parts::names::{NodeType, OpaqueNodePtr};
 use std::alloc::AllocError;
@@ -76,6 +75,7 @@ pub type InnerRef<'a, const P: usize> = InnerRefOf<
 >;
 
 impl<const P: usize> AnyInner<P> {
+    ghost use Rattle.art_inner.specs.AnyTables.{table_children, table_kind};
     ghost use Rattle.art_inner.specs.Inner.{HasPlace, child_at, childless};
     ghost use Rattle.art_inner.specs.InnerChanges.{with_child, with_header, without_child};
     ghost use Rattle.art_inner.specs.Views.{any_kind, any_view, ref_kind, ref_view};
@@ -95,6 +95,20 @@ impl<const P: usize> AnyInner<P> {
             NodeType::Node48 => AnyInner::Node48(InnerNode48::from_header(header)),
             NodeType::Node256 => AnyInner::Node256(InnerNodeDirect::from_header(header)),
             NodeType::Leaf => unreachable!(),
+        }
+    }
+
+    // A node with this header and this table.
+    pub(crate) fn of(header: Header<P>, table: AnyTable) -> Self
+        ensures kind { any_kind result ≡ table_kind table }
+        ensures prefix { (any_view result).prefix ≡ header.entry }
+        ensures children { (any_view result).children ≡ table_children table }
+    {
+        match table {
+            AnyTable::Node4(table) => AnyInner::Node4(InnerNodeOf { header, table }),
+            AnyTable::Node16(table) => AnyInner::Node16(InnerNodeOf { header, table }),
+            AnyTable::Node48(table) => AnyInner::Node48(InnerNodeOf { header, table }),
+            AnyTable::Node256(table) => AnyInner::Node256(InnerNodeOf { header, table }),
         }
     }
 
@@ -247,12 +261,7 @@ impl<'a, const P: usize> InnerRef<'a, P> {
     pub fn lookup_child(&self, byte: u8) -> Option<OpaqueNodePtr>
         ensures { result ≡ child_at (ref_view self.now).children byte }
     {
-        match *self {
-            InnerRef::Node4(node) => get_of_four(&node.table, byte),
-            InnerRef::Node16(node) => get_by_lanes(&node.table, byte),
-            InnerRef::Node48(node) => node.table.get(byte),
-            InnerRef::Node256(node) => node.table.get(byte),
-        }
+        on_each_kind!(InnerRef, *self, node => node.table.lookup(byte))
     }
 
     /// Returns the least byte, and the name under it.

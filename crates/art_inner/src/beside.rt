@@ -5,6 +5,7 @@ ghost use Rattle.art_inner.specs.Beside.{IsNextTo};
 ghost use Rattle.art_inner.specs.Inner.{child_at};
 
 use crate::any::InnerRef;
+use crate::child_table::ChildTable;
 use crate::places::Places;
 use art_parts::names::OpaqueNodePtr;
 

@@ -1,12 +1,13 @@
 //! Names with a place for each byte.
-ghost use Rattle.std.specs.Prelude.{◌≡◌, ℕ, ◌<◌, ◌≤◌, [], length, Some, None, ⊤};
+ghost use Rattle.std.specs.Prelude.{◌≡◌, ℕ, ◌<◌, ◌≤◌, [], length, Some, None, refl};
 
 use crate::beside::nearest;
+use crate::child_table::{AnyTable, ChildTable, KindTable};
 use crate::children::Children;
+use crate::indexed::Indexed;
 use crate::places::Places;
 use crate::renaming::new_name;
 use art_parts::names::{LeafPtr, NodeType, OpaqueNodePtr};
-use std::alloc::AllocError;
 use std::marker::Model;
 
 // The kind of the name in a place. One byte encodes it, and whether there is one.
@@ -22,7 +23,7 @@ enum PlaceKind {
 
 /// A place for each byte, seen as the list of the names under rising bytes.
 #[derive(Drop)]
-pub(crate) struct Direct {
+pub struct Direct {
     slots: [usize; 256],
     places: [PlaceKind; 256],
     len: usize,
@@ -41,29 +42,15 @@ impl Model for Direct {
     ghost invariant = { λ t. t.len ≡ length (names_by_byte (direct_at t.slots t.places)) };
 }
 
-impl Clone for Direct {
-    ghost is_clone = { λ table copy. copy ≡ table };
-
-    ghost is_infallible = { λ _. ⊤ };
-
-    fn clone(&self) -> Result<Self, AllocError> {
-        Ok(Direct {
-            slots: self.slots,
-            places: self.places,
-            len: self.len,
-        })
-    }
-}
-
-impl Direct {
-    ghost use Rattle.art_inner.specs.Inner.{IsRising, child_at, put_child, remove_child};
+impl ChildTable for Direct {
     ghost use Rattle.art_inner.specs.Beside.{IsNextTo};
-    ghost use Rattle.art_inner.specs.InnerRenamed.{children_renamed};
-    ghost use Rattle.art_inner.specs.NewNames.{new_name};
+    ghost use Rattle.art_inner.specs.Inner.{child_at};
 
-    pub(crate) fn new() -> Self
-        ensures { result ≡ [] }
-    {
+    ghost children_of = { λ t. t };
+
+    ghost capacity = { 256 };
+
+    fn new() -> Self {
         Direct {
             slots: vacant_slots(),
             places: vacant_places(),
@@ -71,11 +58,7 @@ impl Direct {
         }
     }
 
-    // A table of these children.
-    pub(crate) fn of(children: Children<'_>) -> Self
-        requires rising { IsRising children }
-        ensures { result ≡ children.entry }
-    {
+    fn of(children: Children<'_>) -> Self {
         let mut table = Direct::new();
         for (byte, name) in children {
             table.write(byte, name);
@@ -83,28 +66,31 @@ impl Direct {
         table
     }
 
-    pub(crate) fn iter(&self) -> Children<'_>
-        ensures children { result ≡ self.now }
-        ensures rising { IsRising self.now }
-        ensures bound { length self.now ≤ 256 }
-    {
+    fn copy(&self) -> Self {
+        Direct {
+            slots: self.slots,
+            places: self.places,
+            len: self.len,
+        }
+    }
+
+    fn iter(&self) -> Children<'_> {
         Children::of_direct(self, self.len)
     }
 
     // The nearest child on either side of a byte that has none.
-    pub(crate) fn beside(&self, byte: u8) -> (u8, OpaqueNodePtr)
+    fn beside(&self, byte: u8) -> (u8, OpaqueNodePtr)
         requires some { 0 < length self.now }
         requires absent { child_at self.now byte ≡ None }
         ensures beside { IsNextTo self.now byte result }
+        ensures bound { length self.now ≤ 256 }
         ensures few { length self.now < 256 }
     {
         prove!(self.len > 0);
         nearest(self, byte)
     }
 
-    pub(crate) fn write(&mut self, byte: u8, child: OpaqueNodePtr)
-        ensures { self.new ≡ put_child self.old byte child }
-    {
+    fn write(&mut self, byte: u8, child: OpaqueNodePtr) {
         let len = match self.get(byte) {
             Some(_) => self.len,
             None => self.len + 1,
@@ -114,20 +100,14 @@ impl Direct {
         self.len = len;
     }
 
-    pub(crate) fn remove(&mut self, byte: u8) -> Option<OpaqueNodePtr>
-        ensures removed { result ≡ child_at self.old byte }
-        ensures rest { self.new ≡ remove_child self.old byte }
-    {
+    fn remove(&mut self, byte: u8) -> Option<OpaqueNodePtr> {
         let child = self.get(byte)?;
         self.places[byte as usize] = PlaceKind::Vacant;
         self.len -= 1;
         Some(child)
     }
 
-    // Renames the leaves among the names by a table.
-    pub(crate) fn rename_leaves(&mut self, table: &[usize])
-        ensures { self.new ≡ children_renamed (new_name table.now) self.old }
-    {
+    fn rename_leaves(&mut self, table: &[usize]) {
         rename_places(&self.places, &mut self.slots, table);
     }
 }
@@ -138,6 +118,33 @@ impl Places for Direct {
     #[inline(always)]
     fn get(&self, byte: u8) -> Option<OpaqueNodePtr> {
         name_in(self.places[byte as usize], self.slots[byte as usize])
+    }
+}
+
+impl KindTable for Direct {
+    ghost use Rattle.art_parts.specs.declared.names.NodeType.TheVariants as kinds;
+
+    const TYPE: NodeType = NodeType::Node256;
+
+    ghost TYPE = { kinds.Node256 };
+
+    ghost capacity_is = { refl };
+
+    #[inline(always)]
+    fn lookup(&self, byte: u8) -> Option<OpaqueNodePtr> {
+        self.get(byte)
+    }
+
+    fn into_any(self) -> AnyTable {
+        AnyTable::Node256(self)
+    }
+
+    fn larger(self) -> AnyTable {
+        self.into_any()
+    }
+
+    fn smaller(self) -> AnyTable {
+        AnyTable::Node48(Indexed::of(self.iter()))
     }
 }
 

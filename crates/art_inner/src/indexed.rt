@@ -1,18 +1,20 @@
 //! Up to 48 names, with a table of the places of bytes.
-ghost use Rattle.std.specs.Prelude.{◌≡◌, ◌≢◌, ℕ, ◌+◌, ◌<◌, ◌≤◌, [], length, Some, None, replicate, slice_index_or, ⊤};
+ghost use Rattle.std.specs.Prelude.{◌≡◌, ◌≢◌, ℕ, ◌+◌, ◌<◌, ◌≤◌, [], length, Some, None, replicate, slice_index_or, refl};
 
 use crate::beside::nearest;
+use crate::child_table::{AnyTable, ChildTable, KindTable};
 use crate::children::Children;
+use crate::direct::Direct;
 use crate::places::Places;
 use crate::renaming::rename_slots;
+use crate::table::Table;
 use art_parts::names::{NodeType, OpaqueNodePtr};
-use std::alloc::AllocError;
 use std::marker::Model;
 
 /// Up to 48 names in places, and for each byte the number of its place from one on, or zero: seen as
 /// the list of the names under rising bytes.
 #[derive(Drop)]
-pub(crate) struct Indexed {
+pub struct Indexed {
     slots: [usize; 48],
     index: [u8; 256],
     kinds: [NodeType; 48],
@@ -35,30 +37,12 @@ impl Model for Indexed {
         × IsIndex t.index t.len };
 }
 
-impl Clone for Indexed {
-    ghost is_clone = { λ table copy. copy ≡ table };
+impl ChildTable for Indexed {
+    ghost children_of = { λ t. t };
 
-    ghost is_infallible = { λ _. ⊤ };
+    ghost capacity = { 48 };
 
-    fn clone(&self) -> Result<Self, AllocError> {
-        Ok(Indexed {
-            slots: self.slots,
-            index: self.index,
-            kinds: self.kinds,
-            len: self.len,
-        })
-    }
-}
-
-impl Indexed {
-    ghost use Rattle.art_inner.specs.Inner.{HasPlace, IsRising, child_at, put_child, remove_child};
-    ghost use Rattle.art_inner.specs.Beside.{IsNextTo};
-    ghost use Rattle.art_inner.specs.InnerRenamed.{children_renamed};
-    ghost use Rattle.art_inner.specs.NewNames.{new_name};
-
-    pub(crate) fn new() -> Self
-        ensures { result ≡ [] }
-    {
+    fn new() -> Self {
         Indexed {
             slots: no_slots(),
             index: no_places(),
@@ -67,12 +51,7 @@ impl Indexed {
         }
     }
 
-    // A table of these children.
-    pub(crate) fn of(children: Children<'_>) -> Self
-        requires rising { IsRising children }
-        requires fit { length children ≤ 48 }
-        ensures { result ≡ children.entry }
-    {
+    fn of(children: Children<'_>) -> Self {
         let mut table = Indexed::new();
         for (byte, name) in children {
             table.write(byte, name);
@@ -80,29 +59,26 @@ impl Indexed {
         table
     }
 
-    pub(crate) fn iter(&self) -> Children<'_>
-        ensures children { result ≡ self.now }
-        ensures rising { IsRising self.now }
-        ensures bound { length self.now ≤ 48 }
-    {
+    fn copy(&self) -> Self {
+        Indexed {
+            slots: self.slots,
+            index: self.index,
+            kinds: self.kinds,
+            len: self.len,
+        }
+    }
+
+    fn iter(&self) -> Children<'_> {
         Children::of_indexed(self, self.len)
     }
 
     // The nearest child on either side of a byte that has none.
-    pub(crate) fn beside(&self, byte: u8) -> (u8, OpaqueNodePtr)
-        requires some { 0 < length self.now }
-        requires absent { child_at self.now byte ≡ None }
-        ensures beside { IsNextTo self.now byte result }
-        ensures bound { length self.now ≤ 48 }
-    {
+    fn beside(&self, byte: u8) -> (u8, OpaqueNodePtr) {
         prove!(self.len > 0);
         nearest(self, byte)
     }
 
-    pub(crate) fn write(&mut self, byte: u8, child: OpaqueNodePtr)
-        requires { HasPlace 48 self.old byte }
-        ensures { self.new ≡ put_child self.old byte child }
-    {
+    fn write(&mut self, byte: u8, child: OpaqueNodePtr) {
         let place = self.index[byte as usize] as usize;
         if place == 0 {
             let last = self.len;
@@ -116,10 +92,7 @@ impl Indexed {
         }
     }
 
-    pub(crate) fn remove(&mut self, byte: u8) -> Option<OpaqueNodePtr>
-        ensures removed { result ≡ child_at self.old byte }
-        ensures rest { self.new ≡ remove_child self.old byte }
-    {
+    fn remove(&mut self, byte: u8) -> Option<OpaqueNodePtr> {
         let child = self.get(byte)?;
         let place = self.index[byte as usize];
         let last = self.len;
@@ -131,10 +104,7 @@ impl Indexed {
         Some(child)
     }
 
-    // Renames the leaves among the names by a table.
-    pub(crate) fn rename_leaves(&mut self, table: &[usize])
-        ensures { self.new ≡ children_renamed (new_name table.now) self.old }
-    {
+    fn rename_leaves(&mut self, table: &[usize]) {
         rename_slots(&self.kinds, &mut self.slots, table);
     }
 }
@@ -152,6 +122,33 @@ impl Places for Indexed {
             kind: self.kinds[place - 1],
             slot: self.slots[place - 1],
         })
+    }
+}
+
+impl KindTable for Indexed {
+    ghost use Rattle.art_parts.specs.declared.names.NodeType.TheVariants as kinds;
+
+    const TYPE: NodeType = NodeType::Node48;
+
+    ghost TYPE = { kinds.Node48 };
+
+    ghost capacity_is = { refl };
+
+    #[inline(always)]
+    fn lookup(&self, byte: u8) -> Option<OpaqueNodePtr> {
+        self.get(byte)
+    }
+
+    fn into_any(self) -> AnyTable {
+        AnyTable::Node48(self)
+    }
+
+    fn larger(self) -> AnyTable {
+        AnyTable::Node256(Direct::of(self.iter()))
+    }
+
+    fn smaller(self) -> AnyTable {
+        AnyTable::Node16(Table::of(self.iter()))
     }
 }
 

@@ -2,12 +2,11 @@
 ghost use Rattle.std.specs.Prelude.{◌≡◌, ◌-◌, ◌<◌, ◌≤◌, min, length, slice_get, Some, All, IsTrue, ◌↔◌, ⊤};
 
 use crate::any::AnyInner;
+use crate::child_table::{ChildTable, KindTable};
 use crate::children::Children;
 use crate::direct::Direct;
 use crate::indexed::Indexed;
-use crate::places::Places;
-use crate::resized::{Grows, Shrinks};
-use crate::table::{Table, get_by_lanes, get_of_four};
+use crate::table::Table;
 use art_parts::header::{FromHeader, Header};
 use art_parts::names::{NodeType, OpaqueNodePtr};
 use std::alloc::AllocError;
@@ -127,413 +126,59 @@ pub trait InnerNode<const P: usize>: FromHeader<Header<P>> {
         Self.FromHeader.starts header node → view_of node ≡ childless header };
 }
 
-/// An inner node of up to 4 children.
+/// An inner node: its header, and the table of its children.
 #[derive(Drop)]
-pub struct InnerNode4<const P: usize> {
+pub struct InnerNodeOf<T: KindTable, const P: usize> {
     pub(crate) header: Header<P>,
-    pub(crate) table: Table<4>,
+    pub(crate) table: T,
 }
 
-impl<const P: usize> Model for InnerNode4<P> {
-    ghost use Rattle.art_inner.specs.Inner.{Inner, IsSize};
-
-    ghost Value = { Inner };
-
-    ghost view = { λ n. record { prefix = n.header; children = n.table } };
-
-    ghost invariant = { λ _. IsSize P };
-}
-
-impl<const P: usize> Clone for InnerNode4<P> {
-    ghost is_clone = { λ node copy. copy ≡ node };
-
-    ghost is_infallible = { λ _. ⊤ };
-
-    fn clone(&self) -> Result<Self, AllocError> {
-        Ok(InnerNode4 {
-            header: self.header,
-            table: self.table.clone()?,
-        })
-    }
-}
-
-impl<const P: usize> FromHeader<Header<P>> for InnerNode4<P> {
-    ghost use Rattle.art_inner.specs.Inner.{childless};
-
-    ghost starts = { λ h n. n ≡ childless h };
-
-    fn from_header(header: Header<P>) -> Self {
-        InnerNode4::from_header(header)
-    }
-}
-
-impl<const P: usize> InnerNode4<P> {
-    ghost use Rattle.art_inner.specs.InnerChanges.{with_header};
-    ghost use Rattle.art_inner.specs.Inner.{childless};
-
-    /// Returns a node with this header and no child.
-    pub fn from_header(header: Header<P>) -> Self
-        ensures { result ≡ childless header.entry }
-    {
-        InnerNode4 {
-            header,
-            table: Table::new(),
-        }
-    }
-
-    /// Replaces the header of the node.
-    pub fn set_header(&mut self, header: Header<P>)
-        ensures { self.new ≡ with_header header.entry self.old }
-    {
-        self.header = header
-    }
-}
-
-impl<const P: usize> InnerNode<P> for InnerNode4<P> {
-    ghost use Rattle.art_parts.specs.declared.names.NodeType.TheVariants as kinds;
-
-    const TYPE: NodeType = NodeType::Node4;
-
-    ghost TYPE = { kinds.Node4 };
-
-    ghost view_of = { λ n. n };
-
-    ghost starts_childless = { λ header node starts. starts };
-
-    fn header(&self) -> Header<P> {
-        self.header
-    }
-
-    #[inline(always)]
-    fn prefix_len(&self) -> usize {
-        self.header.prefix_len()
-    }
-
-    #[inline(always)]
-    fn read_prefix(&self) -> &[u8] {
-        self.header.read_prefix()
-    }
-
-    fn iter(&self) -> Children<'_> {
-        self.table.iter()
-    }
-
-    #[inline(always)]
-    fn lookup_child(&self, byte: u8) -> Option<OpaqueNodePtr> {
-        get_of_four(&self.table, byte)
-    }
-
-    fn write_child(&mut self, byte: u8, child: OpaqueNodePtr) {
-        self.table.write(byte, child)
-    }
-
-    #[inline(always)]
-    fn remove_child(&mut self, byte: u8) -> Option<OpaqueNodePtr> {
-        self.table.remove(byte)
-    }
-
-    fn rename_leaves(&mut self, table: &[usize]) {
-        self.table.rename_leaves(table)
-    }
-
-    fn into_any(self) -> AnyInner<P> {
-        AnyInner::Node4(self)
-    }
-
-    fn grow(self) -> AnyInner<P> {
-        AnyInner::Node16(self.grown())
-    }
-
-    fn shrink(self) -> AnyInner<P> {
-        self.into_any()
-    }
-}
+/// An inner node of up to 4 children.
+pub type InnerNode4<const P: usize> = InnerNodeOf<Table<4>, P>;
 
 /// An inner node of up to 16 children.
-#[derive(Drop)]
-pub struct InnerNode16<const P: usize> {
-    pub(crate) header: Header<P>,
-    pub(crate) table: Table<16>,
-}
-
-impl<const P: usize> Model for InnerNode16<P> {
-    ghost use Rattle.art_inner.specs.Inner.{Inner, IsSize};
-
-    ghost Value = { Inner };
-
-    ghost view = { λ n. record { prefix = n.header; children = n.table } };
-
-    ghost invariant = { λ _. IsSize P };
-}
-
-impl<const P: usize> Clone for InnerNode16<P> {
-    ghost is_clone = { λ node copy. copy ≡ node };
-
-    ghost is_infallible = { λ _. ⊤ };
-
-    fn clone(&self) -> Result<Self, AllocError> {
-        Ok(InnerNode16 {
-            header: self.header,
-            table: self.table.clone()?,
-        })
-    }
-}
-
-impl<const P: usize> FromHeader<Header<P>> for InnerNode16<P> {
-    ghost use Rattle.art_inner.specs.Inner.{childless};
-
-    ghost starts = { λ h n. n ≡ childless h };
-
-    fn from_header(header: Header<P>) -> Self {
-        InnerNode16::from_header(header)
-    }
-}
-
-impl<const P: usize> InnerNode16<P> {
-    ghost use Rattle.art_inner.specs.InnerChanges.{with_header};
-    ghost use Rattle.art_inner.specs.Inner.{childless};
-
-    /// Returns a node with this header and no child.
-    pub fn from_header(header: Header<P>) -> Self
-        ensures { result ≡ childless header.entry }
-    {
-        InnerNode16 {
-            header,
-            table: Table::new(),
-        }
-    }
-
-    /// Replaces the header of the node.
-    pub fn set_header(&mut self, header: Header<P>)
-        ensures { self.new ≡ with_header header.entry self.old }
-    {
-        self.header = header
-    }
-}
-
-impl<const P: usize> InnerNode<P> for InnerNode16<P> {
-    ghost use Rattle.art_parts.specs.declared.names.NodeType.TheVariants as kinds;
-
-    const TYPE: NodeType = NodeType::Node16;
-
-    ghost TYPE = { kinds.Node16 };
-
-    ghost view_of = { λ n. n };
-
-    ghost starts_childless = { λ header node starts. starts };
-
-    fn header(&self) -> Header<P> {
-        self.header
-    }
-
-    #[inline(always)]
-    fn prefix_len(&self) -> usize {
-        self.header.prefix_len()
-    }
-
-    #[inline(always)]
-    fn read_prefix(&self) -> &[u8] {
-        self.header.read_prefix()
-    }
-
-    fn iter(&self) -> Children<'_> {
-        self.table.iter()
-    }
-
-    #[inline(always)]
-    fn lookup_child(&self, byte: u8) -> Option<OpaqueNodePtr> {
-        get_by_lanes(&self.table, byte)
-    }
-
-    fn write_child(&mut self, byte: u8, child: OpaqueNodePtr) {
-        self.table.write(byte, child)
-    }
-
-    #[inline(always)]
-    fn remove_child(&mut self, byte: u8) -> Option<OpaqueNodePtr> {
-        self.table.remove(byte)
-    }
-
-    fn rename_leaves(&mut self, table: &[usize]) {
-        self.table.rename_leaves(table)
-    }
-
-    fn into_any(self) -> AnyInner<P> {
-        AnyInner::Node16(self)
-    }
-
-    fn grow(self) -> AnyInner<P> {
-        AnyInner::Node48(self.grown())
-    }
-
-    fn shrink(self) -> AnyInner<P> {
-        AnyInner::Node4(self.shrunk())
-    }
-}
+pub type InnerNode16<const P: usize> = InnerNodeOf<Table<16>, P>;
 
 /// An inner node of up to 48 children.
-#[derive(Drop)]
-pub struct InnerNode48<const P: usize> {
-    pub(crate) header: Header<P>,
-    pub(crate) table: Indexed,
-}
-
-impl<const P: usize> Model for InnerNode48<P> {
-    ghost use Rattle.art_inner.specs.Inner.{Inner, IsSize};
-
-    ghost Value = { Inner };
-
-    ghost view = { λ n. record { prefix = n.header; children = n.table } };
-
-    ghost invariant = { λ _. IsSize P };
-}
-
-impl<const P: usize> Clone for InnerNode48<P> {
-    ghost is_clone = { λ node copy. copy ≡ node };
-
-    ghost is_infallible = { λ _. ⊤ };
-
-    fn clone(&self) -> Result<Self, AllocError> {
-        Ok(InnerNode48 {
-            header: self.header,
-            table: self.table.clone()?,
-        })
-    }
-}
-
-impl<const P: usize> FromHeader<Header<P>> for InnerNode48<P> {
-    ghost use Rattle.art_inner.specs.Inner.{childless};
-
-    ghost starts = { λ h n. n ≡ childless h };
-
-    fn from_header(header: Header<P>) -> Self {
-        InnerNode48::from_header(header)
-    }
-}
-
-impl<const P: usize> InnerNode48<P> {
-    ghost use Rattle.art_inner.specs.InnerChanges.{with_header};
-    ghost use Rattle.art_inner.specs.Inner.{childless};
-
-    /// Returns a node with this header and no child.
-    pub fn from_header(header: Header<P>) -> Self
-        ensures { result ≡ childless header.entry }
-    {
-        InnerNode48 {
-            header,
-            table: Indexed::new(),
-        }
-    }
-
-    /// Replaces the header of the node.
-    pub fn set_header(&mut self, header: Header<P>)
-        ensures { self.new ≡ with_header header.entry self.old }
-    {
-        self.header = header
-    }
-}
-
-impl<const P: usize> InnerNode<P> for InnerNode48<P> {
-    ghost use Rattle.art_parts.specs.declared.names.NodeType.TheVariants as kinds;
-
-    const TYPE: NodeType = NodeType::Node48;
-
-    ghost TYPE = { kinds.Node48 };
-
-    ghost view_of = { λ n. n };
-
-    ghost starts_childless = { λ header node starts. starts };
-
-    fn header(&self) -> Header<P> {
-        self.header
-    }
-
-    #[inline(always)]
-    fn prefix_len(&self) -> usize {
-        self.header.prefix_len()
-    }
-
-    #[inline(always)]
-    fn read_prefix(&self) -> &[u8] {
-        self.header.read_prefix()
-    }
-
-    fn iter(&self) -> Children<'_> {
-        self.table.iter()
-    }
-
-    #[inline(always)]
-    fn lookup_child(&self, byte: u8) -> Option<OpaqueNodePtr> {
-        self.table.get(byte)
-    }
-
-    fn write_child(&mut self, byte: u8, child: OpaqueNodePtr) {
-        self.table.write(byte, child)
-    }
-
-    #[inline(always)]
-    fn remove_child(&mut self, byte: u8) -> Option<OpaqueNodePtr> {
-        self.table.remove(byte)
-    }
-
-    fn rename_leaves(&mut self, table: &[usize]) {
-        self.table.rename_leaves(table)
-    }
-
-    fn into_any(self) -> AnyInner<P> {
-        AnyInner::Node48(self)
-    }
-
-    fn grow(self) -> AnyInner<P> {
-        AnyInner::Node256(self.grown())
-    }
-
-    fn shrink(self) -> AnyInner<P> {
-        AnyInner::Node16(self.shrunk())
-    }
-}
+pub type InnerNode48<const P: usize> = InnerNodeOf<Indexed, P>;
 
 /// An inner node of up to 256 children.
-#[derive(Drop)]
-pub struct InnerNodeDirect<const P: usize> {
-    pub(crate) header: Header<P>,
-    pub(crate) table: Direct,
-}
+pub type InnerNodeDirect<const P: usize> = InnerNodeOf<Direct, P>;
 
-impl<const P: usize> Model for InnerNodeDirect<P> {
+impl<T: KindTable, const P: usize> Model for InnerNodeOf<T, P> {
     ghost use Rattle.art_inner.specs.Inner.{Inner, IsSize};
 
     ghost Value = { Inner };
 
-    ghost view = { λ n. record { prefix = n.header; children = n.table } };
+    ghost view = { λ n. record { prefix = n.header; children = T.children_of n.table } };
 
     ghost invariant = { λ _. IsSize P };
 }
 
-impl<const P: usize> Clone for InnerNodeDirect<P> {
+impl<T: KindTable, const P: usize> Clone for InnerNodeOf<T, P> {
     ghost is_clone = { λ node copy. copy ≡ node };
 
     ghost is_infallible = { λ _. ⊤ };
 
     fn clone(&self) -> Result<Self, AllocError> {
-        Ok(InnerNodeDirect {
+        Ok(InnerNodeOf {
             header: self.header,
-            table: self.table.clone()?,
+            table: self.table.copy(),
         })
     }
 }
 
-impl<const P: usize> FromHeader<Header<P>> for InnerNodeDirect<P> {
+impl<T: KindTable, const P: usize> FromHeader<Header<P>> for InnerNodeOf<T, P> {
     ghost use Rattle.art_inner.specs.Inner.{childless};
 
     ghost starts = { λ h n. n ≡ childless h };
 
     fn from_header(header: Header<P>) -> Self {
-        InnerNodeDirect::from_header(header)
+        InnerNodeOf::from_header(header)
     }
 }
 
-impl<const P: usize> InnerNodeDirect<P> {
+impl<T: KindTable, const P: usize> InnerNodeOf<T, P> {
     ghost use Rattle.art_inner.specs.InnerChanges.{with_header};
     ghost use Rattle.art_inner.specs.Inner.{childless};
 
@@ -541,9 +186,9 @@ impl<const P: usize> InnerNodeDirect<P> {
     pub fn from_header(header: Header<P>) -> Self
         ensures { result ≡ childless header.entry }
     {
-        InnerNodeDirect {
+        InnerNodeOf {
             header,
-            table: Direct::new(),
+            table: T::new(),
         }
     }
 
@@ -555,12 +200,10 @@ impl<const P: usize> InnerNodeDirect<P> {
     }
 }
 
-impl<const P: usize> InnerNode<P> for InnerNodeDirect<P> {
-    ghost use Rattle.art_parts.specs.declared.names.NodeType.TheVariants as kinds;
+impl<T: KindTable, const P: usize> InnerNode<P> for InnerNodeOf<T, P> {
+    const TYPE: NodeType = T::TYPE;
 
-    const TYPE: NodeType = NodeType::Node256;
-
-    ghost TYPE = { kinds.Node256 };
+    ghost TYPE = { T.TYPE };
 
     ghost view_of = { λ n. n };
 
@@ -586,7 +229,7 @@ impl<const P: usize> InnerNode<P> for InnerNodeDirect<P> {
 
     #[inline(always)]
     fn lookup_child(&self, byte: u8) -> Option<OpaqueNodePtr> {
-        self.table.get(byte)
+        self.table.lookup(byte)
     }
 
     fn write_child(&mut self, byte: u8, child: OpaqueNodePtr) {
@@ -603,14 +246,14 @@ impl<const P: usize> InnerNode<P> for InnerNodeDirect<P> {
     }
 
     fn into_any(self) -> AnyInner<P> {
-        AnyInner::Node256(self)
+        AnyInner::of(self.header, self.table.into_any())
     }
 
     fn grow(self) -> AnyInner<P> {
-        self.into_any()
+        AnyInner::of(self.header, self.table.larger())
     }
 
     fn shrink(self) -> AnyInner<P> {
-        AnyInner::Node48(self.shrunk())
+        AnyInner::of(self.header, self.table.smaller())
     }
 }

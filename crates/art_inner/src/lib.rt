@@ -3,6 +3,7 @@
 
 pub mod any;
 mod beside;
+mod child_table;
 pub mod children;
 mod direct;
 mod indexed;

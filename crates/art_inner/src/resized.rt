@@ -1,9 +1,10 @@
 //! Inner nodes of the next larger and of the next smaller kind.
 ghost use Rattle.std.specs.Prelude.{◌≡◌, ◌≤◌, length};
 
+use crate::child_table::ChildTable;
 use crate::direct::Direct;
 use crate::indexed::Indexed;
-use crate::inner::{InnerNode, InnerNode4, InnerNode16, InnerNode48, InnerNodeDirect};
+use crate::inner::{InnerNode, InnerNode4, InnerNode16, InnerNode48, InnerNodeDirect, InnerNodeOf};
 use crate::table::Table;
 
 /// An inner node of a kind below the largest.
@@ -32,7 +33,7 @@ impl<const P: usize> Grows<P> for InnerNode4<P> {
 
     #[inline(never)]
     fn grown(self) -> InnerNode16<P> {
-        InnerNode16 {
+        InnerNodeOf {
             header: self.header,
             table: Table::of(self.iter()),
         }
@@ -44,7 +45,7 @@ impl<const P: usize> Grows<P> for InnerNode16<P> {
 
     #[inline(never)]
     fn grown(self) -> InnerNode48<P> {
-        InnerNode48 {
+        InnerNodeOf {
             header: self.header,
             table: Indexed::of(self.iter()),
         }
@@ -56,7 +57,7 @@ impl<const P: usize> Grows<P> for InnerNode48<P> {
 
     #[inline(never)]
     fn grown(self) -> InnerNodeDirect<P> {
-        InnerNodeDirect {
+        InnerNodeOf {
             header: self.header,
             table: Direct::of(self.iter()),
         }
@@ -68,7 +69,7 @@ impl<const P: usize> Shrinks<P> for InnerNode16<P> {
 
     #[inline(never)]
     fn shrunk(self) -> InnerNode4<P> {
-        InnerNode4 {
+        InnerNodeOf {
             header: self.header,
             table: Table::of(self.iter()),
         }
@@ -80,7 +81,7 @@ impl<const P: usize> Shrinks<P> for InnerNode48<P> {
 
     #[inline(never)]
     fn shrunk(self) -> InnerNode16<P> {
-        InnerNode16 {
+        InnerNodeOf {
             header: self.header,
             table: Table::of(self.iter()),
         }
@@ -92,7 +93,7 @@ impl<const P: usize> Shrinks<P> for InnerNodeDirect<P> {
 
     #[inline(never)]
     fn shrunk(self) -> InnerNode48<P> {
-        InnerNode48 {
+        InnerNodeOf {
             header: self.header,
             table: Indexed::of(self.iter()),
         }

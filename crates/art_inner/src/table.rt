@@ -1,18 +1,19 @@
 //! At most `N` names under rising bytes.
-ghost use Rattle.std.specs.Prelude.{◌≡◌, ◌+◌, ◌-◌, ◌<◌, ◌≤◌, [], ◌∷◌, ◌++◌, length, take, drop, remove, slice_get, ⊤};
+ghost use Rattle.std.specs.Prelude.{◌≡◌, ◌+◌, ◌-◌, ◌<◌, ◌≤◌, [], ◌∷◌, ◌++◌, length, take, drop, remove, slice_get, refl};
 ghost use Rattle.std.specs.Option.{option_map};
 
+use crate::child_table::{AnyTable, ChildTable, KindTable};
 use crate::children::Children;
+use crate::indexed::Indexed;
 use crate::lanes::lanes_before;
 use crate::renaming::rename_slots;
 use crate::rows::Rows;
 use art_parts::names::{NodeType, OpaqueNodePtr};
-use std::alloc::AllocError;
 use std::marker::Model;
 
 /// Up to `N` names under rising bytes, seen as their list.
 #[derive(Drop)]
-pub(crate) struct Table<const N: usize> {
+pub struct Table<const N: usize> {
     slots: [usize; N],
     bytes: [u8; N],
     kinds: [NodeType; N],
@@ -34,51 +35,9 @@ impl<const N: usize> Model for Table<N> {
         × IsRising (take t.len (rows t.bytes t.kinds t.slots)) };
 }
 
-impl<const N: usize> Clone for Table<N> {
-    ghost is_clone = { λ table copy. copy ≡ table };
-
-    ghost is_infallible = { λ _. ⊤ };
-
-    fn clone(&self) -> Result<Self, AllocError> {
-        Ok(Table {
-            slots: self.slots,
-            bytes: self.bytes,
-            kinds: self.kinds,
-            len: self.len,
-        })
-    }
-}
-
 impl<const N: usize> Table<N> {
-    ghost use Rattle.art_inner.specs.Inner.{HasPlace, IsAbove, IsRising, child_at, put_child, remove_child};
+    ghost use Rattle.art_inner.specs.Inner.{IsAbove, IsRising};
     ghost use Rattle.art_inner.specs.Rows.{AreAligned, rows_of};
-    ghost use Rattle.art_inner.specs.Beside.{IsNextTo};
-    ghost use Rattle.art_inner.specs.InnerRenamed.{children_renamed};
-    ghost use Rattle.art_inner.specs.NewNames.{new_name};
-
-    pub(crate) fn new() -> Self
-        ensures { result ≡ [] }
-    {
-        Table {
-            slots: [0; N],
-            bytes: [0; N],
-            kinds: [NodeType::Leaf; N],
-            len: 0,
-        }
-    }
-
-    // A table of these children.
-    pub(crate) fn of(children: Children<'_>) -> Self
-        requires rising { IsRising children }
-        requires fit { length children ≤ N }
-        ensures { result ≡ children.entry }
-    {
-        let mut table = Table::new();
-        for (byte, name) in children {
-            table.push(byte, name);
-        }
-        table
-    }
 
     // Appends a name.
     fn push(&mut self, byte: u8, child: OpaqueNodePtr)
@@ -121,30 +80,51 @@ impl<const N: usize> Table<N> {
             slot: self.slots[place],
         })
     }
+}
 
-    pub(crate) fn iter(&self) -> Children<'_>
-        ensures children { result ≡ self.now }
-        ensures rising { IsRising self.now }
-        ensures bound { length self.now ≤ N }
-    {
+impl<const N: usize> ChildTable for Table<N> {
+    ghost children_of = { λ t. t };
+
+    ghost capacity = { N };
+
+    fn new() -> Self {
+        Table {
+            slots: [0; N],
+            bytes: [0; N],
+            kinds: [NodeType::Leaf; N],
+            len: 0,
+        }
+    }
+
+    fn of(children: Children<'_>) -> Self {
+        let mut table = Table::new();
+        for (byte, name) in children {
+            table.push(byte, name);
+        }
+        table
+    }
+
+    fn copy(&self) -> Self {
+        Table {
+            slots: self.slots,
+            bytes: self.bytes,
+            kinds: self.kinds,
+            len: self.len,
+        }
+    }
+
+    fn iter(&self) -> Children<'_> {
         Children::new(self.rows())
     }
 
     // The first child from a byte on, or the last one where there is none.
-    pub(crate) fn beside(&self, byte: u8) -> (u8, OpaqueNodePtr)
-        requires { 0 < length self.now }
-        ensures beside { IsNextTo self.now byte result }
-        ensures bound { length self.now ≤ N }
-    {
+    fn beside(&self, byte: u8) -> (u8, OpaqueNodePtr) {
         let rows = self.rows();
         let below = rows.count_below(byte);
         rows.entry(below.min(rows.len() - 1))
     }
 
-    pub(crate) fn write(&mut self, byte: u8, child: OpaqueNodePtr)
-        requires { HasPlace N self.old byte }
-        ensures { self.new ≡ put_child self.old byte child }
-    {
+    fn write(&mut self, byte: u8, child: OpaqueNodePtr) {
         match self.rows().search(byte) {
             Ok(at) => {
                 self.kinds[at] = child.kind;
@@ -155,25 +135,21 @@ impl<const N: usize> Table<N> {
     }
 
     #[inline(always)]
-    pub(crate) fn remove(&mut self, byte: u8) -> Option<OpaqueNodePtr>
-        ensures removed { result ≡ child_at self.old byte }
-        ensures rest { self.new ≡ remove_child self.old byte }
-    {
+    fn remove(&mut self, byte: u8) -> Option<OpaqueNodePtr> {
         match self.rows().search(byte) {
             Ok(at) => Some(self.take_out(at, byte)),
             Err(_) => None,
         }
     }
 
-    // Renames the leaves among the names by a table.
-    pub(crate) fn rename_leaves(&mut self, table: &[usize])
-        ensures { self.new ≡ children_renamed (new_name table.now) self.old }
-    {
+    fn rename_leaves(&mut self, table: &[usize]) {
         rename_slots(&self.kinds, &mut self.slots, table);
     }
+}
 
+impl<const N: usize> Table<N> {
     ghost use Rattle.std.specs.Prelude.{Some, None, IsSome};
-    ghost use Rattle.art_inner.specs.Inner.{count_below};
+    ghost use Rattle.art_inner.specs.Inner.{child_at, count_below, put_child, remove_child};
 
     // Inserts a name at its place.
     fn insert(&mut self, at: usize, byte: u8, child: OpaqueNodePtr)
@@ -211,6 +187,60 @@ impl<const N: usize> Table<N> {
         remove_from(&mut self.slots[..len], at);
         self.len = len - 1;
         child
+    }
+}
+
+impl KindTable for Table<4> {
+    ghost use Rattle.art_parts.specs.declared.names.NodeType.TheVariants as kinds;
+
+    const TYPE: NodeType = NodeType::Node4;
+
+    ghost TYPE = { kinds.Node4 };
+
+    ghost capacity_is = { refl };
+
+    #[inline(always)]
+    fn lookup(&self, byte: u8) -> Option<OpaqueNodePtr> {
+        get_of_four(self, byte)
+    }
+
+    fn into_any(self) -> AnyTable {
+        AnyTable::Node4(self)
+    }
+
+    fn larger(self) -> AnyTable {
+        AnyTable::Node16(Table::of(self.iter()))
+    }
+
+    fn smaller(self) -> AnyTable {
+        self.into_any()
+    }
+}
+
+impl KindTable for Table<16> {
+    ghost use Rattle.art_parts.specs.declared.names.NodeType.TheVariants as kinds;
+
+    const TYPE: NodeType = NodeType::Node16;
+
+    ghost TYPE = { kinds.Node16 };
+
+    ghost capacity_is = { refl };
+
+    #[inline(always)]
+    fn lookup(&self, byte: u8) -> Option<OpaqueNodePtr> {
+        get_by_lanes(self, byte)
+    }
+
+    fn into_any(self) -> AnyTable {
+        AnyTable::Node16(self)
+    }
+
+    fn larger(self) -> AnyTable {
+        AnyTable::Node48(Indexed::of(self.iter()))
+    }
+
+    fn smaller(self) -> AnyTable {
+        AnyTable::Node4(Table::of(self.iter()))
     }
 }
 
