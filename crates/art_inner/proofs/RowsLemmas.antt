@@ -105,6 +105,20 @@ pub rows-first : (n : ℕ) (bs : List ℕ) (ks : List NodeType) (ss : List ℕ) 
 rows-first n bs ks ss cs b place shows first =
     (λ i. option_map (λ (e : Entry). e.1) (slice_get (sym shows i) (first i))) ∙ first_name n bs ks ss b ∙ ap (λ (xs : Children). child_at xs b) shows
 
+-- a byte below those of children has no name
+none_under : (x : ℕ) (cs : Children) (b : ℕ) → IsBelow x cs → b ≤ x → child_at cs b ≡ None
+none_under x [] b below low = refl
+none_under x (c ∷ cs) b below low = at_later c cs b (λ e. omega (arith, below.0, e, low)) ∙ none_under x cs b below.1 low
+
+-- a byte below the first has no name
+pub rows-none_below : (n : ℕ) (bs : List ℕ) (ks : List NodeType) (ss : List ℕ) (b : ℕ) → IsRising (take n (rows bs ks ss)) → b < get_or bs 0 0 → child_at (take n (rows bs ks ss)) b ≡ None
+rows-none_below zero bs ks ss b rising low = refl
+rows-none_below (suc n) [] ks ss b rising low = refl
+rows-none_below (suc n) (x ∷ bs) [] ss b rising low = refl
+rows-none_below (suc n) (x ∷ bs) (k ∷ ks) [] b rising low = refl
+rows-none_below (suc n) (x ∷ bs) (k ∷ ks) (s ∷ ss) b rising low =
+    at_later _ _ b (λ e. omega (arith, low, e)) ∙ none_under x (take n (rows bs ks ss)) b rising.0 (omega (arith, low))
+
 -- a byte that is not at its place has no name
 pub rows-not_at : (bs : List ℕ) (ks : List NodeType) (ss : List ℕ) (at b : ℕ) → length ks ≡ length bs → length ss ≡ length bs → IsRising (rows bs ks ss) →
     at ≡ bytes_below bs b → (at < length bs → get_or bs at 0 ≢ b) → child_at (rows bs ks ss) b ≡ None

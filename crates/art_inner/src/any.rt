@@ -264,6 +264,15 @@ impl<'a, const P: usize> InnerRef<'a, P> {
         on_each_kind!(InnerRef, *self, node => node.table.lookup(byte))
     }
 
+    /// Returns the name under a byte, as `lookup_child` does. If no child has a lower byte, as with the byte 0, it costs
+    /// one comparison.
+    #[inline(always)]
+    pub fn lookup_least(&self, byte: u8) -> Option<OpaqueNodePtr>
+        ensures { result ≡ child_at (ref_view self.now).children byte }
+    {
+        on_each_kind!(InnerRef, *self, node => node.table.lookup_least(byte))
+    }
+
     /// Returns the least byte, and the name under it.
     pub fn min(&self) -> (u8, OpaqueNodePtr)
         requires { 0 < length (ref_view self.now).children }

@@ -86,6 +86,15 @@ pub trait KindTable: ChildTable {
     fn lookup(&self, byte: u8) -> Option<OpaqueNodePtr>
         ensures { result ≡ child_at (Self.children_of self.now) byte };
 
+    /// Returns the name under a byte, as `lookup` does. If no child has a lower byte, as with the byte 0, it costs
+    /// one comparison.
+    #[inline(always)]
+    fn lookup_least(&self, byte: u8) -> Option<OpaqueNodePtr>
+        ensures { result ≡ child_at (Self.children_of self.now) byte }
+    {
+        self.lookup(byte)
+    }
+
     /// Returns the same table.
     fn into_any(self) -> AnyTable
         ensures kind { table_kind result ≡ TYPE }

@@ -95,6 +95,11 @@ pub trait InnerNode<const P: usize>: FromHeader<Header<P>> {
     fn lookup_child(&self, byte: u8) -> Option<OpaqueNodePtr>
         ensures { result ≡ child_at (view_of self.now).children byte };
 
+    /// Returns the name under a byte, as `lookup_child` does. If no child has a lower byte, as with the byte 0, it costs
+    /// one comparison.
+    fn lookup_least(&self, byte: u8) -> Option<OpaqueNodePtr>
+        ensures { result ≡ child_at (view_of self.now).children byte };
+
     /// Returns the least byte, and the name under it.
     fn min(&self) -> (u8, OpaqueNodePtr)
         requires { 0 < length (view_of self.now).children }
@@ -230,6 +235,11 @@ impl<T: KindTable, const P: usize> InnerNode<P> for InnerNodeOf<T, P> {
     #[inline(always)]
     fn lookup_child(&self, byte: u8) -> Option<OpaqueNodePtr> {
         self.table.lookup(byte)
+    }
+
+    #[inline(always)]
+    fn lookup_least(&self, byte: u8) -> Option<OpaqueNodePtr> {
+        self.table.lookup_least(byte)
     }
 
     fn write_child(&mut self, byte: u8, child: OpaqueNodePtr) {

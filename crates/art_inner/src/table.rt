@@ -204,6 +204,11 @@ impl KindTable for Table<4> {
         get_of_four(self, byte)
     }
 
+    #[inline(always)]
+    fn lookup_least(&self, byte: u8) -> Option<OpaqueNodePtr> {
+        get_least_of_four(self, byte)
+    }
+
     fn into_any(self) -> AnyTable {
         AnyTable::Node4(self)
     }
@@ -229,6 +234,11 @@ impl KindTable for Table<16> {
     #[inline(always)]
     fn lookup(&self, byte: u8) -> Option<OpaqueNodePtr> {
         get_by_lanes(self, byte)
+    }
+
+    #[inline(always)]
+    fn lookup_least(&self, byte: u8) -> Option<OpaqueNodePtr> {
+        get_least_by_lanes(self, byte)
     }
 
     fn into_any(self) -> AnyTable {
@@ -264,6 +274,28 @@ pub(crate) fn get_by_lanes(table: &Table<16>, byte: u8) -> Option<OpaqueNodePtr>
     ensures { result ≡ child_at table.now byte }
 {
     table.name_at(lanes_before(&table.bytes, byte))
+}
+
+// The name under a byte of four, by one comparison where all bytes in use are above it.
+#[inline(always)]
+pub(crate) fn get_least_of_four(table: &Table<4>, byte: u8) -> Option<OpaqueNodePtr>
+    ensures { result ≡ child_at table.now byte }
+{
+    if byte < table.bytes[0] {
+        return None;
+    }
+    get_of_four(table, byte)
+}
+
+// The same for up to sixteen.
+#[inline(always)]
+pub(crate) fn get_least_by_lanes(table: &Table<16>, byte: u8) -> Option<OpaqueNodePtr>
+    ensures { result ≡ child_at table.now byte }
+{
+    if byte < table.bytes[0] {
+        return None;
+    }
+    get_by_lanes(table, byte)
 }
 
 // How many of four bytes come before the first that is this one: 4 where none is.
