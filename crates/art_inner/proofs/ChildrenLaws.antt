@@ -1,11 +1,10 @@
 -- What lists of children have under a byte, for callers.
 use Rattle.std.proofs.Common.{◌≡◌, ◌≢◌, ◌⊎◌, ℕ, zero, suc, ◌+◌, ◌-◌, ◌<◌, ◌≤◌, cond, [], ◌∷◌, ◌++◌, length, get_or, Some, None, IsSome, is_some, All, Contains, refl, sym, ap, ◌∙◌, inl, inr, arith, subst, eqb}
 use Rattle.std.proofs.lemmas.Bool.{eq-eqb, ne_eqb, cases_eq}
-use Rattle.art_inner.specs.Inner.{Children, IsAbove, IsBelow, IsRising, child_at, children_between, put_child, remove_child}
+use Rattle.art_inner.specs.Inner.{Children, IsAbove, IsBelow, IsRising, child_at, put_child, remove_child}
 use Rattle.art_parts.specs.declared.names.OpaqueNodePtr.{OpaqueNodePtr}
 use Rattle.art_inner.proofs.TableLemmas.{Entry, before, front, here, later_above, none_is_not, IsRising-put_child}
 use Rattle.art_parts.proofs.Comparisons.{by_order}
-use Rattle.art_inner.proofs.ChildrenLemmas.{IsRising-part, part_between, between_here, between_after, between_before}
 
 pub at_here : (c : Entry) (cs : Children) (b : ℕ) → c.0 ≡ b → child_at (c ∷ cs) b ≡ Some c.1
 at_here c cs b e = ap (λ t. cond t (Some c.1) (child_at cs b)) (eq-eqb c.0 b e)
@@ -211,22 +210,5 @@ last_is_greatest whole cs d same rising =
     at : (k : ℕ) (e : Entry) → k < length whole → (k ≡ length whole - 1) ⊎ (k ≢ length whole - 1) → (get_or whole k e).0 ≤ (get_or whole (length whole - 1) d).0
     at k e within (inl last) = subst (λ j. (get_or whole k e).0 ≤ (get_or whole j d).0) last (same_place whole k e d within)
     at k e within (inr before) = omega (arith, rises_by_place whole k (length whole - 1) e d rising (omega (arith, before)) (omega arith))
-
--- a part by bytes is sorted, and has under a byte in between what the whole has
-pub IsRising-children_between : (first last : ℕ) (cs : Children) → IsRising cs → IsRising (children_between first last cs)
-IsRising-children_between first last cs rising = subst IsRising (part_between first last cs rising) (IsRising-part _ _ cs rising)
-
-pub child_at-children_between : (first last : ℕ) (cs : Children) (b : ℕ) → first ≤ b → b ≤ last → child_at (children_between first last cs) b ≡ child_at cs b
-child_at-children_between first last [] b h k = refl
-child_at-children_between first last (c ∷ cs) b h k = step (child_at-children_between first last cs b h k) (by_order c.0 first) (by_order last c.0)
-  where
-    step : child_at (children_between first last cs) b ≡ child_at cs b → (c.0 < first) ⊎ ((c.0 ≡ first) ⊎ (first < c.0)) → (last < c.0) ⊎
-        ((last ≡ c.0) ⊎ (c.0 < last)) → child_at (children_between first last (c ∷ cs)) b ≡ child_at (c ∷ cs) b
-    step rest (inl l) g = ap (λ (t : Children). child_at t b) (between_after first last c cs l) ∙ rest ∙ sym (at_later c cs b (λ e. omega (arith, l, e)))
-    step rest (inr g) (inl l) = ap (λ (t : Children). child_at t b) (between_before first last c cs l) ∙ rest ∙ sym (at_later c cs b (λ e. omega (arith, l, e)))
-    step rest (inr g) (inr f) =
-        ap (λ (t : Children). child_at t b) (between_here first last c cs (elim g [ inl e ↦ omega (arith, e) | inr l ↦ omega (arith, l) ])
-        (elim f [ inl e ↦ omega (arith, e) | inr l ↦ omega (arith, l) ]))
-        ∙ ap (λ t. cond (eqb c.0 b) (Some c.1) t) rest
 
 pub ruleset children_laws = (child_here, child_elsewhere, put_child-above, IsRising-put_child, child_gone, child_kept, remove_child-absent, IsRising-remove_child)

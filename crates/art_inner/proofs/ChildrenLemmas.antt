@@ -1,7 +1,7 @@
 -- Lists of children by rising bytes.
-use Rattle.std.proofs.Common.{◌≡◌, ◌⊎◌, ℕ, zero, suc, ◌+◌, ◌-◌, ◌<◌, ◌≤◌, min, leb, Bool, true, false, ◌&&◌, cond, [], ◌∷◌, ◌++◌, take, drop, refl, sym, ap, ◌∙◌, inl, inr, arith}
-use Rattle.std.proofs.lemmas.Bool.{le-leb, lt-leb}
-use Rattle.art_inner.specs.Inner.{Children, IsBelow, IsRising, children_between, count_below}
+use Rattle.std.proofs.Common.{◌≡◌, ◌⊎◌, ℕ, zero, suc, ◌+◌, ◌-◌, ◌<◌, ◌≤◌, min, leb, ltb, Bool, true, false, ◌&&◌, cond, [], ◌∷◌, ◌++◌, take, drop, refl, sym, ap, ◌∙◌, inl, inr, arith}
+use Rattle.std.proofs.lemmas.Bool.{le-leb, le-ltb, lt-leb, lt-ltb}
+use Rattle.art_inner.specs.Inner.{Children, IsBelow, IsRising, children_between, count_below, part_of}
 use Rattle.art_inner.proofs.TableLemmas.{Entry, counted_front, counted_here}
 use Rattle.art_parts.proofs.Comparisons.{by_order}
 
@@ -35,24 +35,22 @@ pub IsRising-front : (before after : Children) → IsRising (before ++ after) �
 IsRising-front [] after rising = tt
 IsRising-front (c ∷ before) after rising = (IsBelow-front c.0 before after rising.0, IsRising-front before after rising.1)
 
--- an entry in the range is listed, and one outside is not
-pub between_here : (first last : ℕ) (c : Entry) (cs : Children) → first ≤ c.0 → c.0 ≤ last → children_between first last (c ∷ cs) ≡ c ∷ children_between first last cs
-between_here first last c cs h k =
-    ap (λ t. cond (t && leb c.0 last) (c ∷ children_between first last cs) (children_between first last cs)) (le-leb first c.0 h) ∙
-    ap (λ t. cond t (c ∷ children_between first last cs) (children_between first last cs)) (le-leb c.0 last k)
+-- an entry under a byte of the part is listed, and any other is not
+pub part_here : (from to : ℕ) (c : Entry) (cs : Children) → from ≤ c.0 → c.0 < to → part_of from to (c ∷ cs) ≡ c ∷ part_of from to cs
+part_here from to c cs h k =
+    ap (λ t. cond (t && ltb c.0 to) (c ∷ part_of from to cs) (part_of from to cs)) (le-leb from c.0 h)
+    ∙ ap (λ t. cond t (c ∷ part_of from to cs) (part_of from to cs)) (lt-ltb c.0 to k)
 
-pub between_after : (first last : ℕ) (c : Entry) (cs : Children) → c.0 < first → children_between first last (c ∷ cs) ≡ children_between first last cs
-between_after first last c cs h = ap (λ t. cond (t && leb c.0 last) (c ∷ children_between first last cs) (children_between first last cs)) (lt-leb first c.0 h)
+pub part_not : (from to : ℕ) (c : Entry) (cs : Children) → (c.0 < from) ⊎ (to ≤ c.0) → part_of from to (c ∷ cs) ≡ part_of from to cs
+part_not from to c cs (inl h) = ap (λ t. cond (t && ltb c.0 to) (c ∷ part_of from to cs) (part_of from to cs)) (lt-leb from c.0 h)
+part_not from to c cs (inr h) =
+    ap (λ t. cond (leb from c.0 && t) (c ∷ part_of from to cs) (part_of from to cs)) (le-ltb c.0 to h)
+    ∙ ap (λ t. cond t (c ∷ part_of from to cs) (part_of from to cs)) (and_false (leb from c.0))
 
-pub between_before : (first last : ℕ) (c : Entry) (cs : Children) → last < c.0 → children_between first last (c ∷ cs) ≡ children_between first last cs
-between_before first last c cs h =
-    ap (λ t. cond (leb first c.0 && t) (c ∷ children_between first last cs) (children_between first last cs)) (lt-leb c.0 last h)
-    ∙ ap (λ t. cond t (c ∷ children_between first last cs) (children_between first last cs)) (and_false (leb first c.0))
-
--- no child above the range is in it
-none_between : (first last x : ℕ) (cs : Children) → IsBelow x cs → last ≤ x → children_between first last cs ≡ []
-none_between first last x [] below h = refl
-none_between first last x (c ∷ cs) below h = between_before first last c cs (omega (arith, below.0)) ∙ none_between first last x cs below.1 h
+-- no child above the part is in it
+none_above : (from to x : ℕ) (cs : Children) → IsBelow x cs → to ≤ x + 1 → part_of from to cs ≡ []
+none_above from to x [] below h = refl
+none_above from to x (c ∷ cs) below h = part_not from to c cs (inr (omega (arith, below.0, h))) ∙ none_above from to x cs below.1 h
 
 none_below : (x b : ℕ) (cs : Children) → IsBelow x cs → b ≤ x → count_below cs b ≡ 0
 none_below x b [] below h = refl
@@ -71,8 +69,8 @@ nothing_before from cs = part_at from 0 0 0 cs (omega arith) (omega arith)
 part_later : (from to : ℕ) (c : Entry) (cs : Children) → part (suc from) (suc to) (c ∷ cs) ≡ part from to cs
 part_later from to c cs = part_at (suc from) (suc to) (suc (min from to)) (to - min from to) (c ∷ cs) (omega arith) (omega arith)
 
-part_here : (to : ℕ) (c : Entry) (cs : Children) → part 0 (suc to) (c ∷ cs) ≡ c ∷ part 0 to cs
-part_here to c cs = part_at 0 (suc to) 0 (suc to) (c ∷ cs) (omega arith) (omega arith) ∙ ap (λ (t : Children). c ∷ t) (sym (part_at 0 to 0 to cs (omega arith) (omega arith)))
+part_first : (to : ℕ) (c : Entry) (cs : Children) → part 0 (suc to) (c ∷ cs) ≡ c ∷ part 0 to cs
+part_first to c cs = part_at 0 (suc to) 0 (suc to) (c ∷ cs) (omega arith) (omega arith) ∙ ap (λ (t : Children). c ∷ t) (sym (part_at 0 to 0 to cs (omega arith) (omega arith)))
 
 pub part_between : (first last : ℕ) (cs : Children) → IsRising cs → part (count_below cs first) (count_below cs (last + 1)) cs ≡ children_between first last cs
 part_between first last [] rising = refl
@@ -80,7 +78,7 @@ part_between first last (c ∷ cs) rising = elim (by_order last c.0) [
   | inl above ↦
       ap (λ (n : ℕ). part (count_below (c ∷ cs) first) n (c ∷ cs)) (counted_here c cs (last + 1) (omega arith))
       ∙ nothing_before (count_below (c ∷ cs) first) (c ∷ cs)
-      ∙ sym (between_before first last c cs above ∙ none_between first last c.0 cs rising.0 (omega arith))
+      ∙ sym (part_not first (last + 1) c cs (inr (omega (arith, above))) ∙ none_above first (last + 1) c.0 cs rising.0 (omega (arith, above)))
   | inr other ↦ within (part_between first last cs rising.1) (elim other [ inl e ↦ omega (arith, e) | inr l ↦ omega (arith, l) ]) (by_order c.0 first)
 ]
   where
@@ -94,9 +92,9 @@ part_between first last (c ∷ cs) rising = elim (by_order last c.0) [
     here rest h k =
         ap (λ (n : ℕ). part n (count_below (c ∷ cs) (last + 1)) (c ∷ cs)) (counted_here c cs first k)
         ∙ ap (λ (n : ℕ). part 0 n (c ∷ cs)) (to h)
-        ∙ part_here (count_below cs (last + 1)) c cs
+        ∙ part_first (count_below cs (last + 1)) c cs
         ∙ ap (λ (t : Children). c ∷ t) (ap (λ (n : ℕ). part n (count_below cs (last + 1)) cs) (sym (none_below c.0 first cs rising.0 k)) ∙ rest)
-        ∙ sym (between_here first last c cs k h)
+        ∙ sym (part_here first (last + 1) c cs k (omega (arith, h)))
 
     within : Rest → c.0 ≤ last → (c.0 < first) ⊎ ((c.0 ≡ first) ⊎ (first < c.0)) → part (count_below (c ∷ cs) first) (count_below (c ∷ cs) (last + 1)) (c ∷ cs) ≡ children_between first last (c ∷ cs)
     within rest h (inl below) =
@@ -104,6 +102,6 @@ part_between first last (c ∷ cs) rising = elim (by_order last c.0) [
         ∙ ap (λ (n : ℕ). part (suc (count_below cs first)) n (c ∷ cs)) (to h)
         ∙ part_later (count_below cs first) (count_below cs (last + 1)) c cs
         ∙ rest
-        ∙ sym (between_after first last c cs below)
+        ∙ sym (part_not first (last + 1) c cs (inl below))
     within rest h (inr (inl e)) = here rest h (omega (arith, e))
     within rest h (inr (inr l)) = here rest h (omega (arith, l))

@@ -4,16 +4,16 @@ use Rattle.std.proofs.lemmas.List.{length-append}
 use Rattle.std.proofs.lemmas.Bool.{le-leb, lt-leb, lt-ltb, le-ltb, cases_eq}
 use Rattle.std.specs.Option.{option_map}
 use Rattle.std.specs.List.{cons_option}
-use Rattle.art_inner.specs.Inner.{Children, IsAbove, IsBelow, IsRising, child_at, children_between, put_child, remove_child}
-use Rattle.art_inner.specs.Tables.{part_of, names_from, names_by_byte}
+use Rattle.art_inner.specs.Inner.{Children, IsAbove, IsBelow, IsRising, child_at, children_between, part_of, put_child, remove_child}
+use Rattle.art_inner.specs.Tables.{names_from, names_by_byte}
 use Rattle.art_parts.specs.declared.names.OpaqueNodePtr.{OpaqueNodePtr}
 use Rattle.art_inner.proofs.TableLemmas.{Entry, none_is_not, IsRising-put_child}
 use Rattle.art_parts.proofs.Comparisons.{by_order}
 use Rattle.art_inner.specs.Rests.{IsRest, rest_list}
 use Rattle.art_inner.specs.declared.children.Rest.{Rest}
 use Rattle.art_inner.specs.declared.children.Rest.TheVariants as rest
-use Rattle.art_inner.proofs.ChildrenLaws.{first_is_least, last_is_greatest, rises_around, at_here, at_later, child_here, child_elsewhere, child_gone, child_kept, put_child-above, IsRising-remove_child, IsRising-children_between, child_at-children_between}
-use Rattle.art_inner.proofs.ChildrenLemmas.{between_here, between_after, between_before}
+use Rattle.art_inner.proofs.ChildrenLaws.{first_is_least, last_is_greatest, rises_around, at_here, at_later, child_here, child_elsewhere, child_gone, child_kept, put_child-above, IsRising-remove_child}
+use Rattle.art_inner.proofs.ChildrenLemmas.{part_here, part_not}
 
 some_is_not : (n : OpaqueNodePtr) → Some n ≢ None
 some_is_not n e = none_is_not (ap is_some (sym e))
@@ -50,20 +50,6 @@ same_children (c ∷ cs) (d ∷ ds) r s same = by_first (same_children cs ds r.1
         tails b (inl l) = nothing_below c.0 cs b r.0 (omega (arith, l)) ∙ sym (nothing_below d.0 ds b s.0 (omega (arith, l, e)))
         tails b (inr (inl k)) = nothing_below c.0 cs b r.0 (omega (arith, k)) ∙ sym (nothing_below d.0 ds b s.0 (omega (arith, k, e)))
         tails b (inr (inr l)) = sym (at_later c cs b (λ k. omega (arith, l, k))) ∙ same b ∙ at_later d ds b (λ k. omega (arith, l, k, e))
-
--- how a part continues at an entry
-part_here : (from to : ℕ) (c : Entry) (cs : Children) → from ≤ c.0 → c.0 < to → part_of from to (c ∷ cs) ≡ c ∷ part_of from to cs
-part_here from to c cs h k =
-    ap (λ t. cond (t && ltb c.0 to) (c ∷ part_of from to cs) (part_of from to cs)) (le-leb from c.0 h) ∙ ap (λ t. cond t (c ∷ part_of from to cs) (part_of from to cs)) (lt-ltb c.0 to k)
-
-and_false : (a : Bool) → (a && false) ≡ false
-and_false true = refl
-and_false false = refl
-
-part_not : (from to : ℕ) (c : Entry) (cs : Children) → (c.0 < from) ⊎ (to ≤ c.0) → part_of from to (c ∷ cs) ≡ part_of from to cs
-part_not from to c cs (inl h) = ap (λ t. cond (t && ltb c.0 to) (c ∷ part_of from to cs) (part_of from to cs)) (lt-leb from c.0 h)
-part_not from to c cs (inr h) =
-    ap (λ t. cond (leb from c.0 && t) (c ∷ part_of from to cs) (part_of from to cs)) (le-ltb c.0 to h) ∙ ap (λ t. cond t (c ∷ part_of from to cs) (part_of from to cs)) (and_false (leb from c.0))
 
 inside_or_not : (from to x : ℕ) → ((from ≤ x) × (x < to)) ⊎ ((x < from) ⊎ (to ≤ x))
 inside_or_not from to x = elim (by_order x from) [
@@ -309,24 +295,16 @@ listed_none at none = same_children (names_by_byte at) [] (listed_rising at) tt 
   | inr g ↦ nothing_above 256 (names_by_byte at) k (listed_above at) (elim g [ inl e ↦ omega (arith, e) | inr l ↦ omega (arith, l) ])
 ])
 
-not_between : (first last : ℕ) (ds : Children) (b : ℕ) → (b < first) ⊎ (last < b) → child_at (children_between first last ds) b ≡ None
-not_between first last [] b out = refl
-not_between first last (d ∷ ds) b out = elim (inside_or_not first (last + 1) d.0) [
-  | inl w ↦ ap (λ (t : Children). child_at t b) (between_here first last d ds w.0 (omega (arith, w.1)))
-      ∙ at_later d (children_between first last ds) b (λ e. elim out [ inl l ↦ absurd (omega (arith, l, e, w.0)) | inr l ↦ absurd (omega (arith, l, e, w.1)) ]) ∙ not_between first last ds b out
-  | inr n ↦ ap (λ (t : Children). child_at t b) (elim n [ inl l ↦ between_after first last d ds l | inr l ↦ between_before first last d ds (omega (arith, l)) ]) ∙ not_between first last ds b out
-]
-
 -- what is between two bytes of a part is a part
 module _ (cs : Children) (rising : IsRising cs) where
   pub part_between : (from to first last f t : ℕ) → f ≡ max from first → t ≡ min to (last + 1) → part_of f t cs ≡ children_between first last (part_of from to cs)
   part_between from to first last f t is_f is_t =
-      part_is cs rising f t (children_between first last (part_of from to cs)) (IsRising-children_between first last (part_of from to cs) (IsRising-part_of from to cs rising))
-      (λ b l r. sym (child_at-children_between first last (part_of from to cs) b (omega (arith, is_f)) (omega (arith, is_t)) ∙ at_inside from to cs b (omega (arith, is_f)) (omega (arith, is_t))))
+      part_is cs rising f t (children_between first last (part_of from to cs)) (IsRising-part_of first (last + 1) (part_of from to cs) (IsRising-part_of from to cs rising))
+      (λ b l r. sym (at_inside first (last + 1) (part_of from to cs) b (omega (arith, is_f)) (omega (arith, is_t)) ∙ at_inside from to cs b (omega (arith, is_f)) (omega (arith, is_t))))
       (λ b o. elim (inside_or_not first (last + 1) b) [
-        | inl w ↦ child_at-children_between first last (part_of from to cs) b w.0 (omega (arith, w.1))
+        | inl w ↦ at_inside first (last + 1) (part_of from to cs) b w.0 w.1
             ∙ at_outside from to cs b (elim o [ inl l ↦ inl (omega (arith, l, is_f, w.0)) | inr l ↦ inr (omega (arith, l, is_t, w.1)) ])
-        | inr n ↦ not_between first last (part_of from to cs) b (elim n [ inl l ↦ inl l | inr l ↦ inr (omega (arith, l)) ])
+        | inr n ↦ at_outside first (last + 1) (part_of from to cs) b n
       ])
 
 -- the first remaining child is written behind the earlier ones

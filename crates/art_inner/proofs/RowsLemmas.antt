@@ -3,8 +3,8 @@ use Rattle.std.proofs.Common.{◌≡◌, ℕ, zero, suc, ◌+◌, ◌<◌, ◌�
 use Rattle.std.specs.List.{prefix_len}
 use Rattle.std.specs.Option.{option_map}
 use Rattle.art_parts.specs.declared.names.NodeType.TheVariants.{Leaf}
-use Rattle.art_inner.specs.Inner.{Children, IsBelow, IsRising, child_at, count_below}
-use Rattle.art_inner.specs.Rows.{rows, bytes_below}
+use Rattle.art_inner.specs.Inner.{Children, IsBelow, IsRising, bytes_below, child_at, count_below}
+use Rattle.art_inner.specs.Rows.{rows}
 use Rattle.art_parts.specs.declared.names.NodeType.{NodeType}
 use Rattle.art_parts.specs.declared.names.OpaqueNodePtr.{OpaqueNodePtr}
 use Rattle.art_inner.proofs.TableLemmas.{Entry, nobody, none_is_not, counted_front, counted_here}

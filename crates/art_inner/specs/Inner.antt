@@ -1,5 +1,6 @@
 -- An inner node as contracts see it.
-use Rattle.std.specs.Prelude.{ℕ, List, [], ◌∷◌, suc, Option, Some, None, IsSome, length, ◌⊎◌, ◌<◌, ◌^◌, ◌==◌, ◌&&◌, nat_le, nat_lt, if◌then◌else◌, ⊤}
+use Rattle.std.specs.Prelude.{ℕ, List, [], ◌∷◌, suc, Option, Some, None, IsSome, filter, length, map, ◌⊎◌, ◌+◌, ◌<◌, ◌^◌, ◌==◌, ◌&&◌, nat_le, nat_lt, if◌then◌else◌, ⊤}
+use Rattle.std.specs.List.{AllByRecursion as Each}
 use Rattle.art_parts.specs.Headers.{Prefix}
 use Rattle.art_parts.specs.declared.names.OpaqueNodePtr.{OpaqueNodePtr}
 
@@ -14,8 +15,7 @@ pub record Inner : Type 0 where
 
 -- the byte is below each of these
 abbrev pub IsBelow : ℕ → Children → Type 0
-IsBelow b [] = ⊤
-IsBelow b (c ∷ cs) = (b < c.0) × IsBelow b cs
+IsBelow b cs = Each (λ c. b < c.0) cs
 
 -- each byte is below all later ones
 abbrev pub IsRising : Children → Type 0
@@ -24,8 +24,7 @@ IsRising (c ∷ cs) = IsBelow c.0 cs × IsRising cs
 
 -- the byte is above each of these
 abbrev pub IsAbove : ℕ → Children → Type 0
-IsAbove b [] = ⊤
-IsAbove b (c ∷ cs) = (c.0 < b) × IsAbove b cs
+IsAbove b cs = Each (λ c. c.0 < b) cs
 
 -- a node with no child
 abbrev pub childless : Prefix → Inner
@@ -53,17 +52,22 @@ remove_child (c ∷ cs) b = if c.0 == b then remove_child cs b else c ∷ remove
 abbrev pub HasPlace : ℕ → Children → ℕ → Type 0
 HasPlace capacity cs byte = (length cs < capacity) ⊎ IsSome (child_at cs byte)
 
+-- how many of the first bytes are below this one
+abbrev pub bytes_below : List ℕ → ℕ → ℕ
+bytes_below [] b = 0
+bytes_below (x ∷ bytes) b = if nat_lt x b then suc (bytes_below bytes b) else 0
+
 -- how many of the first children are under a byte below this one
 abbrev pub count_below : Children → ℕ → ℕ
-count_below [] b = 0
-count_below (c ∷ cs) b = if nat_lt c.0 b then suc (count_below cs b) else 0
+count_below cs b = bytes_below (map (λ c. c.0) cs) b
+
+-- the children under the bytes from one on, up to another that is excluded
+abbrev pub part_of : ℕ → ℕ → Children → Children
+part_of from to cs = filter (λ c. nat_le from c.0 && nat_lt c.0 to) cs
 
 -- the children under the bytes from first to last
 abbrev pub children_between : ℕ → ℕ → Children → Children
-children_between first last [] = []
-children_between first last (c ∷ cs) =
-    if nat_le first c.0 && nat_le c.0 last then c ∷ children_between first last cs
-    else children_between first last cs
+children_between first last cs = part_of first (last + 1) cs
 
 -- an array of so many bytes fits in memory: an inner node keeps this of its stored bytes, so that they can be borrowed by a caller that doesn't know it
 abbrev pub IsSize : ℕ → Type 0

@@ -1,5 +1,5 @@
 -- Children whose bytes, kinds and slots are in three lists. No public clause cites this module.
-use Rattle.std.specs.Prelude.{◌≡◌, ◌-◌, length, take, drop, ℕ, suc, List, [], ◌∷◌, ◌++◌, if◌then◌else◌, nat_lt}
+use Rattle.std.specs.Prelude.{◌≡◌, ◌-◌, length, take, drop, ℕ, List, [], ◌∷◌, ◌++◌}
 use Rattle.art_inner.specs.Inner.{Children}
 use Rattle.art_parts.specs.declared.names.NodeType.{NodeType}
 use Rattle.art_inner.specs.declared.rows.Rows.{Rows}
@@ -10,11 +10,6 @@ rows [] kinds slots = []
 rows (b ∷ bytes) [] slots = []
 rows (b ∷ bytes) (k ∷ kinds) [] = []
 rows (b ∷ bytes) (k ∷ kinds) (s ∷ slots) = (b, record { kind = k; slot = s }) ∷ rows bytes kinds slots
-
--- how many of the first bytes are below this one
-abbrev pub bytes_below : List ℕ → ℕ → ℕ
-bytes_below [] b = 0
-bytes_below (x ∷ bytes) b = if nat_lt x b then suc (bytes_below bytes b) else 0
 
 -- there are as many kinds and slots as bytes
 abbrev pub AreAligned : Rows → Type 0

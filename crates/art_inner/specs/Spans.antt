@@ -1,7 +1,6 @@
 -- The position of a cursor over a table of places.
 use Rattle.std.specs.Prelude.{◌≡◌, ◌≤◌, length}
-use Rattle.art_inner.specs.Inner.{Children}
-use Rattle.art_inner.specs.Tables.{part_of}
+use Rattle.art_inner.specs.Inner.{Children, part_of}
 use Rattle.art_inner.specs.declared.places.Span.{Span}
 
 -- the part that is left

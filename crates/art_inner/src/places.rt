@@ -1,8 +1,7 @@
 //! Tables with a place for each byte, and cursors over them.
 ghost use Rattle.std.specs.Prelude.{◌≡◌, ◌+◌, ◌<◌, ◌≤◌, length, [], IfNone};
 ghost use Rattle.std.specs.List.{cons_option};
-ghost use Rattle.art_inner.specs.Inner.{IsRising};
-ghost use Rattle.art_inner.specs.Tables.{part_of};
+ghost use Rattle.art_inner.specs.Inner.{IsRising, part_of};
 ghost use Rattle.art_inner.specs.Spans.{IsSpan, part_left};
 
 use art_parts::names::OpaqueNodePtr;

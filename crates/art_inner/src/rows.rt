@@ -123,7 +123,7 @@ impl<'a> Rows<'a> {
     }
 }
 
-ghost use Rattle.art_inner.specs.Rows.{bytes_below};
+ghost use Rattle.art_inner.specs.Inner.{bytes_below};
 
 // How many of the first bytes are below this one.
 fn bytes_below(bytes: &[u8], byte: usize) -> usize

@@ -1,5 +1,5 @@
 use Rattle.std.proofs.Common.{◌≡◌, ◌+◌, ℕ, min, sym, ap, ◌∙◌, length, is_some, arith}
-use Rattle.art_inner.specs.Tables.{part_of}
+use Rattle.art_inner.specs.Inner.{part_of}
 use Rattle.art_inner.proofs.Extent.{counted_some, counted_none, empty_part}
 use Rattle.art_inner.proofs.places.count_in.Goals.{in-Some, in_default}
 use Rattle.art_inner.proofs.places.count_in.Goals as goal

@@ -1,5 +1,5 @@
 use Rattle.std.proofs.Common.{◌≡◌, ◌≤◌, ◌-◌, length, min}
-use Rattle.art_inner.specs.Tables.{part_of}
+use Rattle.art_inner.specs.Inner.{part_of}
 use Rattle.art_inner.proofs.places.count_in.Given as goal
 
 abbrev pub invariant-loop-byte : goal.invariant-loop-byte

@@ -1,5 +1,5 @@
 use Rattle.std.proofs.Common.{◌≡◌, ◌+◌, drop}
-use Rattle.art_inner.specs.Rows.{bytes_below}
+use Rattle.art_inner.specs.Inner.{bytes_below}
 use Rattle.art_inner.proofs.rows.bytes_below.Given as goal
 
 abbrev pub invariant-loop-b : goal.invariant-loop-b

@@ -1,6 +1,6 @@
 use Rattle.std.proofs.Common.{◌≡◌, ◌+◌, ◌-◌, ℕ, min, take, drop, sym, ap, subst, ◌∙◌}
-use Rattle.art_inner.specs.Inner.{Children, IsRising, children_between, count_below}
-use Rattle.art_inner.specs.Rows.{bytes_below, rows_of}
+use Rattle.art_inner.specs.Inner.{Children, IsRising, bytes_below, children_between, count_below}
+use Rattle.art_inner.specs.Rows.{rows_of}
 use Rattle.art_inner.proofs.ChildrenLemmas.{IsRising-part, part_between}
 use Rattle.art_inner.proofs.RowsLemmas.{rows-below}
 use Rattle.art_inner.proofs.rows.Rows.between.Goals as goal
