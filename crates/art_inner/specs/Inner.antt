@@ -1,7 +1,8 @@
 -- An inner node as contracts see it.
-use Rattle.std.specs.Prelude.{ℕ, List, [], ◌∷◌, suc, Option, Some, None, IsSome, filter, length, map, ◌⊎◌, ◌+◌, ◌<◌, ◌^◌, ◌==◌, ◌&&◌, nat_le, nat_lt, if◌then◌else◌, ⊤}
+use Rattle.std.specs.Prelude.{ℕ, List, [], ◌∷◌, suc, Option, Some, None, IsSome, filter, length, map, ◌⊎◌, ◌+◌, ◌<◌, ◌^◌, ◌==◌, ◌&&◌, nat_le, nat_lt, if◌then◌else◌}
 use Rattle.std.specs.List.{AllByRecursion as Each}
 use Rattle.art_parts.specs.Headers.{Prefix}
+use Rattle.art_parts.specs.Lists.{Pairwise}
 use Rattle.art_parts.specs.declared.names.OpaqueNodePtr.{OpaqueNodePtr}
 
 -- a byte and a name, by rising bytes
@@ -19,8 +20,7 @@ IsBelow b cs = Each (λ c. b < c.0) cs
 
 -- each byte is below all later ones
 abbrev pub IsRising : Children → Type 0
-IsRising [] = ⊤
-IsRising (c ∷ cs) = IsBelow c.0 cs × IsRising cs
+IsRising cs = Pairwise (λ c d. c.0 < d.0) cs
 
 -- the byte is above each of these
 abbrev pub IsAbove : ℕ → Children → Type 0

@@ -2,7 +2,7 @@
 use Rattle.std.specs.Prelude.{◌≡◌, ℕ, ◌≤◌, List, [], ◌∷◌, length, Option, Some, None}
 use Rattle.std.specs.List.{AllByRecursion as Each}
 use Rattle.art_nodes.specs.Nodes.{Nodes}
-pub use Rattle.art_nodes.specs.Renamed.{IsIn}
+pub use Rattle.art_parts.specs.Lists.{IsIn}
 use Rattle.art_parts.specs.declared.names.OpaqueNodePtr.{OpaqueNodePtr}
 use Rattle.art_model.specs.Layouts.{names_of}
 use Rattle.art_model.specs.Pairs.{related_to}

@@ -1,18 +1,9 @@
 -- A map as a sorted list of pairs, and its changes. A pair is anything that has the bytes of a key.
-use Rattle.std.specs.Prelude.{ℕ, Bool, if◌then◌else◌, not, ◌&&◌, List, [], ◌∷◌, length, Option, Some, None, filter, ⊤}
-use Rattle.std.specs.List.{AllByRecursion as Each, list_any}
+use Rattle.std.specs.Prelude.{ℕ, Bool, if◌then◌else◌, not, ◌&&◌, List, [], ◌∷◌, length, Option, Some, None, filter}
+use Rattle.std.specs.List.{list_any}
 use Rattle.std.specs.Option.{option_map}
+pub use Rattle.art_parts.specs.Lists.{Pairwise, first_of}
 use Rattle.art_model.specs.Keys.{is_before, is_front, are_related, are_same, Precedes}
-
--- each element is related to each one after it
-abbrev pub Pairwise : {X : Type 0} → (X → X → Type 0) → List X → Type 0
-Pairwise R [] = ⊤
-Pairwise R (x ∷ xs) = Each (R x) xs × Pairwise R xs
-
--- the first element, if there is one
-abbrev pub first_of : {X : Type 0} → List X → Option X
-first_of [] = None
-first_of (x ∷ xs) = Some x
 
 -- the last element, if there is one
 abbrev pub last_of : {X : Type 0} → List X → Option X

@@ -2,12 +2,10 @@
 use Rattle.std.proofs.Common.{◌≡◌, ◌≢◌, ℕ, suc, ◌-◌, ◌<◌, ◌≤◌, [], ◌∷◌, ◌++◌, length, slice_get, Some, None, All, refl, ap, sym, ◌∙◌, inl, inr, arith}
 use Rattle.std.proofs.lemmas.Bool.{cases_eq}
 use Rattle.std.proofs.lemmas.List.{length-append}
+use Rattle.std.proofs.lemmas.Option.{same_Some}
 use Rattle.art_inner.specs.Inner.{Children, remove_child}
 use Rattle.art_inner.proofs.ChildrenLaws.{first_kept, remove_child-here}
 use Rattle.art_inner.proofs.TableLemmas.{Entry}
-
-same_entry : (c x : Entry) → Some c ≡ Some x → c ≡ x
-same_entry c x e = ap (λ o. elim o [ None ↦ c | Some y ↦ y ]) e
 
 none_left : (c : Entry) (cs : Children) → length (c ∷ cs) ≡ 1 → cs ≡ []
 none_left c [] one = refl
@@ -22,14 +20,14 @@ some_left (c ∷ cs) b one = omega arith
 pub first_left : (cs : Children) (b : ℕ) (x : Entry) → length (remove_child cs b) ≡ 1 → slice_get cs 0 ≡ Some x → x.0 ≢ b → remove_child cs b ≡ x ∷ []
 first_left [] b x one first n = absurd cc
 first_left (c ∷ cs) b x one first n =
-    let same = same_entry c x first in
+    let same = same_Some c x first in
     let kept = first_kept c cs b (λ e. n (ap (λ (y : Entry). y.0) (sym same) ∙ e)) in
     kept ∙ ap (λ (t : Children). c ∷ t) (none_left c (remove_child cs b) (ap length (sym kept) ∙ one)) ∙ ap (λ (y : Entry). y ∷ []) same
 
 -- the last child stays, under another byte
 last_stays : (c : Entry) (cs : Children) (b : ℕ) (x : Entry) → slice_get (c ∷ cs) (length cs) ≡ Some x → x.0 ≢ b → (front : Children) × (remove_child (c ∷ cs) b ≡ front ++ x ∷ [])
 last_stays c [] b x last n =
-    let same = same_entry c x last in
+    let same = same_Some c x last in
     ([], first_kept c [] b (λ e. n (ap (λ (y : Entry). y.0) (sym same) ∙ e)) ∙ ap (λ (y : Entry). y ∷ []) same)
 last_stays c (d ∷ cs) b x last n =
     let later = last_stays d cs b x last n in

@@ -1,5 +1,6 @@
 -- The leaves of a row move to other slots, and each node names them by their new names.
 use Rattle.std.proofs.Common.{◌≡◌, ◌≢◌, ◌⊎◌, ℕ, ◌+◌, ◌<◌, ◌≤◌, List, [], ◌∷◌, length, get_or, set, Option, Some, None, IsSome, IsSomeAnd, is_some, refl, sym, ap, ◌∙◌, inl, inr, arith, subst, get_or-set_same, get_or-set_other}
+use Rattle.std.proofs.lemmas.Option.{same_Some}
 use Rattle.std.proofs.lemmas.Bool.{cases_eq}
 use Rattle.std.specs.FinMap as map
 use Rattle.std.specs.Option.{option_map}
@@ -9,7 +10,8 @@ use Rattle.art_inner.specs.InnerRenamed.{inner_renamed}
 use Rattle.art_inner.specs.NewNames.{new_name}
 use Rattle.art_nodes.specs.Moves.{AreMoved, IsBefore}
 use Rattle.art_nodes.specs.Nodes.{Nodes}
-use Rattle.art_nodes.specs.Renamed.{AreRenamed, IsIn, IsRow, first_of_row, leaf_renamed}
+use Rattle.art_nodes.specs.Renamed.{AreRenamed, IsRow, leaf_renamed}
+use Rattle.art_parts.specs.Lists.{IsIn, first_of}
 use Rattle.art_nodes.specs.StoreView.{leaves_of}
 use Rattle.art_nodes.proofs.StoreLemmas.{get_leaves_of, is_there, known_of, leaf_under}
 use Rattle.art_parts.specs.Names.{leaf_cmp}
@@ -46,9 +48,6 @@ none_some : {X : Type 0} (o : Option X) → IsSome o → o ≡ None → ⊥
 none_some None some none = cc
 none_some (Some x) some none = cc
 
-one_some : {p q : LeafPtr} → Some p ≡ Some q → p ≡ q
-one_some e = cc
-
 same_leaf : (p q : LeafPtr) → p.slot ≡ q.slot → p ≡ q
 same_leaf p q e = λ i. record { slot = e i }
 
@@ -65,7 +64,7 @@ module _ {K V : Type 0} (leaves : map.FinMap leaf_cmp (LeafNode K V)) where
   previous_in first (head ∷ row) is name (inl e) =
       (first, inl refl, subst (λ n. IsSomeAnd (map.get leaves n) (λ leaf. leaf.previous ≡ Some first)) e (first_known _ is.0))
     where
-      first_known : (o : Option (LeafNode K V)) → IsSomeAnd o (λ leaf. (leaf.previous ≡ Some first) × (leaf.next ≡ first_of_row row)) → IsSomeAnd o (λ leaf. leaf.previous ≡ Some first)
+      first_known : (o : Option (LeafNode K V)) → IsSomeAnd o (λ leaf. (leaf.previous ≡ Some first) × (leaf.next ≡ first_of row)) → IsSomeAnd o (λ leaf. leaf.previous ≡ Some first)
       first_known None known = known
       first_known (Some leaf) known = known.0
   previous_in first (head ∷ row) is name (inr i) =
@@ -75,9 +74,9 @@ module _ {K V : Type 0} (leaves : map.FinMap leaf_cmp (LeafNode K V)) where
   -- in a row no name occurs twice: the leaf before it would occur twice too, up to the first
   row_apart : (before : Option LeafPtr) (row : List LeafPtr) → IsRow leaves before row → ((beside : LeafPtr) → before ≡ Some beside → IsIn beside row → ⊥) → AreApart row
   row_apart before [] is none = tt
-  row_apart before (name ∷ row) is none = (again, row_apart (Some name) row is.1 (λ beside e i. again (subst (λ n. IsIn n row) (sym (one_some e)) i)))
+  row_apart before (name ∷ row) is none = (again, row_apart (Some name) row is.1 (λ beside e i. again (subst (λ n. IsIn n row) (sym (same_Some _ _ e)) i)))
     where
-      two_previous : (o : Option (LeafNode K V)) (beside : LeafPtr) → IsSomeAnd o (λ leaf. (leaf.previous ≡ before) × (leaf.next ≡ first_of_row row)) →
+      two_previous : (o : Option (LeafNode K V)) (beside : LeafPtr) → IsSomeAnd o (λ leaf. (leaf.previous ≡ before) × (leaf.next ≡ first_of row)) →
           IsSomeAnd o (λ leaf. leaf.previous ≡ Some beside) → before ≡ Some beside
       two_previous None beside known other = absurd known
       two_previous (Some leaf) beside known other = sym known.0 ∙ other
@@ -97,13 +96,13 @@ pub record AreMoving {K V : Type 0} (start from to : Slab (LeafNode K V)) (table
   pub before : Option LeafPtr
   pub is_row : IsRow (leaves_of start.slots) before rest
   pub apart : AreApart rest
-  pub first : first_of_row rest ≡ next
+  pub first : first_of rest ≡ next
   pub within : (name : LeafPtr) → IsIn name rest → IsIn name row
   pub there : (name : LeafPtr) → IsIn name rest → get from name.slot ≡ get start name.slot
   pub moved : AreMoved table row rest start to
 
 -- none has moved yet
-pub none_moved : {K V : Type 0} (start to : Slab (LeafNode K V)) (table : List ℕ) (row : List LeafPtr) (next : Option LeafPtr) → IsRow (leaves_of start.slots) None row → first_of_row row ≡ next →
+pub none_moved : {K V : Type 0} (start to : Slab (LeafNode K V)) (table : List ℕ) (row : List LeafPtr) (next : Option LeafPtr) → IsRow (leaves_of start.slots) None row → first_of row ≡ next →
     to.slots ≡ [] → AreMoving start start to table row next
 none_moved start to table row next is first empty = record {
   rest = row;
@@ -127,7 +126,7 @@ none_moved start to table row next is first empty = record {
 pub all_moved : {K V : Type 0} (start from to : Slab (LeafNode K V)) (table : List ℕ) (row : List LeafPtr) → AreMoving start from to table row None → AreMoved table row [] start to
 all_moved start from to table row moving = subst (λ rest. AreMoved table row rest start to) (no_rest moving.rest moving.first) moving.moved
   where
-    no_rest : (rest : List LeafPtr) → first_of_row rest ≡ None → rest ≡ []
+    no_rest : (rest : List LeafPtr) → first_of rest ≡ None → rest ≡ []
     no_rest [] e = refl
     no_rest (name ∷ rest) e = absurd cc
 
@@ -200,7 +199,7 @@ module _ {K V : Type 0} (start from left to more : Slab (LeafNode K V)) (table :
         by_both one two same (inr was) (inr is) = moved.distinct one two was is
             (same_leaf _ _ (sym (new_other one (differs one was)) ∙ ap (λ p. p.slot) same ∙ new_other two (differs two is)))
 
-    next_is : first_of_row rest ≡ node.next
+    next_is : first_of rest ≡ node.next
     next_is = sym (known_of _ _ node (get_leaves_of start.slots name ∙ sym (there name (inl refl)) ∙ node_is) rest_is.0).1
 
     moves_on : AreMoving start left more table_now row node.next
@@ -218,11 +217,11 @@ module _ {K V : Type 0} (start from left to more : Slab (LeafNode K V)) (table :
   pub next_moves : AreMoving start from to table row (Some name) → AreMoving start left more table_now row node.next
   next_moves moving = by_rest moving.rest moving.is_row moving.apart moving.first moving.within moving.there moving.moved
     where
-      by_rest : (rest : List LeafPtr) → IsRow (leaves_of start.slots) moving.before rest → AreApart rest → first_of_row rest ≡ Some name → ((other : LeafPtr) → IsIn other rest → IsIn other row) →
+      by_rest : (rest : List LeafPtr) → IsRow (leaves_of start.slots) moving.before rest → AreApart rest → first_of rest ≡ Some name → ((other : LeafPtr) → IsIn other rest → IsIn other row) →
           ((other : LeafPtr) → IsIn other rest → get from other.slot ≡ get start other.slot) → AreMoved table row rest start to → AreMoving start left more table_now row node.next
       by_rest [] is apart first within there moved = absurd cc
       by_rest (head ∷ rest) is apart first within there moved =
-          let same : head ≡ name = one_some first in
+          let same : head ≡ name = same_Some _ _ first in
           moves_on rest moving.before (subst (λ n. IsRow (leaves_of start.slots) moving.before (n ∷ rest)) same is) (subst (λ n. AreApart (n ∷ rest)) same apart)
           (subst (λ n. (other : LeafPtr) → IsIn other (n ∷ rest) → IsIn other row) same within)
           (subst (λ n. (other : LeafPtr) → IsIn other (n ∷ rest) → get from other.slot ≡ get start other.slot) same there)
@@ -233,12 +232,12 @@ pub next_there : {K V : Type 0} (start from to : Slab (LeafNode K V)) (table : L
     IsSome (get from name.slot) × IsSome (get start name.slot)
 next_there {K} {V} start from to table row name moving = by_rest moving.rest moving.is_row moving.first moving.there
   where
-    by_rest : (rest : List LeafPtr) → IsRow (leaves_of start.slots) moving.before rest → first_of_row rest ≡ Some name →
+    by_rest : (rest : List LeafPtr) → IsRow (leaves_of start.slots) moving.before rest → first_of rest ≡ Some name →
         ((other : LeafPtr) → IsIn other rest → get from other.slot ≡ get start other.slot) →
         IsSome (get from name.slot) × IsSome (get start name.slot)
     by_rest [] is first there = absurd cc
     by_rest (head ∷ rest) is first there =
-        let same : head ≡ name = one_some first in
+        let same : head ≡ name = same_Some _ _ first in
         let started : IsSome (get start head.slot) = subst IsSome (get_leaves_of start.slots head) (row_there (leaves_of start.slots) moving.before (head ∷ rest) is head (inl refl)) in
         subst (λ n. IsSome (get from n.slot) × IsSome (get start n.slot)) same (subst IsSome (sym (there head (inl refl))) started, started)
 

@@ -2,7 +2,7 @@
 use Rattle.std.specs.Prelude.{◌≡◌, ℕ, List, Some}
 use Rattle.slab.specs.Slab.{Slab, get}
 use Rattle.art_inner.specs.NewNames.{new_name}
-use Rattle.art_nodes.specs.Renamed.{IsIn}
+use Rattle.art_parts.specs.Lists.{IsIn}
 use Rattle.art_parts.specs.declared.leaf.LeafNode.{LeafNode}
 use Rattle.art_parts.specs.declared.names.LeafPtr.{LeafPtr}
 

@@ -1,30 +1,21 @@
 -- Leaves that were renamed, and the nodes that name them.
-use Rattle.std.specs.Prelude.{◌≡◌, ◌⊎◌, List, [], ◌∷◌, Option, Some, None, IsSomeAnd, ⊤}
+use Rattle.std.specs.Prelude.{◌≡◌, List, [], ◌∷◌, Option, Some, None, IsSomeAnd, ⊤}
 use Rattle.std.specs.Option.{option_map}
 use Rattle.std.specs.FinMap as map
 use Rattle.art_inner.specs.InnerRenamed.{inner_renamed}
 use Rattle.art_nodes.specs.Nodes.{Nodes}
+use Rattle.art_parts.specs.Lists.{IsIn, first_of}
 use Rattle.art_parts.specs.Names.{leaf_cmp}
 use Rattle.art_parts.specs.declared.names.InnerPtr.{InnerPtr}
 use Rattle.art_parts.specs.declared.names.LeafPtr.{LeafPtr}
 use Rattle.art_parts.specs.declared.leaf.LeafNode.{LeafNode}
-
--- the element is in the list
-abbrev pub IsIn : {X : Type 0} → X → List X → Type 0
-IsIn x [] = ⊥
-IsIn x (y ∷ ys) = (y ≡ x) ⊎ IsIn x ys
-
--- the first name of a row
-abbrev pub first_of_row : List LeafPtr → Option LeafPtr
-first_of_row [] = None
-first_of_row (name ∷ row) = Some name
 
 module _ {K V : Type 0} where
   -- these leaves are a row: each names the one before it and the one after it
   abbrev pub IsRow : map.FinMap leaf_cmp (LeafNode K V) → Option LeafPtr → List LeafPtr → Type 0
   IsRow leaves before [] = ⊤
   IsRow leaves before (name ∷ row) =
-      IsSomeAnd (map.get leaves name) (λ leaf. (leaf.previous ≡ before) × (leaf.next ≡ first_of_row row)) × IsRow leaves (Some name) row
+      IsSomeAnd (map.get leaves name) (λ leaf. (leaf.previous ≡ before) × (leaf.next ≡ first_of row)) × IsRow leaves (Some name) row
 
   -- a leaf whose neighbours were renamed
   abbrev pub leaf_renamed : (LeafPtr → LeafPtr) → LeafNode K V → LeafNode K V

@@ -1,3 +1,4 @@
+pub mod Lists
 pub mod Kinds
 pub mod Names
 pub mod Headers

@@ -21,7 +21,7 @@ use Rattle.art_model.specs.Trees.{Tree}
 use Rattle.art_model.proofs.keys.Keys.{precedes_apart}
 use Rattle.art_model.proofs.leaves.LeafEnds.{first_or_of, last_or_of}
 use Rattle.art_model.proofs.leaves.Links.{link_of}
-use Rattle.art_model.proofs.lists.Lists.{Each-weaker}
+use Rattle.art_model.proofs.lists.Lists.{Each-weaker, first_and_rest, others_and_last}
 use Rattle.art_model.proofs.radix.Parts.{where_after, where_all, where_before, where_none}
 use Rattle.art_model.proofs.places.Paths.{leaf_names-plug}
 use Rattle.art_model.proofs.leaves.Segments.{but_last}
@@ -35,14 +35,6 @@ use Rattle.art_reading.specs.Descents.{of_two}
 use Rattle.art_reading.proofs.Iterators.{linked_leaf}
 
 module _ {X : Type 0} (k : X) where
-  begins : (xs : List X) → first_of xs ≡ Some k → (rest : List X) × (xs ≡ k ∷ rest)
-  begins [] e = absurd cc
-  begins (x ∷ xs) e = let same : x ≡ k = cc in (xs, ap (λ z. z ∷ xs) same)
-
-  ends_with : (xs : List X) → last_of xs ≡ Some k → (others : List X) × (xs ≡ others ++ k ∷ [])
-  ends_with [] e = absurd cc
-  ends_with (x ∷ xs) e = (without_last (x ∷ xs), but_last x xs k e)
-
   last_after : (xs ys : List X) → last_of ys ≡ Some k → last_of (xs ++ ys) ≡ Some k
   last_after [] ys e = e
   last_after (x ∷ []) [] e = absurd cc
@@ -112,13 +104,13 @@ module _ {K V : Type 0} {s : Nodes K V} {bytes : K × V → List ℕ} {P : ℕ} 
 
     pub from_first : (end : End) {result : Option LeafPtr} → result ≡ of_two end (Some p, shown.previous) → IsLeafAtCut bytes cut key layout end result
     from_first First e =
-        let (rest, is) = begins (leaf_name p) (leaf_names b.at.node) first.name_is in
+        let (rest, is) = first_and_rest (leaf_name p) (leaf_names b.at.node) first.name_is in
         let own : leaves_where (λ x. not (is_before_cut cut key (bytes x))) b.at.node ≡ leaf_names b.at.node =
         where_all (λ x. not (is_before_cut cut key (bytes x))) b.at.node
         (Each-weaker (λ x. is_before_cut cut key (bytes x) ≡ false) (λ x. not (is_before_cut cut key (bytes x)) ≡ true) (λ x h. ap not h) (pairs_of b.at.node) none_before) in
         ap (option_map leaf_name) e ∙ sym (ap first_of (after_are ∙ ap (λ ns. ns ++ leaves_after b.at.path) (own ∙ is)))
     from_first Last e =
-        let (rest, is) = begins (leaf_name p) (leaf_names b.at.node) first.name_is in
+        let (rest, is) = first_and_rest (leaf_name p) (leaf_names b.at.node) first.name_is in
         let own = where_none (λ x. is_before_cut cut key (bytes x)) b.at.node none_before in
         let split : (leaves_before b.at.path ++ leaf_names b.at.node) ++ leaves_after b.at.path ≡ leaves_before b.at.path ++ leaf_name p ∷ (rest ++ leaves_after b.at.path) =
         ap (λ ns. (leaves_before b.at.path ++ ns) ++ leaves_after b.at.path) is ∙ append_assoc (leaves_before b.at.path) (leaf_name p ∷ rest) (leaves_after b.at.path) in
@@ -138,7 +130,7 @@ module _ {K V : Type 0} {s : Nodes K V} {bytes : K × V → List ℕ} {P : ℕ} 
         let own = where_all (λ x. is_before_cut cut key (bytes x)) b.at.node all_before in
         ap (option_map leaf_name) e ∙ sym (ap last_of (before_are ∙ ap (λ ns. leaves_before b.at.path ++ ns) own) ∙ last_after (leaf_name q) (leaves_before b.at.path) (leaf_names b.at.node) last.name_is)
     from_last First e =
-        let (others, is) = ends_with (leaf_name q) (leaf_names b.at.node) last.name_is in
+        let (others, is) = others_and_last (leaf_name q) (leaf_names b.at.node) last.name_is in
         let own : leaves_where (λ x. not (is_before_cut cut key (bytes x))) b.at.node ≡ [] =
         where_none (λ x. not (is_before_cut cut key (bytes x))) b.at.node
         (Each-weaker (λ x. is_before_cut cut key (bytes x) ≡ true) (λ x. not (is_before_cut cut key (bytes x)) ≡ false) (λ x h. ap not h) (pairs_of b.at.node) all_before) in

@@ -40,7 +40,7 @@ use Rattle.art_model.proofs.keys.Keys.{not_same}
 use Rattle.art_model.proofs.pairs.Puts.{overwrite-new, overwrite_reply-new}
 use Rattle.art_model.proofs.stores.Stores.{path_holds, IsParent, SameBut, before_apart, after_apart, parent_apart}
 use Rattle.art_model.proofs.stores.Touches.{Touched, both_names, footprint_of, touched_none}
-use Rattle.art_model.proofs.stores.Views.{held_in_inner}
+use Rattle.art_model.proofs.stores.Views.{held_in_inner, same_inner_held, same_leaf}
 use Rattle.art_model.proofs.stores.Writes.{node_at-leaf, parents, parent_there, parents_inner, parent_written, then_parent, same_but, with_child_at-elsewhere, length-parents}
 
 -- A leaf is placed between the leaves next to the hole, the parent names it, and then all names of the hole are freed. All keys in the hole are related to the new one.
@@ -64,14 +64,14 @@ module _ {N A : Type 0} where
       each_in (λ n. IsIn n (names_below cs)) k (leaf_names_below cs)
       (among_below takes_leaves (λ n. IsIn n (names_below cs)) cs (each_from (λ n. IsIn n (names_below cs)) (names_below cs) (λ n j. j))) i
 
-  leaves_before_in : (fs : List (Frame N A)) (k : N) → IsIn k (leaves_before fs) → IsIn k (names_before fs)
+  pub leaves_before_in : (fs : List (Frame N A)) (k : N) → IsIn k (leaves_before fs) → IsIn k (names_before fs)
   leaves_before_in [] k i = i
   leaves_before_in (f ∷ fs) k i = elim (in_either k (leaves_before fs) (leaf_names_below f.left) i) [
     | inl j ↦ in_left k (names_before fs) (f.mark ∷ names_below f.left) (leaves_before_in fs k j)
     | inr j ↦ in_right k (names_before fs) (f.mark ∷ names_below f.left) (inr (leaf_below_in f.left k j))
   ]
 
-  leaves_after_in : (fs : List (Frame N A)) (k : N) → IsIn k (leaves_after fs) → IsIn k (names_after fs)
+  pub leaves_after_in : (fs : List (Frame N A)) (k : N) → IsIn k (leaves_after fs) → IsIn k (names_after fs)
   leaves_after_in [] k i = i
   leaves_after_in (f ∷ fs) k i = elim (in_either k (leaf_names_below f.right) (leaves_after fs) i) [
     | inl j ↦ in_left k (names_below f.right) (names_after fs) (leaf_below_in f.right k j)
@@ -93,18 +93,6 @@ module _ {K V : Type 0} {s u t : Nodes K V} {placed changed : List OpaqueNodePtr
         (was.0, λ none. was.1 (sym (frees.beside k (λ j. apart k j i) (λ z. z)) ∙ none)));
     others = λ k p f c. frees.beside k f (λ z. z) ∙ print.others k p (λ z. z) c;
   }
-
-same_leaves : (K V : Type 0) (o q : Option (LeafNode K V)) → ◌≡◌ {A = Option (Held K V)} (option_map held_leaf o) (option_map held_leaf q) → o ≡ q
-same_leaves K V None None e = refl
-same_leaves K V None (Some b) e = absurd cc
-same_leaves K V (Some a) None e = absurd cc
-same_leaves K V (Some a) (Some b) e = ap Some cc
-
-same_inners : (K V : Type 0) (o q : Option Inner) → ◌≡◌ {A = Option (Held K V)} (option_map held_inner o) (option_map held_inner q) → o ≡ q
-same_inners K V None None e = refl
-same_inners K V None (Some b) e = absurd cc
-same_inners K V (Some a) None e = absurd cc
-same_inners K V (Some a) (Some b) e = ap Some cc
 
 module _ {K V : Type 0} {bytes : K × V → List ℕ} {P : ℕ} {s u t : Nodes K V} {root : OpaqueNodePtr} {pairs : List (K × V)}
     {fs : List (Frame OpaqueNodePtr (K × V))} {place : List ℕ} {node : Tree OpaqueNodePtr (K × V)} {n : LeafPtr} {x : LeafNode K V}
@@ -160,11 +148,11 @@ module _ {K V : Type 0} {bytes : K × V → List ℕ} {P : ℕ} {s u t : Nodes K
 
   -- they hold what they held before the hole's were freed
   kept_leaf_at : (p : LeafPtr) → (IsIn (leaf_name p) (names_of node) → ⊥) → get t.leaves p ≡ get u.leaves p
-  kept_leaf_at p off = same_leaves K V (get t.leaves p) (get u.leaves p) (into.freed.beside (leaf_name p) off (λ z. z))
+  kept_leaf_at p off = same_leaf (get t.leaves p) (get u.leaves p) (into.freed.beside (leaf_name p) off (λ z. z))
 
   kept_inner_at : (k : OpaqueNodePtr) → k.kind ≢ Leaf → (IsIn k (names_of node) → ⊥) → get t.inners (as_inner k) ≡ get u.inners (as_inner k)
   kept_inner_at k kind off =
-      same_inners K V (get t.inners (as_inner k)) (get u.inners (as_inner k)) (sym (held_in_inner t k.kind k.slot kind) ∙ into.freed.beside k off (λ z. z) ∙ held_in_inner u k.kind k.slot kind)
+      same_inner_held K V (get t.inners (as_inner k)) (get u.inners (as_inner k)) (sym (held_in_inner t k.kind k.slot kind) ∙ into.freed.beside k off (λ z. z) ∙ held_in_inner u k.kind k.slot kind)
 
   -- what was placed and written before that
   placed_same : SameBut (node_at s) (node_at u) fs []

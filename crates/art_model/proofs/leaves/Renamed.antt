@@ -5,7 +5,7 @@ use Rattle.std.specs.FinMap.{get}
 use Rattle.art_inner.specs.Inner.{Inner}
 use Rattle.art_inner.specs.InnerRenamed.{renamed_in, child_renamed, children_renamed, inner_renamed}
 use Rattle.art_nodes.specs.Nodes.{Nodes}
-use Rattle.art_nodes.specs.Renamed.{AreRenamed, IsRow, first_of_row, leaf_renamed}
+use Rattle.art_nodes.specs.Renamed.{AreRenamed, IsRow, leaf_renamed}
 use Rattle.art_parts.specs.Names.{leaf_name}
 use Rattle.art_parts.specs.declared.leaf.LeafNode.{LeafNode}
 use Rattle.art_parts.specs.declared.names.LeafPtr.{LeafPtr}
@@ -26,12 +26,9 @@ use Rattle.art_model.proofs.lists.Lists.{each_from, each_map, in_map, out_map}
 use Rattle.art_model.proofs.stores.Names.{taken_in, takes_leaves}
 use Rattle.art_model.proofs.stores.Gains.{leaf_among}
 use Rattle.art_model.proofs.stores.Views.{held_in_inner, leaf_or}
-use Rattle.art_model.proofs.stores.Writes.{inner_at, node_at-inner, node_at-leaf, shown}
+use Rattle.art_model.proofs.stores.Writes.{inner_at, leaf_name_one, node_at-inner, node_at-leaf, shown}
 
 -- ---- the row of a tree's leaves
-
-leaf_name_one : (p q : LeafPtr) → leaf_name p ≡ leaf_name q → p ≡ q
-leaf_name_one p q e = λ i. record { slot = (e i).slot }
 
 optional_leaf_one : (o q : Option LeafPtr) → option_map leaf_name o ≡ option_map leaf_name q → o ≡ q
 optional_leaf_one None None e = refl
@@ -39,14 +36,14 @@ optional_leaf_one None (Some q) e = absurd cc
 optional_leaf_one (Some p) None e = absurd cc
 optional_leaf_one (Some p) (Some q) e = ap Some (leaf_name_one p q cc)
 
-first_or-leaves : (row : List LeafPtr) → first_or (map leaf_name row) None ≡ option_map leaf_name (first_of_row row)
+first_or-leaves : (row : List LeafPtr) → first_or (map leaf_name row) None ≡ option_map leaf_name (first_of row)
 first_or-leaves [] = refl
 first_or-leaves (p ∷ row) = refl
 
 -- the first name of a row is that of the first leaf
-pub first_named : {names : List OpaqueNodePtr} {first : LeafPtr} (row : List LeafPtr) → names ≡ map leaf_name row → first_of names ≡ Some (leaf_name first) → first_of_row row ≡ Some first
+pub first_named : {names : List OpaqueNodePtr} {first : LeafPtr} (row : List LeafPtr) → names ≡ map leaf_name row → first_of names ≡ Some (leaf_name first) → first_of row ≡ Some first
 first_named {names} {first} row names_are is =
-    optional_leaf_one (first_of_row row) (Some first) (sym (first_or-leaves row) ∙ first_or_of (map leaf_name row) ∙ ap first_of (sym names_are) ∙ is)
+    optional_leaf_one (first_of row) (Some first) (sym (first_or-leaves row) ∙ first_or_of (map leaf_name row) ∙ ap first_of (sym names_are) ∙ is)
 
 module _ {K V : Type 0} (s : Nodes K V) where
   -- a leaf with these links is between the leaves that they name
@@ -76,11 +73,11 @@ module _ {K V : Type 0} (s : Nodes K V) where
   row_from : (before : Option LeafPtr) (p : LeafPtr) (ns : List OpaqueNodePtr) →
       links_at s (leaf_name p) ≡ Some (record { previous = option_map leaf_name before; next = first_or ns None }) → HasRow (Some p) ns → HasRow before (leaf_name p ∷ ns)
   row_from before p ns links rest =
-      let next : first_or ns None ≡ option_map leaf_name (first_of_row rest.row) = ap (λ z. first_or z None) rest.names_are ∙ first_or-leaves rest.row in
+      let next : first_or ns None ≡ option_map leaf_name (first_of rest.row) = ap (λ z. first_or z None) rest.names_are ∙ first_or-leaves rest.row in
       record {
         row = p ∷ rest.row;
         is_row = (
-          linked_leaf (get s.leaves p) before (first_of_row rest.row)
+          linked_leaf (get s.leaves p) before (first_of rest.row)
               (sym (links_leaf s p (get s.leaves p) refl) ∙ links ∙ ap (λ o. Some (record { previous = option_map leaf_name before; next = o })) next),
           rest.is_row,
         );

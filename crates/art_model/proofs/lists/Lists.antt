@@ -1,8 +1,10 @@
 -- lists: what holds of each element, which elements are in a list, and prefixes
-use Rattle.std.proofs.Common.{filter, ◌≡◌, ℕ, List, [], ◌∷◌, ◌++◌, length, drop, refl, ap, sym, ◌∙◌, append_assoc, drop_at, eqb, eq-eqb, true, false, cond, Bool, ap₂, eqb-true, subst, map, ◌⊎◌, inl, inr}
+use Rattle.std.proofs.Common.{filter, ◌≡◌, ℕ, List, [], ◌∷◌, ◌++◌, length, drop, reverse, Option, Some, None, IsSome, refl, ap, arith, sym, ◌∙◌, append_assoc, drop_at, eqb, eq-eqb, true, false, cond, Bool, ap₂, eqb-true, subst, map, ◌⊎◌, inl, inr}
 use Rattle.std.specs.List.{AllByRecursion as Each}
+use Rattle.std.proofs.lemmas.List.{reverse-append}
 use Rattle.art_model.specs.Keys.{IsFront, common_front}
 use Rattle.art_model.specs.Footprints.{IsIn}
+use Rattle.art_model.specs.Pairs.{first_of, last_of}
 
 module _ {A : Type 0} where
   -- what holds of each element of both lists holds of each of the joined list
@@ -29,6 +31,32 @@ module _ {A : Type 0} where
   pub filter_none : (test : A → Bool) (xs : List A) → Each (λ x. test x ≡ false) xs → filter test xs ≡ []
   filter_none test [] h = refl
   filter_none test (x ∷ xs) h = rw h.0 (filter_none test xs h.1)
+
+module _ {X : Type 0} where
+  -- what is there
+  pub some_of : (o : Option X) → IsSome o → (x : X) × (o ≡ Some x)
+  some_of None h = absurd cc
+  some_of (Some x) h = (x, refl)
+
+  -- a list is its first element and a rest
+  pub first_and_rest : (k : X) (xs : List X) → first_of xs ≡ Some k → (rest : List X) × (xs ≡ k ∷ rest)
+  first_and_rest k [] e = absurd cc
+  first_and_rest k (x ∷ xs) e = let same : x ≡ k = cc in (xs, ap (λ z. z ∷ xs) same)
+
+  -- or others and its last element
+  pub others_and_last : (k : X) (xs : List X) → last_of xs ≡ Some k → (others : List X) × (xs ≡ others ++ k ∷ [])
+  others_and_last k [] e = absurd cc
+  others_and_last k (x ∷ []) e = let same : x ≡ k = cc in ([], ap (λ z. z ∷ []) same)
+  others_and_last k (x ∷ y ∷ xs) e = let (others, is) = others_and_last k (y ∷ xs) e in (x ∷ others, ap (λ z. x ∷ z) is)
+
+  -- the last of a list with a last element comes first in the reversed one
+  pub reverse-last : (xs rest : List X) (x : X) → xs ≡ rest ++ x ∷ [] → reverse xs ≡ x ∷ reverse rest
+  reverse-last xs rest x e = ap reverse e ∙ reverse-append rest (x ∷ [])
+
+  -- no elements are none in reverse
+  pub reverse-empty : (xs : List X) (n : ℕ) → n ≡ length xs → n ≡ 0 → reverse xs ≡ []
+  reverse-empty [] n is zero = refl
+  reverse-empty (x ∷ xs) n is zero = absurd (omega arith)
 
 module _ {X : Type 0} where
   -- an element of the second part

@@ -19,6 +19,7 @@ use Rattle.art_model.specs.Roots.{IsFullTree}
 use Rattle.art_model.proofs.stores.Stores.{HoldsBelow-right}
 use Rattle.art_model.proofs.places.Paths.{leaf_names-plug, pairs_of-plug}
 use Rattle.art_model.proofs.stores.Heights.{height_is, enough_steps}
+use Rattle.art_model.proofs.stores.Slots.{length-slots_of}
 use Rattle.art_model.proofs.stores.Shown.{IsShown, no_inner_gone, inner_shown, leaf_named}
 
 -- ---- paths along an edge
@@ -67,10 +68,6 @@ module _ {N A : Type 0} where
       let (ds, v, whole, named) = last_child (child c u cs) r (ap (slice_get (slots_of (child b t (child c u cs)))) at ∙ e) in
       (child b t ds, v, ap (child b t) whole, named)
 
-  slots_long : (cs : Subtrees N A) → length (slots_of cs) ≡ length (bytes_of cs)
-  slots_long no_child = refl
-  slots_long (child b t cs) = ap suc (slots_long cs)
-
   -- the children on the right have as many as all do
   pub children_right : (least : ℕ) (cs ds : Subtrees N A) → HaveChildrenBelow least (join cs ds) → HaveChildrenBelow least ds
   children_right least no_child ds h = h
@@ -110,7 +107,7 @@ module _ {K V : Type 0} (side : List (Frame OpaqueNodePtr (K × V)) → Type 0) 
       pub edge_some : 0 < length shown.children
       edge_some =
           let full = subst (HaveChildren 1) at.is d.full in
-          let long = slots_long at.children in
+          let long = length-slots_of at.children in
           rw at.slots (let l = full.0 in omega arith)
 
       -- below one of the children, along any side that its frame keeps to

@@ -16,7 +16,7 @@ use Rattle.art_model.proofs.keys.KeyLaws.{fronts_are_decided, order_is_decided, 
 use Rattle.art_model.proofs.lists.Filters.{Each-both}
 use Rattle.art_model.proofs.radix.Rebuild.{radix_below}
 use Rattle.art_model.proofs.places.Paths.{path_down, radix_plug}
-use Rattle.art_model.proofs.places.Places.{Under, places_under, taken, place_is, prefix_is, places_way, deeper, beside, ended}
+use Rattle.art_model.proofs.places.Places.{NoLonger, Under, places_under, taken, place_is, prefix_is, places_way, deeper, beside, ended}
 
 by_test : {X : Type 0} (t : Bool) → (t ≡ true → X) → (t ≡ false → X) → X
 by_test true f g = f refl
@@ -113,9 +113,6 @@ module _ {N A : Type 0} (bytes : A → List ℕ) (P : ℕ) where
   depth_is (f ∷ fs) place (outer, part, e, head, two, up, l, r, path) =
       let above = depth_is fs outer path in
       ap (λ z. z + f.header.length_of + 1) above ∙ deeper outer part f.byte f.header.length_of (ap (λ z. z.length_of) head) ∙ ap length (sym e)
-
-  abbrev NoLonger : List ℕ → ℕ → (List ℕ × N) → Type 0
-  NoLonger key n p = IsFront p.0 key → length p.0 ≤ n
 
   -- a node on the key's path is its end node, where no place below is longer
   pub ends_at : (key : List ℕ) (fs : List (Frame N A)) (place : List ℕ) (t : Tree N A) → IsPath bytes P place fs → IsRadix bytes P place t →

@@ -42,6 +42,10 @@ module _ {N A E : Type 0} (way : E → List ℕ) where
       (Each-weaker (λ e. IsFront (front ++ b ∷ []) (way e)) (Under front (child b t cs)) (λ e f. (b, inl refl, f)) own first)
       (Each-weaker (Under front cs) (Under front (child b t cs)) (λ e u. (u.0, inr u.1, u.2)) others rest)
 
+-- a place that is a prefix of the key is no longer than n
+abbrev pub NoLonger : {N : Type 0} → List ℕ → ℕ → List ℕ × N → Type 0
+NoLonger key n p = IsFront p.0 key → length p.0 ≤ n
+
 module _ {N A : Type 0} (bytes : A → List ℕ) (P : ℕ) where
   mutual
     -- a place is a prefix of the least key below it
@@ -79,10 +83,6 @@ module _ {N A : Type 0} (bytes : A → List ℕ) (P : ℕ) where
     places_under no_child front d e h = tt
     places_under (child b t cs) front d e h = under_child (λ (p : List ℕ × N). p.0) front b t cs (places bytes d t) (places_below bytes d cs)
         (subst (λ z. Each (λ p. IsFront (front ++ b ∷ []) p.0) (places bytes z t)) (sym (e b)) (places_way t (front ++ b ∷ []) h.0)) (places_under cs front d e h.1)
-
-  -- a place that is a prefix of the key is no longer than n
-  abbrev NoLonger : List ℕ → ℕ → (List ℕ × N) → Type 0
-  NoLonger key n p = IsFront p.0 key → length p.0 ≤ n
 
   -- children whose bytes the key does not continue with
   pub beside : (cs : Subtrees N A) (front key : List ℕ) (d n : ℕ) → ((b : ℕ) → d ≡ length (front ++ b ∷ [])) → AreRadix bytes P front cs →

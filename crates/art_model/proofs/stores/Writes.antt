@@ -27,7 +27,10 @@ use Rattle.art_model.proofs.stores.Stores.{IsParent, ParentHas, SameBut}
 use Rattle.art_model.proofs.stores.Touches.{Touched, IsInner, then_changed}
 use Rattle.art_model.proofs.stores.Views.{seen_no_inner, seen_inner, held_in_inner, leaf_or}
 
--- inner nodes are distinguished by their names
+-- nodes are distinguished by their names
+pub leaf_name_one : (p q : LeafPtr) → leaf_name p ≡ leaf_name q → p ≡ q
+leaf_name_one p q e = λ i. record { slot = (e i).slot }
+
 pub inner_name_one : (k l : OpaqueNodePtr) → as_inner k ≡ as_inner l → k ≡ l
 inner_name_one k l e = λ i. record { kind = (e i).kind; slot = (e i).slot }
 

@@ -6,7 +6,8 @@ ghost use Rattle.slab.specs.Slab.{HasRoomFor, slab_len};
 ghost use Rattle.art_inner.specs.InnerRenamed.{inner_renamed};
 ghost use Rattle.art_inner.specs.NewNames.{new_name};
 ghost use Rattle.art_nodes.specs.Moves.{AreMoved};
-ghost use Rattle.art_nodes.specs.Renamed.{AreRenamed, IsRow, first_of_row, leaf_renamed};
+ghost use Rattle.art_nodes.specs.Renamed.{AreRenamed, IsRow, leaf_renamed};
+ghost use Rattle.art_parts.specs.Lists.{first_of};
 ghost use Rattle.art_nodes.specs.StoreView.{leaves_of};
 ghost use Rattle.art_parts.specs.declared.names.LeafPtr.{LeafPtr};
 
@@ -25,9 +26,9 @@ impl<K: AsBytes + Drop, V: Drop, const P: usize> NodeStore<K, V, P> {
     /// for each place of an inner node.
     pub fn sort_leaves(&mut self, first: LeafPtr) -> Result<(), AllocError>
         requires { (row : List LeafPtr) ×
-            IsRow self.old.leaves None row × (first_of_row row ≡ Some first) }
+            IsRow self.old.leaves None row × (first_of row ≡ Some first) }
         ensures renamed { (row : List LeafPtr) →
-            IsRow self.old.leaves None row → first_of_row row ≡ Some first →
+            IsRow self.old.leaves None row → first_of row ≡ Some first →
             OnOk result ((rename : LeafPtr → LeafPtr) ×
             AreRenamed rename row self.old self.new) }
         ensures promise { OnOk result (self.new.promise ≡ no_promise) }
@@ -75,12 +76,12 @@ fn move_row<K: Drop, V: Drop>(
     first: LeafPtr,
 )
     requires row { (row : List LeafPtr) ×
-        IsRow (leaves_of from.old.slots) None row × (first_of_row row ≡ Some first) }
+        IsRow (leaves_of from.old.slots) None row × (first_of row ≡ Some first) }
     requires room { HasRoomFor to.old (slab_len from.old) }
     requires empty { to.old.slots ≡ [] }
     requires places { length from.old.slots ≤ length table.old }
     ensures { (row : List LeafPtr) →
-        IsRow (leaves_of from.old.slots) None row → first_of_row row ≡ Some first →
+        IsRow (leaves_of from.old.slots) None row → first_of row ≡ Some first →
         AreMoved table.new row [] from.old to.new }
 {
     let mut next = Some(first);

@@ -4,12 +4,9 @@ use Rattle.std.specs.Option.{option_map}
 use Rattle.art_nodes.specs.LeafChanges.{with_value}
 use Rattle.art_nodes.specs.Lends.{with_leaf_value}
 use Rattle.art_nodes.specs.StoreView.{inners_of}
+use Rattle.art_nodes.proofs.StoreLaws.{lends_same}
 use Rattle.art_nodes.proofs.StoreLemmas.{leaf_under, leaves_written}
 use Rattle.art_nodes.proofs.store.NodeStore.value_mut.Goals as goal
-
--- a borrow of the same name, after which the lender is the same for each value
-lent_as : {A B C D : Type 0} {name : A} {f h : B → C} → ((w : B) → f w ≡ h w) → ◌≡◌ {A = (A × (B → C)) ⊎ D} (inl (name, f)) (inl (name, h))
-lent_as {name = name} same = λ i. inl (name, λ w. same w i)
 
 pub returns : goal.returns
 returns g c =
@@ -21,4 +18,4 @@ returns g c =
     ap (λ leaves. record { leaves = leaves; inners = inners_of s.inners; promise = record { leaves = s.promised_leaves; inner = s.promised_inner } })
     (leaves_written s.leaves c.args.leaf c.in_ok-node.node.now (with_value w) found)
     ∙ ap (λ nodes. with_leaf_value nodes c.args.leaf w) c.self.view_is in
-    (lent_as left, record { writes_back = tt; value = ap (option_map (λ node. node.value)) (sym seen) })
+    (lends_same left, record { writes_back = tt; value = ap (option_map (λ node. node.value)) (sym seen) })
