@@ -24,7 +24,9 @@ use Rattle.art_model.specs.Stores.{node_at, links_at, pair_of}
 use Rattle.art_model.specs.Trees.{Tree, leaf, child}
 use Rattle.art_model.specs.Writes.{Inners, as_inner, parent_of, with_child_at, without_leaf}
 use Rattle.art_model.proofs.stores.Canonical.{IsLaidOut, laid_out, canonical_from}
-use Rattle.art_model.proofs.changes.OutOf.{HasLeafBelow, ParentStays, ParentShrinks, with_leaf_in, links_there, parent_is, one_more, slots_left, room_in_smaller, above_same, above_holds, hole, left_out, stays_laid_out, stays_in_place, stays_touches, shrunk, shrinks_laid_out, shrinks_in_place, shrinks_touches}
+use Rattle.art_model.proofs.changes.OutOf.{HasLeafBelow, ParentStays, ParentShrinks, with_leaf_in, links_there, parent_is, one_more}
+use Rattle.art_model.proofs.changes.OutOf.{slots_left, room_in_smaller, above_same, above_holds, hole, left_out, stays_laid_out}
+use Rattle.art_model.proofs.changes.OutOf.{stays_in_place, stays_touches, shrunk, shrinks_laid_out, shrinks_in_place, shrinks_touches}
 use Rattle.art_model.proofs.places.Paths.{root_with as root_of}
 use Rattle.art_model.proofs.stores.Slots.{length-slots_of}
 use Rattle.art_model.proofs.stores.Stores.{IsParent}

@@ -13,19 +13,9 @@ use Rattle.art_model.specs.Stores.{links_at}
 use Rattle.art_model.specs.Trees.{Subtrees, child, no_child}
 use Rattle.art_model.proofs.leaves.Chains.{links_leaf}
 use Rattle.art_model.proofs.leaves.Links.{link_of, last_or-push}
+use Rattle.art_model.proofs.lists.Lists.{first_and_rest, others_and_last}
 use Rattle.art_model.proofs.places.Paths.{leaf_names_below-join}
 use Rattle.art_writing.specs.ParentWrites.{ComesBetween}
-
--- a list is its first element and a rest, or its last one after others
-module _ {X : Type 0} (k : X) where
-  first_is : (xs : List X) → first_of xs ≡ Some k → (rest : List X) × (xs ≡ k ∷ rest)
-  first_is [] e = absurd cc
-  first_is (x ∷ xs) e = let same : x ≡ k = cc in (xs, ap (λ z. z ∷ xs) same)
-
-  last_is : (xs : List X) → last_of xs ≡ Some k → (others : List X) × (xs ≡ others ++ k ∷ [])
-  last_is [] e = absurd cc
-  last_is (x ∷ []) e = let same : x ≡ k = cc in ([], ap (λ z. z ∷ []) same)
-  last_is (x ∷ y ∷ xs) e = let (others, is) = last_is (y ∷ xs) e in (x ∷ others, ap (λ z. x ∷ z) is)
 
 module _ {K V : Type 0} (s : Nodes K V) (xs zs : List OpaqueNodePtr) (linked : AreLinked (links_at s) None (xs ++ zs) None) where
   links_are : (x : LeafNode K V) (p : LeafPtr) (before after : Option OpaqueNodePtr) → map.get s.leaves p ≡ Some x →
@@ -66,14 +56,14 @@ module _ {K V : Type 0} (s : Nodes K V) (before after : List OpaqueNodePtr) (pre
   pub between_links : (l r : Subtrees OpaqueNodePtr (K × V)) → AreLinked (links_at s) None ((before ++ leaf_names_below l) ++ (leaf_names_below r ++ after)) None → ComesBetween s l r previous next →
       (option_map leaf_name previous ≡ last_or (before ++ leaf_names_below l) None) × (option_map leaf_name next ≡ first_or (leaf_names_below r ++ after) None)
   between_links l r linked (inl (c, t, others, whole, (p, has, next_is, previous_is))) =
-      let (rest, is) = first_is (leaf_name p) (leaf_names t) has.name_is in
+      let (rest, is) = first_and_rest (leaf_name p) (leaf_names t) has.name_is in
       let zs : leaf_names_below r ++ after ≡ leaf_name p ∷ ((rest ++ leaf_names_below others) ++ after) =
       ap (λ z. leaf_names_below z ++ after) whole ∙ ap (λ z. (z ++ leaf_names_below others) ++ after) is in (
         before_first s (before ++ leaf_names_below l) (leaf_names_below r ++ after) linked p ((rest ++ leaf_names_below others) ++ after) previous zs previous_is,
         ap (option_map leaf_name) next_is ∙ sym (ap (λ z. first_or z None) zs),
       )
   between_links l r linked (inr (others, c, t, whole, (p, has, previous_is, next_is))) =
-      let (ys, is) = last_is (leaf_name p) (leaf_names t) has.name_is in
+      let (ys, is) = others_and_last (leaf_name p) (leaf_names t) has.name_is in
       let below : leaf_names_below l ≡ leaf_names_below others ++ (ys ++ leaf_name p ∷ []) =
       ap leaf_names_below whole ∙ leaf_names_below-join others (child c t no_child) ∙ ap (λ z. leaf_names_below others ++ z) (append-nil (leaf_names t) ∙ is) in
       let xs : before ++ leaf_names_below l ≡ (before ++ leaf_names_below others ++ ys) ++ leaf_name p ∷ [] =

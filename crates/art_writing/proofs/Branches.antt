@@ -1,5 +1,6 @@
 -- A branch at the end of a point's path: what the store has there before the branch is placed, and after.
-use Rattle.std.proofs.Common.{◌≡◌, ◌≢◌, ℕ, List, [], ◌∷◌, ◌++◌, length, take, Option, Some, None, IsSome, IsSomeAnd, IfSome, is_some, refl, ap, ap₂, sym, ◌∙◌, subst, cond, ltb, Bool, true, false, append_assoc, append-nil}
+use Rattle.std.proofs.Common.{◌≡◌, ◌≢◌, ℕ, List, [], ◌∷◌, ◌++◌, length, take, Option, Some, None, IsSome, IsSomeAnd, IfSome, is_some, refl}
+use Rattle.std.proofs.Common.{ap, ap₂, sym, ◌∙◌, subst, cond, ltb, Bool, true, false, append_assoc, append-nil}
 use Rattle.std.specs.List.{AllByRecursion as Each}
 use Rattle.std.specs.Option.{option_map}
 use Rattle.std.specs.FinMap.{get, insert}

@@ -14,7 +14,8 @@ use Rattle.art_nodes.proofs.StoreLaws.{inner_changed_here, inner_changed_elsewhe
 use Rattle.art_model.specs.Footprints.{IsIn}
 use Rattle.art_model.specs.Keys.{IsFront}
 use Rattle.art_model.specs.Kept.{ChangesInPlace, Frees, KeepsOthers}
-use Rattle.art_model.specs.Layouts.{leaf_node, inner_node, name_of, names_of, names_below, leaf_names, leaf_names_below, entries_of, slots_of, first_or, last_or, AreDistinct, AreLinked, Holds, IsLayout}
+use Rattle.art_model.specs.Layouts.{leaf_node, inner_node, name_of, names_of, names_below, leaf_names, leaf_names_below, entries_of}
+use Rattle.art_model.specs.Layouts.{slots_of, first_or, last_or, AreDistinct, AreLinked, Holds, IsLayout}
 use Rattle.art_model.specs.Pairs.{first_of}
 use Rattle.art_model.specs.Paths.{Frame, plug, IsPath, HoldsPath, pairs_before, pairs_after, leaves_before, leaves_after, names_before, names_after}
 use Rattle.art_model.specs.Radix.{IsRadix, join, pairs_of}
@@ -26,11 +27,14 @@ use Rattle.art_model.proofs.leaves.Chains.{AreBeside, relinked_beside}
 use Rattle.art_model.proofs.changes.Kept.{kept_leaves, kept_leaves_fewer}
 use Rattle.art_model.proofs.leaves.Leaves.{joined_elsewhere, joined_pair}
 use Rattle.art_model.proofs.leaves.Links.{relink, last_or-push, first_in}
-use Rattle.art_model.proofs.lists.Lists.{Each-left, each_from, each_in, in_around, in_either, in_left, in_right}
+use Rattle.art_model.proofs.changes.IntoHole.{leaves_after_in, leaves_before_in}
+use Rattle.art_model.proofs.lists.Lists.{Each-left, each_from, each_in, first_and_rest, in_around, in_either, in_left, in_right}
 use Rattle.art_model.proofs.stores.Names.{among_below, apart_in, taken_distinct, takes_leaves}
 use Rattle.art_model.proofs.changes.OutOf.{HasLeafBelow, parent_is, slots_left}
 use Rattle.art_model.proofs.lists.Pairwises.{Pairwise-across, Pairwise-append, Pairwise-left, Pairwise-right}
-use Rattle.art_model.proofs.places.Paths.{entries_before, entries_after, entries_of-plug, leaf_names-plug, leaf_names_below-join, length-leaf_names, name_of-plug, names_below-join, names_of-plug, pairs_of-plug, plug_radix, radix_plug, root_with}
+use Rattle.art_model.proofs.places.Paths.{entries_before, entries_after, entries_of-plug, leaf_names-plug, leaf_names_below-join}
+use Rattle.art_model.proofs.places.Paths.{length-leaf_names, name_of-plug, names_below-join, names_of-plug, pairs_of-plug, plug_radix}
+use Rattle.art_model.proofs.places.Paths.{radix_plug, root_with}
 use Rattle.art_model.proofs.radix.Rebuild.{radix_way}
 use Rattle.art_model.proofs.changes.Regrown.{children_regrown, leaf_regrown}
 use Rattle.art_model.proofs.stores.Stores.{IsParent, ParentHas, SameBut, after_apart, before_apart, frame, hole_distinct, parent_apart, parent_before, path_holds, replace}
@@ -49,29 +53,6 @@ module _ {N A : Type 0} where
   same_name : (gs : List (Frame N A)) (t u : Tree N A) → name_of u ≡ name_of t → name_of (plug gs u) ≡ name_of (plug gs t)
   same_name [] t u e = e
   same_name (g ∷ gs) t u e = same_name gs (inner g.mark g.header (join g.left (child g.byte t g.right))) (inner g.mark g.header (join g.left (child g.byte u g.right))) refl
-
-  leaf_below_in : (cs : Subtrees N A) (k : N) → IsIn k (leaf_names_below cs) → IsIn k (names_below cs)
-  leaf_below_in cs k i =
-      each_in (λ n. IsIn n (names_below cs)) k (leaf_names_below cs)
-      (among_below takes_leaves (λ n. IsIn n (names_below cs)) cs (each_from (λ n. IsIn n (names_below cs)) (names_below cs) (λ n j. j))) i
-
-  leaves_before_in : (fs : List (Frame N A)) (k : N) → IsIn k (leaves_before fs) → IsIn k (names_before fs)
-  leaves_before_in [] k i = i
-  leaves_before_in (f ∷ fs) k i = elim (in_either k (leaves_before fs) (leaf_names_below f.left) i) [
-    | inl j ↦ in_left k (names_before fs) (f.mark ∷ names_below f.left) (leaves_before_in fs k j)
-    | inr j ↦ in_right k (names_before fs) (f.mark ∷ names_below f.left) (inr (leaf_below_in f.left k j))
-  ]
-
-  leaves_after_in : (fs : List (Frame N A)) (k : N) → IsIn k (leaves_after fs) → IsIn k (names_after fs)
-  leaves_after_in [] k i = i
-  leaves_after_in (f ∷ fs) k i = elim (in_either k (leaf_names_below f.right) (leaves_after fs) i) [
-    | inl j ↦ in_left k (names_below f.right) (names_after fs) (leaf_below_in f.right k j)
-    | inr j ↦ in_right k (names_below f.right) (names_after fs) (leaves_after_in fs k j)
-  ]
-
-split_first : {X : Type 0} (xs : List X) (k : X) → first_of xs ≡ Some k → (rest : List X) × (xs ≡ k ∷ rest)
-split_first [] k e = absurd cc
-split_first (x ∷ xs) k e = (xs, cc)
 
 -- ---- a leaf below a node, the innermost of a path inside a subtree
 
@@ -256,11 +237,11 @@ module _ {K V : Type 0} {bytes : K × V → List ℕ} {P : ℕ} {s : Nodes K V} 
 
       -- the chain
       others : List OpaqueNodePtr
-      others = (split_first (leaf_names node) (leaf_name n) first).0
+      others = (first_and_rest (leaf_name n) (leaf_names node) first).0
 
       all_leaves : leaf_names (plug fs node) ≡ (before ++ leaf_name n ∷ []) ++ others ++ after
       unfolding others
-      all_leaves = leaf_names-plug fs node ∙ ap (λ z. before ++ z ++ after) (split_first (leaf_names node) (leaf_name n) first).1
+      all_leaves = leaf_names-plug fs node ∙ ap (λ z. before ++ z ++ after) (first_and_rest (leaf_name n) (leaf_names node) first).1
           ∙ ap (λ z. z ++ after) (sym (append_assoc before (leaf_name n ∷ []) others))
 
       whole_leaves : AreDistinct ((before ++ leaf_name n ∷ []) ++ others ++ after)

@@ -267,19 +267,6 @@ module _ {K V : Type 0} {IsClone : K × V → K × V → Type 0} {s : Nodes K V}
   refused_here {start} {into} {now} {whole} {items} {same} {copy} {left} {min} {max} is e leaves inners =
       subst (λ l. IsRefusedAt IsClone s start whole (reverse l) into copy) (sym e) (record { now = now; left = left; min = min; max = max; copying = is; leaves = leaves; inners = inners })
 
--- ---- the list of the copies above
-
-pub innermost : (items rest : List Above) (f : Above) → items ≡ rest ++ f ∷ [] → reverse items ≡ f ∷ reverse rest
-innermost items rest f e = ap reverse e ∙ reverse-append rest (f ∷ [])
-
-pub none_above : (items : List Above) (n : ℕ) → n ≡ length items → n ≡ 0 → reverse items ≡ []
-none_above [] n is zero = refl
-none_above (f ∷ fs) n is zero = absurd (omega arith)
-
-pub some_node : (o : Option Inner) → IsSome o → (node : Inner) × (o ≡ Some node)
-some_node None h = absurd cc
-some_node (Some node) h = (node, refl)
-
 -- ---- the measure falls
 
 module _ (size left children before after outer : ℕ) where

@@ -29,7 +29,7 @@ use Rattle.art_model.proofs.stores.StoreLaws.{has_one_map}
 use Rattle.art_model.proofs.stores.Writes.{node_at-leaf, parent_there}
 use Rattle.art_writing.specs.declared.delete.DeletePoint.{DeletePoint}
 use Rattle.art_writing.specs.declared.delete.DeleteResult.{DeleteResult}
-use Rattle.art_writing.specs.Deleted.{IsDeletePointIn, IsRootAfter, LeadsTo, ParentChange, TouchesFor, parent_change, placed_for_deletion, no_parent, keeps, shrinks, is_compressed}
+use Rattle.art_writing.specs.Deleted.{IsDeletePointIn, IsRootAfter, LeadsTo, ParentChange, TouchesFor, parent_change, placed_by, placed_for_deletion, no_parent, keeps, shrinks, is_compressed}
 use Rattle.art_writing.specs.Inserted.{unlinked_leaf}
 use Rattle.art_writing.specs.TakenOut.{IsLeafTaken, IsTakenOut}
 use Rattle.art_reading.specs.PathSteps.{last_step}
@@ -123,10 +123,6 @@ module _ {A : Type 0} (bytes : A → List ℕ) where
   pub first_goes : (pairs : List A) (x : A) → IsMap bytes pairs → first_of pairs ≡ Some x → remove_key bytes (bytes x) pairs ≡ without_first pairs
   first_goes [] x is e = absurd cc
   first_goes (y ∷ ys) x is e = subst (λ z. remove_key bytes (bytes z) (y ∷ ys) ≡ ys) (some_same e) (first_is_removed_by_key bytes y ys is)
-
--- what is placed, by what becomes of the parent
-abbrev placed_by : ParentChange → Promise
-placed_by change = elim change as (λ _. Promise) [ shrinks kind ↦ record { leaves = 0; inner = Some kind } | _ ↦ record { leaves = 0; inner = None } ]
 
 module _ {K V : Type 0} {bytes : K × V → List ℕ} {P : ℕ} {s t : Nodes K V} {root : OpaqueNodePtr} {point : DeletePoint} where
   -- so the point was applied

@@ -1,5 +1,6 @@
 -- a leaf added below an inner node, as an insertion: the point's node, where the leaf is placed, and what the writes leave
-use Rattle.std.proofs.Common.{◌≡◌, ◌≢◌, ℕ, ◌<◌, List, [], ◌∷◌, ◌++◌, length, drop, get_or, Option, Some, None, IsSome, IsSomeAnd, IfSome, refl, leb, ap, sym, ◌∙◌, subst, arith, append_assoc, length-append, false, inl}
+use Rattle.std.proofs.Common.{◌≡◌, ◌≢◌, ℕ, ◌<◌, List, [], ◌∷◌, ◌++◌, length, drop, get_or, Option, Some, None, IsSome, IsSomeAnd, IfSome}
+use Rattle.std.proofs.Common.{refl, leb, ap, sym, ◌∙◌, subst, arith, append_assoc, length-append, false, inl}
 use Rattle.std.specs.List.{AllByRecursion as Each}
 use Rattle.std.specs.FinMap as map
 use Rattle.std.specs.Option.{option_map}

@@ -1,5 +1,6 @@
 -- A tree that is freed: what a store shows of it, and which of its names are freed.
-use Rattle.std.proofs.Common.{◌≡◌, ◌≢◌, ℕ, zero, suc, ◌≤◌, ◌+◌, Bool, true, false, cond, List, [], ◌∷◌, ◌++◌, length, length-append, Option, Some, None, IsSome, is_some, refl, ap, ap₂, sym, ◌∙◌, subst, arith, inl, inr}
+use Rattle.std.proofs.Common.{◌≡◌, ◌≢◌, ℕ, zero, suc, ◌≤◌, ◌+◌, Bool, true, false, cond, List, [], ◌∷◌, ◌++◌, length, length-append, Option}
+use Rattle.std.proofs.Common.{Some, None, IsSome, is_some, refl, ap, ap₂, sym, ◌∙◌, subst, arith, inl, inr}
 use Rattle.std.specs.List.{AllByRecursion as Each}
 use Rattle.std.specs.Option.{option_map}
 use Rattle.std.specs.FinMap as map
@@ -16,7 +17,8 @@ use Rattle.art_nodes.proofs.StoreLaws.{inner_gone, inner_gone_elsewhere, inner_c
 use Rattle.art_model.specs.Footprints.{IsIn}
 use Rattle.art_model.specs.Heights.{tree_height, height_below}
 use Rattle.art_model.specs.Kept.{Frees}
-use Rattle.art_model.specs.Layouts.{Node, name_of, leaf_node, inner_node, slots_of, names_of, names_below, leaf_names, leaf_names_below, inner_names, inner_names_below, shape_of, Holds, HoldsBelow, IsLayout}
+use Rattle.art_model.specs.Layouts.{Node, name_of, leaf_node, inner_node, slots_of, names_of, names_below, leaf_names, leaf_names_below}
+use Rattle.art_model.specs.Layouts.{inner_names, inner_names_below, shape_of, Holds, HoldsBelow, IsLayout}
 use Rattle.art_model.specs.Stores.{content_at, held_leaf, held_inner, IsUsed, header_at, inner_seen, node_at, tree_node, shape_in, shape_at}
 use Rattle.art_model.specs.Trees.{Tree, leaf, inner, Subtrees, child, no_child, NodeHeader}
 use Rattle.art_model.specs.Writes.{as_inner}

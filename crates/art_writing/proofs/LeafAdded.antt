@@ -1,5 +1,6 @@
 -- a leaf placed below the node of a point, which has room or is replaced by a larger one
-use Rattle.std.proofs.Common.{◌≡◌, ◌≢◌, ℕ, ◌<◌, ◌≤◌, List, ◌++◌, length, Bool, true, false, cond, leb, MatchBool, Option, Some, None, IsSomeAnd, IfSome, is_some, refl, ap, ap₂, sym, ◌∙◌, subst, arith, append_assoc, inl}
+use Rattle.std.proofs.Common.{◌≡◌, ◌≢◌, ℕ, ◌<◌, ◌≤◌, List, ◌++◌, length, Bool, true, false, cond, leb, MatchBool, Option, Some, None}
+use Rattle.std.proofs.Common.{IsSomeAnd, IfSome, is_some, refl, ap, ap₂, sym, ◌∙◌, subst, arith, append_assoc, inl}
 use Rattle.std.proofs.lemmas.Bool.{leb-true, leb-false}
 use Rattle.std.specs.FinMap as map
 use Rattle.std.specs.Option.{option_map}

@@ -1,5 +1,6 @@
 -- Overwrite points, applied: a pair replaces a related one in its leaf.
-use Rattle.std.proofs.Common.{◌≡◌, ◌≢◌, ℕ, ◌+◌, ◌<◌, ◌≤◌, List, [], ◌∷◌, ◌++◌, length, length-append, append_assoc, append-nil, drop, Option, Some, None, true, false, is_some, IsSome, IfSome, IsSomeAnd, refl, ap, ap₂, sym, ◌∙◌, subst, arith}
+use Rattle.std.proofs.Common.{◌≡◌, ◌≢◌, ℕ, ◌+◌, ◌<◌, ◌≤◌, List, [], ◌∷◌, ◌++◌, length, length-append, append_assoc, append-nil, drop}
+use Rattle.std.proofs.Common.{Option, Some, None, true, false, is_some, IsSome, IfSome, IsSomeAnd, refl, ap, ap₂, sym, ◌∙◌, subst, arith}
 use Rattle.std.specs.List.{AllByRecursion as Each}
 use Rattle.std.specs.FinMap as map
 use Rattle.std.specs.Option.{option_map}

@@ -1,5 +1,6 @@
 -- what is reserved for a leaf and an inner node, and what is left of it
-use Rattle.std.proofs.Common.{◌≡◌, ℕ, zero, suc, ◌<◌, Bool, true, false, cond, ◌&&◌, IsTrue, IsFalse, Option, Some, None, Result, Ok, Err, OnOk, OnErr, IsOk, is_err, is_some, refl, ap, ◌∙◌, subst, leb, arith, eq-eqb}
+use Rattle.std.proofs.Common.{◌≡◌, ℕ, zero, suc, ◌<◌, Bool, true, false, cond, ◌&&◌, IsTrue, IsFalse, Option, Some, None, Result, Ok, Err}
+use Rattle.std.proofs.Common.{OnOk, OnErr, IsOk, is_err, is_some, refl, ap, ◌∙◌, subst, leb, arith, eq-eqb}
 use Rattle.std.proofs.lemmas.Bool.{le-leb, leb-true}
 use Rattle.std.proofs.lemmas.Grind.{common_steps}
 use Rattle.art_nodes.specs.Nodes.{Nodes, Promise, covers, no_promise, promises, take_inner, take_leaf}

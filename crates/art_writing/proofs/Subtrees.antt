@@ -1,5 +1,7 @@
 -- Subtree delete points: the node that one names, the tree with one leaf in its place, and the tree without it.
-use Rattle.std.proofs.Common.{◌≡◌, ◌≢◌, ℕ, ◌+◌, ◌≤◌, ◌<◌, ◌^◌, zero, suc, List, [], ◌∷◌, ◌++◌, length, length-append, append-nil, take, drop, take-append-drop, Option, Some, None, IsSome, IsSomeAnd, IfSome, IsTrue, IsFalse, OnOk, Result, is_err, cond, eq-eqb, true, false, not, Bool, refl, ap, ap₂, sym, ◌∙◌, subst, arith, ◌⊎◌, inl, inr}
+use Rattle.std.proofs.Common.{◌≡◌, ◌≢◌, ℕ, ◌+◌, ◌≤◌, ◌<◌, ◌^◌, zero, suc, List, [], ◌∷◌, ◌++◌, length, length-append, append-nil, take}
+use Rattle.std.proofs.Common.{drop, take-append-drop, Option, Some, None, IsSome, IsSomeAnd, IfSome, IsTrue, IsFalse, OnOk, Result, is_err}
+use Rattle.std.proofs.Common.{cond, eq-eqb, true, false, not, Bool, refl, ap, ap₂, sym, ◌∙◌, subst, arith, ◌⊎◌, inl, inr}
 use Rattle.std.specs.List.{AllByRecursion as Each}
 use Rattle.std.specs.Option.{option_map}
 use Rattle.std.specs.FinMap as map
@@ -57,7 +59,7 @@ use Rattle.art_reading.specs.declared.path.TreePath.{TreePath}
 use Rattle.art_reading.specs.declared.descent.End.TheVariants.{First}
 use Rattle.art_reading.specs.declared.descent.LastNode.{LastNode}
 use Rattle.art_writing.specs.Collapsed.{IsCollapsed, IsSubtreeTaken}
-use Rattle.art_writing.specs.Deleted.{IsDeletePointIn, LeadsTo, ParentChange, change_of, no_parent, parent_change, placed_for_deletion, shrinks}
+use Rattle.art_writing.specs.Deleted.{IsDeletePointIn, LeadsTo, ParentChange, change_of, no_parent, parent_change, placed_by, placed_for_deletion}
 use Rattle.art_writing.specs.Inserted.{unlinked_leaf}
 use Rattle.art_writing.specs.Subtrees.{HasPrefixBelow, IsPrefixPoint, IsSubtreePointIn, LeadsToNode, pairs_beside}
 use Rattle.art_writing.specs.ParentWrites.{HasChild, IsBeside}
@@ -195,10 +197,6 @@ module _ {K V : Type 0} {bytes : K × V → List ℕ} (P : ℕ) {s u v : Nodes K
     }
 
 -- ---- what becomes of the parent is determined by its number of children
-
--- what is placed, by what becomes of the parent
-abbrev placed_by : ParentChange → Promise
-placed_by change = elim change as (λ _. Promise) [ shrinks kind ↦ record { leaves = 0; inner = Some kind } | _ ↦ record { leaves = 0; inner = None } ]
 
 pub same_change : {K V : Type 0} (s t : Nodes K V) (fs : List (Frame OpaqueNodePtr (K × V))) (hole other : OpaqueNodePtr) → HoldsPath (node_at s) hole fs → HoldsPath (node_at t) other fs →
     parent_change t (path_of fs) ≡ parent_change s (path_of fs)

@@ -52,6 +52,11 @@ abbrev pub change_of : NodeType → ℕ → ParentChange
 change_of Node4 count = if nat_le count 2 then is_compressed else keeps
 change_of kind count = if nat_le count (kind_least kind) then shrinks (smaller_kind kind) else keeps
 
+-- the nodes that a deletion places, by what becomes of the parent: the smaller one that replaces it
+abbrev pub placed_by : ParentChange → Promise
+placed_by (shrinks kind) = record { leaves = 0; inner = Some kind }
+placed_by change = record { leaves = 0; inner = None }
+
 module _ {K V : Type 0} where
   -- what becomes of the parent at the end of a path
   abbrev pub parent_change : Nodes K V → TreePath → ParentChange
@@ -61,12 +66,9 @@ module _ {K V : Type 0} where
         elim (map.get s.inners parent) [ None ↦ no_parent | Some node ↦ change_of parent.kind (length node.children) ]
   ]
 
-  -- the nodes that a deletion places: the smaller one that replaces the parent
+  -- the nodes that a deletion places at the end of a path
   abbrev pub placed_for_deletion : Nodes K V → TreePath → Promise
-  placed_for_deletion s path = elim (parent_change s path) [
-    | shrinks kind ↦ record { leaves = 0; inner = Some kind }
-    | _ ↦ record { leaves = 0; inner = None }
-  ]
+  placed_for_deletion s path = placed_by (parent_change s path)
 
   -- how many names a deletion places, frees and changes at most
   abbrev pub TouchesFor : ParentChange → Nodes K V → Nodes K V → Type 0

@@ -6,7 +6,11 @@ use Rattle.art_model.proofs.stores.Lessened.{lessened_twice}
 use Rattle.art_writing.specs.declared.clone.Above.{Above}
 use Rattle.art_writing.specs.Cloned.{IsBegun, IsCloned}
 use Rattle.art_writing.proofs.Cloning.{has_ends}
-use Rattle.art_writing.proofs.Copying.{IsCopying, all_undone, begun_less, child_begun, child_copied, child_counts, child_inner, child_leaf, copy_can_go, copy_undone, falls_by, falls_in, falls_out, innermost, its_copied, its_next, left_above, left_above-more, next_of, none_above, outer_goes_on, outer_refused, refused_here, root_there, size_at, sizes_at, some_node, started, whole_copied}
+use Rattle.art_model.proofs.lists.Lists.{reverse-empty, reverse-last, some_of}
+use Rattle.art_writing.proofs.Copying.{IsCopying, all_undone, begun_less, child_begun, child_copied, child_counts, child_inner, child_leaf}
+use Rattle.art_writing.proofs.Copying.{copy_can_go, copy_undone, falls_by, falls_in, falls_out, its_copied, its_next, left_above}
+use Rattle.art_writing.proofs.Copying.{left_above-more, next_of, outer_goes_on, outer_refused, refused_here, root_there, size_at, sizes_at}
+use Rattle.art_writing.proofs.Copying.{started, whole_copied}
 use Rattle.art_writing.proofs.clone.clone_inner.Goals as goal
 use Rattle.art_writing.proofs.clone.clone_inner.Goals.{in-Leaf+in_default-clone_leaf, in-Inner+then-is_err, in-Inner+else-is_err+in_default-begin}
 
@@ -18,7 +22,7 @@ begin-requires g c =
 pub children-init : goal.children-init
 children-init g c = record {
   copying = λ tree full.
-      let (node, there) = some_node (map.get c.args.store.now.inners c.args.root) (root_there c.args.store.now c.requires.proper tree full) in
+      let (node, there) = some_of (map.get c.args.store.now.inners c.args.root) (root_there c.args.store.now c.requires.proper tree full) in
       let begun = subst (λ o. IfSome o (λ node. IsBegun c.args.into.now c.begin.new.into c.args.root node c.in-Ok.copy c.in-Ok.children)) there c.in-Ok.ensures.begun in
       started c.requires.proper full there c.new-above.ensures.items begun;
   lessened = c.in-Ok.ensures.lessened;
@@ -34,7 +38,7 @@ clone_of-done-requires g c =
 pub returns-in_default-pop : goal.returns-in_default-pop
 returns-in_default-pop g c = record {
   copied = λ tree full. whole_copied (c.children.invariant.copying tree full) c.in_default-next.ensures.steps.0 c.clone_of-done.ensures.first c.clone_of-done.ensures.last
-      (c.clone_of-done.ensures.root ∙ c.to_opaque.ensures) (none_above c.children.above.items c.children.above.len c.children.above.ok.0 c.in_default-pop.ensures.cases.0);
+      (c.clone_of-done.ensures.root ∙ c.to_opaque.ensures) (reverse-empty c.children.above.items c.children.above.len c.children.above.ok.0 c.in_default-pop.ensures.cases.0);
   leaves = tt;
   inners = tt;
   lessened = c.children.invariant.lessened;
@@ -47,7 +51,7 @@ add_copy-requires g c =
     let named = c.clone_of-done.ensures.root ∙ c.to_opaque.ensures in
     let f = c.in-Some-pop.outer in
     let fs = reverse c.pop.new.self.items in
-    let e = innermost c.children.above.items c.pop.new.self.items f c.in-Some-pop.ensures.items in
+    let e = reverse-last c.children.above.items c.pop.new.self.items f c.in-Some-pop.ensures.items in
     let next = its_next is c.in_default-next.ensures.steps.0 c.clone_of-done.ensures.first c.clone_of-done.ensures.last named f fs e in
     let copied = its_copied is c.in_default-next.ensures.steps.0 c.clone_of-done.ensures.first c.clone_of-done.ensures.last named f fs e in
     (search rules, (next.last_there c.children.into c.clone_of-done.result copied, (next.first_there c.children.into c.clone_of-done.result copied, next.place c.children.into c.clone_of-done.result copied)))
@@ -56,7 +60,7 @@ pub children-preserved-in_default-next : goal.children-preserved-in_default-next
 children-preserved-in_default-next g c = record {
   copying = λ tree full.
       outer_goes_on (c.children.invariant.copying tree full) c.in_default-next.ensures.steps.0 c.clone_of-done.ensures.first c.clone_of-done.ensures.last (c.clone_of-done.ensures.root ∙ c.to_opaque.ensures)
-      c.in-Some-pop.outer (reverse c.pop.new.self.items) (innermost c.children.above.items c.pop.new.self.items c.in-Some-pop.outer c.in-Some-pop.ensures.items)
+      c.in-Some-pop.outer (reverse c.pop.new.self.items) (reverse-last c.children.above.items c.pop.new.self.items c.in-Some-pop.outer c.in-Some-pop.ensures.items)
       c.add_copy.ensures.first c.add_copy.ensures.last c.add_copy.ensures.leaves c.add_copy.ensures.inners c.add_copy.ensures.promise;
   lessened = rw c.add_copy.ensures.promise c.children.invariant.lessened;
 }
@@ -118,12 +122,12 @@ children-preserved g c = record {
   copying = λ tree full.
       let s = c.args.store.now in
       let is = c.children.invariant.copying tree full in
-      let (node, there) = some_node (map.get s.inners c.in-Inner.inner) (child_inner c.children.ends is c.in-Some.ensures.steps c.in-Inner.ensures.proper c.in-Inner.ensures.name) in
+      let (node, there) = some_of (map.get s.inners c.in-Inner.inner) (child_inner c.children.ends is c.in-Some.ensures.steps c.in-Inner.ensures.proper c.in-Inner.ensures.name) in
       let begun = subst (λ o. IfSome o (λ node. IsBegun c.children.into c.begin-in-Inner.new.into c.in-Inner.inner node c.in-Ok-begin.begun.0 c.in-Ok-begin.begun.1)) there c.in-Ok-begin.ensures.begun in
       let f : Above = record { copy = c.children.copy; byte = c.in-Some.byte; children = c.next.new.self; ends = c.children.ends } in
       let pushed = c.push_reserved.ensures.items ∙ ap (λ l. l ++ f ∷ []) c.reserve.ensures.items in
       subst (λ l. IsCopying (IsPairClone g.K.Clone.is_clone g.V.Clone.is_clone) s c.args.into.now tree l c.begin-in-Inner.new.into c.in-Ok-begin.begun.0 c.in-Ok-begin.begun.1 None None)
-      (sym (innermost c.push_reserved.new.self.items c.children.above.items f pushed))
+      (sym (reverse-last c.push_reserved.new.self.items c.children.above.items f pushed))
       (child_begun c.children.ends is c.in-Some.ensures.steps c.in-Inner.ensures.proper c.in-Inner.ensures.name there begun);
   lessened = lessened_twice c.args.into.now.promise c.children.into.promise c.begin-in-Inner.new.into.promise c.children.invariant.lessened c.in-Ok-begin.ensures.lessened;
 }
@@ -133,7 +137,7 @@ children-smaller g c =
     let (tree, full) = c.requires.tree in
     let s = c.args.store.now in
     let is = c.children.invariant.copying tree full in
-    let (node, there) = some_node (map.get s.inners c.in-Inner.inner) (child_inner c.children.ends is c.in-Some.ensures.steps c.in-Inner.ensures.proper c.in-Inner.ensures.name) in
+    let (node, there) = some_of (map.get s.inners c.in-Inner.inner) (child_inner c.children.ends is c.in-Some.ensures.steps c.in-Inner.ensures.proper c.in-Inner.ensures.name) in
     let begun = subst (λ o. IfSome o (λ node. IsBegun c.children.into c.begin-in-Inner.new.into c.in-Inner.inner node c.in-Ok-begin.begun.0 c.in-Ok-begin.begun.1)) there c.in-Ok-begin.ensures.begun in
     let f : Above = record { copy = c.children.copy; byte = c.in-Some.byte; children = c.next.new.self; ends = c.children.ends } in
     let pushed = c.push_reserved.ensures.items ∙ ap (λ l. l ++ f ∷ []) c.reserve.ensures.items in
@@ -173,7 +177,7 @@ returns-in_default-pop-2 g c =
     let (tree, full) = c.requires.tree in
     let is = c.back.invariant.refused tree full in
     let same = copy_undone is c.to_opaque-in-back.ensures {freed = c.free_nodes.new.store} c.free_nodes.ensures.freed c.free_nodes.ensures.improper in
-    let (leaves, inners) = all_undone is c.to_opaque-in-back.ensures (none_above c.back.above.items c.back.above.len c.back.above.ok.0 c.in_default-pop-2.ensures.cases.0) c.free_nodes.new.store same in
+    let (leaves, inners) = all_undone is c.to_opaque-in-back.ensures (reverse-empty c.back.above.items c.back.above.len c.back.above.ok.0 c.in_default-pop-2.ensures.cases.0) c.free_nodes.new.store same in
     record { copied = λ tree full. tt; leaves = leaves; inners = inners; lessened = rw c.free_nodes.ensures.promise c.back.invariant.lessened }
 
 pub back-preserved : goal.back-preserved
@@ -181,7 +185,7 @@ back-preserved g c = record {
   refused = λ tree full.
       let is = c.back.invariant.refused tree full in
       outer_refused is c.to_opaque-in-back.ensures c.in-Some-pop-2.outer (reverse c.pop-in-back.new.self.items)
-      (innermost c.back.above.items c.pop-in-back.new.self.items c.in-Some-pop-2.outer c.in-Some-pop-2.ensures.items) c.free_nodes.new.store
+      (reverse-last c.back.above.items c.pop-in-back.new.self.items c.in-Some-pop-2.outer c.in-Some-pop-2.ensures.items) c.free_nodes.new.store
       (copy_undone is c.to_opaque-in-back.ensures {freed = c.free_nodes.new.store} c.free_nodes.ensures.freed c.free_nodes.ensures.improper);
   lessened = rw c.free_nodes.ensures.promise c.back.invariant.lessened;
 }
