@@ -105,10 +105,13 @@ fn agree_on_those_below(
 ) -> Option<bool> {
     let prefix = Escaped::encode(alloc, string.as_slice()).ok()?;
     let (mut sum, mut other) = (0u32, 0u32);
-    map.for_each_mut_below(&prefix, &mut |_: &Escaped, value: &mut u32| {
-        sum = sum.wrapping_add(*value);
-        *value = sum;
-    });
+    map.for_each_mut_below(
+        &prefix,
+        &mut |_: &Escaped, value: &mut u32| {
+            sum = sum.wrapping_add(*value);
+            *value = sum;
+        },
+    );
     for (bytes, value) in model.iter_mut() {
         if bytes.starts_with(string.as_slice()) {
             other = other.wrapping_add(*value);

@@ -62,9 +62,10 @@ fn gather(sum: &mut u32, number: u16, value: &mut u32) {
 fn agree_on_values(map: &mut Map, model: &mut Model, low: u16, high: u16) -> bool {
     let (mut sum, mut other) = (0u32, 0u32);
     let range = Unsigned::from(low)..Unsigned::from(high);
-    map.for_each_mut_in(range, &mut |key: &Unsigned<2>, value: &mut u32| {
-        gather(&mut sum, key.get(), value)
-    });
+    map.for_each_mut_in(
+        range,
+        &mut |key: &Unsigned<2>, value: &mut u32| { gather(&mut sum, key.get(), value) },
+    );
     for (number, value) in model.iter_mut() {
         if low <= *number && *number < high {
             gather(&mut other, *number, value);

@@ -304,15 +304,19 @@ fn agree_on_each_pair(map: &mut Map, model: &mut Model) -> bool {
 fn agree_on_part(map: &mut Map, model: &mut Model, low: Key, high: Key) -> bool {
     let (mut sum, mut other) = (1u32, 1u32);
     let range = (Bound::Excluded(&low[..]), Bound::Included(&high[..]));
-    map.for_each_mut_in(range, &mut |key: &Key, value: &mut u32| gather(&mut sum, key, value));
+    map.for_each_mut_in(
+        range,
+        &mut |key: &Key, value: &mut u32| gather(&mut sum, key, value),
+    );
     for (key, value) in model.iter_mut() {
         if low < *key && *key <= high {
             gather(&mut other, key, value);
         }
     }
-    map.for_each_mut_below(&low[..1], &mut |key: &Key, value: &mut u32| {
-        gather(&mut sum, key, value)
-    });
+    map.for_each_mut_below(
+        &low[..1],
+        &mut |key: &Key, value: &mut u32| { gather(&mut sum, key, value) },
+    );
     for (key, value) in model.iter_mut() {
         if key[0] == low[0] {
             gather(&mut other, key, value);
