@@ -1,21 +1,16 @@
 -- What is left of a map after a closure was called on its pairs, one by one.
-use Rattle.std.proofs.Common.{◌≡◌, ℕ, ◌<◌, List, [], ◌∷◌, ◌++◌, Bool, true, false, cond, filter, length, refl, ap, sym, ◌∙◌, subst, arith, length-append, append_assoc, append-nil, Option, Some, None, Result, Ok, Err, OnOk, OnErr, Bor}
-use Rattle.std.specs.Fn.{Called, CalledAt, Mut}
+use Rattle.std.proofs.Common.{◌≡◌, ℕ, ◌<◌, List, [], ◌∷◌, ◌++◌, Bool, true, false, cond, filter, length, refl, ap, ap₂, sym, ◌∙◌, subst, arith, length-append, append_assoc, append-nil, Option, Some, None, Bor}
+use Rattle.std.specs.Borrow.{MutBor}
+use Rattle.std.specs.Fn.{CalledAt, Mut}
 use Rattle.std.specs.List.{AllByRecursion as Each}
-use Rattle.std.specs.declared.ops.Bound.TheVariants.{Excluded, Unbounded}
+use Rattle.art_nodes.specs.LeafCalls.{CalledOnPair}
 use Rattle.art_model.specs.Keys.{Precedes, are_same}
-use Rattle.art_model.specs.Pairs.{IsMap, first_of, remove_key, with_key}
-use Rattle.art_model.specs.Parts.{is_between}
+use Rattle.art_model.specs.Pairs.{IsMap, first_of, of_key, remove_key, with_key}
 use Rattle.art_model.proofs.keys.Keys.{front_same, precedes_apart, related_sym, same_related}
+use Rattle.art_model.proofs.lists.Filters.{filter_all}
 use Rattle.art_model.proofs.pairs.MapLaws.{first_is_removed_by_key}
 use Rattle.art_map.specs.MapItems.{keys_of}
-use Rattle.art_map.specs.MapRetain.{AsksPair, Retains, StopsAt, pairs_after}
-use Rattle.art_map.specs.SetKeys.{AsksKey}
-
--- a call on a pair that returned b
-pub asked_at : {F K V : Type 0} (g : Mut F (Bor K × (Bor V × Unit {0})) Bool) {f left : F} {key : Bor K} {value : Bor V} {r b : Bool} → Called g f (key, (value, tt)) r left → r ≡ b →
-    AsksPair g f (key.now, value.now) b left
-asked_at g {f} {left} {key} {value} called is = record { key = key; value = value; shows = refl; called = subst (λ c. Called g f (key, (value, tt)) c left) is called }
+use Rattle.art_map.specs.MapRetain.{AreAlikeUpTo, KeepsEach, Retains, RetainsPairs, StopsAt, TakesRefused, is_after, pairs_after, pairs_up_to}
 
 module _ {A : Type 0} where
   -- an item that passes a filter is one of the list
@@ -52,121 +47,182 @@ module _ {A : Type 0} (bytes : A → List ℕ) where
   removed_between [] r x map = first_is_removed_by_key bytes x r map
   removed_between (z ∷ l) r x map = rw (other_key (bytes z) (bytes x) (precedes_last l r z x map)) (ap (λ zs. z ∷ zs) (removed_between l r x map.1))
 
-  abbrev is_after : A → A → Bool
-  is_after x y = is_between (Excluded (bytes x)) Unbounded (bytes y)
+  -- those before it are not after it, and those after it are
+  early_ones : (l r : List A) (x : A) → IsMap bytes (l ++ x ∷ r) → Each (λ z. is_after bytes (Some x) z ≡ false) l
+  early_ones [] r x map = tt
+  early_ones (z ∷ l) r x map = (rw (precedes_apart (bytes z) (bytes x) (precedes_last l r z x map)) refl, early_ones l r x map.1)
 
-  all_after : (x : A) (r : List A) → Each (λ y. Precedes (bytes x) (bytes y)) r → filter (is_after x) r ≡ r
-  all_after x [] h = refl
-  all_after x (y ∷ r) h = rw h.0.0 (ap (λ zs. y ∷ zs) (all_after x r h.1))
-
-  -- and the pairs after it are after its key
-  pub left_after : (l r : List A) (x : A) → IsMap bytes (l ++ x ∷ r) → pairs_after bytes (Some x) (l ++ r) ≡ r
-  left_after [] r x map = all_after x r map.0
-  left_after (z ∷ l) r x map = rw (precedes_apart (bytes z) (bytes x) (precedes_last l r z x map)) (left_after l r x map.1)
+  late_ones : (l r : List A) (x : A) → IsMap bytes (l ++ x ∷ r) → Each (λ z. is_after bytes (Some x) z ≡ true) r
+  late_ones [] r x map = all r map.0
+    where
+      all : (r : List A) → Each (λ y. Precedes (bytes x) (bytes y)) r → Each (λ z. is_after bytes (Some x) z ≡ true) r
+      all [] h = tt
+      all (y ∷ r) h = (rw h.0.0 refl, all r h.1)
+  late_ones (z ∷ l) r x map = late_ones l r x map.1
 
   -- without a last pair all are left
-  pub all_left : (pairs : List A) → pairs_after bytes None pairs ≡ pairs
-  all_left [] = refl
-  all_left (x ∷ xs) = ap (λ zs. x ∷ zs) (all_left xs)
+  none_early : (pairs : List A) → Each (λ z. is_after bytes None z ≡ true) pairs
+  none_early [] = tt
+  none_early (x ∷ xs) = (refl, none_early xs)
 
-module _ {F A : Type 0} (asks : F → A → Bool → F → Type 0) where
+  module _ (last : Option A) where
+    -- so a map has the former and then the latter
+    after_are : (l r : List A) → Each (λ z. is_after bytes last z ≡ false) l → Each (λ z. is_after bytes last z ≡ true) r → pairs_after bytes last (l ++ r) ≡ r
+    after_are [] r early late = filter_all (is_after bytes last) r late
+    after_are (z ∷ l) r early late = rw early.0 (after_are l r early.1 late)
+
+    up_to_are : (l r : List A) → Each (λ z. is_after bytes last z ≡ false) l → Each (λ z. is_after bytes last z ≡ true) r → pairs_up_to bytes last (l ++ r) ≡ l
+    up_to_are [] [] early late = refl
+    up_to_are [] (x ∷ r) early late = rw late.0 (up_to_are [] r tt late.1)
+    up_to_are (z ∷ l) r early late = rw early.0 (ap (λ zs. z ∷ zs) (up_to_are l r early.1 late))
+
+module _ {K V : Type 0} (bytes : K → List ℕ) (last : Option (K × V)) where
+  abbrev B : K × V → List ℕ
+  B = of_key bytes
+
+  -- pairs with the same keys are late as well
+  late_alike : (r changed : List (K × V)) → Each (λ z. is_after B last z ≡ true) r → keys_of changed ≡ keys_of r → Each (λ z. is_after B last z ≡ true) changed
+  late_alike r [] late same = tt
+  late_alike [] (y ∷ ys) late same = absurd cc
+  late_alike (x ∷ xs) (y ∷ ys) late same =
+      let key : y.0 ≡ x.0 = cc in
+      let others : keys_of ys ≡ keys_of xs = cc in
+      (subst (λ k. is_after B last (k, y.1) ≡ true) (sym key) late.0, late_alike xs ys late.1 others)
+
+  -- if only values of the late ones differ, the early ones are followed by the late ones
+  parted : (l r changed : List (K × V)) → Each (λ z. is_after B last z ≡ false) l → Each (λ z. is_after B last z ≡ true) r → keys_of changed ≡ keys_of (l ++ r) →
+      pairs_up_to B last changed ≡ l → changed ≡ l ++ pairs_after B last changed
+  parted [] r changed early late same others = sym (filter_all (is_after B last) changed (late_alike r changed late same))
+  parted (z ∷ l) r [] early late same others = absurd cc
+  parted (z ∷ l) r (y ∷ ys) early late same others =
+      let key : y.0 ≡ z.0 = cc in
+      let keys : keys_of ys ≡ keys_of (l ++ r) = cc in
+      let is_early : is_after B last y ≡ false = subst (λ k. is_after B last (k, y.1) ≡ false) (sym key) early.0 in
+      let both : y ∷ pairs_up_to B last ys ≡ z ∷ l = rw is_early at others in
+      let first : y ≡ z = cc in
+      let more : pairs_up_to B last ys ≡ l = cc in
+      rw is_early (ap₂ (λ x xs. x ∷ xs) first (parted l r ys early.1 late keys more))
+
+module _ {F K V : Type 0} (g : Mut F (Bor K × (MutBor V × Unit {0})) (Bool × (MutBor V × Unit {0}))) where
   -- f was called on some pairs and then on others
-  retains_more : (xs ys kept more : List A) (f next left : F) → Retains asks f xs kept next → Retains asks next ys more left → Retains asks f (xs ++ ys) (kept ++ more) left
+  retains_more : (xs ys kept more : List (K × V)) (f next left : F) → RetainsPairs g f xs kept next → RetainsPairs g next ys more left →
+      RetainsPairs g f (xs ++ ys) (kept ++ more) left
   retains_more [] ys kept more f next left h k = rw (h.0, h.1) k
-  retains_more (x ∷ xs) ys kept more f next left (b, g, rest, asked, h, is) k = (b, g, rest ++ more, asked, retains_more xs ys rest more g next left h k, ap (λ zs. zs ++ more) is ∙ go b)
+  retains_more (x ∷ xs) ys kept more f next left (b, value, then, rest, asked, h, is) k =
+      (b, value, then, rest ++ more, asked, retains_more xs ys rest more then next left h k, ap (λ zs. zs ++ more) is ∙ go b)
     where
-      go : (b : Bool) → cond b (x ∷ rest) rest ++ more ≡ cond b (x ∷ rest ++ more) (rest ++ more)
+      go : (b : Bool) → cond b ((x.0, value) ∷ rest) rest ++ more ≡ cond b ((x.0, value) ∷ rest ++ more) (rest ++ more)
       go true = refl
       go false = refl
 
-  -- and on one more, which it keeps
-  pub keeps_one : (xs : List A) (x : A) (f next left : F) → Retains asks f xs xs next → asks next x true left → Retains asks f (xs ++ x ∷ []) (xs ++ x ∷ []) left
-  keeps_one xs x f next left h k = retains_more xs (x ∷ []) xs (x ∷ []) f next left h (true, left, [], k, (refl, refl), refl)
+  -- and returned true for each
+  keeps_all : (f : F) (before after : List (K × V)) (left : F) → KeepsEach g f before after left → RetainsPairs g f before after left
+  keeps_all f [] after left h = h
+  keeps_all f (x ∷ xs) after left (value, next, rest, called, h, is) = (true, value, next, rest, called, keeps_all next xs rest left h, is)
 
-  module _ (bytes : A → List ℕ) (began : F) (before : List A) where
+  module _ (bytes : K → List ℕ) (began : F) (before : List (K × V)) where
     -- What holds before each step: f was called on those pairs that are not after the last one removed.
-    pub record Retaining (f : F) (pairs : List A) (last : Option A) : Type 0 where
-      pub seen : List A
-      pub kept : List A
-      pub rest : List A
+    pub record Retaining (f : F) (pairs : List (K × V)) (last : Option (K × V)) : Type 0 where
+      pub seen : List (K × V)
+      pub kept : List (K × V)
+      pub rest : List (K × V)
       pub before_is : before ≡ seen ++ rest
       pub pairs_are : pairs ≡ kept ++ rest
-      pub rest_is : pairs_after bytes last pairs ≡ rest
-      pub retains : Retains asks began seen kept f
+      pub early : Each (λ z. is_after (of_key bytes) last z ≡ false) kept
+      pub late : Each (λ z. is_after (of_key bytes) last z ≡ true) rest
+      pub retains : RetainsPairs g began seen kept f
 
     pub begins : Retaining began before None
-    begins = record { seen = []; kept = []; rest = before; before_is = refl; pairs_are = refl; rest_is = all_left bytes before; retains = (refl, refl) }
+    begins = record { seen = []; kept = []; rest = before; before_is = refl; pairs_are = refl; early = tt; late = none_early (of_key bytes) before; retains = (refl, refl) }
 
-    module _ {f : F} {pairs : List A} {last : Option A} (now : Retaining f pairs last) where
+    module _ {f : F} {pairs : List (K × V)} {last : Option (K × V)} (now : Retaining f pairs last) where
+      rest_is : pairs_after (of_key bytes) last pairs ≡ now.rest
+      rest_is = ap (pairs_after (of_key bytes) last) now.pairs_are ∙ after_are (of_key bytes) last now.kept now.rest now.early now.late
+
+      -- the kept pairs stay where only values of the others change
+      parts_of : (after : List (K × V)) → AreAlikeUpTo bytes last pairs after → after ≡ now.kept ++ pairs_after (of_key bytes) last after
+      parts_of after alike =
+          let others = alike.others ∙ ap (pairs_up_to (of_key bytes) last) now.pairs_are ∙ up_to_are (of_key bytes) last now.kept now.rest now.early now.late in
+          parted bytes last now.kept now.rest after now.early now.late (alike.keys ∙ ap keys_of now.pairs_are) others
+
       -- f returned true for all that was left
-      pub ends : (left : F) → Retains asks f (pairs_after bytes last pairs) (pairs_after bytes last pairs) left → Retains asks began before pairs left
-      ends left all =
-          let rest = subst (λ zs. Retains asks f zs zs left) now.rest_is all in
-          rw (now.before_is, now.pairs_are) (retains_more now.seen now.rest now.kept now.rest began f left now.retains rest)
+      pub ends : (left : F) (after : List (K × V)) → TakesRefused g bytes last f pairs None left after → RetainsPairs g began before after left
+      ends left after (alike, all) =
+          let kept = keeps_all f now.rest (pairs_after (of_key bytes) last after) left
+          (subst (λ zs. KeepsEach g f zs (pairs_after (of_key bytes) last after) left) rest_is all) in
+          subst (λ zs. RetainsPairs g began before zs left) (sym (parts_of after alike))
+          (subst (λ zs. RetainsPairs g began zs (now.kept ++ pairs_after (of_key bytes) last after) left) (sym now.before_is)
+          (retains_more now.seen now.rest now.kept (pairs_after (of_key bytes) last after) began f left now.retains kept))
 
-      module _ {left : F} {x : A} (stops : StopsAt asks f (pairs_after bytes last pairs) x left) where
-        parts : now.rest ≡ stops.seen ++ x ∷ stops.rest
-        parts = sym now.rest_is ∙ stops.parts
+      module _ {left : F} {x : K × V} {after : List (K × V)} (taken : TakesRefused g bytes last f pairs (Some x) left after) where
+        abbrev changed : List (K × V)
+        changed = taken.0
 
-        whole : pairs ≡ (now.kept ++ stops.seen) ++ x ∷ stops.rest
-        whole = now.pairs_are ∙ ap (λ zs. now.kept ++ zs) parts ∙ sym (append_assoc now.kept stops.seen (x ∷ stops.rest))
+        alike : AreAlikeUpTo bytes last pairs changed
+        alike = taken.1.0
 
-        all : before ≡ (now.seen ++ stops.seen) ++ x ∷ stops.rest
-        all = now.before_is ∙ ap (λ zs. now.seen ++ zs) parts ∙ sym (append_assoc now.seen stops.seen (x ∷ stops.rest))
+        stops : StopsAt g f (pairs_after (of_key bytes) last pairs) (pairs_after (of_key bytes) last changed) x left
+        stops = taken.1.1
 
-        asked : Retains asks began (now.seen ++ stops.seen) (now.kept ++ stops.seen) stops.next
-        asked = retains_more now.seen stops.seen now.kept stops.seen began f stops.next now.retains stops.kept
+        all : before ≡ ((now.seen ++ stops.seen) ++ (x.0, stops.value) ∷ []) ++ stops.rest
+        all =
+            now.before_is ∙ ap (λ zs. now.seen ++ zs) (sym rest_is ∙ stops.before_is) ∙ sym (append_assoc now.seen stops.seen ((x.0, stops.value) ∷ stops.rest))
+            ∙ sym (append_assoc (now.seen ++ stops.seen) ((x.0, stops.value) ∷ []) stops.rest)
 
-        module _ (rising : IsMap bytes pairs) where
-          risen : IsMap bytes ((now.kept ++ stops.seen) ++ x ∷ stops.rest)
-          risen = subst (IsMap bytes) whole rising
+        whole : changed ≡ (now.kept ++ stops.done) ++ x ∷ stops.rest
+        whole = parts_of changed alike ∙ ap (λ zs. now.kept ++ zs) stops.after_is ∙ sym (append_assoc now.kept stops.done (x ∷ stops.rest))
 
-          removed : remove_key bytes (bytes x) pairs ≡ (now.kept ++ stops.seen) ++ stops.rest
-          removed = ap (remove_key bytes (bytes x)) whole ∙ removed_between bytes (now.kept ++ stops.seen) stops.rest x risen
+        risen : IsMap (of_key bytes) ((now.kept ++ stops.done) ++ x ∷ stops.rest)
+        risen = subst (IsMap (of_key bytes)) whole alike.sorted
 
-          left_is : pairs_after bytes (Some x) (remove_key bytes (bytes x) pairs) ≡ stops.rest
-          left_is = ap (pairs_after bytes (Some x)) removed ∙ left_after bytes (now.kept ++ stops.seen) stops.rest x risen
+        removed : after ≡ (now.kept ++ stops.done) ++ stops.rest
+        removed = taken.2 ∙ ap (remove_key (of_key bytes) (bytes x.0)) whole ∙ removed_between (of_key bytes) (now.kept ++ stops.done) stops.rest x risen
 
-          -- the pair was removed
-          pub goes_on : Retaining left (remove_key bytes (bytes x) pairs) (Some x)
-          goes_on = record {
-            seen = (now.seen ++ stops.seen) ++ x ∷ [];
-            kept = (now.kept ++ stops.seen) ++ [];
-            rest = stops.rest;
-            before_is = all ∙ sym (append_assoc (now.seen ++ stops.seen) (x ∷ []) stops.rest);
-            pairs_are = removed ∙ ap (λ zs. zs ++ stops.rest) (sym (append-nil (now.kept ++ stops.seen)));
-            rest_is = left_is;
-            retains = retains_more (now.seen ++ stops.seen) (x ∷ []) (now.kept ++ stops.seen) [] began stops.next left asked (false, left, [], stops.refused, (refl, refl), refl);
-          }
+        asked : RetainsPairs g began ((now.seen ++ stops.seen) ++ (x.0, stops.value) ∷ []) ((now.kept ++ stops.done) ++ []) left
+        asked =
+            retains_more (now.seen ++ stops.seen) ((x.0, stops.value) ∷ []) (now.kept ++ stops.done) [] began stops.next left
+            (retains_more now.seen stops.seen now.kept stops.done began f stops.next now.retains (keeps_all f stops.seen stops.done stops.next stops.kept))
+            (false, x.1, left, [], stops.refused, (refl, refl), refl)
 
-          -- and fewer are left
-          pub fewer : length (pairs_after bytes (Some x) (remove_key bytes (bytes x) pairs)) < length (pairs_after bytes last pairs)
-          fewer =
-              let less = ap length left_is in
-              let more = ap length stops.parts ∙ length-append stops.seen (x ∷ stops.rest) in
-              omega arith
+        -- the pair was removed
+        pub goes_on : Retaining left after (Some x)
+        goes_on = record {
+          seen = (now.seen ++ stops.seen) ++ (x.0, stops.value) ∷ [];
+          kept = now.kept ++ stops.done;
+          rest = stops.rest;
+          before_is = all;
+          pairs_are = removed;
+          early = early_ones (of_key bytes) (now.kept ++ stops.done) stops.rest x risen;
+          late = late_ones (of_key bytes) (now.kept ++ stops.done) stops.rest x risen;
+          retains = subst (λ zs. RetainsPairs g began ((now.seen ++ stops.seen) ++ (x.0, stops.value) ∷ []) zs left) (append-nil (now.kept ++ stops.done)) asked;
+        }
+
+        -- and fewer are left
+        pub fewer : length (pairs_after (of_key bytes) (Some x) after) < length (pairs_after (of_key bytes) last pairs)
+        fewer =
+            let left_is = ap (pairs_after (of_key bytes) (Some x)) removed ∙ after_are (of_key bytes) (Some x) (now.kept ++ stops.done) stops.rest
+            (early_ones (of_key bytes) (now.kept ++ stops.done) stops.rest x risen) (late_ones (of_key bytes) (now.kept ++ stops.done) stops.rest x risen) in
+            let less = ap length left_is in
+            let more = ap length stops.before_is ∙ length-append stops.seen ((x.0, stops.value) ∷ stops.rest) in
+            omega arith
 
 -- ---- a closure that calls another one, whose state it holds
 
-module _ {C F A : Type 0} (asks : C → A → Bool → C → Type 0) (other : F → A → Bool → F → Type 0) (inside : C → F)
-    (one : (s : C) (x : A) (b : Bool) (t : C) → asks s x b t → other (inside s) x b (inside t)) where
-  pub retains_inside : (s : C) (before kept : List A) (t : C) → Retains asks s before kept t → Retains other (inside s) before kept (inside t)
-  retains_inside s [] kept t h = (h.0, ap inside h.1)
-  retains_inside s (x ∷ xs) kept t (b, next, rest, asked, h, is) = (b, inside next, rest, one s x b next asked, retains_inside next xs rest t h, is)
-
-module _ {C A : Type 0} (asks : C → A → Bool → C → Type 0) where
+module _ {C K V : Type 0} (g : Mut C (Bor K × (MutBor V × Unit {0})) (Bool × (MutBor V × Unit {0}))) where
   -- what each call keeps true of a closure's state, all calls keep true
-  pub retains_hold : (Good : C → Type 0) → ((s : C) (x : A) (b : Bool) (t : C) → asks s x b t → Good s → Good t) →
-      (s : C) (before kept : List A) (t : C) → Retains asks s before kept t → Good s → Good t
+  pub retains_hold : (Good : C → Type 0) → ((s : C) (x : K × V) (b : Bool) (t : C) (w : V) → CalledOnPair g s x b t w → Good s → Good t) →
+      (s : C) (before kept : List (K × V)) (t : C) → RetainsPairs g s before kept t → Good s → Good t
   retains_hold Good one s [] kept t h good = subst Good h.1 good
-  retains_hold Good one s (x ∷ xs) kept t (b, next, rest, asked, h, is) good = retains_hold Good one next xs rest t h (one s x b next asked good)
+  retains_hold Good one s (x ∷ xs) kept t (b, value, next, rest, asked, h, is) good = retains_hold Good one next xs rest t h (one s x b next value asked good)
 
-module _ {F K : Type 0} (g : Mut F (Bor K × Unit {0}) Bool) where
-  -- which keys of a set stay, by its pairs
-  pub keys_retained : (f : F) (pairs kept : List (K × Unit {0})) (left : F) → Retains (AsksKey g) f pairs kept left → Retains (CalledAt g) f (keys_of pairs) (keys_of kept) left
-  keys_retained f [] kept left h = (ap keys_of h.0, h.1)
-  keys_retained f (x ∷ xs) kept left (b, next, rest, asked, h, is) = (b, next, keys_of rest, asked, keys_retained next xs rest left h, ap keys_of is ∙ go b)
+  -- which keys stay, where the other closure is called on them
+  pub keys_retained : {F : Type 0} (other : Mut F (Bor K × Unit {0}) Bool) (inside : C → F) →
+      ((s : C) (x : K × V) (b : Bool) (t : C) (w : V) → CalledOnPair g s x b t w → CalledAt other (inside s) x.0 b (inside t)) →
+      (s : C) (before kept : List (K × V)) (t : C) → RetainsPairs g s before kept t → Retains (CalledAt other) (inside s) (keys_of before) (keys_of kept) (inside t)
+  keys_retained other inside one s [] kept t h = (ap keys_of h.0, ap inside h.1)
+  keys_retained other inside one s (x ∷ xs) kept t (b, value, next, rest, asked, h, is) =
+      (b, inside next, keys_of rest, one s x b next value asked, keys_retained other inside one next xs rest t h, ap keys_of is ∙ go b)
     where
-      go : (b : Bool) → keys_of (cond b (x ∷ rest) rest) ≡ cond b (x.0 ∷ keys_of rest) (keys_of rest)
+      go : (b : Bool) → keys_of (cond b ((x.0, value) ∷ rest) rest) ≡ cond b (x.0 ∷ keys_of rest) (keys_of rest)
       go true = refl
       go false = refl

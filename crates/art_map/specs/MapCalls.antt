@@ -3,11 +3,13 @@ use Rattle.std.specs.Prelude.{◌≡◌, ℕ, false, List, [], ◌∷◌, Option
 use Rattle.std.specs.Borrow.{MutBor}
 use Rattle.std.specs.Fn.{CalledAtMut, FnOnceReturnsAtMut, Mut, Once}
 use Rattle.std.specs.Iterator.{YieldsThen}
+use Rattle.art_nodes.specs.LeafCalls.{CalledOnPair}
 use Rattle.art_model.specs.Pairs.{has_key, of_key, put}
 use Rattle.art_map.specs.declared.map.MapInsertError.{MapInsertError}
 use Rattle.art_map.specs.declared.map.MapMakeError.{MapMakeError}
 use Rattle.art_map.specs.declared.map.MapMakeError.TheVariants.{Insert, Make}
 use Rattle.art_map.specs.MapAnswers.{IsRefusalOf, value_at, with_value_at}
+use denote.Ref.{Bor}
 
 -- the pairs are unchanged if the key is not stored; else a call of f on its value left another, which the key now has
 abbrev pub Modifies : {K V F : Type 0} → Once F (MutBor V × Unit {0}) (Unit {0} × (MutBor V × Unit {0})) → F → (K → List ℕ) → List ℕ →
@@ -16,17 +18,30 @@ Modifies {K} {V} g f bytes key before after =
     MatchOption (value_at bytes key before) (after ≡ before) (λ value.
     (left : V) × FnOnceReturnsAtMut g f value tt left × (after ≡ with_value_at bytes key left before))
 
+module _ {K V F : Type 0} (calls : F → K × V → F → V → Type 0) where
+  -- f was called on each pair in turn, once, and on nothing else. It left another value, which the key now has
+  abbrev pub ChangesBy : F → List (K × V) → List (K × V) → F → Type 0
+  ChangesBy f [] after left = (after ≡ []) × (f ≡ left)
+  ChangesBy f (x ∷ xs) after left =
+      (value : V) × (next : F) × (rest : List (K × V)) × calls f x next value × ChangesBy next xs rest left × (after ≡ (x.0, value) ∷ rest)
+
 module _ {K V F : Type 0} (g : Mut F (MutBor V × Unit {0}) (Unit {0} × (MutBor V × Unit {0}))) where
-  -- f was called on the value of each pair in turn and left another one, which the key now has
+  -- f was called on the value of each pair
   abbrev pub ChangesEach : F → List (K × V) → List (K × V) → F → Type 0
-  ChangesEach f [] after left = (after ≡ []) × (f ≡ left)
-  ChangesEach f (x ∷ xs) after left =
-      (value : V) × (next : F) × (rest : List (K × V)) × CalledAtMut g f x.1 tt next value × ChangesEach next xs rest left ×
-      (after ≡ (x.0, value) ∷ rest)
+  ChangesEach f before after left = ChangesBy (λ f x next value. CalledAtMut g f x.1 tt next value) f before after left
 
   -- the same, with any last state of the closure
   abbrev pub ChangesValues : F → List (K × V) → List (K × V) → Type 0
   ChangesValues f before after = (left : F) × ChangesEach f before after left
+
+module _ {K V F : Type 0} (g : Mut F (Bor K × (MutBor V × Unit {0})) (Unit {0} × (MutBor V × Unit {0}))) where
+  -- f was called on the key and the value of each pair
+  abbrev pub ChangesPairs : F → List (K × V) → List (K × V) → F → Type 0
+  ChangesPairs f before after left = ChangesBy (λ f x next value. CalledOnPair g f x tt next value) f before after left
+
+  -- the same, with any last state of the closure
+  abbrev pub ChangesAll : F → List (K × V) → List (K × V) → Type 0
+  ChangesAll f before after = (left : F) × ChangesPairs f before after left
 
 -- the closure failed, no equal key is stored, and the key is returned; or the pair with the made value is returned
 abbrev pub IsMakeRefusal : {K V E : Type 0} → (K → List ℕ) → K → (Result V E → Type 0) → List (K × V) → MapMakeError K V E → Type 0

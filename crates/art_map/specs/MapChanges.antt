@@ -1,7 +1,5 @@
 -- What a change leaves of a store, a root and a length that stand for pairs. No public clause cites this module.
-use Rattle.std.specs.Prelude.{◌≡◌, ◌≢◌, ℕ, true, false, if◌then◌else◌, List, [], ◌∷◌, length, Option, Some, None, Result, Ok, Err}
-use Rattle.std.specs.Borrow.{MutBor}
-use Rattle.std.specs.Fn.{CalledAtMut, Mut}
+use Rattle.std.specs.Prelude.{◌≡◌, ◌≢◌, ℕ, Bool, true, false, not, filter, if◌then◌else◌, List, [], ◌∷◌, length, Option, Some, None, Result, Ok, Err}
 use Rattle.std.specs.FinMap as nodes
 use Rattle.art_nodes.specs.Lends.{with_leaf_value}
 use Rattle.art_nodes.specs.Nodes.{Nodes}
@@ -21,9 +19,10 @@ use Rattle.art_reading.specs.declared.end_node.InsertKind.TheVariants.{Exact}
 use Rattle.art_writing.specs.declared.insert.PrefixInsertResult.{PrefixInsertResult}
 use Rattle.art_writing.specs.declared.insert.Refused.{Refused}
 use Rattle.art_map.specs.MapAnswers.{IsRefusalOf}
+use Rattle.art_map.specs.MapItems.{keys_of}
 use Rattle.art_map.specs.MapPairs.{HoldsPairs, pairs_at}
 use Rattle.art_map.specs.declared.map.MapInsertError.{MapInsertError}
-use Rattle.art_map.specs.MapCalls.{IsMakeRefusal}
+use Rattle.art_map.specs.MapCalls.{ChangesBy, IsMakeRefusal}
 use Rattle.art_map.specs.declared.map.MapMakeError.{MapMakeError}
 use Rattle.art_map.specs.declared.map.position.Position.{Position}
 use Rattle.art_map.specs.declared.map.position.Position.TheVariants as positions
@@ -36,10 +35,10 @@ gone_count done = elim done.insert_result.existing_leaf [ None ↦ done.leafs_re
 abbrev pub NamesPair : {A : Type 0} → Tree OpaqueNodePtr A → Option A → LeafPtr → Type 0
 NamesPair {A} layout pair leaf = (x : A) × (pair ≡ Some x) × HasLeaf layout (leaf_name leaf) x
 
--- a call of f on the value of this leaf left another one, which the leaf now has
-abbrev pub ChangesLeaf : {K V F : Type 0} → Mut F (MutBor V × Unit {0}) (Unit {0} × (MutBor V × Unit {0})) → LeafPtr → F → Nodes K V → F → Nodes K V → Type 0
-ChangesLeaf {K} {V} g leaf f s left t =
-    (node : LeafNode K V) × (value : V) × (nodes.get s.leaves leaf ≡ Some node) × CalledAtMut g f node.value tt left value ×
+-- a call of f on the pair of this leaf left another value, which the leaf now has
+abbrev pub ChangesLeaf : {K V F : Type 0} → (F → K × V → F → V → Type 0) → LeafPtr → F → Nodes K V → F → Nodes K V → Type 0
+ChangesLeaf {K} {V} calls leaf f s left t =
+    (node : LeafNode K V) × (value : V) × (nodes.get s.leaves leaf ≡ Some node) × calls f (node.key, node.value) left value ×
     (t ≡ with_leaf_value s leaf value)
 
 -- this leaf exists, with the key of these bytes
@@ -136,6 +135,16 @@ module _ {K V : Type 0} (bytes : K → List ℕ) (P : ℕ) (pairs : List (K × V
   HoldsClones is_key_clone is_value_clone t root len =
       (copies : List (K × V)) × AreClones is_key_clone is_value_clone pairs copies ×
       HoldsPairs (of_key bytes) P t root len copies
+
+-- The root still stands for as many pairs, with the same keys. Of those that an iterator began with, where they are the
+-- ones that pass a test of their keys, f changed each; the others are unchanged.
+pub record HasChanged {K V F : Type 0} (bytes : K → List ℕ) (P : ℕ) (calls : F → K × V → F → V → Type 0) (f : F) (began : List (K × V))
+    (before : List (K × V)) (left : F) (t : Nodes K V) (root : Option OpaqueNodePtr) (len : ℕ) : Type 0 where
+  pub holds : HoldsPairs (of_key bytes) P t root len (pairs_at t root)
+  pub keys : keys_of (pairs_at t root) ≡ keys_of before
+  pub those : (test : List ℕ → Bool) → began ≡ filter (λ x. test (bytes x.0)) before →
+      ChangesBy calls f (filter (λ x. test (bytes x.0)) before) (filter (λ x. test (bytes x.0)) (pairs_at t root)) left ×
+      (filter (λ x. not (test (bytes x.0))) (pairs_at t root) ≡ filter (λ x. not (test (bytes x.0))) before)
 
 -- this pair was removed, if there is one, and these are left
 abbrev pub HasTaken : {K V : Type 0} → (K → List ℕ) → ℕ → Option (K × V) → List (K × V) → Option (K × V) → Nodes K V →

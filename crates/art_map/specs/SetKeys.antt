@@ -1,6 +1,5 @@
 -- What the calls of a set do and return, by its keys.
-use Rattle.std.specs.Fn.{CalledAt, Mut}
-use Rattle.std.specs.Prelude.{◌≡◌, ℕ, Bool, true, false, if◌then◌else◌, List, [], ◌∷◌, ◌++◌, map, Option, Some, None}
+use Rattle.std.specs.Prelude.{◌≡◌, ℕ, true, false, if◌then◌else◌, List, [], ◌∷◌, ◌++◌, map, Option, Some, None}
 use Rattle.std.specs.Box.{boxed_slice_items}
 use Rattle.std.specs.Iterator.{YieldsThen}
 use Rattle.art_model.specs.Pairs.{add_in_order, has_key, is_conflict}
@@ -8,7 +7,6 @@ use Rattle.art_map.specs.declared.map.MapInsertError.{MapInsertError}
 use Rattle.art_map.specs.declared.map.MapInsertError.TheVariants as of_map
 use Rattle.art_map.specs.declared.set.SetInsertError.{SetInsertError}
 use Rattle.art_map.specs.declared.set.SetInsertError.TheVariants.{Conflict, Memory}
-use denote.Ref.{Bor}
 
 -- the keys with a new one in its place, if no equal key is stored yet
 abbrev pub add_key : {K : Type 0} → (K → List ℕ) → K → List K → List K
@@ -29,10 +27,6 @@ IsKeyRefusal bytes key keys (Memory k) = (k ≡ key) × (has_key bytes (bytes ke
 abbrev pub key_error : {K : Type 0} → MapInsertError K (Unit {0}) → SetInsertError K
 key_error (of_map.Conflict k v error) = Conflict k error
 key_error (of_map.Memory k v) = Memory k
-
--- a call of f on the key of a pair
-abbrev pub AsksKey : {F K : Type 0} → Mut F (Bor K × Unit {0}) Bool → F → K × Unit {0} → Bool → F → Type 0
-AsksKey g f x b left = CalledAt g f x.0 b left
 
 -- the keys after others were added, one after another
 abbrev pub add_all : {K : Type 0} → (K → List ℕ) → List K → List K → List K

@@ -30,7 +30,7 @@ pub use Rattle.art_writing.proofs.Freed.{first_freed}
 pub use Rattle.art_writing.proofs.FreedTrees.{all_can}
 pub use Rattle.art_writing.proofs.Elsewhere.{placement_elsewhere, tree_stays}
 pub use Rattle.art_map.proofs.CallerLaws.{map_laws, value_here, value_elsewhere, value_gone, value_left, value_written, value_unwritten}
-pub use Rattle.art_map.proofs.RetainLaws.{retained_known}
+pub use Rattle.art_map.proofs.RetainLaws.{changes_known, retained_known, retained_pairs_known}
 -- keys with the same bytes are equal, of each type, and keys come back from their bytes
 pub use Rattle.art_keys.specs.InjectiveLaws.{back_injective, ended_injective, escape_injective, fixed_injective, joins_injective, numbers_injective, signed_injective}
 pub use Rattle.art_keys.specs.EndedLaws.{ended_comes_back, without_end-ended}

@@ -41,6 +41,7 @@ pub use Rattle.art_map.specs.MapPairs
 pub use Rattle.art_map.specs.MapAnswers
 pub use Rattle.art_map.specs.MapItems
 pub use Rattle.art_map.specs.MapLends
+pub use Rattle.art_nodes.specs.LeafCalls
 pub use Rattle.art_map.specs.MapCalls
 pub use Rattle.art_map.specs.MapBoth
 pub use Rattle.art_map.specs.MapRetain

@@ -95,6 +95,32 @@ fn agree_on_the_first_below(
     }
 }
 
+// A change of the values of all strings that start with this one in both, by the sum of those before, and whether the
+// sums agree.
+fn agree_on_those_below(
+    map: &mut Map,
+    model: &mut Model,
+    alloc: Global,
+    string: Short,
+) -> Option<bool> {
+    let prefix = Escaped::encode(alloc, string.as_slice()).ok()?;
+    let (mut sum, mut other) = (0u32, 0u32);
+    map.for_each_mut_below(
+        &prefix,
+        &mut |_: &Escaped, value: &mut u32| {
+            sum = sum.wrapping_add(*value);
+            *value = sum;
+        },
+    );
+    for (bytes, value) in model.iter_mut() {
+        if bytes.starts_with(string.as_slice()) {
+            other = other.wrapping_add(*value);
+            *value = other;
+        }
+    }
+    Some(sum == other)
+}
+
 // The value of a key, how many keys start with its string, and how many are at it or after it.
 fn answers(map: &Map, key: Escaped) -> (Option<u32>, usize, usize) {
     let found = map.get(&key).copied();
@@ -147,10 +173,11 @@ fn agree_on_call(
     numbers: &mut Numbers,
 ) -> Option<bool> {
     let string = Short::new(numbers.below(COUNT));
-    match numbers.below(8) {
+    match numbers.below(9) {
         0..=3 => agree_on_insertion(map, model, alloc, string, numbers.value()),
         4..=5 => agree_on_removal(map, model, alloc, string),
         6 => agree_on_the_first_below(map, model, alloc, string),
+        7 => agree_on_those_below(map, model, alloc, string),
         _ => agree_on_questions(map, model, alloc, string),
     }
 }

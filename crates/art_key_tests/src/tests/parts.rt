@@ -51,6 +51,37 @@ fn agree_on_range(map: &mut Map, model: &mut Model, low: u16, high: u16) -> bool
     removed == before.saturating_sub(model.len())
 }
 
+// Replaces a value by a sum and adds it and its number to the sum.
+fn gather(sum: &mut u32, number: u16, value: &mut u32) {
+    let before = *sum;
+    *sum = before.wrapping_add(*value).wrapping_add(number as u32);
+    *value = before;
+}
+
+// Whether they are the same after each value of a range is replaced by the sum of those before it, and then all.
+fn agree_on_values(map: &mut Map, model: &mut Model, low: u16, high: u16) -> bool {
+    let (mut sum, mut other) = (0u32, 0u32);
+    let range = Unsigned::from(low)..Unsigned::from(high);
+    map.for_each_mut_in(
+        range,
+        &mut |key: &Unsigned<2>, value: &mut u32| { gather(&mut sum, key.get(), value) },
+    );
+    for (number, value) in model.iter_mut() {
+        if low <= *number && *number < high {
+            gather(&mut other, *number, value);
+        }
+    }
+    map.for_each_mut_by_ref(&mut |key: &Unsigned<2>, value: &mut u32| {
+        gather(&mut sum, key.get(), value)
+    });
+    map.for_each_mut(|key, value| *value ^= key.get() as u32);
+    for (number, value) in model.iter_mut() {
+        gather(&mut other, *number, value);
+        *value ^= *number as u32;
+    }
+    sum == other && agree_on_pairs(map, model)
+}
+
 // Whether an entry's pair is removed from both.
 fn agree_on_entry(map: &mut Map, model: &mut Model, number: u16) -> bool {
     match map.entry(Unsigned::from(number)).remove() {
@@ -98,6 +129,7 @@ fn agree_on_change(map: &mut Map, model: &mut Model, numbers: &mut Numbers) -> b
         3 => agree_on_range(map, model, low, high),
         4 => agree_on_split(map, model, numbers),
         5..=6 => agree_on_entry(map, model, low),
+        7..=8 => agree_on_values(map, model, low, high),
         _ => put_both(map, model, numbers),
     }
 }

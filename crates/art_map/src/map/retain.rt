@@ -1,12 +1,12 @@
-//! Keeping the pairs for which a closure returns true.
+//! Keeping the pairs for which a closure returns true, with the values that it leaves.
 ghost use Rattle.std.specs.Prelude.{◌≡◌, Some};
 ghost use Rattle.std.specs.Range.Bound.{bound_map};
-ghost use Rattle.art_model.specs.Pairs.{IsMap, of_key};
+ghost use Rattle.art_nodes.specs.LeafCalls.{CalledOnPair};
+ghost use Rattle.art_model.specs.Pairs.{of_key};
 ghost use Rattle.art_map.specs.MapPairs.{HoldsPairs, pairs_at};
-ghost use Rattle.art_map.specs.MapRetain.{AsksPair, FindsRefused, HasTakenRefused, Retains, RetainsAll, TakesRefused, after_pair, pairs_after};
+ghost use Rattle.art_map.specs.MapRetain.{FindsRefused, HasTakenRefused, RetainsAllPairs, RetainsPairs, TakesRefused, after_pair};
 
-use super::range::RangeOf;
-use super::{ByteMap, take_out};
+use super::{ByteMap, pair_at, take_out};
 use art_nodes::node::{AsBytes, OpaqueNodePtr};
 use art_nodes::store::NodeStore;
 use art_reading::range::range_unchecked;
@@ -15,22 +15,22 @@ use std::ops::Bound;
 
 impl<K: AsBytes + Drop, V: Drop, const P: usize> ByteMap<K, V, P> {
     /// Keeps the pairs for which the closure returns true, and removes the others. The closure is called once for each
-    /// pair, in the order of the keys.
+    /// pair, in the order of the keys. It may change the value in place.
     ///
     /// It allocates nothing and never fails. Each pair costs a step of an iteration. One that is removed costs what
     /// `range` and `remove` do besides.
-    pub fn retain<F: FnMut(&K, &V) -> bool>(&mut self, mut f: F)
+    pub fn retain<F: FnMut(&K, &mut V) -> bool>(&mut self, mut f: F)
         requires { F.IsAlwaysCallable f }
-        ensures pairs { RetainsAll (AsksPair F.FnMut) f self.old self.new }
+        ensures pairs { RetainsAllPairs F.FnMut f self.old self.new }
     {
         self.retain_by_ref(&mut f);
     }
 
     /// Does what `retain` does, with a closure that the caller keeps. The closure is called exactly once for each pair:
     /// its last state is the one that these calls lead to.
-    pub fn retain_by_ref<F: FnMut(&K, &V) -> bool>(&mut self, f: &mut F)
+    pub fn retain_by_ref<F: FnMut(&K, &mut V) -> bool>(&mut self, f: &mut F)
         requires { F.IsAlwaysCallable f.old }
-        ensures pairs { Retains (AsksPair F.FnMut) f.old self.old self.new f.new }
+        ensures pairs { RetainsPairs F.FnMut f.old self.old self.new f.new }
         ensures callable { F.IsAlwaysCallable f.new }
     {
         let mut last = None;
@@ -40,23 +40,22 @@ impl<K: AsBytes + Drop, V: Drop, const P: usize> ByteMap<K, V, P> {
     }
 
     // Removes the first pair after another one for which the closure returns false.
-    fn take_refused<F: FnMut(&K, &V) -> bool>(
+    fn take_refused<F: FnMut(&K, &mut V) -> bool>(
         &mut self,
         last: &Option<(K, V)>,
         f: &mut F,
     ) -> Option<(K, V)>
         requires { F.IsAlwaysCallable f.old }
         ensures callable { F.IsAlwaysCallable f.new }
-        ensures taken { TakesRefused (AsksPair F.FnMut) K.bytes last.now f.old self.old result
+        ensures taken { TakesRefused F.FnMut K.bytes last.now f.old self.old result
             f.new self.new }
-        ensures sorted { IsMap (of_key K.bytes) self.old }
     {
         take_refused(&mut self.store, &mut self.root, &mut self.len, last, f)
     }
 }
 
 // Removes the first pair after another one for which the closure returns false from the tree.
-fn take_refused<K: AsBytes + Drop, V: Drop, const P: usize, F: FnMut(&K, &V) -> bool>(
+fn take_refused<K: AsBytes + Drop, V: Drop, const P: usize, F: FnMut(&K, &mut V) -> bool>(
     store: &mut NodeStore<K, V, P>,
     root: &mut Option<OpaqueNodePtr>,
     len: &mut usize,
@@ -67,7 +66,7 @@ fn take_refused<K: AsBytes + Drop, V: Drop, const P: usize, F: FnMut(&K, &V) -> 
     requires holds { HoldsPairs (of_key K.bytes) P store.old root.old len.old
         (pairs_at store.old root.old) }
     ensures callable { F.IsAlwaysCallable f.new }
-    ensures taken { HasTakenRefused (AsksPair F.FnMut) K.bytes P last.now f.old
+    ensures taken { HasTakenRefused F.FnMut K.bytes P last.now f.old
         (pairs_at store.old root.old) result f.new store.new root.new len.new }
 {
     let Some(name) = *root else {
@@ -80,25 +79,25 @@ fn take_refused<K: AsBytes + Drop, V: Drop, const P: usize, F: FnMut(&K, &V) -> 
 }
 
 // The point of the first pair after another one for which the closure returns false.
-fn find_refused<K: AsBytes + Drop, V: Drop, const P: usize, F: FnMut(&K, &V) -> bool>(
-    store: &NodeStore<K, V, P>,
+fn find_refused<K: AsBytes + Drop, V: Drop, const P: usize, F: FnMut(&K, &mut V) -> bool>(
+    store: &mut NodeStore<K, V, P>,
     root: OpaqueNodePtr,
     len: usize,
     last: &Option<(K, V)>,
     f: &mut F,
 ) -> Option<DeletePoint>
     requires callable { F.IsAlwaysCallable f.old }
-    requires holds { HoldsPairs (of_key K.bytes) P store.now (Some root) len
-        (pairs_at store.now (Some root)) }
+    requires holds { HoldsPairs (of_key K.bytes) P store.old (Some root) len
+        (pairs_at store.old (Some root)) }
     ensures callable { F.IsAlwaysCallable f.new }
-    ensures found { FindsRefused (AsksPair F.FnMut) K.bytes P store.now root f.old
-        (pairs_after (of_key K.bytes) last.now (pairs_at store.now (Some root))) result f.new }
+    ensures found { FindsRefused F.FnMut K.bytes P last.now f.old
+        (pairs_at store.old (Some root)) result f.new store.new root len }
 {
-    let walk = range_unchecked(store, root, bound_after(last), Bound::Unbounded);
-    let mut pairs = RangeOf::new(store, walk, len);
-    while let Some((key, value)) = pairs.next() {
-        if !f(key, value) {
-            return search_for_delete_point_by_lengths(store, root, key.as_bytes());
+    let mut walk = range_unchecked(store, root, bound_after(last), Bound::Unbounded);
+    while let Some(leaf) = walk.next(store) {
+        if !store.with_pair_mut(leaf, f) {
+            let key_bytes = pair_at(store, leaf).0.as_bytes();
+            return search_for_delete_point_by_lengths(store, root, key_bytes);
         }
     }
     None

@@ -1,9 +1,7 @@
 //! Keeping the keys for which a closure returns true.
 ghost use Rattle.std.specs.Prelude.{◌≡◌};
 ghost use Rattle.std.specs.Fn.{CalledAt};
-ghost use Rattle.art_model.specs.Pairs.{of_key};
 ghost use Rattle.art_map.specs.MapRetain.{Retains, RetainsAll};
-ghost use Rattle.art_map.specs.SetKeys.{AsksKey, as_pairs};
 
 use super::ByteSet;
 use art_nodes::node::AsBytes;
@@ -25,7 +23,7 @@ impl<K: AsBytes + Drop, const P: usize> ByteSet<K, P> {
         ensures callable { F.IsAlwaysCallable f.new }
     {
         self.map.retain_by_ref(
-            &mut |key: &K, _: &()| -> bool
+            &mut |key: &K, _: &mut ()| -> bool
                 requires { F.IsAlwaysCallable f.now }
                 ensures callable { F.IsAlwaysCallable f.exit.now }
                 ensures called { F.step f.entry.now key.entry result f.exit.now }

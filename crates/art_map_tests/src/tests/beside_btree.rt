@@ -6,6 +6,7 @@ use art_test_support::expected::as_expected;
 use art_test_support::numbers::Numbers;
 use std::alloc::Global;
 use std::collections::BTreeMap;
+use std::ops::Bound;
 use std::test::Fail;
 
 pub(super) type Key = [u8; 2];
@@ -265,11 +266,63 @@ fn fill_both(map: &mut Map, model: &mut Model, numbers: &mut Numbers) -> bool {
     agree
 }
 
-// Whether both keep the same pairs that pass a test.
+// Changes a value by its key, and returns whether it passes a test.
+fn stays(key: &Key, value: &mut u32, rest: u32) -> bool {
+    *value = value.wrapping_add(key[1] as u32);
+    *value % 5 != rest
+}
+
+// Whether both keep the same pairs that pass a test, with the same values.
 fn agree_on_retained(map: &mut Map, model: &mut Model, rest: u32) -> bool {
-    map.retain(|key, value| value.wrapping_add(key[1] as u32) % 5 != rest);
-    model.retain(|key, value| value.wrapping_add(key[1] as u32) % 5 != rest);
+    map.retain(|key, value| stays(key, value, rest));
+    model.retain(|key, value| stays(key, value, rest));
     agree_on_pairs(map, model)
+}
+
+// Replaces a value by a sum and adds it and a byte of its key to the sum.
+fn gather(sum: &mut u32, key: &Key, value: &mut u32) {
+    let before = *sum;
+    *sum = before.wrapping_add(*value).wrapping_add(key[1] as u32);
+    *value = before;
+}
+
+// Whether they are the same after each value is replaced by the sum of the pairs before it.
+fn agree_on_each_pair(map: &mut Map, model: &mut Model) -> bool {
+    let (mut sum, mut other) = (0u32, 0u32);
+    map.for_each_mut_by_ref(&mut |key: &Key, value: &mut u32| gather(&mut sum, key, value));
+    for (key, value) in model.iter_mut() {
+        gather(&mut other, key, value);
+    }
+    map.for_each_mut(|key, value| *value = value.wrapping_add(key[0] as u32));
+    for (key, value) in model.iter_mut() {
+        *value = value.wrapping_add(key[0] as u32);
+    }
+    sum == other && agree_on_pairs(map, model)
+}
+
+// Whether they are the same after the values of a range were changed so, and those below a byte.
+fn agree_on_part(map: &mut Map, model: &mut Model, low: Key, high: Key) -> bool {
+    let (mut sum, mut other) = (1u32, 1u32);
+    let range = (Bound::Excluded(&low[..]), Bound::Included(&high[..]));
+    map.for_each_mut_in(
+        range,
+        &mut |key: &Key, value: &mut u32| gather(&mut sum, key, value),
+    );
+    for (key, value) in model.iter_mut() {
+        if low < *key && *key <= high {
+            gather(&mut other, key, value);
+        }
+    }
+    map.for_each_mut_below(
+        &low[..1],
+        &mut |key: &Key, value: &mut u32| { gather(&mut sum, key, value) },
+    );
+    for (key, value) in model.iter_mut() {
+        if key[0] == low[0] {
+            gather(&mut other, key, value);
+        }
+    }
+    sum == other && agree_on_pairs(map, model)
 }
 
 // Whether they are the same after each value is changed by the sum of those before it.
@@ -303,9 +356,11 @@ fn agree_in_round(map: &mut Map, model: &mut Model, numbers: &mut Numbers, alloc
         agree_on_order(map, &more, model, &others),
         agree_on_extended(map, more, model, &mut others),
         agree_on_each_value(map, model),
+        agree_on_each_pair(map, model),
+        agree_on_part(map, model, drawn_key(numbers), drawn_key(numbers)),
         agree_on_retained(map, model, numbers.below(5) as u32),
     ];
-    agree == [true; 5]
+    agree == [true; 7]
 }
 
 // The number of the first round after which they differ, if they do.

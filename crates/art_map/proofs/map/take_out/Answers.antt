@@ -1,10 +1,5 @@
-use Rattle.std.proofs.Common.{refl, sym, subst, Some}
 use Rattle.std.proofs.lemmas.Bool.{false≢true}
-use Rattle.art_model.specs.Pairs.{of_key}
-use Rattle.art_map.specs.MapPairs.{HoldsPairs}
-use Rattle.art_map.proofs.Puts.{stays}
 use Rattle.art_map.proofs.Takings.{taken}
-use Rattle.art_map.proofs.Views.{view_is}
 use Rattle.art_map.proofs.map.take_out.Goals as goal
 
 pub unreachable-requires : goal.unreachable-requires

@@ -1,21 +1,13 @@
-use Rattle.art_model.specs.Pairs.{of_key}
 use Rattle.art_map.specs.MapPairs.{pairs_at}
-use Rattle.art_map.specs.MapRetain.{AsksPair}
 use Rattle.art_map.proofs.Refusing.{refused_holds, refused_told}
-use Rattle.art_map.proofs.Views.{view_sorted}
 use Rattle.art_map.proofs.map.ByteMap.take_refused.Goals as goal
 
 pub invariant_of-self : goal.invariant_of-self
 invariant_of-self g c =
     let new = c.take_refused.new in
-    refused_holds (AsksPair g.F.FnMut) g.K.AsBytes.bytes g.row.P c.args.last.now c.args.f.now new.f (pairs_at c.self.inside.store c.self.inside.root) new.store new.root new.len
-    c.take_refused.result c.take_refused.ensures.taken
+    refused_holds g.F.FnMut g.K.AsBytes.bytes g.row.P c.args.last.now c.args.f.now (pairs_at c.self.inside.store c.self.inside.root) new.f new.store new.root new.len c.take_refused.result c.take_refused.ensures.taken
 
 pub returns-clause-taken : goal.returns-clause-taken
 returns-clause-taken g c =
     let new = c.take_refused.new in
-    refused_told (AsksPair g.F.FnMut) g.K.AsBytes.bytes g.row.P c.args.last.now c.args.f.now new.f (pairs_at c.self.inside.store c.self.inside.root) new.store new.root new.len
-    c.take_refused.result c.take_refused.ensures.taken c.self.view_is
-
-pub returns-clause-sorted : goal.returns-clause-sorted
-returns-clause-sorted g c = view_sorted (of_key g.K.AsBytes.bytes) g.row.P c.self.inside.store c.self.invariant c.self.view_is
+    refused_told g.F.FnMut g.K.AsBytes.bytes g.row.P c.args.last.now c.args.f.now (pairs_at c.self.inside.store c.self.inside.root) new.f new.store new.root new.len c.take_refused.result c.take_refused.ensures.taken c.self.view_is

@@ -3,7 +3,7 @@ use Rattle.art_model.specs.Pairs.{of_key}
 use Rattle.art_model.specs.Parts.{below, not_below}
 use Rattle.art_map.specs.MapPairs.{HoldsPairs}
 use Rattle.art_map.proofs.PartsOut.{none_begins, none_held, others_hold, removed_few, removed_is}
-use Rattle.art_map.proofs.Puts.{at_some, canonical_root, stays}
+use Rattle.art_map.proofs.Puts.{at_some, canonical_root}
 use Rattle.art_map.proofs.map.remove.take_all_below.Goals as goal
 
 pub returns-in_default : goal.returns-in_default

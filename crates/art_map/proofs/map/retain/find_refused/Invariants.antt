@@ -1,11 +1,15 @@
-use Rattle.std.proofs.Common.{◌≡◌, ◌++◌, List, length}
-use Rattle.art_map.specs.MapRetain.{AsksPair, Retains}
+use Rattle.std.proofs.Common.{Some, true}
+use Rattle.art_nodes.specs.LeafCalls.{CalledOnPair}
+use Rattle.art_map.specs.MapItems.{pairs_between, walk_len}
+use Rattle.art_map.specs.MapPairs.{pairs_at}
+use Rattle.art_map.proofs.Changed.{Changing}
 use Rattle.art_map.proofs.map.retain.find_refused.Given as goal
 
-abbrev pub invariant-loop-key : goal.invariant-loop-key
-invariant-loop-key g l =
-    ((seen : List (g.row.K.Denot × g.row.V.Denot)) × (l.initial.pairs ≡ seen ++ l.pairs) × Retains (AsksPair g.F.FnMut) l.initial.f seen seen l.f)
+abbrev pub invariant-loop-leaf : goal.invariant-loop-leaf
+invariant-loop-leaf g l =
+    Changing g.K.AsBytes.bytes g.row.P (λ f x next value. CalledOnPair g.F.FnMut f x true next value) (Some l.fn.root) l.fn.len l.fn.f
+    (pairs_between l.fn.store l.initial.walk l.fn.len) (pairs_at l.fn.store (Some l.fn.root)) l.f l.store l.walk
     × goal.F-IsAlwaysCallable g l.f
 
-abbrev pub decreases-loop-key : goal.decreases-loop-key
-decreases-loop-key g l = length l.pairs
+abbrev pub decreases-loop-leaf : goal.decreases-loop-leaf
+decreases-loop-leaf g l = walk_len l.store l.walk l.fn.len

@@ -1,5 +1,4 @@
 use Rattle.std.proofs.Common.{rules, ap, subst, sym, ◌∙◌}
-use Rattle.std.specs.List.{AllByRecursion as Each}
 use Rattle.std.specs.Option.{option_map}
 use Rattle.art_model.specs.Pairs.{last_of}
 use Rattle.art_model.specs.Texts.{AreEnded, IsEndedBy, texts_in_front}
