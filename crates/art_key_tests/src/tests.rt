@@ -11,6 +11,7 @@ mod memory;
 mod numbers;
 mod parts;
 mod set;
+mod set_parts;
 mod short;
 mod texts;
 mod visits;

@@ -8,5 +8,6 @@ mod owned;
 mod ranges;
 mod related;
 mod removals;
+mod set_splits;
 mod sets;
 mod splits;
