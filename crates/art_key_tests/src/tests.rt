@@ -10,6 +10,7 @@ mod map;
 mod memory;
 mod numbers;
 mod parts;
+mod range_with;
 mod set;
 mod set_parts;
 mod short;
