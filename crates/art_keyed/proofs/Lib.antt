@@ -8,3 +8,4 @@ pub mod CutTexts
 pub mod SetClones
 pub mod TextParts
 pub mod LongestOf
+pub mod Seconds

@@ -10,8 +10,8 @@ use Rattle.art_model.specs.Pairs.{of_key}
 use Rattle.art_model.proofs.lists.Filters.{Each-filter}
 use Rattle.art_model.proofs.lists.Lists.{Each-right}
 use Rattle.art_map.specs.MapParts.{keys_before, keys_from, not_between, without}
-use Rattle.art_keyed.specs.KeyedPairs.{HaveKeys, OnBound}
-use Rattle.art_keyed.specs.KeyedParts.{keys_not_between}
+use Rattle.art_keyed.specs.KeyedPairs.{HaveKeys, OnBound, is_key_from, is_key_up_to}
+use Rattle.art_keyed.specs.KeyedParts.{keys_not_between, set_not_between}
 use Rattle.art_keyed.proofs.Between.{filter_same, map_twice, same_from, same_up_to}
 use denote.Ref.{Bor}
 
@@ -25,38 +25,51 @@ each_part P test (x ∷ xs) passed failed = go (test x) (each_part P test xs) pa
     go true ih of_yes of_no = (of_yes.0, ih of_yes.1 of_no)
     go false ih of_yes of_no = (of_no.0, ih of_yes of_no.1)
 
-module _ {K V : Type 0} (is_key : K → Type 0) (bytes : K → List ℕ) where
-  -- the keys without the pair that was removed
-  pub without_keeps : (taken : Option (K × V)) (pairs : List (K × V)) → HaveKeys is_key pairs → HaveKeys is_key (without (of_key bytes) taken pairs)
-  without_keeps None pairs all = all
-  without_keeps (Some x) pairs all = Each-filter (λ y. is_key y.0) _ pairs all
+module _ {A : Type 0} (Known : A → Type 0) (bytes : A → List ℕ) where
+  -- the elements without the one that was removed
+  pub without_keeps : (taken : Option A) (xs : List A) → Each Known xs → Each Known (without bytes taken xs)
+  without_keeps None xs all = all
+  without_keeps (Some x) xs all = Each-filter Known _ xs all
 
-  pub before_keeps : (key : List ℕ) (pairs : List (K × V)) → HaveKeys is_key pairs → HaveKeys is_key (keys_before (of_key bytes) key pairs)
-  before_keeps key pairs all = Each-filter (λ y. is_key y.0) _ pairs all
+  pub before_keeps : (key : List ℕ) (xs : List A) → Each Known xs → Each Known (keys_before bytes key xs)
+  before_keeps key xs all = Each-filter Known _ xs all
 
-  pub from_keeps : (key : List ℕ) (pairs : List (K × V)) → HaveKeys is_key pairs → HaveKeys is_key (keys_from (of_key bytes) key pairs)
-  from_keeps key pairs all = Each-filter (λ y. is_key y.0) _ pairs all
+  pub from_keeps : (key : List ℕ) (xs : List A) → Each Known xs → Each Known (keys_from bytes key xs)
+  from_keeps key xs all = Each-filter Known _ xs all
 
-  module _ (key : List ℕ) (before after moved : List (K × V)) (x : K × V)
-      (parts : keys_from (of_key bytes) key before ≡ moved ++ x ∷ keys_from (of_key bytes) key after) (all : HaveKeys is_key before) where
-    known : HaveKeys is_key (moved ++ x ∷ keys_from (of_key bytes) key after)
-    known = subst (HaveKeys is_key) parts (from_keeps key before all)
+  pub others_keep : (from to : Bound (List ℕ)) (xs : List A) → Each Known xs → Each Known (not_between bytes from to xs)
+  others_keep from to xs all = Each-filter Known _ xs all
 
-    -- the pairs that stayed
-    pub stayed_keep : keys_before (of_key bytes) key after ≡ keys_before (of_key bytes) key before → HaveKeys is_key after
+  module _ (key : List ℕ) (before after moved : List A) (x : A) (parts : keys_from bytes key before ≡ moved ++ x ∷ keys_from bytes key after) (all : Each Known before) where
+    known : Each Known (moved ++ x ∷ keys_from bytes key after)
+    known = subst (Each Known) parts (from_keeps key before all)
+
+    -- the elements that stayed
+    pub stayed_keep : keys_before bytes key after ≡ keys_before bytes key before → Each Known after
     stayed_keep kept =
-        each_part (λ y. is_key y.0) _ after (subst (HaveKeys is_key) (sym kept) (before_keeps key before all))
-        (Each-right (λ y. is_key y.0) moved _ known).1
+        each_part Known _ after (subst (Each Known) (sym kept) (before_keeps key before all))
+        (Each-right Known moved _ known).1
 
-  -- the pairs that are not between two bounds are those that are not between them by their bytes
-  pub not_between_keys : {order : K → K → Ordering} → KeepsOrder is_key bytes order → (from to : Bound (Bor K)) (low high : Bound (List ℕ)) →
+module _ {K : Type 0} (is_key : K → Type 0) (bytes : K → List ℕ) where
+  -- an element is not between two bounds exactly if the bytes of its key are not between those of the bounds
+  not_between_by : {A : Type 0} (key_of : A → K) {order : K → K → Ordering} → KeepsOrder is_key bytes order → (from to : Bound (Bor K)) (low high : Bound (List ℕ)) →
+      low ≡ bound_map (λ b. bytes b.now) from → high ≡ bound_map (λ b. bytes b.now) to →
+      OnBound is_key (bound_map (λ b. b.now) from) → OnBound is_key (bound_map (λ b. b.now) to) → (xs : List A) → Each (λ x. is_key (key_of x)) xs →
+      not_between (λ x. bytes (key_of x)) low high xs ≡
+      filter (λ x. not (is_key_from order (bound_map (λ b. b.now) from) (key_of x) && is_key_up_to order (bound_map (λ b. b.now) to) (key_of x))) xs
+  not_between_by key_of keeps from to low high is_low is_high of_from of_to xs all =
+      rw (is_low ∙ map_twice bytes from, is_high ∙ map_twice bytes to)
+      (filter_same (λ x. is_key (key_of x)) _ _
+      (λ x of_x. ap not (λ i. same_from is_key bytes keeps (bound_map (λ b. b.now) from) (key_of x) of_from of_x i && same_up_to is_key bytes keeps (bound_map (λ b. b.now) to) (key_of x) of_to of_x i)) xs all)
+
+  pub not_between_keys : {V : Type 0} {order : K → K → Ordering} → KeepsOrder is_key bytes order → (from to : Bound (Bor K)) (low high : Bound (List ℕ)) →
       low ≡ bound_map (λ b. bytes b.now) from → high ≡ bound_map (λ b. bytes b.now) to →
       OnBound is_key (bound_map (λ b. b.now) from) → OnBound is_key (bound_map (λ b. b.now) to) → (pairs : List (K × V)) → HaveKeys is_key pairs →
       not_between (of_key bytes) low high pairs ≡ keys_not_between order (bound_map (λ b. b.now) from) (bound_map (λ b. b.now) to) pairs
-  not_between_keys keeps from to low high is_low is_high of_from of_to pairs all =
-      rw (is_low ∙ map_twice bytes from, is_high ∙ map_twice bytes to)
-      (filter_same (λ x. is_key x.0) _ _
-      (λ x of_x. ap not (λ i. same_from is_key bytes keeps (bound_map (λ b. b.now) from) x.0 of_from of_x i && same_up_to is_key bytes keeps (bound_map (λ b. b.now) to) x.0 of_to of_x i)) pairs all)
+  not_between_keys = not_between_by (λ x. x.0)
 
-  pub others_keep : (from to : Bound (List ℕ)) (pairs : List (K × V)) → HaveKeys is_key pairs → HaveKeys is_key (not_between (of_key bytes) from to pairs)
-  others_keep from to pairs all = Each-filter (λ y. is_key y.0) _ pairs all
+  pub not_between_in_set : {order : K → K → Ordering} → KeepsOrder is_key bytes order → (from to : Bound (Bor K)) (low high : Bound (List ℕ)) →
+      low ≡ bound_map (λ b. bytes b.now) from → high ≡ bound_map (λ b. bytes b.now) to →
+      OnBound is_key (bound_map (λ b. b.now) from) → OnBound is_key (bound_map (λ b. b.now) to) → (keys : List K) → Each is_key keys →
+      not_between bytes low high keys ≡ set_not_between order (bound_map (λ b. b.now) from) (bound_map (λ b. b.now) to) keys
+  not_between_in_set = not_between_by (λ key. key)

@@ -7,3 +7,4 @@ pub mod Matches
 pub mod SetClones
 pub mod TextCalls
 pub mod TextLends
+pub mod KeyedSeconds

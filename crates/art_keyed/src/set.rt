@@ -20,6 +20,7 @@ mod joined;
 mod joined_array;
 mod operators;
 mod ordered;
+mod parts;
 mod retain;
 mod strings;
 

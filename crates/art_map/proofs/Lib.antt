@@ -28,3 +28,4 @@ pub mod Compacted
 pub mod SetSides
 pub mod SetParts
 pub mod Copied
+pub mod Extracted

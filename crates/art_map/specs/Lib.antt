@@ -10,3 +10,4 @@ pub mod SetKeys
 pub mod SetAlgebra
 pub mod MapRetain
 pub mod MapParts
+pub mod MapExtract

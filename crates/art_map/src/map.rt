@@ -44,6 +44,7 @@ mod compared;
 mod each;
 mod entry;
 mod extend;
+mod extract;
 mod iter;
 mod lend;
 mod owned;
@@ -59,6 +60,7 @@ mod texts;
 
 pub use both::BothInsertError;
 pub use entry::{Entry, EntryOf};
+pub use extract::{ExtractPrefix, ExtractPrefixOf, ExtractRange, ExtractRangeOf};
 pub use iter::{Leaves, MapIter, MapIterOf};
 pub use owned::{IntoIter, IntoKeys, IntoValues};
 pub use parts::{Keys, KeysOf, Values, ValuesOf};

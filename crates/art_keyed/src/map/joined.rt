@@ -1,14 +1,18 @@
 //! Maps whose keys are two keys joined into one.
-ghost use Rattle.std.specs.Prelude.{◌≡◌, ◌<◌, ◌^◌, length, IfSome, None, Some};
+ghost use Rattle.std.specs.Prelude.{◌≡◌, ◌<◌, ◌^◌, length, IfOk, IfSome, None, OnOk, Some};
+ghost use Rattle.std.specs.declared.ops.Bound.TheVariants.{Excluded, Included};
 ghost use Rattle.art_model.specs.Pairs.{IsMap, first_of, of_key};
 ghost use Rattle.art_keys.specs.Joins.{AreKeys, joined_bytes};
 ghost use Rattle.art_keyed.specs.KeyedValues.{CountsRemoved, KeepsOtherKeys, value_of};
 ghost use Rattle.art_keyed.specs.KeyedPairs.{HaveKeys, pairs_with_first, pairs_without_first, without_first_with};
+ghost use Rattle.art_keyed.specs.KeyedSeconds.{pairs_with_both};
 
 use super::TreeMap;
 use art_keys::joined::Joined;
-use art_keys::laws::DecodeBytes;
+use art_keys::laws::{DecodeBytes, OrderedBytes};
 use art_map::map::Range;
+use std::alloc::{AllocError, Global};
+use std::ops;
 
 impl<A: DecodeBytes + Drop, B: DecodeBytes + Drop, V: Drop, const P: usize> TreeMap<
     Joined<A, B>,
@@ -56,5 +60,35 @@ impl<A: DecodeBytes + Drop, B: DecodeBytes + Drop, V: Drop, const P: usize> Tree
     {
         first.as_key();
         self.map.pop_first_below(first.as_bytes())
+    }
+}
+
+impl<
+    A: DecodeBytes + OrderedBytes + Drop,
+    B: DecodeBytes + OrderedBytes + Drop,
+    V: Drop,
+    const P: usize,
+> TreeMap<Joined<A, B>, V, P> {
+    /// Returns an iterator over the pairs whose keys have this first key and a second key in a range, in the order of
+    /// the second keys; it is empty if the range runs backwards.
+    ///
+    /// It makes the keys at the two ends, and fails only if an allocation for one of them fails. Else it costs what
+    /// `range` does.
+    pub fn range_with(
+        &self,
+        alloc: Global,
+        first: &A,
+        seconds: ops::Range<B>,
+    ) -> Result<Range<'_, Joined<A, B>, V, P>, AllocError>
+        ensures pairs { IfOk result (λ part. part ≡ pairs_with_both A.bytes (A.bytes first.now) B.order
+            (Included seconds.start) (Excluded seconds.end) self.now) }
+        ensures known { OnOk result (HaveKeys (AreKeys A.is_key B.is_key) self.now) }
+        ensures sorted { OnOk result (IsMap (of_key (joined_bytes A.bytes B.bytes)) self.now) }
+        ensures fits { IfOk result (λ part. length part < 2 ^ 64) }
+    {
+        first.as_key();
+        let from = Joined::join(alloc, first, &seconds.start)?;
+        let to = Joined::join(alloc, first, &seconds.end)?;
+        Ok(self.range(from..to))
     }
 }

@@ -107,7 +107,7 @@ impl<K: AsBytes + Drop, V: Drop, const P: usize> ByteMap<K, V, P> {
     }
 
     // Removes the first pair whose key is between two bounds.
-    fn take_first_in(&mut self, from: Bound<&[u8]>, to: Bound<&[u8]>) -> Option<(K, V)>
+    pub(super) fn take_first_in(&mut self, from: Bound<&[u8]>, to: Bound<&[u8]>) -> Option<(K, V)>
         ensures removed { result ≡ first_of (between (of_key K.bytes)
             (bound_map (λ b. b.now) from.entry) (bound_map (λ b. b.now) to.entry) self.old) }
         ensures pairs { self.new ≡ without (of_key K.bytes) result self.old }

@@ -7,13 +7,13 @@ use std::collections::BTreeSet;
 use std::ops::Bound;
 use std::test::Fail;
 
-type Key = [u8; 2];
+pub(super) type Key = [u8; 2];
 
-type Set = ByteSet<Key, 1>;
+pub(super) type Set = ByteSet<Key, 1>;
 
-type Model = BTreeSet<Key>;
+pub(super) type Model = BTreeSet<Key>;
 
-fn drawn_key(numbers: &mut Numbers) -> Key {
+pub(super) fn drawn_key(numbers: &mut Numbers) -> Key {
     [numbers.below(5) as u8, numbers.below(12) as u8]
 }
 
@@ -45,7 +45,7 @@ fn agree_on_questions(set: &Set, model: &Model, key: Key) -> bool {
 }
 
 // Whether both have the same keys from both ends.
-fn agree_on_keys(set: &Set, model: &Model) -> bool {
+pub(super) fn agree_on_keys(set: &Set, model: &Model) -> bool {
     let (mut front, mut back) = (set.iter(), set.iter());
     let mut agree = true;
     for key in model.iter() {

@@ -6,15 +6,15 @@ use Rattle.art_keyed.proofs.map.TreeMap.split_off.Goals as goal
 use Rattle.art_keyed.proofs.map.TreeMap.split_off.Goals.{in-Ok, in-Err}
 
 pub invariant_of-result : goal.invariant_of-result
-invariant_of-result g c = rw c.in-Ok.ensures.moved (from_keeps _ g.K.AsBytes.bytes _ c.self.inside.map c.self.invariant)
+invariant_of-result g c = rw c.in-Ok.ensures.moved (from_keeps _ (of_key g.K.AsBytes.bytes) _ c.self.inside.map c.self.invariant)
 
 pub invariant_of-self : goal.invariant_of-self
 invariant_of-self g c =
     elim c.match-split_off.branch [
-      | in-Ok w ↦ rw w.in-Ok.ensures.stay (before_keeps _ g.K.AsBytes.bytes _ c.self.inside.map c.self.invariant)
+      | in-Ok w ↦ rw w.in-Ok.ensures.stay (before_keeps _ (of_key g.K.AsBytes.bytes) _ c.self.inside.map c.self.invariant)
       | in-Err w ↦
           let refused = w.in-Err.refused in
-          stayed_keep _ g.K.AsBytes.bytes _ c.self.inside.map c.split_off.new.self refused.moved (refused.key, refused.value) w.in-Err.ensures.refused c.self.invariant w.in-Err.ensures.kept
+          stayed_keep _ (of_key g.K.AsBytes.bytes) _ c.self.inside.map c.split_off.new.self refused.moved (refused.key, refused.value) w.in-Err.ensures.refused c.self.invariant w.in-Err.ensures.kept
     ]
 
 pub returns-clause-stay : goal.returns-clause-stay

@@ -1,5 +1,6 @@
 use Rattle.std.proofs.Common.{ap, length, ◌∙◌}
 use Rattle.std.specs.Range.Bound.{bound_map}
+use Rattle.art_model.specs.Pairs.{of_key}
 use Rattle.art_keyed.specs.KeyedPairs.{keys_between}
 use Rattle.art_keyed.specs.KeyedParts.{keys_not_between}
 use Rattle.art_keyed.proofs.Between.{between_keys}
@@ -7,7 +8,7 @@ use Rattle.art_keyed.proofs.Parted.{not_between_keys, others_keep}
 use Rattle.art_keyed.proofs.map.TreeMap.take_all_in.Goals as goal
 
 pub invariant_of-self : goal.invariant_of-self
-invariant_of-self g c = rw (c.remove_range.ensures.pairs tt) (others_keep _ g.K.AsBytes.bytes _ _ c.self.inside.map c.self.invariant)
+invariant_of-self g c = rw (c.remove_range.ensures.pairs tt) (others_keep _ (of_key g.K.AsBytes.bytes) _ _ c.self.inside.map c.self.invariant)
 
 pub returns-clause-pairs : goal.returns-clause-pairs
 returns-clause-pairs g c =

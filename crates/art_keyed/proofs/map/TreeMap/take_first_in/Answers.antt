@@ -1,13 +1,13 @@
 use Rattle.std.proofs.Common.{ap, ◌∙◌}
 use Rattle.std.specs.Range.Bound.{bound_map}
-use Rattle.art_model.specs.Pairs.{first_of}
+use Rattle.art_model.specs.Pairs.{first_of, of_key}
 use Rattle.art_keyed.specs.KeyedPairs.{keys_between}
 use Rattle.art_keyed.proofs.Between.{between_keys}
 use Rattle.art_keyed.proofs.Parted.{without_keeps}
 use Rattle.art_keyed.proofs.map.TreeMap.take_first_in.Goals as goal
 
 pub invariant_of-self : goal.invariant_of-self
-invariant_of-self g c = rw c.pop_first_in.ensures.pairs (without_keeps _ g.K.AsBytes.bytes c.pop_first_in.result c.self.inside.map c.self.invariant)
+invariant_of-self g c = rw c.pop_first_in.ensures.pairs (without_keeps _ (of_key g.K.AsBytes.bytes) c.pop_first_in.result c.self.inside.map c.self.invariant)
 
 pub returns-clause-removed : goal.returns-clause-removed
 returns-clause-removed g c =

@@ -1,0 +1,123 @@
+//! Iterators that remove the pairs of a range or with a prefix, drawn, some dropped early, and compared with a
+//! `BTreeMap`.
+use super::beside_btree::{Key, Map, Model, agree_on_pairs, drawn_key};
+use super::ranges::{drawn_bound, is_between};
+use art_operations::map::ByteMap;
+use art_test_support::expected::as_expected;
+use art_test_support::numbers::Numbers;
+use std::collections::BTreeMap;
+use std::ops::Bound;
+use std::test::Fail;
+
+// Inserts some pairs into both.
+fn fill_both(map: &mut Map, model: &mut Model, numbers: &mut Numbers) -> bool {
+    let mut done = true;
+    for _ in 0..numbers.below(30) {
+        let (key, value) = (drawn_key(numbers), numbers.value());
+        done &= map.insert(key, value).is_ok() && model.insert(key, value).is_ok();
+    }
+    done
+}
+
+fn first_between(model: &Model, from: Bound<&[u8]>, to: Bound<&[u8]>) -> Option<(Key, u32)> {
+    for (key, value) in model.iter() {
+        if is_between(from, to, key) {
+            return Some((*key, *value));
+        }
+    }
+    None
+}
+
+fn first_below(model: &Model, prefix: &[u8]) -> Option<(Key, u32)> {
+    for (key, value) in model.iter() {
+        if key.starts_with(prefix) {
+            return Some((*key, *value));
+        }
+    }
+    None
+}
+
+// Whether a pair is the first one of the other map, which loses it.
+fn agree_on_pair(own: Option<(Key, u32)>, model: &mut Model, first: Option<(Key, u32)>) -> bool {
+    if let Some((key, _)) = first {
+        model.remove(&key);
+    }
+    own == first
+}
+
+// Whether the same pairs between two bounds are removed from both, at most so many.
+fn agree_on_range(
+    map: &mut Map,
+    model: &mut Model,
+    from: Bound<&[u8]>,
+    to: Bound<&[u8]>,
+    most: usize,
+) -> bool {
+    let mut own = map.extract_range((from, to));
+    let mut agree = true;
+    for _ in 0..most {
+        let first = first_between(model, from, to);
+        agree &= agree_on_pair(own.next(), model, first);
+    }
+    agree
+}
+
+// Whether the same pairs with a prefix are removed from both, at most so many.
+fn agree_on_prefix(map: &mut Map, model: &mut Model, prefix: &[u8], most: usize) -> bool {
+    let mut own = map.extract_prefix(prefix);
+    let mut agree = true;
+    for _ in 0..most {
+        let first = first_below(model, prefix);
+        agree &= agree_on_pair(own.next(), model, first);
+    }
+    agree
+}
+
+// Changes both, and returns whether they agree.
+fn agree_on_change(map: &mut Map, model: &mut Model, numbers: &mut Numbers) -> bool {
+    let (low, high) = (drawn_key(numbers), drawn_key(numbers));
+    let (from, to) = (drawn_bound(numbers, &low), drawn_bound(numbers, &high));
+    let most = numbers.below(6);
+    if numbers.is_heads() {
+        agree_on_range(map, model, from, to, most)
+    } else {
+        agree_on_prefix(map, model, &low[..numbers.below(3)], most)
+    }
+}
+
+// The number of the first change after which they differ, if they do.
+fn differ_at(map: &mut Map, model: &mut Model, changes: usize) -> Option<usize> {
+    let mut numbers = Numbers::new(15);
+    for change in 0..changes {
+        let filled = fill_both(map, model, &mut numbers);
+        if !filled || !agree_on_change(map, model, &mut numbers) || !agree_on_pairs(map, model) {
+            return Some(change);
+        }
+    }
+    None
+}
+
+#[test]
+fn extracted_pairs_are_those_of_a_btree_map(rt: HostRuntime) -> Result<(), Fail> {
+    let alloc = rt.alloc();
+    let seen = differ_at(&mut ByteMap::new(alloc), &mut BTreeMap::new(alloc), 400);
+    as_expected(Some((seen, None)))
+}
+
+// The sum of the values that are removed in a loop, and how many pairs are left.
+fn sum_of(map: &mut Map, prefix: &[u8]) -> (u32, usize) {
+    let mut sum = 0u32;
+    for (_, value) in map.extract_prefix(prefix) {
+        sum = sum.saturating_add(value);
+    }
+    (sum, map.len())
+}
+
+#[test]
+fn a_loop_extracts_all_pairs_with_a_prefix(rt: HostRuntime) -> Result<(), Fail> {
+    let mut map: Map = ByteMap::new(rt.alloc());
+    for (key, value) in [([1, 1], 1), ([1, 2], 2), ([2, 1], 4), ([1, 3], 8)] {
+        drop(map.insert(key, value));
+    }
+    as_expected(Some((sum_of(&mut map, &[1]), (11, 1))))
+}
