@@ -193,14 +193,6 @@ module _ {K V : Type 0} {bytes : K × V → List ℕ} {P : ℕ} {s : Nodes K V} 
 
 -- ---- the list of the nodes above
 
--- the last one is the innermost
-pub innermost : (items rest : List Above) (f : Above) → items ≡ rest ++ f ∷ [] → reverse items ≡ f ∷ reverse rest
-innermost items rest f e = ap reverse e ∙ reverse-append rest (f ∷ [])
-
-pub none_above : (items : List Above) (n : ℕ) → n ≡ length items → n ≡ 0 → reverse items ≡ []
-none_above [] n is zero = refl
-none_above (f ∷ fs) n is zero = absurd (omega arith)
-
 pub one_more_above : (items rest : List Above) (f : Above) → items ≡ rest ++ f ∷ [] → length items ≡ length rest + 1
 one_more_above items rest f e = ap length e ∙ length-append rest (f ∷ [])
 
@@ -225,7 +217,3 @@ module _ (m n a b k l : ℕ) where
   -- a leaf is met
   pub falls_by : n ≤ m → b ≡ a → k ≡ suc l → 600 * n + 300 * b + l < 600 * m + 300 * a + k
   falls_by no_more same less = omega arith
-
-pub some_node : (o : Option Inner) → IsSome o → (node : Inner) × (o ≡ Some node)
-some_node None h = absurd cc
-some_node (Some node) h = (node, refl)

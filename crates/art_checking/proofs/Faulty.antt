@@ -20,7 +20,10 @@ use Rattle.art_checking.specs.Checked.{IsTrueAt, Says}
 use Rattle.art_checking.specs.Checks.{fault_of}
 use Rattle.art_checking.proofs.Descents.{inner_at}
 use Rattle.art_checking.specs.declared.well_formed.fault.MalformedTreeError.{MalformedTreeError}
-use Rattle.art_checking.specs.declared.well_formed.fault.MalformedTreeError.TheVariants.{LoopFound, WrongChildrenCount, PrefixMismatch, EmptyTreeWithLen, LeafSiblingWrongOrder, WrongSiblingLinks, DeadName, UnreadablePrefix, StoredPrefixMismatch, OutOfMemory}
+use Rattle.art_checking.specs.declared.well_formed.fault.MalformedTreeError.TheVariants.{LoopFound, WrongChildrenCount, PrefixMismatch}
+use Rattle.art_checking.specs.declared.well_formed.fault.MalformedTreeError.TheVariants.{EmptyTreeWithLen, LeafSiblingWrongOrder}
+use Rattle.art_checking.specs.declared.well_formed.fault.MalformedTreeError.TheVariants.{WrongSiblingLinks, DeadName, UnreadablePrefix}
+use Rattle.art_checking.specs.declared.well_formed.fault.MalformedTreeError.TheVariants.{StoredPrefixMismatch, OutOfMemory}
 
 -- what holds of an error holds of it after `?`
 pub passed_on : {T E : Type 0} (r : Result T E) (source : E) (Q : E → Type 0) → IsErrAnd r (λ e. e ≡ source) → Q source → IfErr r Q

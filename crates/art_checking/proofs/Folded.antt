@@ -1,6 +1,6 @@
 -- A fold proceeds child by child: some children of a node are joined, and the others are left.
 use Rattle.std.specs.Option.{option_map}
-use Rattle.std.proofs.Common.{◌≡◌, ◌≢◌, ℕ, ◌<◌, ◌≤◌, List, [], ◌∷◌, length, refl, ap, ap₂, sym, ◌∙◌, arith, subst, Some, None}
+use Rattle.std.proofs.Common.{◌≡◌, ◌≢◌, ℕ, ◌<◌, ◌≤◌, List, [], ◌∷◌, length, refl, ap, ap₂, sym, ◌∙◌, arith, subst, IsSome, Option, Some, None}
 use Rattle.std.specs.FinMap as map
 use Rattle.art_inner.specs.Inner.{Inner}
 use Rattle.art_parts.specs.Names.{leaf_name, inner_name}
@@ -171,16 +171,20 @@ module _ {K V T Out : Type 0} (OfLeaf : T → LeafNode K V → Out → T → Typ
   folds_leaf layout p shown old new out full is there answers =
       subst (λ z. FoldsIt z old out new) (sym (leaf_shown s p layout (full.0.named ∙ sym is) full.0.holds shown there)) (shown, held_at_leaf s p shown there, answers)
 
+not_gone : {X : Type 0} (o : Option X) → (None ≡ o → ⊥) → IsSome o
+not_gone None h = absurd (h refl)
+not_gone (Some x) h = refl
+
 -- what has a leaf's name is a leaf of the store
 pub full_leaf : {K V : Type 0} (s : Nodes K V) {name : OpaqueNodePtr} {layout : Tree OpaqueNodePtr (K × V)} → IsFullTree s name layout →
-    (p : LeafPtr) → leaf_name p ≡ name → None ≡ map.get s.leaves p → ⊥
-full_leaf s {name} {layout} full p is gone = no_leaf_gone s p layout (full.0.named ∙ sym is) full.0.holds gone
+    (p : LeafPtr) → leaf_name p ≡ name → IsSome (map.get s.leaves p)
+full_leaf s {name} {layout} full p is = not_gone (map.get s.leaves p) (λ gone. no_leaf_gone s p layout (full.0.named ∙ sym is) full.0.holds gone)
 
 module _ {K V : Type 0} (s : Nodes K V) {name : OpaqueNodePtr} {layout : Tree OpaqueNodePtr (K × V)} (full : IsFullTree s name layout) (p : InnerPtr)
     (proper : p.kind ≢ Leaf) (is : inner_name p ≡ name) where
   -- an inner node is in the store
-  pub full_inner : None ≡ map.get s.inners p → ⊥
-  full_inner gone = no_inner_gone s p proper layout (full.0.named ∙ sym is) full.0.holds gone
+  pub full_inner : IsSome (map.get s.inners p)
+  full_inner = not_gone (map.get s.inners p) (λ gone. no_inner_gone s p proper layout (full.0.named ∙ sym is) full.0.holds gone)
 
   module _ (kind : NodeType) (shown : Inner) (there : Some shown ≡ map.get s.inners p) (same : kind ≡ p.kind) where
     -- it is as the store shows it

@@ -11,9 +11,13 @@ use Rattle.art_nodes.specs.Nodes.{Nodes}
 use Rattle.art_model.specs.Canonical.{IsCanonicalTree}
 use Rattle.art_model.specs.Layouts.{Links, inner_names}
 use Rattle.art_model.specs.Trees.{Tree}
-use Rattle.art_model.specs.Faults.{Fault, loop_found, wrong_children_count, prefix_mismatch, empty_tree_with_len, leaf_sibling_wrong_order, wrong_sibling_links, dead_name, unreadable_prefix, stored_prefix_mismatch, out_of_memory}
+use Rattle.art_model.specs.Faults.{Fault, loop_found, wrong_children_count, prefix_mismatch, empty_tree_with_len, leaf_sibling_wrong_order}
+use Rattle.art_model.specs.Faults.{wrong_sibling_links, dead_name, unreadable_prefix, stored_prefix_mismatch, out_of_memory}
 use Rattle.art_checking.specs.declared.well_formed.fault.MalformedTreeError.{MalformedTreeError}
-use Rattle.art_checking.specs.declared.well_formed.fault.MalformedTreeError.TheVariants.{LoopFound, WrongChildrenCount, PrefixMismatch, EmptyTreeWithLen, LeafSiblingWrongOrder, WrongSiblingLinks, DeadName, UnreadablePrefix, StoredPrefixMismatch, OutOfMemory}
+use Rattle.art_checking.specs.declared.well_formed.fault.MalformedTreeError.TheVariants.{LoopFound, WrongChildrenCount, PrefixMismatch}
+use Rattle.art_checking.specs.declared.well_formed.fault.MalformedTreeError.TheVariants.{EmptyTreeWithLen, LeafSiblingWrongOrder}
+use Rattle.art_checking.specs.declared.well_formed.fault.MalformedTreeError.TheVariants.{WrongSiblingLinks, DeadName, UnreadablePrefix}
+use Rattle.art_checking.specs.declared.well_formed.fault.MalformedTreeError.TheVariants.{StoredPrefixMismatch, OutOfMemory}
 use Rattle.art_checking.specs.declared.well_formed.KeyPrefix.{KeyPrefix}
 use Rattle.art_checking.specs.declared.well_formed.WellFormedTreeStats.{WellFormedTreeStats}
 

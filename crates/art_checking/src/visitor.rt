@@ -78,15 +78,11 @@ fn visit<K: AsBytes + Drop, V: Drop, T: Visitor<K, V, P>, const P: usize>(
     let inner = match name.split() {
         NodePtr::Inner(inner) => inner,
         NodePtr::Leaf(leaf) => {
-            let Some(node) = store.leaf(leaf) else {
-                unreachable!()
-            };
+            let node = store.leaf_at(leaf);
             return visitor.visit_leaf(node);
         }
     };
-    let Some(node) = store.inner(inner) else {
-        unreachable!()
-    };
+    let node = store.inner_at(inner);
     let mut children = node.iter();
     let Some((_, first)) = children.next() else {
         unreachable!()

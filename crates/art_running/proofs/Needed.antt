@@ -1,5 +1,7 @@
 -- What applied points place is what their commands need.
-use Rattle.std.proofs.Common.{◌≡◌, ◌≢◌, ℕ, suc, ◌+◌, ◌<◌, ◌≤◌, List, [], ◌∷◌, ◌++◌, length, drop, take, cond, ltb, leb, get_or, slice_get, Bool, true, false, refl, ap, ap₂, sym, ◌∙◌, subst, arith, append_assoc, length-append, Option, Some, None, inl, inr}
+use Rattle.std.proofs.Common.{◌≡◌, ◌≢◌, ℕ, suc, ◌+◌, ◌<◌, ◌≤◌, List, [], ◌∷◌, ◌++◌, length, drop, take, cond, ltb, leb, get_or, slice_get}
+use Rattle.std.proofs.Common.{Bool, true, false, refl, ap, ap₂, sym, ◌∙◌, subst, arith, append_assoc, length-append, Option, Some, None}
+use Rattle.std.proofs.Common.{inl, inr}
 use Rattle.art_parts.proofs.NameLemmas.{same_kind}
 use Rattle.art_parts.specs.Kinds.{kind_index, kind_capacity, kind_least, larger_kind, next_larger, smaller_kind}
 use Rattle.std.proofs.lemmas.Bool.{cases_Bool, leb-true, leb-false, ne_eqb}
@@ -44,7 +46,7 @@ use Rattle.art_model.specs.Writes.{as_inner}
 use Rattle.art_model.proofs.stores.Writes.{inner_at}
 use Rattle.art_running.specs.Answers.{Answers}
 use Rattle.art_writing.specs.Inserted.{placed_for, is_full}
-use Rattle.art_writing.specs.Deleted.{LeadsTo, ParentChange, no_parent, keeps, shrinks, change_of, parent_change, placed_for_deletion}
+use Rattle.art_writing.specs.Deleted.{LeadsTo, ParentChange, no_parent, keeps, shrinks, change_of, parent_change, placed_by, placed_for_deletion}
 use Rattle.art_reading.specs.Matching.{shared_len}
 use Rattle.art_running.specs.Needs.{needs, count_of, inner_count_below, more_of, inner_count}
 use Rattle.art_reading.specs.EndNodes.{IsKindOf}
@@ -317,27 +319,23 @@ module _ {K V : Type 0} (bytes : K → List ℕ) (P : ℕ) (k : K) (v : V) {fs :
 
 -- ---- deletion
 
--- what a change of the parent places
-abbrev placed_of : ParentChange → Promise
-placed_of change = elim change as (λ _. Promise) [ shrinks kind ↦ record { leaves = 0; inner = Some kind } | _ ↦ record { leaves = 0; inner = None } ]
-
 -- what becomes of the parent determines which inner node is placed
 change_places : (kind : NodeType) (n : ℕ) (more : Option NodeType) → kind ≡ kind_of (suc n) → 1 ≤ n → (n ≡ 1 → None ≡ more) →
     (2 ≤ n → kind_of n ≡ kind_of (suc n) → None ≡ more) → (2 ≤ n → kind_of n ≢ kind_of (suc n) → Some (kind_of n) ≡ more) →
-    placed_of (change_of kind (suc n)) ≡ record { leaves = 0; inner = more }
+    placed_by (change_of kind (suc n)) ≡ record { leaves = 0; inner = more }
 change_places kind n more own some compress keep shrink = go kind own
   where
     told : {x : Option NodeType} → x ≡ more → ◌≡◌ {A = Promise} (record { leaves = 0; inner = x }) (record { leaves = 0; inner = more })
     told e = ap (λ (z : Option NodeType). let y : Promise = record { leaves = 0; inner = z } in y) e
 
-    other : (z : NodeType) → z ≢ Node4 → z ≡ kind_of (suc n) → 2 ≤ n → placed_of (cond (leb (suc n) (kind_least z)) (shrinks (smaller_kind z)) keeps) ≡ record { leaves = 0; inner = more }
+    other : (z : NodeType) → z ≢ Node4 → z ≡ kind_of (suc n) → 2 ≤ n → placed_by (cond (leb (suc n) (kind_least z)) (shrinks (smaller_kind z)) keeps) ≡ record { leaves = 0; inner = more }
     other z off is two = elim (cases_Bool (leb (suc n) (kind_least z))) [
       | inl e ↦ rw e (told (ap Some (kind_of-smaller z n off is (let l = leb-true (suc n) (kind_least z) e in omega arith)) ∙
           shrink two (λ same. let l = leb-true (suc n) (kind_least z) e in kind_of-least z n off (omega arith) (is ∙ sym same))))
       | inr e ↦ rw e (told (keep two (let l = leb-false (suc n) (kind_least z) e in sym (kind_of-spare z n is (omega arith)) ∙ is)))
     ]
 
-    go : (z : NodeType) → z ≡ kind_of (suc n) → placed_of (change_of z (suc n)) ≡ record { leaves = 0; inner = more }
+    go : (z : NodeType) → z ≡ kind_of (suc n) → placed_by (change_of z (suc n)) ≡ record { leaves = 0; inner = more }
     go Node4 is = elim (cases_Bool (leb (suc n) 2)) [
       | inl e ↦ rw e (told (compress (let l = leb-true (suc n) 2 e in omega arith)))
       | inr e ↦ rw e (let l = leb-false (suc n) 2 e in told (keep (omega arith) (sym (kind_of-spare Node4 n is (omega arith)) ∙ is)))
@@ -448,7 +446,7 @@ module _ {K V : Type 0} (bytes : K → List ℕ) (P : ℕ) (x : K × V) (n : Opa
       (subst (λ (o : Option Inner). elim o as (λ _. ParentChange) [ None ↦ no_parent | Some z ↦ change_of f.mark.kind (length z.children) ] ≡
       change_of f.mark.kind (suc left_over)) (sym got) (ap (change_of f.mark.kind) number)) in
       let two : 2 ≤ suc left_over = subst (λ z. 2 ≤ z) one_more own.2 in
-      ap placed_of change ∙ change_places f.mark.kind left_over More kind (omega arith) (compress_places place path own) (keep_places place path own) (shrink_places place path own)
+      ap placed_by change ∙ change_places f.mark.kind left_over More kind (omega arith) (compress_places place path own) (keep_places place path own) (shrink_places place path own)
 
 -- a deletion needs the inner node that is placed
 deletion_needs : {K V : Type 0} (IsClone : K × V → K × V → Type 0) (bytes : K → List ℕ) (P : ℕ) (pairs : List (K × V)) (x : K × V) (c : Command K V) →

@@ -3,7 +3,8 @@ use Rattle.std.specs.Prelude.{◌≡◌, ◌≢◌, ℕ, List, length, map, Some
 use Rattle.std.specs.List.{AllZip}
 use Rattle.std.specs.Option.{option_to_list}
 use Rattle.std.specs.Box.{boxed_slice_items}
-use Rattle.art_model.specs.Pairs.{first_of, last_of, without_first, without_last, match_of, put, put_reply, overwrite, overwrite_reply, remove_key, remove_reply, of_key, is_conflict, has_key, related_to}
+use Rattle.art_model.specs.Pairs.{first_of, last_of, without_first, without_last, match_of, put, put_reply, overwrite, overwrite_reply}
+use Rattle.art_model.specs.Pairs.{remove_key, remove_reply, of_key, is_conflict, has_key, related_to}
 use Rattle.art_running.specs.declared.run.Command.{Command}
 use Rattle.art_running.specs.declared.run.Command.TheVariants.{Insert, InsertPrefix, Delete, DeleteMin, DeleteMax, Clone, Contains, LongestMatch}
 use Rattle.art_running.specs.declared.run.Reply.{Reply}

@@ -149,9 +149,7 @@ fn enter<'a, K: AsBytes + Drop, V: Drop, const P: usize>(
     ensures fault { IfErr result
         (IsTrueAt (of_key K.bytes) P store.now place.old.items (inner_name name)) }
 {
-    let Some(node) = store.inner(name) else {
-        unreachable!()
-    };
+    let node = store.inner_at(name);
     let least = read_prefix(store, name, node, least, place)?;
     let children = node.iter();
     Ok((children, least))
@@ -173,9 +171,7 @@ fn leave<K: AsBytes + Drop, V: Drop, const P: usize>(
     ensures fault { IfErr result (IsTrueAt (of_key K.bytes) P store.now
         (take depth place.old.items) (inner_name name)) }
 {
-    let Some(node) = store.inner(name) else {
-        unreachable!()
-    };
+    let node = store.inner_at(name);
     place.truncate(depth);
     check_count(store, node, place)
 }
@@ -386,9 +382,7 @@ fn check_leaf<K: AsBytes + Drop, V: Drop, const P: usize>(
     ensures fault { IfErr result
         (IsTrueAt (of_key K.bytes) P store.now place.now (leaf_name leaf)) }
 {
-    let Some(node) = store.leaf(leaf) else {
-        unreachable!()
-    };
+    let node = store.leaf_at(leaf);
     let key = node.key.as_bytes();
     if !begins_with(key, place) {
         return Err(MalformedTreeError::prefix_mismatch(store.alloc(), place, key));
@@ -450,9 +444,7 @@ pub(super) fn check_links<K: AsBytes + Drop, V: Drop, const P: usize>(
     let mut rest = leaves;
     'along: while let Some((&leaf, others)) = rest.split_first() {
         let next = others.first().copied();
-        let Some(node) = store.leaf(leaf) else {
-            unreachable!()
-        };
+        let node = store.leaf_at(leaf);
         if node.previous != previous || node.next != next {
             return Err(MalformedTreeError::wrong_sibling_links(
                 store.alloc(),

@@ -6,36 +6,37 @@ use Rattle.art_checking.proofs.visitor.+visit.Goals as goal
 falls : {t m n : ℕ} → m ≡ t → n < m → n < t
 falls e l = omega arith
 
-pub unreachable-requires : goal.unreachable-requires
-unreachable-requires g t c =
+pub leaf_at-node-requires : goal.leaf_at-node-requires
+leaf_at-node-requires g t c =
     let (layout, full) = c.requires in
-    full_leaf c.args.store.now full c.in-Leaf.leaf c.in-Leaf.ensures.name c.in_default.ensures
+    (search rules, full_leaf c.args.store.now full c.in-Leaf.leaf c.in-Leaf.ensures.name)
 
-pub unreachable-requires-in_default-inner : goal.unreachable-requires-in_default-inner
-unreachable-requires-in_default-inner g t c =
+pub inner_at-node-requires : goal.inner_at-node-requires
+inner_at-node-requires g t c =
     let (layout, full) = c.requires in
-    full_inner c.args.store.now full c.in-Inner.inner c.in-Inner.ensures.proper c.in-Inner.ensures.name c.in_default-inner.ensures.view
+    (search rules, (search rules, (search rules, (search rules, (search rules,
+    full_inner c.args.store.now full c.in-Inner.inner c.in-Inner.ensures.proper c.in-Inner.ensures.name)))))
 
 pub returns-in-Leaf : goal.returns-in-Leaf
 returns-in-Leaf g t c layout full =
-    folds_leaf g.T.Visitor.of_leaf g.T.Visitor.of_inner g.T.Visitor.combines c.args.store.now layout c.in-Leaf.leaf c.in-Some.node.now
-    c.args.visitor.now c.visit_leaf.new.self c.visit_leaf.result full c.in-Leaf.ensures.name c.in-Some.ensures c.visit_leaf.ensures
+    folds_leaf g.T.Visitor.of_leaf g.T.Visitor.of_inner g.T.Visitor.combines c.args.store.now layout c.in-Leaf.leaf c.leaf_at-node.result.now
+    c.args.visitor.now c.visit_leaf.new.self c.visit_leaf.result full c.in-Leaf.ensures.name (sym c.leaf_at-node.ensures) c.visit_leaf.ensures
 
-pub unreachable-requires-in_default-next : goal.unreachable-requires-in_default-next
-unreachable-requires-in_default-next g t c =
+pub unreachable-requires : goal.unreachable-requires
+unreachable-requires g t c =
     let (layout, full) = c.requires in
-    full_some c.args.store.now full c.in-Inner.inner c.in-Inner.ensures.proper c.in-Inner.ensures.name (ref_kind c.in-Some-inner.node)
-    (ref_view c.in-Some-inner.node) c.in-Some-inner.ensures.view c.in-Some-inner.ensures.kind (sym c.iter-children.ensures.children ∙ c.in_default-next.ensures.steps.0)
+    full_some c.args.store.now full c.in-Inner.inner c.in-Inner.ensures.proper c.in-Inner.ensures.name (ref_kind c.inner_at-node.result)
+    (ref_view c.inner_at-node.result) (sym c.inner_at-node.ensures.view) c.inner_at-node.ensures.kind (sym c.iter-children.ensures.children ∙ c.in_default.ensures.steps.0)
 
 pub visit-joined-requires : goal.visit-joined-requires
 visit-joined-requires g t c κs within =
     let (layout, full) = c.requires in
     let (cs, is, slots) =
-    full_shown c.args.store.now full c.in-Inner.inner c.in-Inner.ensures.proper c.in-Inner.ensures.name (ref_kind c.in-Some-inner.node)
-    (ref_view c.in-Some-inner.node) c.in-Some-inner.ensures.view c.in-Some-inner.ensures.kind in
+    full_shown c.args.store.now full c.in-Inner.inner c.in-Inner.ensures.proper c.in-Inner.ensures.name (ref_kind c.inner_at-node.result)
+    (ref_view c.inner_at-node.result) (sym c.inner_at-node.ensures.view) c.inner_at-node.ensures.kind in
     let (below, lower) =
-    first_child g.T.Visitor.of_leaf g.T.Visitor.of_inner g.T.Visitor.combines c.args.store.now full (ref_kind c.in-Some-inner.node)
-    (ref_view c.in-Some-inner.node) cs (c.in-Some-next.field-0-0, c.in-Some-next.first) c.next.new.self is (sym slots ∙ sym c.iter-children.ensures.children ∙ c.in-Some-next.ensures.steps) in
+    first_child g.T.Visitor.of_leaf g.T.Visitor.of_inner g.T.Visitor.combines c.args.store.now full (ref_kind c.inner_at-node.result)
+    (ref_view c.inner_at-node.result) cs (c.in-Some.field-0-0, c.in-Some.first) c.next.new.self is (sym slots ∙ sym c.iter-children.ensures.children ∙ c.in-Some.ensures.steps) in
     (falls c.decreases lower, (within.0, (within.1.0, (within.1.1.0, (search rules, (within.1.1.1, (search rules, below)))))))
 
 pub visit-output-requires : goal.visit-output-requires
@@ -43,21 +44,21 @@ visit-output-requires g t c κs within =
     let (layout, full) = c.requires in
     let has =
     subst (λ left. HasJoined g.T.Visitor.of_leaf g.T.Visitor.of_inner g.T.Visitor.combines c.args.store.now layout c.args.name
-    (ref_kind c.in-Some-inner.node) (ref_view c.in-Some-inner.node) left c.args.visitor.now c.loop-child.joined c.loop-child.visitor)
+    (ref_kind c.inner_at-node.result) (ref_view c.inner_at-node.result) left c.args.visitor.now c.loop-child.joined c.loop-child.visitor)
     c.in-Some-2.ensures.steps (c.loop-child.invariant.2 layout full) in
-    let (below, lower) = more_child g.T.Visitor.of_leaf g.T.Visitor.of_inner g.T.Visitor.combines c.args.store.now full (ref_kind c.in-Some-inner.node) (ref_view c.in-Some-inner.node) has in
+    let (below, lower) = more_child g.T.Visitor.of_leaf g.T.Visitor.of_inner g.T.Visitor.combines c.args.store.now full (ref_kind c.inner_at-node.result) (ref_view c.inner_at-node.result) has in
     (falls c.decreases lower, (within.0, (within.1.0, (within.1.1.0, (search rules, (within.1.1.1, (search rules, below)))))))
 
 pub returns : goal.returns
 returns g t c layout full =
     let has =
     subst (λ left. HasJoined g.T.Visitor.of_leaf g.T.Visitor.of_inner g.T.Visitor.combines c.args.store.now layout c.args.name
-    (ref_kind c.in-Some-inner.node) (ref_view c.in-Some-inner.node) left c.args.visitor.now c.loop-child.joined c.loop-child.visitor)
+    (ref_kind c.inner_at-node.result) (ref_view c.inner_at-node.result) left c.args.visitor.now c.loop-child.joined c.loop-child.visitor)
     c.in-None.ensures.steps.0 (c.loop-child.invariant.2 layout full) in
     ended g.T.Visitor.of_leaf g.T.Visitor.of_inner g.T.Visitor.combines c.args.store.now c.args.visitor.now c.loop-child.visitor
     c.visit_inner_node.new.self c.loop-child.joined c.visit_inner_node.result has
-    (full_held c.args.store.now full c.in-Inner.inner c.in-Inner.ensures.proper c.in-Inner.ensures.name (ref_kind c.in-Some-inner.node)
-    (ref_view c.in-Some-inner.node) c.in-Some-inner.ensures.view c.in-Some-inner.ensures.kind) c.visit_inner_node.ensures
+    (full_held c.args.store.now full c.in-Inner.inner c.in-Inner.ensures.proper c.in-Inner.ensures.name (ref_kind c.inner_at-node.result)
+    (ref_view c.inner_at-node.result) (sym c.inner_at-node.ensures.view) c.inner_at-node.ensures.kind) c.visit_inner_node.ensures
 
 pub loop-child-init : goal.loop-child-init
 loop-child-init g t c = (
@@ -65,14 +66,14 @@ loop-child-init g t c = (
   tt,
   λ layout full.
       let (cs, is, slots) =
-      full_shown c.args.store.now full c.in-Inner.inner c.in-Inner.ensures.proper c.in-Inner.ensures.name (ref_kind c.in-Some-inner.node)
-      (ref_view c.in-Some-inner.node) c.in-Some-inner.ensures.view c.in-Some-inner.ensures.kind in
+      full_shown c.args.store.now full c.in-Inner.inner c.in-Inner.ensures.proper c.in-Inner.ensures.name (ref_kind c.inner_at-node.result)
+      (ref_view c.inner_at-node.result) (sym c.inner_at-node.ensures.view) c.inner_at-node.ensures.kind in
       subst (λ left. HasJoined g.T.Visitor.of_leaf g.T.Visitor.of_inner g.T.Visitor.combines c.args.store.now layout c.args.name
-      (ref_kind c.in-Some-inner.node) (ref_view c.in-Some-inner.node) left c.args.visitor.now c.visit-joined.result c.visit-joined.new.visitor)
+      (ref_kind c.inner_at-node.result) (ref_view c.inner_at-node.result) left c.args.visitor.now c.visit-joined.result c.visit-joined.new.visitor)
       (sym c.into_iter-child-iterator.ensures.into_iter_gives)
-      (started g.T.Visitor.of_leaf g.T.Visitor.of_inner g.T.Visitor.combines c.args.store.now full (ref_kind c.in-Some-inner.node)
-      (ref_view c.in-Some-inner.node) cs (c.in-Some-next.field-0-0, c.in-Some-next.first) c.next.new.self is
-      (sym slots ∙ sym c.iter-children.ensures.children ∙ c.in-Some-next.ensures.steps) c.args.visitor.now c.visit-joined.new.visitor c.visit-joined.result c.visit-joined.ensures),
+      (started g.T.Visitor.of_leaf g.T.Visitor.of_inner g.T.Visitor.combines c.args.store.now full (ref_kind c.inner_at-node.result)
+      (ref_view c.inner_at-node.result) cs (c.in-Some.field-0-0, c.in-Some.first) c.next.new.self is
+      (sym slots ∙ sym c.iter-children.ensures.children ∙ c.in-Some.ensures.steps) c.args.visitor.now c.visit-joined.new.visitor c.visit-joined.result c.visit-joined.ensures),
 )
 
 pub loop-child-preserved : goal.loop-child-preserved
@@ -82,8 +83,8 @@ loop-child-preserved g t c = (
   λ layout full.
       let has =
       subst (λ left. HasJoined g.T.Visitor.of_leaf g.T.Visitor.of_inner g.T.Visitor.combines c.args.store.now layout c.args.name
-      (ref_kind c.in-Some-inner.node) (ref_view c.in-Some-inner.node) left c.args.visitor.now c.loop-child.joined c.loop-child.visitor)
+      (ref_kind c.inner_at-node.result) (ref_view c.inner_at-node.result) left c.args.visitor.now c.loop-child.joined c.loop-child.visitor)
       c.in-Some-2.ensures.steps (c.loop-child.invariant.2 layout full) in
-      stepped g.T.Visitor.of_leaf g.T.Visitor.of_inner g.T.Visitor.combines c.args.store.now full (ref_kind c.in-Some-inner.node)
-      (ref_view c.in-Some-inner.node) has c.visit-output.new.visitor c.visit-output.result c.combine_output-joined.result c.visit-output.ensures c.combine_output-joined.ensures,
+      stepped g.T.Visitor.of_leaf g.T.Visitor.of_inner g.T.Visitor.combines c.args.store.now full (ref_kind c.inner_at-node.result)
+      (ref_view c.inner_at-node.result) has c.visit-output.new.visitor c.visit-output.result c.combine_output-joined.result c.visit-output.ensures c.combine_output-joined.ensures,
 )

@@ -8,7 +8,10 @@ use Rattle.art_model.specs.Stores.{IsUsed}
 use Rattle.art_checking.specs.Checked.{IsEntered, IsFirstLeast, IsFirstMet, IsLeafAt, IsLeastLeaf}
 use Rattle.art_checking.specs.Meetings.{place_in}
 use Rattle.art_checking.specs.declared.well_formed.check.Above.{Above}
-use Rattle.art_checking.proofs.Below.{AreAbove, IsAt, all_reached, capacity_most, child_is_free, child_is_reached, cut_off, entered, falls_by, falls_in, falls_out, few_left, innermost, leaf_over, none_above, one_more_above, own_reached, parent_above, parent_goes_on, root_passed, some_node, started}
+use Rattle.art_model.proofs.lists.Lists.{reverse-empty, reverse-last, some_of}
+use Rattle.art_checking.proofs.Below.{AreAbove, IsAt, all_reached, capacity_most, child_is_free, child_is_reached, cut_off, entered}
+use Rattle.art_checking.proofs.Below.{falls_by, falls_in, falls_out, few_left, leaf_over, one_more_above, own_reached, parent_above}
+use Rattle.art_checking.proofs.Below.{parent_goes_on, root_passed, started}
 use Rattle.art_checking.proofs.Faulty.{passed_on}
 use Rattle.art_checking.proofs.Passed.{inner_is_there, less_to_try, no_more_to_try, one_met}
 use Rattle.art_checking.proofs.Walked.{least_known, reach_root, stands_elsewhere}
@@ -25,7 +28,7 @@ returns-in_err-children-clause-fault g c =
 pub below-init : goal.below-init
 below-init g c =
     let (start, starts, first) = c.requires.met in
-    let (node, there) = some_node (map.get c.args.store.now.inners c.args.root) c.requires.there in
+    let (node, there) = some_of (map.get c.args.store.now.inners c.args.root) c.requires.there in
     let enters = subst (λ o. IfSome o (λ node. IsEntered (of_key g.K.AsBytes.bytes) g.row.P c.args.store.now c.args.place.now.items c.enter.new.place.items c.args.root node c.in_ok-children.children)) there
     c.in_ok-children.ensures.entered in
     record { at = started starts first c.requires.proper there c.requires.place c.new-above.ensures.items enters; least = c.in_ok-children.ensures.least }
@@ -43,14 +46,14 @@ pub returns-in_default-pop-clause-met : goal.returns-in_default-pop-clause-met
 returns-in_default-pop-clause-met g c =
     let at = c.below.invariant.at in
     let enough = subst (λ o. IfSome o (λ node. kind_least c.below.name.kind ≤ length node.children)) at.met.there c.in_ok-leave.ensures.enough in
-    root_passed at c.in_default.ensures.steps.0 enough (none_above c.below.above.items c.below.above.len c.below.above.ok.0 c.in_default-pop.ensures.cases.0)
+    root_passed at c.in_default.ensures.steps.0 enough (reverse-empty c.below.above.items c.below.above.len c.below.above.ok.0 c.in_default-pop.ensures.cases.0)
 
 pub below-preserved-in_default : goal.below-preserved-in_default
 below-preserved-in_default g c =
     let at = c.below.invariant.at in
     let enough = subst (λ o. IfSome o (λ node. kind_least c.below.name.kind ≤ length node.children)) at.met.there c.in_ok-leave.ensures.enough in
     record {
-      at = parent_goes_on at c.in_default.ensures.steps.0 enough c.in-Some-pop.parent (reverse c.pop.new.self.items) (innermost c.below.above.items c.pop.new.self.items c.in-Some-pop.parent c.in-Some-pop.ensures.items)
+      at = parent_goes_on at c.in_default.ensures.steps.0 enough c.in-Some-pop.parent (reverse c.pop.new.self.items) (reverse-last c.below.above.items c.pop.new.self.items c.in-Some-pop.parent c.in-Some-pop.ensures.items)
           (c.in_ok-leave.ensures.place ∙ cut_off at) (sym c.leave.new.place.ok.0) c.pop-in_default.ensures.rest;
       least = tt;
     }
@@ -59,7 +62,7 @@ pub below-smaller-in_default : goal.below-smaller-in_default
 below-smaller-in_default g c =
     let at = c.below.invariant.at in
     let enough = subst (λ o. IfSome o (λ node. kind_least c.below.name.kind ≤ length node.children)) at.met.there c.in_ok-leave.ensures.enough in
-    let next = parent_goes_on at c.in_default.ensures.steps.0 enough c.in-Some-pop.parent (reverse c.pop.new.self.items) (innermost c.below.above.items c.pop.new.self.items c.in-Some-pop.parent c.in-Some-pop.ensures.items)
+    let next = parent_goes_on at c.in_default.ensures.steps.0 enough c.in-Some-pop.parent (reverse c.pop.new.self.items) (reverse-last c.below.above.items c.pop.new.self.items c.in-Some-pop.parent c.in-Some-pop.ensures.items)
     (c.in_ok-leave.ensures.place ∙ cut_off at) (sym c.leave.new.place.ok.0) c.pop-in_default.ensures.rest in
     let few = few_left next in
     let most = capacity_most c.in-Some-pop.parent.name.kind in
@@ -139,7 +142,7 @@ below-preserved g c =
     let enters = subst (λ o. IfSome o (λ node. IsEntered bytes g.row.P s c.push.new.self.items c.enter-in-below.new.place.items c.in-Inner.inner node c.in_ok-entered.entered.0)) there c.in_ok-entered.ensures.entered in
     record {
       at = subst (λ l. IsAt bytes g.row.P s root l c.meet.new.seen c.enter-in-below.new.place.items c.in-Inner.inner c.len-depth.result c.in_ok-entered.entered.0)
-          (sym (innermost c.push-in-below.new.self.items c.below.above.items parent c.in_ok-push-2.ensures.items))
+          (sym (reverse-last c.push-in-below.new.self.items c.below.above.items parent c.in_ok-push-2.ensures.items))
           (entered outer (child_is_free at c.in-Some.ensures.steps c.in_ok-push.ensures.items) first c.in-Inner.ensures.proper there (c.len-depth.ensures ∙ c.push.new.self.ok.0) enters);
       least = c.in_ok-entered.ensures.least;
     }

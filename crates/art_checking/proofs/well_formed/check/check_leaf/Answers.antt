@@ -55,27 +55,27 @@ one_node e f = cc
 pub returns-clause-leaf : goal.returns-clause-leaf
 returns-clause-leaf g c =
     let begun = subst (IsFront c.args.place.now) c.as_bytes-key.ensures (c.begins_with.ensures.0 c.if-not-begins_with.false) in
-    on_ok_weaker c.check_order-2.result (λ after. (pair_of c.in-Some.node.now, leaf_at c.args.store.now c.args.leaf c.in-Some.node.now (sym c.in-Some.ensures), begun)) c.check_order-2.ensures.sibling
+    on_ok_weaker c.check_order-2.result (λ after. (pair_of c.leaf_at-node.result.now, leaf_at c.args.store.now c.args.leaf c.leaf_at-node.result.now c.leaf_at-node.ensures, begun)) c.check_order-2.ensures.sibling
 
 pub returns-in_err-check_order-clause-fault : goal.returns-in_err-check_order-clause-fault
 returns-in_err-check_order-clause-fault g c =
     passed_on _ _ _ c.from_residual.ensures.1
-    (λ root reach. c.in_err-check_order.ensures.fault root (leaf_name c.args.leaf) (pair_of c.in-Some.node.now)
-    (reach, leaf_at c.args.store.now c.args.leaf c.in-Some.node.now (sym c.in-Some.ensures)) (sym c.as_bytes-key.ensures)
-    (previous_named (of_key g.K.AsBytes.bytes) g.row.P c.args.store.now c.args.leaf c.in-Some.node.now (sym c.in-Some.ensures) root))
+    (λ root reach. c.in_err-check_order.ensures.fault root (leaf_name c.args.leaf) (pair_of c.leaf_at-node.result.now)
+    (reach, leaf_at c.args.store.now c.args.leaf c.leaf_at-node.result.now c.leaf_at-node.ensures) (sym c.as_bytes-key.ensures)
+    (previous_named (of_key g.K.AsBytes.bytes) g.row.P c.args.store.now c.args.leaf c.leaf_at-node.result.now c.leaf_at-node.ensures root))
 
 pub returns-clause-fault : goal.returns-clause-fault
 returns-clause-fault g c =
-    let there = sym c.in-Some.ensures in
-    at_leaf (of_key g.K.AsBytes.bytes) g.row.P c.args.store.now c.args.leaf c.in-Some.node.now there c.check_order-2.result c.args.place.now c.in-Some.node.now.next Greater
-    (sym c.as_bytes-key.ensures) (next_named (of_key g.K.AsBytes.bytes) g.row.P c.args.store.now c.args.leaf c.in-Some.node.now there) c.check_order-2.ensures.fault
+    let there = c.leaf_at-node.ensures in
+    at_leaf (of_key g.K.AsBytes.bytes) g.row.P c.args.store.now c.args.leaf c.leaf_at-node.result.now there c.check_order-2.result c.args.place.now c.leaf_at-node.result.now.next Greater
+    (sym c.as_bytes-key.ensures) (next_named (of_key g.K.AsBytes.bytes) g.row.P c.args.store.now c.args.leaf c.leaf_at-node.result.now there) c.check_order-2.ensures.fault
 
 pub returns-then-not-begins_with-clause-fault : goal.returns-then-not-begins_with-clause-fault
 returns-then-not-begins_with-clause-fault g c root reach =
     said (of_key g.K.AsBytes.bytes) g.row.P c.args.store.now root c.prefix_mismatch.result c.prefix_mismatch.ensures (
       leaf_name c.args.leaf,
-      pair_of c.in-Some.node.now,
-      (reach, leaf_at c.args.store.now c.args.leaf c.in-Some.node.now (sym c.in-Some.ensures)),
+      pair_of c.leaf_at-node.result.now,
+      (reach, leaf_at c.args.store.now c.args.leaf c.leaf_at-node.result.now c.leaf_at-node.ensures),
       sym c.as_bytes-key.ensures,
       λ front. false≢true (sym c.if-not-begins_with.true ∙ c.begins_with.ensures.1 front),
     )
@@ -84,8 +84,8 @@ pub returns-clause-siblings : goal.returns-clause-siblings
 returns-clause-siblings g c =
     let s = c.args.store.now in
     let bytes = of_key {V = g.row.V.Denot} g.K.AsBytes.bytes in
-    let own = c.in-Some.node.now in
+    let own = c.leaf_at-node.result.now in
     let Stand = λ (k : List ℕ). IfSome own.previous (λ l. IsInOrder bytes g.row.P s l Less k) × IfSome own.next (λ l. IsInOrder bytes g.row.P s l Greater k) in
     on_ok_weaker c.check_order-2.result
     (λ (after : IfSome own.next (λ l. IsInOrder bytes g.row.P s l Greater c.as_bytes-key.result.now)) (node : LeafNode g.row.K.Denot g.row.V.Denot) (is : map.get s.leaves c.args.leaf ≡ Some node).
-    subst (IsBetween bytes g.row.P s) (one_node c.in-Some.ensures is) (subst Stand c.as_bytes-key.ensures (c.in_ok-check_order.ensures.sibling, after))) c.check_order-2.ensures.sibling
+    subst (IsBetween bytes g.row.P s) (one_node (sym c.leaf_at-node.ensures) is) (subst Stand c.as_bytes-key.ensures (c.in_ok-check_order.ensures.sibling, after))) c.check_order-2.ensures.sibling

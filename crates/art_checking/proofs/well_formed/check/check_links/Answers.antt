@@ -1,4 +1,4 @@
-use Rattle.std.proofs.Common.{append_assoc, Bool, false, eqb, eqb-true, subst, IsSome, ◌≡◌, ◌≢◌, ◌++◌, ◌∷◌, [], List, true, not, eq-eqb, refl, sym, ap, ap₂, ◌∙◌, Option, Some, None}
+use Rattle.std.proofs.Common.{append_assoc, rules, Bool, false, eqb, eqb-true, subst, IsSome, ◌≡◌, ◌≢◌, ◌++◌, ◌∷◌, [], List, true, not, eq-eqb, refl, sym, ap, ap₂, ◌∙◌, Option, Some, None}
 use Rattle.std.proofs.lemmas.Bool.{false≢true, true≢false}
 use Rattle.std.specs.FinMap as map
 use Rattle.std.specs.List.{AllByRecursion as Each, slice_get}
@@ -70,7 +70,7 @@ pub returns-then-ne-clause-fault : goal.returns-then-ne-clause-fault
 returns-then-ne-clause-fault g c root layout is leaves =
     let s = c.args.store.now in
     let leaf = c.in-Some.field-0-0.now in
-    let node = c.in-Some-leaf.node.now in
+    let node = c.leaf_at-node.result.now in
     let (done, parts, before) = c.along.invariant.1 in
     let whole = parts ∙ ap (λ ls. done ++ ls) c.in-Some.ensures.cases.0 in
     let after = ap (option_map leaf_name) (c.copied-next.ensures ∙ c.first.ensures.value) ∙ next_is c.in-Some.others.now in
@@ -86,20 +86,18 @@ returns-then-ne-clause-fault g c root layout is leaves =
       pair_of node,
       is,
       leaves ∙ ap names_of_leaves whole ∙ names_around done leaf c.in-Some.others.now,
-      leaf_at s leaf node (sym c.in-Some-leaf.ensures),
+      leaf_at s leaf node c.leaf_at-node.ensures,
       sym c.as_bytes.ensures,
       ap₂ (λ p n. let l : Links OpaqueNodePtr = record { previous = p; next = n } in l) before after,
-      ap (λ o. option_and_then links_of (option_map held_leaf o)) (sym c.in-Some-leaf.ensures),
+      ap (λ o. option_and_then links_of (option_map held_leaf o)) c.leaf_at-node.ensures,
       off,
     )
 
 pub along-init : goal.along-init
 along-init g c = (c.requires.there, ([], refl, refl), λ linked. linked)
 
-pub unreachable-requires : goal.unreachable-requires
-unreachable-requires g c =
-    let there = (subst (Each (λ l. IsSome (map.get c.args.store.now.leaves l))) c.in-Some.ensures.cases.0 c.along.invariant.0).0 in
-    false≢true (subst IsSome (sym c.in_default-leaf.ensures) there)
+pub leaf_at-node-requires : goal.leaf_at-node-requires
+leaf_at-node-requires g c = (search rules, (subst (Each (λ l. IsSome (map.get c.args.store.now.leaves l))) c.in-Some.ensures.cases.0 c.along.invariant.0).0)
 
 pub along-preserved : goal.along-preserved
 along-preserved g c =
@@ -107,12 +105,12 @@ along-preserved g c =
     let (done, parts, before) = c.along.invariant.1 in
     let leaf = c.in-Some.field-0-0.now in
     let others = c.in-Some.others.now in
-    let node = c.in-Some-leaf.node.now in
+    let node = c.leaf_at-node.result.now in
     let split = c.in-Some.ensures.cases.0 in
     let previous = agrees node.previous c.along.previous (sym c.ne.ensures ∙ c.if-ne.false) in
     let names = next_is others ∙ first_same (names_of_leaves others) in
     let next = agrees node.next c.copied-next.result (sym c.ne-else-ne.ensures ∙ c.if-ne-2.false) ∙ ap (option_map leaf_name) (c.copied-next.ensures ∙ c.first.ensures.value) ∙ names in
-    let own = linked_so s leaf node (sym c.in-Some-leaf.ensures) previous next in (
+    let own = linked_so s leaf node c.leaf_at-node.ensures previous next in (
       (subst (Each (λ l. IsSome (map.get s.leaves l))) split c.along.invariant.0).1,
       (done ++ leaf ∷ [], parts ∙ ap (λ ls. done ++ ls) split ∙ sym (append_assoc done (leaf ∷ []) others), sym (last_more done leaf)),
       λ linked. c.along.invariant.2 (subst (λ ls. AreLinked (links_at s) (option_map leaf_name c.along.previous) (names_of_leaves ls) None) (sym split) (own, linked)),

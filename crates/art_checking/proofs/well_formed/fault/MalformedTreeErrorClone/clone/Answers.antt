@@ -8,7 +8,17 @@ use Rattle.art_model.specs.Layouts.{Links}
 use Rattle.art_model.specs.Faults.{dead_name, leaf_sibling_wrong_order, loop_found, prefix_mismatch, stored_prefix_mismatch, unreadable_prefix, wrong_children_count, wrong_sibling_links}
 use Rattle.art_checking.specs.Checks.{fault_of}
 use Rattle.art_checking.proofs.well_formed.fault.MalformedTreeErrorClone.clone.Goals as goal
-use Rattle.art_checking.proofs.well_formed.fault.MalformedTreeErrorClone.clone.Goals.{in-LoopFound+in_ok-clone-in-LoopFound+in_ok-clone-in-LoopFound-2, in-WrongChildrenCount+in_ok-clone-in-WrongChildrenCount, in-PrefixMismatch+in_ok-clone-in-PrefixMismatch+in_ok-clone-in-PrefixMismatch-2, in-EmptyTreeWithLen, in-LeafSiblingWrongOrder+in_ok-clone-in-LeafSiblingWrongOrder+in_ok-clone-in-LeafSiblingWrongOrder-2, in-WrongSiblingLinks+in_ok-clone-in-WrongSiblingLinks, in-DeadName+in_ok-clone-in-DeadName, in-UnreadablePrefix+in_ok-clone-in-UnreadablePrefix, in-StoredPrefixMismatch+in_ok-clone-in-StoredPrefixMismatch+in_ok-clone-in-StoredPrefixMismatch-2+in_ok-clone-in-StoredPrefixMismatch-3, in-OutOfMemory}
+use Rattle.art_checking.proofs.well_formed.fault.MalformedTreeErrorClone.clone.Goals.{}
+use Rattle.art_checking.proofs.well_formed.fault.MalformedTreeErrorClone.clone.Goals.{in-LoopFound+in_ok-clone-in-LoopFound+in_ok-clone-in-LoopFound-2}
+use Rattle.art_checking.proofs.well_formed.fault.MalformedTreeErrorClone.clone.Goals.{in-WrongChildrenCount+in_ok-clone-in-WrongChildrenCount}
+use Rattle.art_checking.proofs.well_formed.fault.MalformedTreeErrorClone.clone.Goals.{in-PrefixMismatch+in_ok-clone-in-PrefixMismatch+in_ok-clone-in-PrefixMismatch-2}
+use Rattle.art_checking.proofs.well_formed.fault.MalformedTreeErrorClone.clone.Goals.{in-EmptyTreeWithLen}
+use Rattle.art_checking.proofs.well_formed.fault.MalformedTreeErrorClone.clone.Goals.{in-LeafSiblingWrongOrder+in_ok-clone-in-LeafSiblingWrongOrder+in_ok-clone-in-LeafSiblingWrongOrder-2}
+use Rattle.art_checking.proofs.well_formed.fault.MalformedTreeErrorClone.clone.Goals.{in-WrongSiblingLinks+in_ok-clone-in-WrongSiblingLinks}
+use Rattle.art_checking.proofs.well_formed.fault.MalformedTreeErrorClone.clone.Goals.{in-DeadName+in_ok-clone-in-DeadName}
+use Rattle.art_checking.proofs.well_formed.fault.MalformedTreeErrorClone.clone.Goals.{in-UnreadablePrefix+in_ok-clone-in-UnreadablePrefix}
+use Rattle.art_checking.proofs.well_formed.fault.MalformedTreeErrorClone.clone.Goals.{in-StoredPrefixMismatch+in_ok-clone-in-StoredPrefixMismatch+in_ok-clone-in-StoredPrefixMismatch-2+in_ok-clone-in-StoredPrefixMismatch-3}
+use Rattle.art_checking.proofs.well_formed.fault.MalformedTreeErrorClone.clone.Goals.{in-OutOfMemory}
 
 -- a copy has the same bytes
 same_items : {xs ys : List ℕ} → AllZip (λ x y. y ≡ x) xs ys → ys ≡ xs
