@@ -58,19 +58,9 @@ fn gather(sum: &mut u32, number: u16, value: &mut u32) {
     *value = before;
 }
 
-// Whether they are the same after each value of a range is replaced by the sum of those before it, and then all.
-fn agree_on_values(map: &mut Map, model: &mut Model, low: u16, high: u16) -> bool {
+// Whether they are the same after each value is replaced by the sum of those before it.
+fn agree_on_values(map: &mut Map, model: &mut Model) -> bool {
     let (mut sum, mut other) = (0u32, 0u32);
-    let range = Unsigned::from(low)..Unsigned::from(high);
-    map.for_each_mut_in(
-        range,
-        &mut |key: &Unsigned<2>, value: &mut u32| { gather(&mut sum, key.get(), value) },
-    );
-    for (number, value) in model.iter_mut() {
-        if low <= *number && *number < high {
-            gather(&mut other, *number, value);
-        }
-    }
     map.for_each_mut_by_ref(&mut |key: &Unsigned<2>, value: &mut u32| {
         gather(&mut sum, key.get(), value)
     });
@@ -129,7 +119,7 @@ fn agree_on_change(map: &mut Map, model: &mut Model, numbers: &mut Numbers) -> b
         3 => agree_on_range(map, model, low, high),
         4 => agree_on_split(map, model, numbers),
         5..=6 => agree_on_entry(map, model, low),
-        7..=8 => agree_on_values(map, model, low, high),
+        7..=8 => agree_on_values(map, model),
         _ => put_both(map, model, numbers),
     }
 }

@@ -1,5 +1,4 @@
 //! Removal of the pairs that a closure does not select.
-ghost use Rattle.art_model.specs.Pairs.{of_key};
 ghost use Rattle.art_map.specs.MapRetain.{RetainsAllPairs, RetainsPairs};
 
 use super::TreeMap;

@@ -1,8 +1,6 @@
 //! Removal of the keys that a closure does not select.
 ghost use Rattle.std.specs.Fn.{CalledAt};
-ghost use Rattle.art_model.specs.Pairs.{of_key};
 ghost use Rattle.art_map.specs.MapRetain.{Retains, RetainsAll};
-ghost use Rattle.art_map.specs.SetKeys.{AsksKey, as_pairs};
 
 use super::TreeSet;
 use art_keys::laws::NoPrefixesBytes;
