@@ -3,6 +3,7 @@ mod collected;
 mod drawn;
 mod drawn_set;
 mod entries;
+mod extracts;
 mod joined;
 mod keys;
 mod longest;

@@ -9,3 +9,4 @@ pub mod SetClones
 pub mod TextParts
 pub mod LongestOf
 pub mod Seconds
+pub mod Extracted

@@ -7,4 +7,5 @@ pub mod Matches
 pub mod SetClones
 pub mod TextCalls
 pub mod TextLends
+pub mod KeyedExtract
 pub mod KeyedSeconds

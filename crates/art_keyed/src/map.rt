@@ -23,6 +23,7 @@ mod compared;
 mod each;
 mod entry;
 mod extend;
+mod extract;
 mod joined;
 mod joined_array;
 mod matches;
@@ -34,6 +35,7 @@ mod texts;
 
 pub use both::BothRefused;
 pub use entry::{TreeEntry, TreeEntryOf};
+pub use extract::{TreeExtractPrefix, TreeExtractPrefixOf, TreeExtractRange, TreeExtractRangeOf};
 pub use matches::{Matches, MatchesOf, Nested};
 pub(crate) use ordered::bytes_of;
 pub use texts::TextRefused;

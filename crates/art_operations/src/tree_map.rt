@@ -1,5 +1,6 @@
 //! An ordered map of keys that never conflict.
 pub use art_keyed::map::{
     BothRefused, Matches, MatchesOf, Nested, PairRefused, TextRefused, TreeEntry, TreeEntryOf,
-    TreeMap, keys_are_never_in_conflict,
+    TreeExtractPrefix, TreeExtractPrefixOf, TreeExtractRange, TreeExtractRangeOf, TreeMap,
+    keys_are_never_in_conflict,
 };

@@ -1,16 +1,19 @@
 //! Maps of keys that never conflict, as a caller uses them.
 ghost use Rattle.std.specs.Prelude.{◌≡◌, Some, IfSome, OnErr, OnOk};
+ghost use Rattle.std.specs.Iterator.Adapters.{take_count, take_source};
 ghost use Rattle.std.specs.Cmp.Lexicographic.{slice_cmp};
 ghost use Rattle.std.specs.Ordering.{nat_cmp};
 ghost use Rattle.art_model.specs.Pairs.{of_key, put};
 ghost use Rattle.art_operations.specs.Ended.{ended};
 ghost use Rattle.art_operations.specs.Escapes.{escape};
-ghost use Rattle.art_operations.specs.KeyedPairs.{RiseBy};
+ghost use Rattle.art_operations.specs.KeyedPairs.{RiseBy, strings_below};
 ghost use Rattle.art_operations.specs.MapAnswers.{value_at};
 
 use art_operations::keys::{Escaped, Terminated, U16Key};
+use art_operations::map::Range;
 use art_operations::tree_map::TreeMap;
 use std::alloc::{AllocError, Global};
+use std::iter::Take;
 
 /// Words with their numbers. A word may be a prefix of another one.
 pub type Words = TreeMap<Escaped, u64, 16>;
@@ -43,6 +46,17 @@ pub fn number_of_name(names: &TreeMap<Terminated, u64, 16>, name: &str) -> Optio
     ensures { result ≡ value_at ended (ended name.now) names.now }
 {
     names.get_text(name.as_bytes()).copied()
+}
+
+/// Returns the first ten names that start with a text, with their numbers, in ascending order. It allocates nothing.
+pub fn completions<'a>(
+    names: &'a TreeMap<Terminated, u64, 16>,
+    text: &[u8],
+) -> Take<Range<'a, Terminated, u64, 16>>
+    ensures names { take_source result ≡ strings_below (λ name. name) text.now names.now }
+    ensures at_most_ten { take_count result ≡ 10 }
+{
+    names.prefix_text(text).take(10)
 }
 
 /// Inserts three days by their temperatures and returns the coldest, or `None` if an allocation fails.
