@@ -2,7 +2,7 @@
 use Rattle.std.proofs.Common.{◌≡◌, ◌≢◌, ℕ, List, Option, Some, None, Result, Ok, Err, OnOk, OnErr, ap, sym, ◌∙◌, subst}
 use Rattle.art_inner.specs.InnerRenamed.{child_renamed}
 use Rattle.art_nodes.specs.Nodes.{Nodes}
-use Rattle.art_nodes.specs.Renamed.{AreRenamed, IsRow, first_of_row}
+use Rattle.art_nodes.specs.Renamed.{AreRenamed, IsRow}
 use Rattle.art_parts.specs.Names.{inner_name, leaf_name}
 use Rattle.art_parts.specs.declared.names.InnerPtr.{InnerPtr}
 use Rattle.art_parts.specs.declared.names.LeafPtr.{LeafPtr}
@@ -11,6 +11,7 @@ use Rattle.art_parts.specs.declared.names.OpaqueNodePtr.{OpaqueNodePtr}
 use Rattle.art_model.specs.Canonical.{IsCanonicalTree}
 use Rattle.art_model.specs.Layouts.{leaf_names}
 use Rattle.art_model.specs.Lookups.{HasFirstLeaf}
+use Rattle.art_model.specs.Pairs.{first_of}
 use Rattle.art_model.specs.Roots.{IsFullTree}
 use Rattle.art_model.specs.Trees.{Tree}
 use Rattle.art_model.proofs.stores.StoreLaws.{has_children}
@@ -25,11 +26,11 @@ module _ {K V : Type 0} {bytes : K × V → List ℕ} {P : ℕ} {s : Nodes K V} 
   leaf_row = row_of s None (leaf_names has.layout) has.by.linked
 
   module _ {first : LeafPtr} (is_first : HasFirstLeaf has.layout (leaf_name first)) where
-    first_is : first_of_row leaf_row.row ≡ Some first
+    first_is : first_of leaf_row.row ≡ Some first
     first_is = first_named leaf_row.row leaf_row.names_are is_first.name_is
 
     -- which can be sorted
-    pub has_row : (row : List LeafPtr) × IsRow s.leaves None row × (first_of_row row ≡ Some first)
+    pub has_row : (row : List LeafPtr) × IsRow s.leaves None row × (first_of row ≡ Some first)
     has_row = (leaf_row.row, leaf_row.is_row, first_is)
 
     module _ (inner : root.kind ≢ Leaf) {t : Nodes K V} where
@@ -45,7 +46,7 @@ module _ {K V : Type 0} {bytes : K × V → List ℕ} {P : ℕ} {s : Nodes K V} 
 
       -- so the pairs are held, whether the leaves were sorted or an allocation failed
       sorted_holds : {E : Type 0} (result : Result (Unit {0}) E) →
-          ((row : List LeafPtr) → IsRow s.leaves None row → first_of_row row ≡ Some first → OnOk result ((rename : LeafPtr → LeafPtr) × AreRenamed rename row s t)) →
+          ((row : List LeafPtr) → IsRow s.leaves None row → first_of row ≡ Some first → OnOk result ((rename : LeafPtr → LeafPtr) × AreRenamed rename row s t)) →
           OnErr result (t ≡ s) → HoldsPairs bytes P t (Some root) len pairs
       sorted_holds (Ok done) sorted refused = let (rename, are) = sorted leaf_row.row leaf_row.is_row first_is in renamed_holds rename are
       sorted_holds (Err error) sorted refused =
@@ -55,12 +56,12 @@ module _ {K V : Type 0} {bytes : K × V → List ℕ} {P : ℕ} {s : Nodes K V} 
     (root_is : root ≡ Some name) (holds : HoldsPairs bytes P s root len pairs)
     (is_first : (layout : Tree OpaqueNodePtr (K × V)) → IsFullTree s name layout → HasFirstLeaf layout (leaf_name first)) where
   -- the leaves below a root can be sorted
-  pub can_sort : (row : List LeafPtr) × IsRow s.leaves None row × (first_of_row row ≡ Some first)
+  pub can_sort : (row : List LeafPtr) × IsRow s.leaves None row × (first_of row ≡ Some first)
   can_sort = let has = at_some root_is holds in has_row has (is_first has.layout (has_children _ _ _ _ _ has.layout has.by))
 
   -- and an inner node as root then holds the same pairs
   pub still_holds : {E : Type 0} {t : Nodes K V} (inner : InnerPtr) → inner_name inner ≡ name → inner.kind ≢ Leaf → (result : Result (Unit {0}) E) →
-      ((row : List LeafPtr) → IsRow s.leaves None row → first_of_row row ≡ Some first → OnOk result ((rename : LeafPtr → LeafPtr) × AreRenamed rename row s t)) →
+      ((row : List LeafPtr) → IsRow s.leaves None row → first_of row ≡ Some first → OnOk result ((rename : LeafPtr → LeafPtr) × AreRenamed rename row s t)) →
       OnErr result (t ≡ s) → HoldsPairs bytes P t root len pairs
   still_holds {t = t} inner inner_is proper result sorted refused =
       let has = at_some root_is holds in
