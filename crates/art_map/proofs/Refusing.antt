@@ -1,5 +1,6 @@
 -- The first pair for which a closure returns false: its point, and what is left after its removal.
 use Rattle.std.proofs.Common.{◌≡◌, ℕ, Bool, List, [], Option, Some, None, IfSome, refl, ap, sym, ◌∙◌, subst}
+use Rattle.std.proofs.lemmas.Option.{same_Some}
 use Rattle.art_nodes.specs.Nodes.{Nodes}
 use Rattle.art_parts.specs.declared.names.OpaqueNodePtr.{OpaqueNodePtr}
 use Rattle.art_model.specs.Canonical.{IsCanonicalTree}
@@ -15,9 +16,6 @@ use Rattle.art_map.specs.MapPairs.{HoldsPairs, pairs_at}
 use Rattle.art_map.specs.MapRetain.{FindsRefused, HasTakenRefused, Retains, StopsAt, TakesRefused, pairs_after}
 use Rattle.art_map.proofs.Retained.{passed, stored_once}
 use Rattle.art_map.proofs.Views.{holds, view_of}
-
-same_some : {A : Type 0} {x y : A} → Some x ≡ Some y → x ≡ y
-same_some e = cc
 
 module _ {F K V : Type 0} (asks : F → K × V → Bool → F → Type 0) (bytes : K → List ℕ) (P : ℕ) where
   module _ {s : Nodes K V} {root : OpaqueNodePtr} {pairs : List (K × V)} {layout : Tree OpaqueNodePtr (K × V)} (by : IsCanonicalTree (of_key bytes) P s root pairs layout)
@@ -38,7 +36,7 @@ module _ {F K V : Type 0} (asks : F → K × V → Bool → F → Type 0) (bytes
         leads all tree is =
             let same = has_one_map (of_key bytes) P s root pairs all layout tree by is in
             let (y, e, way) = point_some tree p (remove_reply (of_key bytes) (bytes x.0) all) (point all tree is) in
-            subst (λ z. LeadsTo tree z p) (same_some (sym e ∙ replied all same.0)) way
+            subst (λ z. LeadsTo tree z p) (same_Some _ _ (sym e ∙ replied all same.0)) way
 
   -- if there is no pair, none is removed
   pub none_refused : (last : Option (K × V)) (f : F) (pairs : List (K × V)) → pairs ≡ [] → Retains asks f (pairs_after (of_key bytes) last pairs) (pairs_after (of_key bytes) last pairs) f
@@ -49,7 +47,7 @@ module _ {F K V : Type 0} (asks : F → K × V → Bool → F → Type 0) (bytes
     pub refused_taken : {x : K × V} → StopsAt asks f (pairs_after (of_key bytes) last pairs) x left → (y : K × V) →
         HasTaken bytes P (Some x) (remove_key (of_key bytes) (bytes x.0) pairs) (Some y) t root len → HasTakenRefused asks bytes P last f pairs (Some y) left t root len
     refused_taken {x} stops y h =
-        subst (λ z. HasTakenRefused asks bytes P last f pairs (Some z) left t root len) (sym (same_some h.1)) (remove_key (of_key bytes) (bytes x.0) pairs, h.0, (refl, stops))
+        subst (λ z. HasTakenRefused asks bytes P last f pairs (Some z) left t root len) (sym (same_Some _ _ h.1)) (remove_key (of_key bytes) (bytes x.0) pairs, h.0, (refl, stops))
 
     module _ (result : Option (K × V)) (h : HasTakenRefused asks bytes P last f pairs result left t root len) where
       pub refused_holds : HoldsPairs (of_key bytes) P t root len (pairs_at t root)
