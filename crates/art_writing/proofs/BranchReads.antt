@@ -1,6 +1,6 @@
 -- What is read before a branch is placed: where the key differs from those below the end of its path, and the neighbours of the new leaf.
 use Rattle.std.proofs.Common.{◌≡◌, ◌≢◌, ℕ, ◌+◌, ◌-◌, ◌<◌, ◌≤◌, List, [], ◌∷◌, ◌++◌, length, take, drop, get_or, Option, Some, None}
-use Rattle.std.proofs.Common.{IsSomeAnd, refl, ap, ap₂, sym, ◌∙◌, subst, arith, cond, ltb, Bool, true, false, append_assoc, append-nil}
+use Rattle.std.proofs.Common.{IsSome, IsSomeAnd, refl, ap, ap₂, sym, ◌∙◌, subst, arith, cond, ltb, Bool, true, false, append_assoc, append-nil}
 use Rattle.std.proofs.Common.{length-append, take_at}
 use Rattle.std.proofs.lemmas.List.{get_or_at, take-append-drop}
 use Rattle.std.proofs.lemmas.Option.{slice_get_within, get_or_from_slice_get}
@@ -43,6 +43,7 @@ use Rattle.art_reading.specs.Matching.{shared_len}
 use Rattle.art_reading.specs.EndNodes.{IsKindOf, IsMismatch, IsLeafForPrefix}
 use Rattle.art_writing.specs.Points.{AnswersTo}
 use Rattle.art_writing.proofs.Branches.{end_laid, end_hole, end_depth}
+use Rattle.art_writing.proofs.LeafWrites.{some_there}
 
 -- ---- the neighbouring leaves
 
@@ -223,8 +224,10 @@ module _ {K V : Type 0} {bytes : K × V → List ℕ} {P : ℕ} {s : Nodes K V} 
     pub leaf_found : (pair : K × V) × (at.node ≡ leaf (leaf_name p) pair)
     leaf_found = let (start, (pair, is, rest)) = leaf_kind in (pair, is)
 
-    pub leaf_gone : None ≡ get s.leaves p → ⊥
-    leaf_gone gone = no_leaf_gone s p at.node leaf_named (path_holds (node_at s) at.path at.node (end_laid by at).holds).1 gone
+    pub leaf_met : IsSome (get s.leaves p)
+    leaf_met =
+        some_there (get s.leaves p)
+        (λ gone. no_leaf_gone s p at.node leaf_named (path_holds (node_at s) at.path at.node (end_laid by at).holds).1 (sym gone))
 
     module _ {shown : LeafNode K V} (there : Some shown ≡ get s.leaves p) where
       leaf_is : at.node ≡ leaf (leaf_name p) (pair_of shown)

@@ -1,9 +1,11 @@
 -- A node is removed with one of its two children, and the other replaces it.
-use Rattle.std.proofs.Common.{◌≡◌, ℕ, ◌+◌, ◌≤◌, List, [], ◌∷◌, ◌++◌, length, take, min, Option, Some, None, IsSomeAnd, refl, ap, sym, subst, ◌∙◌, arith, append_assoc}
+use Rattle.std.proofs.Common.{◌≡◌, ℕ, ◌+◌, ◌≤◌, List, [], ◌∷◌, ◌++◌, length, take, min}
+use Rattle.std.proofs.Common.{Option, Some, None, IsSome, IsSomeAnd, refl, ap, sym, ◌∙◌, arith, append_assoc}
 use Rattle.std.proofs.lemmas.List.{take-take}
 use Rattle.art_inner.specs.Inner.{Inner}
 use Rattle.art_parts.specs.declared.leaf.LeafNode.{LeafNode}
 use Rattle.art_parts.specs.Headers.{Prefix, header_of}
+use Rattle.art_nodes.proofs.StoreLemmas.{is_there}
 use Rattle.art_parts.proofs.HeaderLaws.{extended_header, len_of_header, stored_of_header}
 
 -- a prefix, a byte and another prefix after it
@@ -21,12 +23,15 @@ lengthened P byte first rest front own one both is own_is one_len one_stored len
 -- the node and the leaf in the store, by whose key the lengths have a sum
 module _ {K V : Type 0} (bytes : K → List ℕ) (leaves : Option (LeafNode K V)) (inners : Option Inner) (front : ℕ)
     (may : IsSomeAnd leaves (λ leaf. IsSomeAnd inners (λ node. front + 1 + node.prefix.len ≤ length (bytes leaf.key)))) where
-  pub leaf_there : None ≡ leaves → ⊥
-  leaf_there gone = subst (λ l. IsSomeAnd l (λ leaf. IsSomeAnd inners (λ node. front + 1 + node.prefix.len ≤ length (bytes leaf.key)))) (sym gone) may
+  abbrev Fits : LeafNode K V → Inner → Type 0
+  Fits leaf node = front + 1 + node.prefix.len ≤ length (bytes leaf.key)
 
-  pub node_there : None ≡ inners → ⊥
-  node_there gone = none leaves (subst (λ i. IsSomeAnd leaves (λ leaf. IsSomeAnd i (λ node. front + 1 + node.prefix.len ≤ length (bytes leaf.key)))) (sym gone) may)
+  pub leaf_there : IsSome leaves
+  leaf_there = is_there (λ leaf. IsSomeAnd inners (Fits leaf)) leaves may
+
+  pub node_there : IsSome inners
+  node_there = below leaves may
     where
-      none : (l : Option (LeafNode K V)) → IsSomeAnd l (λ leaf. ⊥) → ⊥
-      none None h = h
-      none (Some x) h = h
+      below : (l : Option (LeafNode K V)) → IsSomeAnd l (λ leaf. IsSomeAnd inners (Fits leaf)) → IsSome inners
+      below None h = absurd h
+      below (Some leaf) h = is_there (Fits leaf) inners h

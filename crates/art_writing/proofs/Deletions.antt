@@ -1,5 +1,5 @@
 -- What follows from a deletion's record for each clause of an applied point, and what a store has at a point: the leaf and its parent.
-use Rattle.std.proofs.Common.{◌≡◌, ◌≢◌, ℕ, List, [], ◌∷◌, refl, ap, sym, ◌∙◌, subst, true, Option, Some, None, IfSome, IsSomeAnd}
+use Rattle.std.proofs.Common.{◌≡◌, ◌≢◌, ℕ, List, [], ◌∷◌, refl, ap, sym, ◌∙◌, subst, true, Option, Some, None, IsSome, IfSome, IsSomeAnd}
 use Rattle.std.specs.Option.{option_map}
 use Rattle.std.specs.FinMap.{get}
 use Rattle.art_parts.specs.Names.{leaf_name}
@@ -33,6 +33,7 @@ use Rattle.art_writing.specs.Deleted.{IsDeletePointIn, IsRootAfter, LeadsTo, Par
 use Rattle.art_writing.specs.Inserted.{unlinked_leaf}
 use Rattle.art_writing.specs.TakenOut.{IsLeafTaken, IsTakenOut}
 use Rattle.art_reading.specs.PathSteps.{last_step}
+use Rattle.art_writing.proofs.LeafWrites.{some_there}
 use Rattle.art_writing.proofs.Reserved.{nothing_after, taken_unasked}
 use Rattle.art_writing.proofs.Ways.{last_step-path_of}
 
@@ -59,9 +60,11 @@ module _ {K V : Type 0} {bytes : K × V → List ℕ} {P : ℕ} {s : Nodes K V} 
       shown (Some node) is = let e = seen_as (Some node) is in (node, is, cc)
 
   -- and so is the parent
-  pub parent_at : {parent : InnerPtr} {byte : ℕ} → last_step point.path ≡ Some (parent, byte) → get s.inners parent ≢ None
+  pub parent_at : {parent : InnerPtr} {byte : ℕ} → last_step point.path ≡ Some (parent, byte) → IsSome (get s.inners parent)
   parent_at {parent} {byte} step =
-      above leads.path (path_holds (node_at s) leads.path (leaf (leaf_name point.leaf_node_ptr) x) whole_holds).0 (sym (last_step-path_of leads.path) ∙ ap last_step (sym leads.path_is) ∙ step)
+      some_there (get s.inners parent)
+      (above leads.path (path_holds (node_at s) leads.path (leaf (leaf_name point.leaf_node_ptr) x) whole_holds).0
+      (sym (last_step-path_of leads.path) ∙ ap last_step (sym leads.path_is) ∙ step))
     where
       above : (fs : List (Frame OpaqueNodePtr (K × V))) → HoldsPath (node_at s) (leaf_name point.leaf_node_ptr) fs → parent_of fs ≡ Some (parent, byte) → get s.inners parent ≢ None
       above [] holds e = absurd cc

@@ -140,8 +140,8 @@ module _ {K V : Type 0} {bytes : K × V → List ℕ} {P : ℕ} {s : Nodes K V} 
   pub entry_inner : p.kind ≢ Leaf
   entry_inner = own_node.0
 
-  pub entry_met : None ≡ map.get s.inners p → ⊥
-  entry_met gone = let (off, node, got, kids) = own_node in let none = gone ∙ got in absurd cc
+  pub entry_met : IsSome (map.get s.inners p)
+  entry_met = let (off, node, got, kids) = own_node in rw got refl
 
   -- what is known of the number of its children
   pub entry_count : (Q : ℕ → Type 0) → Q (length (bytes_of (join e.left e.right))) → IsSomeAnd (map.get s.inners p) (λ node. Q (length node.children))

@@ -1,23 +1,16 @@
 -- The leaves after some links are changed.
-use Rattle.std.proofs.Common.{◌≡◌, ◌≢◌, Option, Some, None, IsSome, refl, ap, sym, ◌∙◌, subst}
+use Rattle.std.proofs.Common.{◌≡◌, ◌≢◌, Option, Some, None, IsSome, refl, ap, sym, ◌∙◌}
 use Rattle.std.specs.Option.{option_map}
 use Rattle.std.specs.FinMap.{get, insert}
-use Rattle.art_parts.specs.Names.{leaf_name}
-use Rattle.art_nodes.specs.Nodes.{Nodes, change}
+use Rattle.art_nodes.specs.Nodes.{change}
 use Rattle.art_parts.specs.declared.names.LeafPtr.{LeafPtr}
 use Rattle.art_parts.specs.declared.leaf.LeafNode.{LeafNode}
-use Rattle.art_parts.specs.declared.names.OpaqueNodePtr.{OpaqueNodePtr}
 use Rattle.art_parts.proofs.NameLemmas.{leaf_cmp_total, leaf_cmp-IsAntisymmetric}
 use Rattle.art_nodes.proofs.StoreLaws.{changed_from}
-use Rattle.art_model.specs.Layouts.{Holds}
-use Rattle.art_model.specs.Lookups.{HasLeaf}
-use Rattle.art_model.specs.Stores.{node_at, pair_of}
-use Rattle.art_model.specs.Trees.{Tree, leaf}
+use Rattle.art_model.specs.Stores.{pair_of}
 use Rattle.art_model.specs.Writes.{Leaves, IsThere, with_links_around}
 use Rattle.art_model.proofs.stores.Touches.{still_placed}
 use Rattle.art_model.proofs.leaves.Leaves.{joined_pair}
-use Rattle.art_model.proofs.stores.Shown.{no_leaf_gone}
-use Rattle.art_model.proofs.stores.Stores.{path_holds}
 
 -- a name is in the store, or it isn't
 pub some_there : {X : Type 0} (o : Option X) → o ≢ None → IsSome o
@@ -40,8 +33,3 @@ module _ {K V : Type 0} (m : Leaves K V) where
 
     pub joined_keeps : (y : LeafNode K V) → get (with_links_around m before after next previous) q ≡ Some y → pair_of y ≡ pair_of x
     joined_keeps y e = let pairs = sym (ap (option_map pair_of) e) ∙ joined_pair m before after next previous q ∙ ap (option_map pair_of) is in cc
-
--- a leaf of a tree that the store holds is in the store
-pub tree_leaf_there : {K V : Type 0} (s : Nodes K V) (tree : Tree OpaqueNodePtr (K × V)) (p : LeafPtr) (x : K × V) → Holds (node_at s) tree → HasLeaf tree (leaf_name p) x → None ≡ get s.leaves p → ⊥
-tree_leaf_there s tree p x holds has gone =
-    no_leaf_gone s p (leaf (leaf_name p) x) refl (path_holds (node_at s) has.path (leaf (leaf_name p) x) (subst (Holds (node_at s)) (sym has.whole) holds)).1 gone

@@ -1,5 +1,5 @@
 -- The header that remains of a split prefix, from what is stored of the prefix, or from the least leaf below.
-use Rattle.std.proofs.Common.{◌≡◌, ◌≢◌, ℕ, ◌+◌, ◌-◌, ◌<◌, ◌≤◌, min, List, length, take, drop, Some, None, ap, sym, ◌∙◌, subst, arith}
+use Rattle.std.proofs.Common.{◌≡◌, ◌≢◌, ℕ, ◌+◌, ◌-◌, ◌<◌, ◌≤◌, min, List, length, take, drop, IsSome, Some, None, ap, sym, ◌∙◌, subst, arith}
 use Rattle.std.specs.FinMap.{get}
 use Rattle.art_inner.specs.Inner.{Inner}
 use Rattle.art_parts.specs.Headers.{Prefix, header_of}
@@ -27,7 +27,8 @@ use Rattle.art_reading.specs.PartEnds.{IsPlaced}
 use Rattle.art_writing.specs.Points.{AnswersTo}
 use Rattle.art_writing.proofs.Branches.{end_laid, end_hole, end_depth}
 use Rattle.art_writing.proofs.BranchReads.{end_full, inner_found, inner_named, inner_start, inner_least, prefix_inside}
-use Rattle.art_reading.proofs.Parts.{least_is, least_not_gone}
+use Rattle.art_writing.proofs.LeafWrites.{some_there}
+use Rattle.art_reading.proofs.Parts.{leaf_is_there, least_is}
 use Rattle.art_reading.proofs.Prefixes as prefixes
 
 module _ {K V : Type 0} {bytes : K × V → List ℕ} {P : ℕ} {s : Nodes K V} {key : List ℕ} {point : InsertPoint} {pairs : List (K × V)}
@@ -44,8 +45,8 @@ module _ {K V : Type 0} {bytes : K × V → List ℕ} {P : ℕ} {s : Nodes K V} 
       let (h, cs, found) = inner_found by at kind in
       (inner_at s (inner_name p) h (slots_of cs) (subst (Holds (node_at s)) found (path_holds (node_at s) at.path at.node (end_laid by at).holds).1).0).0
 
-  pub inner_gone : None ≡ get s.inners p → ⊥
-  inner_gone gone = prefixes.node_there part proper gone
+  pub inner_met : IsSome (get s.inners p)
+  inner_met = some_there (get s.inners p) (λ gone. prefixes.node_there part proper (sym gone))
 
   module _ {shown : Inner} (there : Some shown ≡ get s.inners p) {old : Prefix} (read : old ≡ shown.prefix) where
     own : old ≡ header_of P prefix
@@ -71,8 +72,8 @@ module _ {K V : Type 0} {bytes : K × V → List ℕ} {P : ℕ} {s : Nodes K V} 
       first : HasFirstLeaf at.node (leaf_name q)
       first = let least : (P < length prefix) × HasFirstLeaf at.node (leaf_name q) = subst (IsLeafForPrefix P prefix at.node) some (inner_least by at kind) in least.1
 
-      pub least_gone : None ≡ get s.leaves q → ⊥
-      least_gone gone = least_not_gone s part.layout.holds first gone
+      pub least_met : IsSome (get s.leaves q)
+      least_met = leaf_is_there s part.layout.holds first.has
 
       module _ {l : LeafNode K V} (leaf_there : Some l ≡ get s.leaves q) {text : List ℕ} (text_is : text ≡ bytes (pair_of l)) where
         pub trim_given : (mismatch.matched_bytes + 1 ≤ old.len) × (point.key_bytes_used + old.len ≤ length text)

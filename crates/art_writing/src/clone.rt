@@ -184,9 +184,7 @@ fn begin<'a, K: AsBytes + Clone + Drop, V: Clone + Drop, const P: usize>(
     ensures lessened { IsLessened into.old.promise into.new.promise }
     ensures refused { OnErr result (into.new ≡ into.old) }
 {
-    let Some(node) = store.inner(name) else {
-        unreachable!()
-    };
+    let node = store.inner_at(name);
     let Ok(copy) = place_like(node, into) else {
         return Err(AllocError);
     };
@@ -219,9 +217,7 @@ fn clone_leaf<K: AsBytes + Clone + Drop, V: Clone + Drop, const P: usize>(
     ensures { IsCloned (IsPairClone K.is_clone V.is_clone)
         store.now (leaf_name name) into.old into.new result }
 {
-    let Some(leaf) = store.leaf(name) else {
-        unreachable!()
-    };
+    let leaf = store.leaf_at(name);
     let copy = leaf.clone_without_siblings()?;
     let Ok(name) = into.place_leaf(copy) else {
         return Err(AllocError);

@@ -53,9 +53,7 @@ fn set_beside<K: AsBytes + Drop, V: Drop, const P: usize>(
     let Some(leaf) = leaf else {
         return;
     };
-    let Some(node) = store.leaf(leaf) else {
-        unreachable!()
-    };
+    let node = store.leaf_at(leaf);
     let (previous, next) = match side {
         Direction::Before => (other, node.next),
         Direction::After => (node.previous, other),
@@ -127,9 +125,7 @@ pub(crate) fn take_from_between<K: AsBytes + Drop, V: Drop, const P: usize>(
     ensures inners { store.new.inners ≡ store.old.inners }
     ensures promise { store.new.promise ≡ store.old.promise }
 {
-    let Some(leaf) = store.leaf(name) else {
-        unreachable!()
-    };
+    let leaf = store.leaf_at(name);
     let previous = leaf.previous;
     let next = leaf.next;
     link(store, previous, next);
@@ -174,16 +170,12 @@ pub(crate) fn links_beside<K: AsBytes + Drop, V: Drop, const P: usize>(
     match side {
         Direction::Before => {
             let first = minimum_unchecked(store, name);
-            let Some(leaf) = store.leaf(first) else {
-                unreachable!()
-            };
+            let leaf = store.leaf_at(first);
             (leaf.previous, Some(first))
         }
         Direction::After => {
             let last = maximum_unchecked(store, name);
-            let Some(leaf) = store.leaf(last) else {
-                unreachable!()
-            };
+            let leaf = store.leaf_at(last);
             (Some(last), leaf.next)
         }
     }

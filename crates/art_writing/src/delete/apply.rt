@@ -118,9 +118,7 @@ impl DeletePoint {
         requires answers { IsDeletePointIn (of_key K.bytes) P store.old root self }
         ensures { IsLetGo (of_key K.bytes) P store.old store.new root self (Some result) }
     {
-        let Some(node) = store.inner(parent) else {
-            unreachable!()
-        };
+        let node = store.inner_at(parent);
         let kind = node.node_type();
         if has_spare_child(node) {
             store.remove_child(parent, byte);

@@ -51,9 +51,7 @@ fn leaf_beside<K: AsBytes + Drop, V: Drop, const P: usize>(
     ensures { IfSome (map.get store.now.leaves name) (λ leaf.
         cond after leaf.next leaf.previous ≡ Some result) }
 {
-    let Some(leaf) = store.leaf(name) else {
-        unreachable!()
-    };
+    let leaf = store.leaf_at(name);
     let beside = if after { leaf.next } else { leaf.previous };
     let Some(beside) = beside else { unreachable!() };
     beside
@@ -82,12 +80,8 @@ fn lengthen_prefix<K: AsBytes + Drop, V: Drop, const P: usize>(
     let Some(inner) = name.as_inner() else {
         return;
     };
-    let Some(node) = store.inner(inner) else {
-        unreachable!()
-    };
-    let Some(leaf) = store.leaf(below) else {
-        unreachable!()
-    };
+    let node = store.inner_at(inner);
+    let leaf = store.leaf_at(below);
     let header = header_below(front, byte, node, leaf.key.as_bytes());
     store.set_header(inner, header);
 }

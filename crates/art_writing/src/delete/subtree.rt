@@ -56,9 +56,7 @@ pub fn search_for_prefix_delete_point<K: AsBytes + Drop, V: Drop, const PREFIX_L
 {
     let end = walk_below(store, root, prefix)?;
     let first = minimum_unchecked(store, end.name);
-    let Some(leaf) = store.leaf(first) else {
-        unreachable!()
-    };
+    let leaf = store.leaf_at(first);
     if !leaf.key.as_bytes().starts_with(prefix) {
         return None;
     }

@@ -78,9 +78,7 @@ impl InsertPoint {
         ensures { ForEnd (of_key K.bytes) P store.now key_bytes.now self (λ path node.
             IsBranch (of_key K.bytes) key_bytes.now path node result) }
     {
-        let Some(leaf) = store.leaf(leaf_node_ptr) else {
-            unreachable!()
-        };
+        let leaf = store.leaf_at(leaf_node_ptr);
         let part = &key_bytes[self.key_bytes_used..new_key_bytes_used];
         let old_byte = leaf.key.as_bytes()[new_key_bytes_used];
         let new_byte = key_bytes[new_key_bytes_used];
@@ -129,18 +127,14 @@ impl InsertPoint {
             (drop (mismatch.matched_bytes + 1) (prefix_of (of_key K.bytes) (depth_of path) node))) }
         ensures node { IsSome (map.get store.now.inners inner_node_ptr) }
     {
-        let Some(node) = store.inner(inner_node_ptr) else {
-            unreachable!()
-        };
+        let node = store.inner_at(inner_node_ptr);
         let mut header = node.header();
         let count = mismatch.matched_bytes + 1;
         let Some(leaf_ptr) = mismatch.leaf_ptr else {
             header.ltrim_by(count);
             return header;
         };
-        let Some(leaf) = store.leaf(leaf_ptr) else {
-            unreachable!()
-        };
+        let leaf = store.leaf_at(leaf_ptr);
         header.ltrim_by_with_leaf(count, self.key_bytes_used, leaf.key.as_bytes());
         header
     }

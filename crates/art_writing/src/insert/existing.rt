@@ -68,9 +68,7 @@ impl InsertPoint {
         ensures few { IfSome (map.get store.now.inners name) (λ node.
             length node.children < 256) }
     {
-        let Some(node) = store.inner(name) else {
-            unreachable!()
-        };
+        let node = store.inner_at(name);
         let larger = larger_if_full(node);
         let byte = key_bytes[self.key_bytes_used];
         let (other, child) = node.beside(byte);

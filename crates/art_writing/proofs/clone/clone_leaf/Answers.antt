@@ -1,4 +1,3 @@
-use Rattle.std.proofs.Common.{sym}
 use Rattle.art_model.proofs.stores.Lessened.{lessened_leaf}
 use Rattle.art_writing.proofs.Cloning.{copied_leaf}
 use Rattle.art_writing.proofs.clone.clone_leaf.Goals as goal
@@ -7,7 +6,7 @@ pub returns : goal.returns
 returns g c = record {
   copied = λ tree full.
       copied_leaf g.K.Clone.is_clone g.V.Clone.is_clone c.args.store.now c.args.into.now c.place_leaf.new.self c.args.name c.in-Ok.name tree
-      c.in-Some.leaf.now c.in_ok-copy.copy full (sym c.in-Some.ensures) c.in_ok-copy.ensures.leaf
+      c.leaf_at-leaf.result.now c.in_ok-copy.copy full c.leaf_at-leaf.ensures c.in_ok-copy.ensures.leaf
       c.in-Ok.ensures.fresh c.in-Ok.ensures.placed c.in-Ok.ensures.inners c.in-Ok.ensures.promise c.to_opaque.ensures;
   leaves = tt;
   inners = tt;

@@ -1,5 +1,4 @@
 use Rattle.std.proofs.Common.{◌≡◌, ap, sym, ◌∙◌}
-use Rattle.std.specs.Prelude.{option_copied}
 use Rattle.art_model.specs.Writes.{change_some}
 use Rattle.art_writing.specs.ParentWrites.{with_beside}
 use Rattle.art_writing.proofs.LeafWrites.{change_as}
@@ -8,7 +7,7 @@ use Rattle.art_writing.proofs.writes.set_beside.Goals as goal
 
 pub returns-clause-leaves : goal.returns-clause-leaves
 returns-clause-leaves g c =
-    let node = c.in-Some-leaf.node.now in
+    let node = c.leaf_at-node.result.now in
     let links = c.match-side.previous in
     let linked : record node { previous = links.0; next = links.1 } ≡ with_beside c.args.side c.args.other node =
     elim c.match-side.branch [
@@ -16,5 +15,5 @@ returns-clause-leaves g c =
       | in-After w ↦ rw w.previous-is (ap (λ z. with_beside z c.args.other node) (sym w.in-After.is))
     ] in
     c.set_links.ensures.leaves
-    ∙ change_as c.args.store.now.leaves c.in-Some.leaf _ (with_beside c.args.side c.args.other) node (sym c.leaf.ensures ∙ ap option_copied c.in-Some-leaf.is) linked
+    ∙ change_as c.args.store.now.leaves c.in-Some.leaf _ (with_beside c.args.side c.args.other) node c.leaf_at-node.ensures linked
     ∙ sym (ap (λ o. change_some c.args.store.now.leaves o (with_beside c.args.side c.args.other)) c.in-Some.is)

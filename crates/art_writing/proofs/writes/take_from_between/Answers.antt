@@ -1,5 +1,4 @@
 use Rattle.std.proofs.Common.{◌≡◌, IsSomeAnd, ap, sym, ◌∙◌, subst, rules}
-use Rattle.std.specs.Prelude.{option_copied}
 use Rattle.std.specs.FinMap.{get, remove}
 use Rattle.art_model.specs.Writes.{without_leaf}
 use Rattle.art_writing.specs.Inserted.{unlinked_leaf}
@@ -9,18 +8,18 @@ use Rattle.art_writing.proofs.writes.take_from_between.Goals as goal
 pub free_leaf-leaf-requires : goal.free_leaf-leaf-requires
 free_leaf-leaf-requires g c =
     let m = c.args.store.now.leaves in
-    let x = c.in-Some.leaf.now in
+    let x = c.leaf_at-leaf.result.now in
     let all = c.link.ensures.leaves in (
       search rules,
       some_there _ (λ gone. joined_there m x.previous x.next x.next x.previous c.args.name x
-          (sym c.leaf.ensures ∙ ap option_copied c.in-Some.is) (sym (ap (λ z. get z c.args.name) all) ∙ gone)),
+          c.leaf_at-leaf.ensures (sym (ap (λ z. get z c.args.name) all) ∙ gone)),
     )
 
 pub returns-clause-leaf : goal.returns-clause-leaf
 returns-clause-leaf g c =
     let m = c.args.store.now.leaves in
-    let x = c.in-Some.leaf.now in
-    let there = sym c.leaf.ensures ∙ ap option_copied c.in-Some.is in
+    let x = c.leaf_at-leaf.result.now in
+    let there = c.leaf_at-leaf.ensures in
     let all = c.link.ensures.leaves in
     let same = joined_keeps m x.previous x.next x.next x.previous c.args.name x there c.free_leaf-leaf.result (sym (ap (λ z. get z c.args.name) all) ∙ c.free_leaf-leaf.ensures.node) in
     subst (λ o. IsSomeAnd o (λ leaf. c.with_no_siblings.result ≡ unlinked_leaf (leaf.key, leaf.value))) (sym there) (c.with_no_siblings.ensures ∙ ap unlinked_leaf same)
@@ -29,7 +28,7 @@ pub returns-clause-leaves : goal.returns-clause-leaves
 unfolding without_leaf
 returns-clause-leaves g c =
     let m = c.args.store.now.leaves in
-    let x = c.in-Some.leaf.now in
-    let there = sym c.leaf.ensures ∙ ap option_copied c.in-Some.is in
+    let x = c.leaf_at-leaf.result.now in
+    let there = c.leaf_at-leaf.ensures in
     let all = c.link.ensures.leaves in
     subst (λ o. IsSomeAnd o (λ leaf. c.free_leaf-leaf.new.self.leaves ≡ without_leaf m c.args.name leaf)) (sym there) (c.free_leaf-leaf.ensures.leaves ∙ ap (λ z. remove z c.args.name) all)

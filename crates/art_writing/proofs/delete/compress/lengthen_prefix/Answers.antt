@@ -1,4 +1,4 @@
-use Rattle.std.proofs.Common.{refl, ◌≡◌, IfSome, ap, ap₂, sym, ◌∙◌, subst}
+use Rattle.std.proofs.Common.{rules, refl, ◌≡◌, IsSome, IfSome, ap, ap₂, sym, ◌∙◌, subst}
 use Rattle.std.specs.FinMap as map
 use Rattle.art_inner.specs.InnerChanges.{with_header}
 use Rattle.art_parts.specs.Headers.{header_of}
@@ -8,15 +8,20 @@ use Rattle.art_model.specs.Writes.{as_inner}
 use Rattle.art_writing.proofs.Compressions.{leaf_there, node_there}
 use Rattle.art_writing.proofs.delete.compress.lengthen_prefix.Goals as goal
 
-pub unreachable-requires : goal.unreachable-requires
-unreachable-requires g c =
-    node_there g.K.AsBytes.bytes (map.get c.args.store.now.leaves c.args.below) (map.get c.args.store.now.inners (as_inner c.args.name)) c.args.front.len
-    (c.requires (c.in-Some.ensures.inner.0 refl)) (c.in_default-inner.ensures.view ∙ ap (λ name. map.get c.args.store.now.inners (as_inner name)) c.in-Some.ensures.name)
+pub inner_at-node-requires : goal.inner_at-node-requires
+inner_at-node-requires g c =
+    let inners = c.args.store.now.inners in
+    let there =
+    node_there g.K.AsBytes.bytes (map.get c.args.store.now.leaves c.args.below) (map.get inners (as_inner c.args.name)) c.args.front.len
+    (c.requires (c.in-Some.ensures.inner.0 refl)) in
+    (search rules, (search rules,
+    subst (λ name. IsSome (map.get inners name)) (ap as_inner (sym c.in-Some.ensures.name)) there))
 
-pub unreachable-requires-in_default-leaf : goal.unreachable-requires-in_default-leaf
-unreachable-requires-in_default-leaf g c =
+pub leaf_at-leaf-requires : goal.leaf_at-leaf-requires
+leaf_at-leaf-requires g c =
+    (search rules,
     leaf_there g.K.AsBytes.bytes (map.get c.args.store.now.leaves c.args.below) (map.get c.args.store.now.inners (as_inner c.args.name)) c.args.front.len
-    (c.requires (c.in-Some.ensures.inner.0 refl)) c.in_default-leaf.ensures
+    (c.requires (c.in-Some.ensures.inner.0 refl)))
 
 pub returns-clause-leaf : goal.returns-clause-leaf
 returns-clause-leaf g c leaf = absurd (c.in-Some.ensures.inner.0 refl leaf)
@@ -25,6 +30,6 @@ pub returns-clause-inner : goal.returns-clause-inner
 returns-clause-inner g c proper first rest front own =
     let inners = c.args.store.now.inners in
     let is : as_inner c.args.name ≡ c.in-Some.inner = ap as_inner (sym c.in-Some.ensures.name) in
-    let own_is : (ref_view c.in-Some-inner.node).prefix ≡ header_of g.row.P rest =
-    subst (λ o. IfSome o (λ node. node.prefix ≡ header_of g.row.P rest)) (ap (map.get inners) is ∙ sym c.in-Some-inner.ensures.view) own in
+    let own_is : (ref_view c.inner_at-node.result).prefix ≡ header_of g.row.P rest =
+    subst (λ o. IfSome o (λ node. node.prefix ≡ header_of g.row.P rest)) (ap (map.get inners) is ∙ c.inner_at-node.ensures.view) own in
     c.set_header.ensures.inners ∙ ap₂ (λ k p. change inners k (with_header p)) (sym is) (c.header_below-header.ensures first rest front own_is)
