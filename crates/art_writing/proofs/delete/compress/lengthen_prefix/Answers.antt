@@ -13,15 +13,20 @@ inner_at-node-requires g c =
     let inners = c.args.store.now.inners in
     let there =
     node_there g.K.AsBytes.bytes (map.get c.args.store.now.leaves c.args.below) (map.get inners (as_inner c.args.name)) c.args.front.len
-    (c.requires (c.in-Some.ensures.inner.0 refl)) in
-    (search rules, (search rules,
-    subst (λ name. IsSome (map.get inners name)) (ap as_inner (sym c.in-Some.ensures.name)) there))
+    (c.requires (c.in-Some.ensures.inner.0 refl)) in (
+      search rules,
+      (
+        search rules,
+        subst (λ name. IsSome (map.get inners name)) (ap as_inner (sym c.in-Some.ensures.name)) there,
+      ),
+    )
 
 pub leaf_at-leaf-requires : goal.leaf_at-leaf-requires
-leaf_at-leaf-requires g c =
-    (search rules,
-    leaf_there g.K.AsBytes.bytes (map.get c.args.store.now.leaves c.args.below) (map.get c.args.store.now.inners (as_inner c.args.name)) c.args.front.len
-    (c.requires (c.in-Some.ensures.inner.0 refl)))
+leaf_at-leaf-requires g c = (
+  search rules,
+  leaf_there g.K.AsBytes.bytes (map.get c.args.store.now.leaves c.args.below) (map.get c.args.store.now.inners (as_inner c.args.name)) c.args.front.len
+      (c.requires (c.in-Some.ensures.inner.0 refl)),
+)
 
 pub returns-clause-leaf : goal.returns-clause-leaf
 returns-clause-leaf g c leaf = absurd (c.in-Some.ensures.inner.0 refl leaf)

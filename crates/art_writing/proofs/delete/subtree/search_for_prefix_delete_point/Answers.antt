@@ -20,9 +20,10 @@ minimum_unchecked-first-requires g c =
 pub leaf_at-leaf-requires : goal.leaf_at-leaf-requires
 leaf_at-leaf-requires g c =
     let (pairs, layout, by) = c.requires in
-    let at = subst (EndsBelow (of_key g.K.AsBytes.bytes) c.args.prefix.now layout) c.in_ok-end.was (c.walk_below.ensures pairs layout by) in
-    (search rules,
-    leaf_is_there c.args.store.now (node_holds by at.0.at) (c.minimum_unchecked-first.ensures at.0.at.node (node_full by at.0.at)).has)
+    let at = subst (EndsBelow (of_key g.K.AsBytes.bytes) c.args.prefix.now layout) c.in_ok-end.was (c.walk_below.ensures pairs layout by) in (
+      search rules,
+      leaf_is_there c.args.store.now (node_holds by at.0.at) (c.minimum_unchecked-first.ensures at.0.at.node (node_full by at.0.at)).has,
+    )
 
 pub returns-then-not-starts_with-clause-point : goal.returns-then-not-starts_with-clause-point
 returns-then-not-starts_with-clause-point g c pairs layout by =
