@@ -380,8 +380,6 @@ fn longest_match<K: AsBytes + Drop, V: Drop, const P: usize>(
         map (λ x. length (K.bytes x.0)) (match_of (of_key K.bytes) key_bytes.now pairs)) }
 {
     let leaf = prefix_search_unchecked(store, root, key_bytes)?;
-    let Some(leaf) = store.leaf(leaf) else {
-        unreachable!()
-    };
+    let leaf = store.leaf_at(leaf);
     Some(leaf.key.as_bytes().len())
 }

@@ -9,4 +9,4 @@ returns-in_err-leaf g c pairs layout by = rw c.from_residual.ensures (sym (ap (m
 pub returns : goal.returns
 returns g c pairs layout by =
     ap (λ key. length key ∷ []) c.as_bytes.ensures
-    ∙ match_found g.K.AsBytes.bytes g.row.P (match_of (of_key g.K.AsBytes.bytes) c.args.key_bytes.now pairs) by (c.in_ok-leaf.ensures.leaf pairs layout by) (sym c.in-Some.ensures)
+    ∙ match_found g.K.AsBytes.bytes g.row.P (match_of (of_key g.K.AsBytes.bytes) c.args.key_bytes.now pairs) by (c.in_ok-leaf.ensures.leaf pairs layout by) c.leaf_at-leaf.ensures
