@@ -574,9 +574,7 @@ fn pair_at<K: AsBytes + Drop, V: Drop, const P: usize>(
     requires { IsSome (map.get store.now.leaves leaf) }
     ensures { option_map pair_of (map.get store.now.leaves leaf) ≡ Some (deref_pair result) }
 {
-    let Some(leaf) = store.leaf(leaf) else {
-        unreachable!()
-    };
+    let leaf = store.leaf_at(leaf);
     (&leaf.key, &leaf.value)
 }
 
