@@ -135,7 +135,7 @@ pub(super) fn leaf_under_or<const P: usize>(
 ) -> OptionalLeafPtr
     ensures { IsLeafOr (child_at (ref_view node.entry).children byte) other result }
 {
-    let Some(child) = node.lookup_child(byte) else {
+    let Some(child) = node.lookup_least(byte) else {
         return other;
     };
     match child.as_leaf() {
