@@ -4,4 +4,5 @@ mod iterator;
 mod kept_keys;
 mod lookup;
 mod minmax;
+mod names;
 mod run;

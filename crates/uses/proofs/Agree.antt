@@ -46,23 +46,29 @@ module _ (token : List ℕ) (old new : Open) (ends : Ends) (was : Agree old ends
       (is.0, λ at small. sets.1 (at, other) (small, tt) (λ same. off (ap (λ k. k.1) same)) ∙ is.1 at small)) t tt
 
   pub opened : (end : ℕ) (after : Ends) → end_of token old ≡ None → end < 2 ^ 64 → Changes token (Some end) old new → Sets (end, token) (Some tt) ends after → Agree new after
-  opened end after none small changes lists = settled (Some end) end (Some tt) ends after changes (λ other off. was other) lists
-      (small, λ time fits. at token end (Some tt) ends after lists time fits _ (λ same. rw (eq-eqb time end same) refl)
-      (λ off. (was token).1 time fits ∙ ap (listed_at time) none ∙ sym (no_end time end off)))
+  opened end after none small changes lists = settled (Some end) end (Some tt) ends after changes (λ other off. was other) lists (
+    small,
+    λ time fits. at token end (Some tt) ends after lists time fits _ (λ same. rw (eq-eqb time end same) refl)
+        (λ off. (was token).1 time fits ∙ ap (listed_at time) none ∙ sym (no_end time end off)),
+  )
 
   module _ (before : ℕ) (is : end_of token old ≡ Some before) where
     pub closed : (after : Ends) → Changes token None old new → Sets (before, token) None ends after → Agree new after
-    closed after changes drops = settled None before None ends after changes (λ other off. was other) drops
-        (tt, λ time fits. at token before None ends after drops time fits None (λ same. refl)
-        (λ off. (was token).1 time fits ∙ ap (listed_at time) is ∙ no_end time before off))
+    closed after changes drops = settled None before None ends after changes (λ other off. was other) drops (
+      tt,
+      λ time fits. at token before None ends after drops time fits None (λ same. refl)
+          (λ off. (was token).1 time fits ∙ ap (listed_at time) is ∙ no_end time before off),
+    )
 
     pub moved : (end : ℕ) (mid after : Ends) → before ≢ end → end < 2 ^ 64 → Changes token (Some end) old new →
         Sets (end, token) (Some tt) ends mid → Sets (before, token) None mid after → Agree new after
     moved end mid after differ small changes lists drops = settled (Some end) before None mid after changes
-        (λ other off. ((was other).0, λ at fits. lists.1 (at, other) (fits, tt) (λ same. off (ap (λ k. k.1) same)) ∙ (was other).1 at fits)) drops
-        (small, λ time fits. at token before None mid after drops time fits _ (λ same. sym (no_end time end (λ e. differ (sym same ∙ e))))
-        (λ off. at token end (Some tt) ends mid lists time fits _ (λ same. rw (eq-eqb time end same) refl)
-        (λ other. (was token).1 time fits ∙ ap (listed_at time) is ∙ no_end time before off ∙ sym (no_end time end other))))
+        (λ other off. ((was other).0, λ at fits. lists.1 (at, other) (fits, tt) (λ same. off (ap (λ k. k.1) same)) ∙ (was other).1 at fits)) drops (
+          small,
+          λ time fits. at token before None mid after drops time fits _ (λ same. sym (no_end time end (λ e. differ (sym same ∙ e))))
+              (λ off. at token end (Some tt) ends mid lists time fits _ (λ same. rw (eq-eqb time end same) refl)
+              (λ other. (was token).1 time fits ∙ ap (listed_at time) is ∙ no_end time before off ∙ sym (no_end time end other))),
+        )
 
 module _ (sessions : Open) (ends : Ends) (agrees : Agree sessions ends) (keys : HaveKeys IsEndKey ends) (rise : RiseBy (pair_cmp nat_cmp (slice_cmp nat_cmp)) ends) where
   -- what is known of the first end, and so of each later one, is known of the end of each session

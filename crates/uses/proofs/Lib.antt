@@ -1,3 +1,4 @@
 pub mod Longest
 pub mod Both
 pub mod Agree
+pub mod Gathered

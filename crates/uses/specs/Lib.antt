@@ -1,3 +1,4 @@
+pub mod Accounts
 pub mod Longest
 pub mod Inventory
 pub mod Leases

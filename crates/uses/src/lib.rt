@@ -23,6 +23,7 @@ use art_operations::lookup::{prefix_search_unchecked, search_unchecked};
 use art_operations::minmax::{maximum_unchecked, minimum_unchecked};
 use art_operations::visitor::{Visitor, visit_with};
 
+pub mod accounts;
 pub mod copies;
 pub mod counts;
 pub mod events;
