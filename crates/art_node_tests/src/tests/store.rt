@@ -203,8 +203,8 @@ fn clone_placed(store: &mut Store) -> Option<[bool; 3]> {
 
 #[test]
 fn nodes_are_cloned_under_their_names(rt: HostRuntime) -> Result<(), Fail> {
-    let mut store = Store::new(rt.alloc());
-    same(clone_placed(&mut store), Some([true; 3]))
+    let seen = clone_placed(&mut Store::new(rt.alloc()));
+    same(seen, Some([true; 3]))
 }
 
 #[test]
@@ -372,8 +372,8 @@ fn hand_back(store: &mut Store) -> Result<[bool; 4], AllocError> {
 
 #[test]
 fn without_memory_placements_hand_the_node_back(rt: HostRuntime) -> Result<(), Fail> {
-    let mut store = Store::new(rt.alloc());
-    same(hand_back(&mut store).ok(), Some([true; 4]))
+    let seen = hand_back(&mut Store::new(rt.alloc()));
+    same(seen.ok(), Some([true; 4]))
 }
 
 // Places a leaf, and returns whether a reservation without memory fails, and whether the leaf under the name is right
@@ -391,8 +391,8 @@ fn reserve_without_memory(store: &mut Store) -> Result<[bool; 2], AllocError> {
 
 #[test]
 fn without_memory_reservations_leave_the_nodes(rt: HostRuntime) -> Result<(), Fail> {
-    let mut store = Store::new(rt.alloc());
-    same(reserve_without_memory(&mut store).ok(), Some([true; 2]))
+    let seen = reserve_without_memory(&mut Store::new(rt.alloc()));
+    same(seen.ok(), Some([true; 2]))
 }
 
 // Whether each of two leaves and a node that were promised is placed without memory, and a promise is repeated in
