@@ -8,10 +8,10 @@ use crate::{Counts, parts};
 use art_nodes::node::{AsBytes, OpaqueNodePtr};
 use art_nodes::store::NodeStore;
 use art_operations::delete::search_for_delete_point_by_lengths;
-use art_operations::insert::plant;
 use art_operations::well_formed::WellFormedChecker;
 use std::alloc::Global;
-use uses::{get, put};
+use uses::get;
+use uses::leases::put_in;
 
 const PREFIX_LEN: usize = 16;
 
@@ -57,25 +57,6 @@ fn build(store: &mut Store, alloc: Global, keys: &[u8], ends: &[u64]) -> Option<
         from = to;
     }
     root
-}
-
-/// Inserts a pair into a tree, or begins one. Returns the root, or `None` if it fails.
-fn put_in<K: AsBytes + Drop, V: Drop, const P: usize>(
-    store: &mut NodeStore<K, V, P>,
-    root: Option<OpaqueNodePtr>,
-    key: K,
-    value: V,
-) -> Option<OpaqueNodePtr>
-    requires { IfSome root (IsCanonicalRoot (of_key K.bytes) P store.old) }
-    ensures { IfSome result (IsCanonicalRoot (of_key K.bytes) P store.new) }
-{
-    let Some(root) = root else {
-        let Ok(leaf) = plant(store, key, value) else {
-            return None;
-        };
-        return Some(leaf.to_opaque());
-    };
-    put(store, root, key, value)
 }
 
 /// Looks each key up. Returns how many are stored.

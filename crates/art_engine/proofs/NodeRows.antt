@@ -1,5 +1,6 @@
 -- The lines still to be written of a traversal of nodes.
-use Rattle.std.proofs.Common.{◌≡◌, ◌≢◌, ℕ, zero, suc, ◌+◌, List, [], ◌∷◌, ◌++◌, length, codes, Option, Some, None, IfSome, OnOk, Result, Ok, Err, refl, ap, sym, ◌∙◌, subst, append_assoc, append-nil, arith}
+use Rattle.std.proofs.Common.{◌≡◌, ◌≢◌, ℕ, zero, suc, ◌+◌, List, [], ◌∷◌, ◌++◌, length, codes, Option, Some, None, IfSome, OnOk, Result, Ok}
+use Rattle.std.proofs.Common.{Err, refl, ap, sym, ◌∙◌, subst, append_assoc, append-nil, arith}
 use Rattle.std.specs.FinMap as map
 use Rattle.std.specs.Io.KnownBytes.{Appends}
 use Rattle.std.specs.Option.{option_map}
@@ -16,6 +17,7 @@ use Rattle.art_model.specs.Radix.{all_unmarked, bytes_of, unmarked}
 use Rattle.art_model.specs.Stores.{header_at, held_inner, node_at, tree_node}
 use Rattle.art_model.specs.Trees.{Subtrees, Tree, child, inner, leaf, no_child}
 use Rattle.art_model.proofs.lists.Pairwises.{Pairwise-left, Pairwise-right}
+use Rattle.art_model.proofs.stores.Slots.{length-slots_of}
 use Rattle.art_model.proofs.stores.Views.{held_in_inner}
 use Rattle.art_engine.specs.KeptKeys.{Key, key_bytes}
 use Rattle.art_engine.specs.NodeWalks.{children_of, reversed_children, one_deeper, pending_root, after_turn}
@@ -62,11 +64,6 @@ mutual
   children-unmarked depth (child b t cs) =
       ap (λ first. first ++ children_text depth (all_unmarked cs)) (text-unmarked depth (Some b) t)
       ∙ ap (λ others. tree_text depth (Some b) t ++ others) (children-unmarked depth cs)
-
--- there are as many children as bytes
-length-slots : {N A : Type 0} (cs : Subtrees N A) → length (slots_of cs) ≡ length (bytes_of cs)
-length-slots no_child = refl
-length-slots (child b t cs) = ap suc (length-slots cs)
 
 module _ (s : Nodes Key ℕ) where
   -- the nodes still to be written stand for trees, whose lines are this text; the last node comes first
@@ -124,7 +121,7 @@ module _ (s : Nodes Key ℕ) where
         is_there = at;
         rest = children_text (one_deeper next.depth) cs;
         comes = subst (λ o. ComesTo (children_of (one_deeper next.depth) o) (children_text (one_deeper next.depth) cs)) (sym at) below;
-        text_is = ap (λ count. line_at next.depth next.byte (inner_text head count) ++ children_text (one_deeper next.depth) cs) (sym (length-slots cs));
+        text_is = ap (λ count. line_at next.depth next.byte (inner_text head count) ++ children_text (one_deeper next.depth) cs) (sym (length-slots_of cs));
       }
 
   pub comes_turned : (pending : List Pending) (next : Pending) (text : List ℕ) → last_of pending ≡ Some next → ComesTo pending text → IsTurned next (after_turn s pending) text

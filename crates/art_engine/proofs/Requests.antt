@@ -4,6 +4,7 @@ use Rattle.std.proofs.Math.Logic.{∥∥₁_elim}
 use Rattle.std.specs.Fmt.{decimal}
 use Rattle.art_engine.specs.KeyTexts.{IsKeyWord}
 use Rattle.art_engine.specs.CommandLines.{line_of, HasSmallValue}
+use Rattle.art_engine.specs.Served.{AsksForNothing}
 use Rattle.art_engine.specs.declared.lines.KeyWord.{KeyWord}
 use Rattle.art_engine.specs.declared.lines.Request.{Request}
 use Rattle.art_engine.specs.declared.lines.Request.TheVariants.{Insert, Prefix, Delete, First, Last, Clone, Find, Longest, Walk, Back, Nodes, Check}
@@ -15,10 +16,6 @@ at n line = get_or line n 0
 no_key : (key : KeyWord) (word : List ℕ) → word ≡ key.word.now → ¬ (IsKeyWord word) → ⊥
 no_key key word is none = ∥∥₁_elim key.is_key (λ x y. absurd x) (λ k. none (subst IsKeyWord (sym is) k))
 
--- no request has this line
-abbrev AsksNothing : List ℕ → Type 0
-AsksNothing line = (request : Request) → HasSmallValue request → line ≢ line_of request
-
 -- no key and value have these words
 abbrev IsNoPair : List ℕ → Type 0
 IsNoPair words = (key : List ℕ) (value : ℕ) → IsKeyWord key → value < 2 ^ 32 → words ≢ key ++ 32 ∷ decimal value
@@ -28,24 +25,24 @@ no_pair key value words is small none = ∥∥₁_elim key.is_key (λ x y. absur
 
 -- another request is distinguished by the first letter, or by one after it
 
-pub no_insert : (line words : List ℕ) → line ≡ codes "insert " ++ words → IsNoPair words → AsksNothing line
+pub no_insert : (line words : List ℕ) → line ≡ codes "insert " ++ words → IsNoPair words → AsksForNothing line
 no_insert line words is none (Insert key value) small same = no_pair key value words (ap (drop 7) (sym is ∙ same)) small none
 no_insert line words is none request small same = omega (arith, ap (at 0) (sym is ∙ same))
 
-pub no_prefix : (line words : List ℕ) → line ≡ codes "prefix " ++ words → IsNoPair words → AsksNothing line
+pub no_prefix : (line words : List ℕ) → line ≡ codes "prefix " ++ words → IsNoPair words → AsksForNothing line
 no_prefix line words is none (Prefix key value) small same = no_pair key value words (ap (drop 7) (sym is ∙ same)) small none
 no_prefix line words is none request small same = omega (arith, ap (at 0) (sym is ∙ same))
 
-pub no_delete : (line word : List ℕ) → line ≡ codes "delete " ++ word → ¬ (IsKeyWord word) → AsksNothing line
+pub no_delete : (line word : List ℕ) → line ≡ codes "delete " ++ word → ¬ (IsKeyWord word) → AsksForNothing line
 no_delete line word is none (Delete key) small same = no_key key word (ap (drop 7) (sym is ∙ same)) none
 no_delete line word is none request small same = omega (arith, ap (at 0) (sym is ∙ same))
 
-pub no_longest : (line word : List ℕ) → line ≡ codes "longest " ++ word → ¬ (IsKeyWord word) → AsksNothing line
+pub no_longest : (line word : List ℕ) → line ≡ codes "longest " ++ word → ¬ (IsKeyWord word) → AsksForNothing line
 no_longest line word is none (Longest key) small same = no_key key word (ap (drop 8) (sym is ∙ same)) none
 no_longest line word is none Last small same = omega (arith, ap (at 1) (sym is ∙ same))
 no_longest line word is none request small same = omega (arith, ap (at 0) (sym is ∙ same))
 
-pub no_find : (line word : List ℕ) → line ≡ codes "find " ++ word → ¬ (IsKeyWord word) → AsksNothing line
+pub no_find : (line word : List ℕ) → line ≡ codes "find " ++ word → ¬ (IsKeyWord word) → AsksForNothing line
 no_find line word is none (Find key) small same = no_key key word (ap (drop 5) (sym is ∙ same)) none
 no_find line word is none First small same = omega (arith, ap (at 2) (sym is ∙ same))
 no_find line word is none request small same = omega (arith, ap (at 0) (sym is ∙ same))
@@ -58,7 +55,7 @@ BeginsOtherwise line front = (rest : List ℕ) → line ≢ front ++ rest
 pub no_request : (line : List ℕ) →
     (line ≢ codes "first") × (line ≢ codes "last") × (line ≢ codes "clone") × (line ≢ codes "walk") × (line ≢ codes "back") × (line ≢ codes "nodes") × (line ≢ codes "check") →
     BeginsOtherwise line (codes "insert ") → BeginsOtherwise line (codes "prefix ") → BeginsOtherwise line (codes "delete ") → BeginsOtherwise line (codes "longest ") →
-    BeginsOtherwise line (codes "find ") → AsksNothing line
+    BeginsOtherwise line (codes "find ") → AsksForNothing line
 no_request line alone insert prefix delete longest find (Insert key value) small same = insert (key.word.now ++ 32 ∷ decimal value) same
 no_request line alone insert prefix delete longest find (Prefix key value) small same = prefix (key.word.now ++ 32 ∷ decimal value) same
 no_request line alone insert prefix delete longest find (Delete key) small same = delete key.word.now same

@@ -1,5 +1,6 @@
 -- Pairs that are written one after another, in the order of their leaves.
-use Rattle.std.proofs.Common.{◌≡◌, ◌≢◌, ℕ, ◌+◌, ◌-◌, List, [], ◌∷◌, ◌++◌, length, flat_map, reverse, codes, Option, Some, None, OnOk, Result, Ok, Err, refl, ap, sym, ◌∙◌, subst, append_assoc, append-nil, length-append}
+use Rattle.std.proofs.Common.{◌≡◌, ◌≢◌, ℕ, ◌+◌, ◌-◌, List, [], ◌∷◌, ◌++◌, length, flat_map, reverse, codes, Option, Some, None, OnOk}
+use Rattle.std.proofs.Common.{Result, Ok, Err, refl, ap, sym, ◌∙◌, subst, append_assoc, append-nil, length-append}
 use Rattle.std.specs.FinMap as map
 use Rattle.std.specs.Option.{option_map}
 use Rattle.std.specs.Io.KnownBytes.{Appends}
@@ -25,7 +26,7 @@ use Rattle.art_map.proofs.Items.{first_ended, first_step, first_walk, last_ended
 use Rattle.art_engine.specs.KeptKeys.{Key, key_bytes}
 use Rattle.art_engine.specs.declared.pairs.Order.{Order}
 use Rattle.art_engine.specs.declared.pairs.Order.TheVariants.{Rising, Falling}
-use Rattle.art_engine.specs.Texts.{end_of, gap_after, in_order, pairs_text, row_text, entry_text}
+use Rattle.art_engine.specs.Texts.{entry_text, gap_after, in_order, pairs_text, row_text, starting_end}
 
 -- ---- rows
 
@@ -86,7 +87,7 @@ module _ (s : Nodes Key ℕ) (walk left : Option (LeafPtr × LeafPtr)) (pairs : 
   counted done pair count = ap (λ n. n + 1) count ∙ sym (length-append done (pair ∷ []))
 
   pub row_goes_on : (order : Order) (p : LeafPtr) (pair : Key × ℕ) → IsRow s order walk pairs written old now →
-      ((names : List OpaqueNodePtr) → IsIteratorOf s walk names → TakesEnd (end_of order) s names (Some p) left) →
+      ((names : List OpaqueNodePtr) → IsIteratorOf s walk names → TakesEnd (starting_end order) s names (Some p) left) →
       option_map pair_of (map.get s.leaves p) ≡ Some pair → Appends now next (gap_after written ++ entry_text pair) → IsRow s order left pairs (written + 1) old next
   row_goes_on Rising p pair h taken read more =
       let step = first_step h.walk_is (λ names is. (taken names is).1) (λ names is. (taken names is).0) read in
@@ -112,7 +113,7 @@ module _ (s : Nodes Key ℕ) (walk left : Option (LeafPtr × LeafPtr)) (pairs : 
 
   -- where no leaf is left
   nothing_left : (order : Order) (len : ℕ) → IsWalk s walk len →
-      ((names : List OpaqueNodePtr) → IsIteratorOf s walk names → TakesEnd (end_of order) s names None left) → pairs_left s walk len ≡ []
+      ((names : List OpaqueNodePtr) → IsIteratorOf s walk names → TakesEnd (starting_end order) s names None left) → pairs_left s walk len ≡ []
   nothing_left Rising len w taken = (first_ended w (λ names is. (taken names is).1) (λ names is. (taken names is).0)).0
   nothing_left Falling len w taken = (last_ended w (λ names is. (taken names is).1) (λ names is. (taken names is).0)).0
 
@@ -121,7 +122,7 @@ module _ (s : Nodes Key ℕ) (walk left : Option (LeafPtr × LeafPtr)) (pairs : 
   nothing_ordered Falling = refl
 
   pub row_ends : (order : Order) → IsRow s order walk pairs written old now → pairs ≢ [] →
-      ((names : List OpaqueNodePtr) → IsIteratorOf s walk names → TakesEnd (end_of order) s names None left) →
+      ((names : List OpaqueNodePtr) → IsIteratorOf s walk names → TakesEnd (starting_end order) s names None left) →
       Appends now next (codes "\n") → Appends old next (pairs_text (in_order order pairs) ++ codes "\n")
   row_ends order h some taken ended =
       let all : in_order order pairs ≡ h.done =
@@ -145,7 +146,7 @@ module _ (P : ℕ) (s : Nodes Key ℕ) (order : Order) (root : OpaqueNodePtr) wh
 
   pub rows_end : {E : Type 0} (walk left : Option (LeafPtr × LeafPtr)) (written : ℕ) (old now next : Option (List ℕ)) (r : Result (Unit {0}) E) →
       ForPairs (λ pairs. IsRow s order walk pairs written old now) →
-      ((names : List OpaqueNodePtr) → IsIteratorOf s walk names → TakesEnd (end_of order) s names None left) →
+      ((names : List OpaqueNodePtr) → IsIteratorOf s walk names → TakesEnd (starting_end order) s names None left) →
       OnOk r (Appends now next (codes "\n")) →
       OnOk r (ForPairs (λ pairs. Appends old next (pairs_text (in_order order pairs) ++ codes "\n")))
   rows_end walk left written old now next (Err e) h taken ended = tt

@@ -81,6 +81,6 @@ in_order Rising xs = xs
 in_order Falling xs = reverse xs
 
 -- the end of rising pairs at which this order begins
-abbrev pub end_of : Order → End
-end_of Rising = First
-end_of Falling = Last
+abbrev pub starting_end : Order → End
+starting_end Rising = First
+starting_end Falling = Last

@@ -8,7 +8,7 @@ ghost use Rattle.art_model.specs.Pairs.{of_key};
 ghost use Rattle.art_model.specs.Stores.{pair_of};
 ghost use Rattle.art_reading.specs.Iterators.{IsIteratorOf, TakesEnd};
 ghost use Rattle.art_engine.specs.KeptKeys.{IsLinkedTreeIn, Key, key_bytes};
-ghost use Rattle.art_engine.specs.Texts.{end_of, gap_after, pairs_text, in_order, entry_text};
+ghost use Rattle.art_engine.specs.Texts.{entry_text, gap_after, in_order, pairs_text, starting_end};
 
 use crate::key::ShownKey;
 use art_nodes::node::{LeafNode, LeafPtr, OpaqueNodePtr};
@@ -66,7 +66,7 @@ fn next_leaf<const P: usize>(
     ensures there { IfSome result (λ leaf. IsSome (map.get store.now.leaves leaf)) }
     ensures rest { (names : List OpaqueNodePtr) × IsIteratorOf store.now leaves.new names }
     ensures taken { (names : List OpaqueNodePtr) → IsIteratorOf store.now leaves.old names →
-        TakesEnd (end_of order) store.now names result leaves.new }
+        TakesEnd (starting_end order) store.now names result leaves.new }
 {
     match order {
         Order::Rising => leaves.next(store),

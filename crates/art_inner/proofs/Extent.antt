@@ -1,7 +1,7 @@
 -- Sorted children are determined by what they have under each byte; parts of them; children that are read off a function.
-use Rattle.std.proofs.Common.{◌≡◌, ◌≢◌, ◌⊎◌, ℕ, zero, suc, ◌+◌, ◌-◌, ◌<◌, ◌≤◌, min, max, leb, ltb, eqb, Bool, true, false, ◌&&◌, cond, [], ◌∷◌, ◌++◌, length, Option, Some, None, is_some, IsSome, All, get_or, slice_get, append_assoc, refl, sym, ap, ◌∙◌, inl, inr, arith, subst}
+use Rattle.std.proofs.Common.{◌≡◌, ◌≢◌, ◌⊎◌, ℕ, zero, suc, ◌+◌, ◌-◌, ◌<◌, ◌≤◌, min, max, eqb, cond, [], ◌∷◌, ◌++◌, length, Option, Some, None, is_some, IsSome, All, get_or, slice_get, append_assoc, refl, sym, ap, ◌∙◌, inl, inr, arith, subst}
 use Rattle.std.proofs.lemmas.List.{length-append}
-use Rattle.std.proofs.lemmas.Bool.{le-leb, lt-leb, lt-ltb, le-ltb, cases_eq}
+use Rattle.std.proofs.lemmas.Bool.{cases_eq}
 use Rattle.std.specs.Option.{option_map}
 use Rattle.std.specs.List.{cons_option}
 use Rattle.art_inner.specs.Inner.{Children, IsAbove, IsBelow, IsRising, child_at, children_between, part_of, put_child, remove_child}

@@ -1,5 +1,5 @@
 -- Three lists in parallel: a change of each is a change of the children.
-use Rattle.std.proofs.Common.{◌≡◌, ℕ, zero, suc, ◌+◌, ◌<◌, ◌≤◌, Bool, true, false, cond, ltb, eqb, not, List, [], ◌∷◌, ◌++◌, length, get_or, set, take, drop, remove, slice_get, Option, Some, None, is_some, ◌≢◌, refl, sym, ap, ◌∙◌, inl, inr, arith}
+use Rattle.std.proofs.Common.{◌≡◌, ℕ, zero, suc, ◌+◌, ◌<◌, ◌≤◌, Bool, true, false, cond, ltb, eqb, eq-eqb, not, List, [], ◌∷◌, ◌++◌, length, get_or, set, take, drop, remove, slice_get, Option, Some, None, is_some, ◌≢◌, refl, sym, ap, ◌∙◌, inl, inr, arith}
 use Rattle.std.specs.List.{prefix_len}
 use Rattle.std.specs.Option.{option_map}
 use Rattle.art_parts.specs.declared.names.NodeType.TheVariants.{Leaf}
@@ -118,6 +118,11 @@ rows-none_below (suc n) (x ∷ bs) [] ss b rising low = refl
 rows-none_below (suc n) (x ∷ bs) (k ∷ ks) [] b rising low = refl
 rows-none_below (suc n) (x ∷ bs) (k ∷ ks) (s ∷ ss) b rising low =
     at_later _ _ b (λ e. omega (arith, low, e)) ∙ none_under x (take n (rows bs ks ss)) b rising.0 (omega (arith, low))
+
+-- the first byte is at the place 0
+pub place-first : (bs : List ℕ) (b : ℕ) → b ≡ get_or bs 0 0 → 0 ≡ prefix_len (λ x. not (eqb x b)) bs
+place-first [] b is = refl
+place-first (x ∷ bs) b is = rw (eq-eqb x b (sym is)) refl
 
 -- a byte that is not at its place has no name
 pub rows-not_at : (bs : List ℕ) (ks : List NodeType) (ss : List ℕ) (at b : ℕ) → length ks ≡ length bs → length ss ≡ length bs → IsRising (rows bs ks ss) →

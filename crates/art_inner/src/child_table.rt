@@ -5,7 +5,28 @@ use crate::children::Children;
 use crate::direct::Direct;
 use crate::indexed::Indexed;
 use crate::table::Table;
+use art_parts::header::Header;
 use art_parts::names::{NodeType, OpaqueNodePtr};
+
+/// The header of an inner node. It is a trait, so that an inner node has a type for a parameter in the place of a number: a
+/// trait's method can take it then.
+pub trait NodeHeader {
+    ghost use Rattle.art_parts.specs.Headers.{Prefix};
+
+    /// The prefix of the node.
+    ghost prefix_of: { Self → Prefix };
+
+    /// Its size fits the machine.
+    ghost Fits: { Type 0 };
+}
+
+impl<const P: usize> NodeHeader for Header<P> {
+    ghost use Rattle.art_inner.specs.Inner.{IsSize};
+
+    ghost prefix_of = { λ header. header };
+
+    ghost Fits = { IsSize P };
+}
 
 /// Names under rising bytes.
 pub trait ChildTable: Drop {

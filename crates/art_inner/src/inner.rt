@@ -2,7 +2,7 @@
 ghost use Rattle.std.specs.Prelude.{◌≡◌, ◌-◌, ◌<◌, ◌≤◌, min, length, slice_get, Some, All, IsTrue, ◌↔◌, ⊤};
 
 use crate::any::AnyInner;
-use crate::child_table::{ChildTable, KindTable};
+use crate::child_table::{ChildTable, KindTable, NodeHeader};
 use crate::children::Children;
 use crate::direct::Direct;
 use crate::indexed::Indexed;
@@ -133,34 +133,34 @@ pub trait InnerNode<const P: usize>: FromHeader<Header<P>> {
 
 /// An inner node: its header, and the table of its children.
 #[derive(Drop)]
-pub struct InnerNodeOf<T: KindTable, const P: usize> {
-    pub(crate) header: Header<P>,
+pub struct InnerNodeOf<H: NodeHeader, T: KindTable> {
+    pub(crate) header: H,
     pub(crate) table: T,
 }
 
 /// An inner node of up to 4 children.
-pub type InnerNode4<const P: usize> = InnerNodeOf<Table<4>, P>;
+pub type InnerNode4<const P: usize> = InnerNodeOf<Header<P>, Table<4>>;
 
 /// An inner node of up to 16 children.
-pub type InnerNode16<const P: usize> = InnerNodeOf<Table<16>, P>;
+pub type InnerNode16<const P: usize> = InnerNodeOf<Header<P>, Table<16>>;
 
 /// An inner node of up to 48 children.
-pub type InnerNode48<const P: usize> = InnerNodeOf<Indexed, P>;
+pub type InnerNode48<const P: usize> = InnerNodeOf<Header<P>, Indexed>;
 
 /// An inner node of up to 256 children.
-pub type InnerNodeDirect<const P: usize> = InnerNodeOf<Direct, P>;
+pub type InnerNodeDirect<const P: usize> = InnerNodeOf<Header<P>, Direct>;
 
-impl<T: KindTable, const P: usize> Model for InnerNodeOf<T, P> {
-    ghost use Rattle.art_inner.specs.Inner.{Inner, IsSize};
+impl<H: NodeHeader, T: KindTable> Model for InnerNodeOf<H, T> {
+    ghost use Rattle.art_inner.specs.Inner.{Inner};
 
     ghost Value = { Inner };
 
-    ghost view = { λ n. record { prefix = n.header; children = T.children_of n.table } };
+    ghost view = { λ n. record { prefix = H.prefix_of n.header; children = T.children_of n.table } };
 
-    ghost invariant = { λ _. IsSize P };
+    ghost invariant = { λ _. H.Fits };
 }
 
-impl<T: KindTable, const P: usize> Clone for InnerNodeOf<T, P> {
+impl<T: KindTable, const P: usize> Clone for InnerNodeOf<Header<P>, T> {
     ghost is_clone = { λ node copy. copy ≡ node };
 
     ghost is_infallible = { λ _. ⊤ };
@@ -173,7 +173,7 @@ impl<T: KindTable, const P: usize> Clone for InnerNodeOf<T, P> {
     }
 }
 
-impl<T: KindTable, const P: usize> FromHeader<Header<P>> for InnerNodeOf<T, P> {
+impl<T: KindTable, const P: usize> FromHeader<Header<P>> for InnerNodeOf<Header<P>, T> {
     ghost use Rattle.art_inner.specs.Inner.{childless};
 
     ghost starts = { λ h n. n ≡ childless h };
@@ -183,7 +183,7 @@ impl<T: KindTable, const P: usize> FromHeader<Header<P>> for InnerNodeOf<T, P> {
     }
 }
 
-impl<T: KindTable, const P: usize> InnerNodeOf<T, P> {
+impl<T: KindTable, const P: usize> InnerNodeOf<Header<P>, T> {
     ghost use Rattle.art_inner.specs.InnerChanges.{with_header};
     ghost use Rattle.art_inner.specs.Inner.{childless};
 
@@ -205,7 +205,7 @@ impl<T: KindTable, const P: usize> InnerNodeOf<T, P> {
     }
 }
 
-impl<T: KindTable, const P: usize> InnerNode<P> for InnerNodeOf<T, P> {
+impl<T: KindTable, const P: usize> InnerNode<P> for InnerNodeOf<Header<P>, T> {
     const TYPE: NodeType = T::TYPE;
 
     ghost TYPE = { T.TYPE };

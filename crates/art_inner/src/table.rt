@@ -292,8 +292,13 @@ pub(crate) fn get_least_of_four(table: &Table<4>, byte: u8) -> Option<OpaqueNode
 pub(crate) fn get_least_by_lanes(table: &Table<16>, byte: u8) -> Option<OpaqueNodePtr>
     ensures { result ≡ child_at table.now byte }
 {
-    if byte < table.bytes[0] {
+    let first = table.bytes[0];
+    if byte < first {
         return None;
+    }
+    // Not by lanes, so that a lookup of another byte beside this one loads the lanes once.
+    if byte == first {
+        return table.name_at(0);
     }
     get_by_lanes(table, byte)
 }

@@ -24,6 +24,8 @@ use Rattle.art_model.proofs.pairs.Between.{IsLocal, replace_key-between}
 use Rattle.art_model.proofs.stores.Canonical.{IsLaidOut, canonical_from, laid_out}
 use Rattle.art_model.proofs.places.InHole.{with_key-hole}
 use Rattle.art_model.proofs.changes.IntoLeaf.{IntoLeaf, leaf_changed, leaf_kept}
+pub use Rattle.art_nodes.proofs.StoreLaws.{lends_same}
+pub use Rattle.art_model.proofs.lists.Lists.{some_of}
 use Rattle.art_model.proofs.keys.Keys.{front_same, same_equal}
 use Rattle.art_model.proofs.leaves.LeavesFound.{leaf_found}
 use Rattle.art_model.proofs.places.Paths.{IsHole, hole_of, pairs_of-plug}
@@ -36,11 +38,6 @@ use Rattle.art_map.proofs.Takings.{for_tree}
 use Rattle.art_map.proofs.ValueLaws.{has_the_key, written_between}
 use Rattle.art_map.proofs.Views.{none_other, view_is}
 
--- the item of an option that has one
-pub some_of : {A : Type 0} (o : Option A) → IsSome o → (x : A) × (o ≡ Some x)
-some_of None none = absurd (false≢true none)
-some_of (Some x) some = (x, refl)
-
 -- a list with one item replaced is as long
 same_length : {A : Type 0} (before after : List A) (x y : A) → length (before ++ (x ∷ []) ++ after) ≡ length (before ++ (y ∷ []) ++ after)
 same_length before after x y =
@@ -49,10 +46,6 @@ same_length before after x y =
 -- equal options have equal items
 pub one_value : {A : Type 0} {x y : A} → Some x ≡ Some y → x ≡ y
 one_value e = cc
-
--- equal functions under the same name borrow the same
-pub lends_same : {A B C D : Type 0} {name : A} {f h : B → C} → ((w : B) → f w ≡ h w) → ◌≡◌ {A = (A × (B → C)) ⊎ D} (inl (name, f)) (inl (name, h))
-lends_same {name = name} same = λ i. inl (name, λ w. same w i)
 
 module _ {K V : Type 0} (bytes : K → List ℕ) (P : ℕ) {s : Nodes K V} {p : LeafPtr} {root : Option OpaqueNodePtr} (key : List ℕ) where
   -- the leaf that a lookup finds

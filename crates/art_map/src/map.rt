@@ -65,6 +65,7 @@ pub use iter::{Leaves, MapIter, MapIterOf};
 pub use owned::{IntoIter, IntoKeys, IntoValues};
 pub use parts::{Keys, KeysOf, Values, ValuesOf};
 pub use range::{Range, RangeOf};
+use owned::whole_walk;
 use remove::take_all_below;
 pub use split::SplitRefused;
 
@@ -234,12 +235,7 @@ impl<K: AsBytes + Drop, V: Drop, const P: usize> ByteMap<K, V, P> {
         ensures sorted { IsMap (of_key K.bytes) self.now }
         ensures fits { length result < 2 ^ 64 }
     {
-        let Some(root) = self.root else {
-            return MapIterOf::new(&self.store, RawIterator::empty(), 0);
-        };
-        let first = minimum_unchecked(&self.store, root);
-        let last = maximum_unchecked(&self.store, root);
-        let walk = RawIterator::new(&self.store, first, last);
+        let walk = whole_walk(&self.store, self.root, self.len);
         MapIterOf::new(&self.store, walk, self.len)
     }
 

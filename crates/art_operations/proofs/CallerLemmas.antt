@@ -65,7 +65,8 @@ firsts_rise by_second x y less = go (cases_order x.0 y.0)
 
 module _ {K V : Type 0} (bytes : K → List ℕ) (is_key : K → Type 0) (law : AreInjective is_key bytes) where
   -- what is known of each key is known of one that is found
-  pub known_of_found : (key : K) (value : V) → is_key key → (Known : K → Type 0) (pairs : List (K × V)) → HaveKeys is_key pairs → HaveKeys Known pairs → value_of bytes key pairs ≡ Some value → Known key
+  pub known_of_found : (key : K) (value : V) → is_key key → (Known : K → Type 0) (pairs : List (K × V)) →
+      HaveKeys is_key pairs → HaveKeys Known pairs → value_of bytes key pairs ≡ Some value → Known key
   known_of_found key value of_key' Known [] keys all is = absurd cc
   known_of_found key value of_key' Known (x ∷ xs) keys all is = go (known_of_found key value of_key' Known xs keys.1 all.1) (are_same (bytes key) (bytes x.0)) refl
     where
@@ -74,8 +75,9 @@ module _ {K V : Type 0} (bytes : K → List ℕ) (is_key : K → Type 0) (law : 
       go rest false e = rest (rw e at is)
 
   -- what is known of the first key and of each key after one of which it is known, is known of a key that is found
-  pub known_from_first : (key : K) (value : V) → is_key key → (order : K → K → Ordering) (Known : K → Type 0) → ((x y : K) → Known x → order x y ≡ Less → Known y) → (pairs : List (K × V)) → HaveKeys is_key pairs →
-      RiseBy order pairs → IfSome (first_of pairs) (λ first. Known first.0) → value_of bytes key pairs ≡ Some value → Known key
+  pub known_from_first : (key : K) (value : V) → is_key key → (order : K → K → Ordering) (Known : K → Type 0) →
+      ((x y : K) → Known x → order x y ≡ Less → Known y) → (pairs : List (K × V)) → HaveKeys is_key pairs → RiseBy order pairs →
+      IfSome (first_of pairs) (λ first. Known first.0) → value_of bytes key pairs ≡ Some value → Known key
   known_from_first key value of_key' order Known after [] keys rise first is = absurd cc
   known_from_first key value of_key' order Known after (x ∷ xs) keys rise first is = known_of_found key value of_key' Known (x ∷ xs) keys (first, all xs rise.0) is
     where

@@ -1,5 +1,6 @@
 -- for callers
 pub mod CallerLemmas
+pub use Rattle.art_keys.proofs.EndedTests
 pub use Rattle.art_reading.proofs.Iterators
 pub use Rattle.art_checking.proofs.Folding
 pub use Rattle.art_writing.proofs.Freed

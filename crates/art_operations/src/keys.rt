@@ -8,7 +8,7 @@ pub use art_keys::laws::{
 pub use art_keys::signed::{
     I8Key, I16Key, I32Key, I64Key, I128Key, Signed, signed_numbers_come_back_in_order,
 };
-pub use art_keys::terminated::{EndError, Terminated};
+pub use art_keys::terminated::{EndError, Terminated, has_zero};
 pub use art_keys::unsigned::{
     U8Key, U16Key, U32Key, U64Key, U128Key, Unsigned, unsigned_numbers_come_back_in_order,
 };

@@ -4,7 +4,7 @@ use Rattle.std.specs.List.{AllByRecursion as Each}
 use Rattle.std.specs.Ordering.{is_lt, nat_cmp}
 use Rattle.std.specs.Cmp.Lexicographic.{slice_cmp}
 use Rattle.std.specs.declared.net.ip_addr.IpAddr.{IpAddr}
-use Rattle.std.proofs.lemmas.Bool.{and_parts}
+use Rattle.std.proofs.lemmas.Bool.{and_from, and_parts}
 use Rattle.std.proofs.lemmas.Nat.{shl-shr, shr_below}
 use Rattle.art_model.specs.Footprints.{IsIn}
 use Rattle.art_model.specs.Keys.{is_before, is_front}
@@ -28,9 +28,6 @@ same_tests : (s t : Bool) → (s ≡ true → t ≡ true) → (t ≡ true → s 
 same_tests true t h k = sym (h refl)
 same_tests false true h k = k refl
 same_tests false false h k = refl
-
-both_true : (s t : Bool) → s ≡ true → t ≡ true → (s && t) ≡ true
-both_true s t h k = rw (h, k) refl
 
 -- a prefix of a list that is as long as its first part is this part
 front_whole : (xs ys tail : List ℕ) → length xs ≡ length ys → is_front xs (ys ++ tail) ≡ true → xs ≡ ys
@@ -75,14 +72,14 @@ module _ (n : Network) (a : IpAddr) (is : IsNetwork n) (fits : number_of a < 2 ^
       let v = eqb-true n.version (version_of a) parts.0 in
       let prefix = bits_begin n.length (host_bits n) (n.number / 2 ^ host_bits n) (number_of a) (prefix_fits n is) (of_version v)
       (ap (is_front (bits n.length (n.number / 2 ^ host_bits n))) (sym (same_query v)) ∙ parts.1) in
-      both_true _ _ parts.0 (eq-eqb n.number (cleared (host_bits n) (number_of a)) (sym is.no_host_bits ∙ ap (λ q. q * 2 ^ host_bits n) prefix))
+      and_from _ _ parts.0 (eq-eqb n.number (cleared (host_bits n) (number_of a)) (sym is.no_host_bits ∙ ap (λ q. q * 2 ^ host_bits n) prefix))
 
   covered : covers n a ≡ true → is_front (string_of n) (query_of a) ≡ true
   covered h =
       let parts = and_parts (eqb n.version (version_of a)) (eqb n.number (cleared (host_bits n) (number_of a))) h in
       let v = eqb-true n.version (version_of a) parts.0 in
       let number = eqb-true n.number (cleared (host_bits n) (number_of a)) parts.1 in
-      both_true _ _ parts.0
+      and_from _ _ parts.0
       (ap (is_front (bits n.length (n.number / 2 ^ host_bits n))) (same_query v)
       ∙ begin_bits n.length (host_bits n) (n.number / 2 ^ host_bits n) (number_of a) (prefix_fits n is) (of_version v)
       (ap (λ m. m / 2 ^ host_bits n) number ∙ shl-shr (number_of a / 2 ^ host_bits n) (host_bits n)))
@@ -164,7 +161,8 @@ strings_rise (x ∷ xs) h = (Each-weaker _ (λ y. is_before x.0 y.0 ≡ true) (�
 
 -- what is found for the string of an address
 pub found : LastIsLongest → (pairs : List (List ℕ × Source)) (a : IpAddr) (string line : List ℕ) (x : List ℕ × Source) → HaveStrings pairs →
-    number_of a < 2 ^ width (version_of a) → string ≡ query_of a → RiseBy (slice_cmp nat_cmp) pairs → Some x ≡ last_of (strings_in_front (λ text. text) string pairs) → line ≡ x.1.line.items → IsAnswer (routes_of pairs) a (Some line)
+    number_of a < 2 ^ width (version_of a) → string ≡ query_of a → RiseBy (slice_cmp nat_cmp) pairs →
+    Some x ≡ last_of (strings_in_front (λ text. text) string pairs) → line ≡ x.1.line.items → IsAnswer (routes_of pairs) a (Some line)
 found longest pairs a string line x strings fits is rise last l =
     let at = sym (last ∙ ap (λ q. last_of (strings_in_front (λ text. text) q pairs)) is) in
     subst (λ bytes. IsAnswer (routes_of pairs) a (Some bytes)) (sym l) (last_answers pairs a strings fits x at (longest pairs (query_of a) x (strings_rise pairs rise) at))

@@ -1,23 +1,23 @@
 -- Where the code of a line ends, and entries as a map stores them.
-use Rattle.std.proofs.Common.{◌≡◌, ◌≢◌, ◌≤◌, ℕ, Bool, true, false, not, cond, eqb, eq-eqb, ◌&&◌, ◌||◌, List, [], ◌∷◌, ◌++◌, length, map, filter, Option, Some, None, is_some, refl, ap, ap₂, sym, ◌∙◌, subst, arith, ◌⊎◌, inl, inr}
+use Rattle.std.proofs.Common.{◌≡◌, ◌≢◌, ◌≤◌, ℕ, Bool, true, false, not, cond, eqb, eq-eqb, ◌&&◌, ◌||◌, List, [], ◌∷◌, ◌++◌, length, map}
+use Rattle.std.proofs.Common.{filter, Option, Some, None, is_some, refl, ap, ap₂, sym, ◌∙◌, subst, arith, ◌⊎◌, inl, inr}
 use Rattle.std.specs.List.{AllByRecursion as Each, list_all}
 use Rattle.std.specs.List.Sorted.{IsPermutation}
 use Rattle.std.specs.Option.{option_map}
 use Rattle.std.specs.Char.{is_ascii_digit}
-use Rattle.std.proofs.lemmas.Bool.{and_parts, or_left, or_right, false≢true}
+use Rattle.std.proofs.lemmas.Bool.{and_from, and_parts, or_left, or_right, false≢true}
 use Rattle.std.proofs.lemmas.List.Elements.{All-cons}
 use Rattle.std.proofs.lemmas.List.Sorted.{IsPermutation-refl, IsPermutation-sym, IsPermutation-cons, IsPermutation-trans, IsPermutation-middle, IsPermutation-map}
 use Rattle.std.specs.Cmp.Lexicographic.{slice_cmp}
 use Rattle.std.specs.Ordering.{is_lt, nat_cmp}
 use Rattle.std.specs.declared.cmp.Ordering.TheVariants.{Less}
 use Rattle.art_model.specs.Keys.{IsFront, are_same, is_before, is_front}
-use Rattle.art_model.specs.Pairs.{add_in_order, first_of, has_key, last_of, match_of, of_key, put, remove_key, with_key, without_last}
+use Rattle.art_model.specs.Pairs.{add_in_order, first_of, has_key, last_of, match_of, of_key, put, remove_key, with_key}
 use Rattle.art_model.specs.Texts.{TextsRise}
 use Rattle.art_model.proofs.pairs.Puts.{has_is_stored, put-new}
 use Rattle.art_model.specs.Footprints.{IsIn}
 use Rattle.art_model.proofs.keys.KeyLaws.{fronts_are_decided}
 use Rattle.art_model.proofs.keys.Keys.{front_same, same_equal}
-use Rattle.art_model.proofs.keys.Texts.{ended_text}
 use Rattle.art_model.proofs.pairs.TextLaws.{last_is_longest}
 use Rattle.art_operations.specs.Ended.{ended}
 use Rattle.art_operations.specs.KeyedPairs.{RiseBy, strings_in_front}
@@ -26,6 +26,7 @@ use Rattle.text_lines.proofs.Spaces.{HasNoSpace, same_words}
 use Rattle.text_programs.specs.declared.dial_codes.table.Named.{Named}
 use Rattle.text_programs.specs.Entries.{IsNoLonger, code_of, entries_of, is_code, line_of}
 use Rattle.text_programs.specs.CodeRows.{HasLine, has_code_at, rows_of}
+use Rattle.text_programs.proofs.EndedLemmas.{ended_equal}
 
 digits_spaceless : (bs : List ℕ) → list_all is_ascii_digit bs ≡ true → HasNoSpace bs
 digits_spaceless [] h = λ k d below. absurd (omega arith)
@@ -42,13 +43,6 @@ no_entry line first rest code name is spaceless none h e =
     let both = same_words first rest code name spaceless (code_spaceless code h) (sym is ∙ e) in
     false≢true (sym none ∙ ap is_code both.0 ∙ h)
 
--- strings with an end are the same where the strings are
-ended_equal : (a b : List ℕ) → ended a ≡ ended b → a ≡ b
-ended_equal a b e = sym (ended_text a 0) ∙ ap without_last e ∙ ended_text b 0
-
-both_true : (s t : Bool) → s ≡ true → t ≡ true → (s && t) ≡ true
-both_true s t h k = rw (h, k) refl
-
 -- a stored name is in the row of its code
 pub name_is_stored : (code : List ℕ) (named : Named) (pairs : List (List ℕ × Named)) → Some named ≡ value_at ended (ended code) pairs → has_code_at named.line code (rows_of pairs) ≡ true
 name_is_stored code named [] h = absurd cc
@@ -56,11 +50,12 @@ name_is_stored code named (x ∷ xs) h = go (are_same (ended code) (ended x.0)) 
   where
     go : (t : Bool) → are_same (ended code) (ended x.0) ≡ t →
         Some named ≡ option_map (λ y. y.1) (first_of (cond t (x ∷ with_key (of_key ended) (ended code) xs) (with_key (of_key ended) (ended code) xs))) →
-        (Some named ≡ value_at ended (ended code) xs → has_code_at named.line code (rows_of xs) ≡ true) → ((are_same code x.0 && eqb x.1.line named.line) || has_code_at named.line code (rows_of xs)) ≡ true
+        (Some named ≡ value_at ended (ended code) xs → has_code_at named.line code (rows_of xs) ≡ true) →
+        ((are_same code x.0 && eqb x.1.line named.line) || has_code_at named.line code (rows_of xs)) ≡ true
     go true e h ih =
         let is : named ≡ x.1 = cc in
         let same : x.0 ≡ code = ended_equal x.0 code (same_equal (ended code) (ended x.0) e) in
-        or_left _ _ (both_true _ _ (subst (λ z. are_same code z ≡ true) (sym same) (front_same code)) (eq-eqb x.1.line named.line (ap (λ z. z.line) (sym is))))
+        or_left _ _ (and_from _ _ (subst (λ z. are_same code z ≡ true) (sym same) (front_same code)) (eq-eqb x.1.line named.line (ap (λ z. z.line) (sym is))))
     go false e h ih = or_right _ _ (ih h)
 
 -- a value is found exactly if a key is stored

@@ -1,3 +1,5 @@
+-- strings that are ended
+mod EndedLemmas
 -- tables that are read from lines, and that answer lines
 mod LineTableLemmas
 -- the words of a text, and how often each occurs

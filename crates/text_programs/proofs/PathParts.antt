@@ -7,10 +7,9 @@ use Rattle.std.specs.Ordering.{is_lt, nat_cmp, ordering_then}
 use Rattle.std.specs.Cmp.Lexicographic.{slice_cmp}
 use Rattle.std.specs.declared.cmp.Ordering.{Ordering}
 use Rattle.std.specs.declared.cmp.Ordering.TheVariants.{Less, Equal, Greater}
-use Rattle.std.proofs.lemmas.Bool.{false≢true, lt-ltb, ne_eqb}
-use Rattle.std.proofs.lemmas.List.{append_cancel_right, length-map}
+use Rattle.std.proofs.lemmas.Bool.{lt-ltb, ne_eqb}
+use Rattle.std.proofs.lemmas.List.{length-map}
 use denote.Ref.{Bor}
-use Rattle.art_model.proofs.keys.Keys.{front_same, not_same, same_equal}
 use Rattle.art_model.proofs.pairs.MapLaws.{put_is_found}
 use Rattle.art_operations.specs.Ended.{HasNoZero, ended}
 use Rattle.art_operations.specs.KeyedPairs.{RiseBy}
@@ -21,6 +20,7 @@ use Rattle.art_operations.specs.Pairs.{Pairwise, first_of, last_of, of_key, put,
 use Rattle.art_operations.specs.Parts as part
 use Rattle.std.specs.declared.ops.Bound.TheVariants.{Included, Excluded}
 use Rattle.text_programs.specs.Paths.{AddsPath, below, between, is_stored}
+use Rattle.text_programs.proofs.EndedLemmas.{same_ended}
 
 -- a string without a zero is a prefix of an ended one exactly if it is one of what is before the end
 ended_begins : (text other : List ℕ) → HasNoZero text → is_front text (ended other) ≡ is_front text other
@@ -40,14 +40,6 @@ before_ended (x ∷ text) (y ∷ other) h = go (nat_cmp x y) (before_ended text 
     go Less ih = refl
     go Equal ih = ih
     go Greater ih = refl
-
--- strings are equal where they are with their ends
-same_ended : (a b : List ℕ) → are_same (ended a) (ended b) ≡ are_same a b
-same_ended a b = go (are_same a b) refl
-  where
-    go : (t : Bool) → are_same a b ≡ t → are_same (ended a) (ended b) ≡ t
-    go true e = subst (λ c. are_same (ended a) (ended c) ≡ true) (sym (same_equal a b e)) (front_same (ended a))
-    go false e = not_same (ended a) (ended b) (λ h. false≢true (sym e ∙ subst (λ c. are_same a c ≡ true) (append_cancel_right a b (0 ∷ []) h) (front_same a)))
 
 module _ {V : Type 0} where
   -- where a test states of pairs what another states of their keys
@@ -94,7 +86,8 @@ module _ {V : Type 0} where
       or_false false = refl
 
       go : (t : Bool) →
-          is_some (option_map (λ y. y.1) (first_of (cond t (stored_for (of_key ended) (path, value) pairs ∷ []) (with_key (of_key ended) (ended other) pairs)))) ≡ (is_stored other (keys_of pairs) || t)
+          is_some (option_map (λ y. y.1) (first_of (cond t (stored_for (of_key ended) (path, value) pairs ∷ []) (with_key (of_key ended) (ended other) pairs))))
+          ≡ (is_stored other (keys_of pairs) || t)
       go true = or_true (is_stored other (keys_of pairs))
       go false = found_is_stored other pairs ∙ or_false (is_stored other (keys_of pairs))
 

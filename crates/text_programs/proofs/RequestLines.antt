@@ -1,40 +1,16 @@
 -- Lines that have a zero, and lines that are no valid requests.
-use Rattle.std.proofs.Common.{◌≡◌, ◌≢◌, ℕ, Bool, true, false, ◌||◌, eqb, eqb-true, eq-eqb, List, [], ◌∷◌, ◌++◌, drop, get_or, codes, refl, ap, sym, ◌∙◌, subst, arith}
-use Rattle.std.specs.Bool.{OnFalse, OnTrue}
+use Rattle.std.proofs.Common.{◌≡◌, ◌≢◌, ℕ, false, List, ◌∷◌, ◌++◌, drop, get_or, codes, refl, ap, sym, ◌∙◌, subst, arith}
 use Rattle.std.specs.List.{list_any}
-use Rattle.std.proofs.lemmas.Bool.{true≢false, false≢true}
 use Rattle.art_model.proofs.lists.Lists.{Each-append, Each-left, Each-right}
 use Rattle.art_operations.specs.Ended.{HasNoZero}
+use Rattle.art_operations.proofs.EndedTests.{is_zero, none_found}
 use Rattle.text_lines.proofs.Spaces.{has_space}
+use Rattle.text_programs.specs.PathReplies.{IsNoRequest}
 use Rattle.text_programs.specs.Requests.{HasNoSpace, IsRequest, line_of}
 use Rattle.text_programs.specs.declared.path_indexes.request.Request.{Request}
 use Rattle.text_programs.specs.declared.path_indexes.request.Request.TheVariants.{Under, At, Between, First, Last, Count}
 
 -- ---- zeros
-
-abbrev pub is_zero : ℕ → Bool
-is_zero byte = eqb byte 0
-
-none_found : (bytes : List ℕ) → list_any is_zero bytes ≡ false → HasNoZero bytes
-none_found [] h = tt
-none_found (x ∷ bytes) h = go (none_found bytes) (eqb x 0) refl h
-  where
-    go : (list_any is_zero bytes ≡ false → HasNoZero bytes) → (s : Bool) → eqb x 0 ≡ s → (s || list_any is_zero bytes) ≡ false → HasNoZero (x ∷ bytes)
-    go ih true e h = absurd (true≢false h)
-    go ih false e h = ((λ z. true≢false (sym (eq-eqb x 0 z) ∙ e)), ih h)
-
-one_found : (bytes : List ℕ) → list_any is_zero bytes ≡ true → HasNoZero bytes → ⊥
-one_found [] h of = false≢true h
-one_found (x ∷ bytes) h of = go (λ k. one_found bytes k of.1) (eqb x 0) refl h
-  where
-    go : (list_any is_zero bytes ≡ true → ⊥) → (s : Bool) → eqb x 0 ≡ s → (s || list_any is_zero bytes) ≡ true → ⊥
-    go ih true e h = of.0 (eqb-true x 0 e)
-    go ih false e h = ih h
-
--- what the test decides
-pub told : (bytes : List ℕ) (found : Bool) → found ≡ list_any is_zero bytes → OnTrue found (¬ HasNoZero bytes) × OnFalse found (HasNoZero bytes)
-told bytes true e = (one_found bytes (sym e), tt)
-told bytes false e = (tt, none_found bytes (sym e))
 
 -- what is after a prefix has no zero where the whole has none
 pub rest_plain : (line front rest : List ℕ) → line ≡ front ++ rest → HasNoZero line → HasNoZero rest
@@ -61,11 +37,7 @@ line_plain (Count prefix) h = plain_front (codes "count ") refl prefix.now h
 
 -- ---- lines that are no valid requests
 
--- no request has this line
-abbrev AsksNothing : List ℕ → Type 0
-AsksNothing line = (request : Request) → IsRequest request → line ≢ line_of request
-
-pub zero_asks_nothing : (line : List ℕ) → ¬ HasNoZero line → AsksNothing line
+pub zero_asks_nothing : (line : List ℕ) → ¬ HasNoZero line → IsNoRequest line
 zero_asks_nothing line zero request is same = zero (subst HasNoZero (sym same) (line_plain request is))
 
 -- the character at a place of a line
@@ -73,7 +45,7 @@ abbrev at : ℕ → List ℕ → ℕ
 at n line = get_or line n 0
 
 -- a single path has no separator
-pub no_between : (line words : List ℕ) → line ≡ codes "between " ++ words → HasNoSpace words → AsksNothing line
+pub no_between : (line words : List ℕ) → line ≡ codes "between " ++ words → HasNoSpace words → IsNoRequest line
 no_between line words e none (Between from to) is same = has_space from.now to.now (subst HasNoSpace (ap (drop 8) (sym e ∙ same)) none)
 no_between line words e none request is same = omega (arith, ap (at 0) (sym e ∙ same))
 
@@ -83,7 +55,7 @@ BeginsOtherwise line front = (rest : List ℕ) → line ≢ front ++ rest
 
 -- a line that is not just a word, and starts with none of the other words, is no valid request
 pub no_request : (line : List ℕ) → line ≢ codes "first" → line ≢ codes "last" → BeginsOtherwise line (codes "under ") → BeginsOtherwise line (codes "at ") →
-    BeginsOtherwise line (codes "count ") → BeginsOtherwise line (codes "between ") → AsksNothing line
+    BeginsOtherwise line (codes "count ") → BeginsOtherwise line (codes "between ") → IsNoRequest line
 no_request line first last under at_one count between (Under prefix) is same = under prefix.now same
 no_request line first last under at_one count between (At path) is same = at_one path.now same
 no_request line first last under at_one count between (Between from to) is same = between (from.now ++ 32 ∷ to.now) same

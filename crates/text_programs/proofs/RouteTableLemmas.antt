@@ -4,7 +4,6 @@ use Rattle.std.specs.List.{AllByRecursion as Each}
 use Rattle.std.specs.List.Sorted.{IsPermutation}
 use Rattle.std.specs.Option.{option_map}
 use Rattle.std.proofs.lemmas.Bool.{false≢true}
-use Rattle.std.proofs.lemmas.List.{append_cancel_right}
 use Rattle.std.proofs.lemmas.List.Sorted.{IsPermutation-cons, IsPermutation-map, IsPermutation-middle, IsPermutation-push_more, IsPermutation-refl, IsPermutation-sym, IsPermutation-trans}
 use Rattle.art_model.specs.Footprints.{IsIn}
 use Rattle.art_model.specs.Keys.{are_same, is_before}
@@ -15,6 +14,7 @@ use Rattle.art_model.proofs.lists.Lists.{Each-weaker, each_from, each_in, each_m
 use Rattle.art_model.proofs.pairs.Puts.{first_none, put-new}
 use Rattle.art_operations.specs.Ended.{ended}
 use Rattle.art_operations.specs.MapAnswers.{value_at}
+use Rattle.text_programs.proofs.EndedLemmas.{ended_equal}
 use Rattle.text_programs.proofs.ListLemmas.{Each-permutation, Pairwise-push, filtered_passes, first_in, in_filter, in_permutation}
 use Rattle.text_programs.specs.declared.ip_routes.network.Network.{Network}
 use Rattle.text_programs.specs.declared.ip_routes.table.LineError.{LineError}
@@ -75,7 +75,7 @@ module _ (key : List ℕ) (pairs : List (List ℕ × Source)) where
       let (x, first, is) = a_pair Stored source some in
       let found = first_in x (with_key (of_key ended) (ended key) pairs) first in
       let same = filtered_passes HasKey x pairs found in
-      (x, in_filter HasKey x pairs found, append_cancel_right x.0 key (0 ∷ []) (same_equal (ended key) (ended x.0) same), is)
+      (x, in_filter HasKey x pairs found, ended_equal x.0 key (same_equal (ended key) (ended x.0) same), is)
 
 -- ---- a further line
 

@@ -1,12 +1,12 @@
 -- How often words occur in a list, and how a map counts them.
-use Rattle.std.proofs.Common.{◌≡◌, ℕ, ◌+◌, ◌-◌, ◌^◌, ◌<◌, ◌⊎◌, inl, inr, Bool, true, false, cond, eqb, eqb-true, ne_eqb, min, List, [], ◌∷◌, ◌++◌, length, filter, map, unwrap_or, Some, None, refl, ap, ap₂, sym, ◌∙◌, subst, arith, length-append}
+use Rattle.std.proofs.Common.{◌≡◌, ℕ, ◌+◌, ◌-◌, ◌^◌, ◌<◌, ◌⊎◌, inl, inr, Bool, true, false, cond, eqb, eqb-true, ne_eqb, min, List, [], ◌∷◌}
+use Rattle.std.proofs.Common.{◌++◌, length, filter, map, unwrap_or, Some, None, refl, ap, ap₂, sym, ◌∙◌, subst, arith, length-append}
 use Rattle.std.specs.List.{AllByRecursion as Each}
 use Rattle.std.specs.Option.{option_map}
 use Rattle.std.specs.Cmp.Lexicographic.{slice_cmp}
 use Rattle.std.specs.Ordering.{is_lt, nat_cmp}
 use Rattle.std.specs.declared.cmp.Ordering.TheVariants.{Less}
 use Rattle.std.proofs.lemmas.Bool.{false≢true}
-use Rattle.std.proofs.lemmas.List.{append_cancel_right}
 use Rattle.std.proofs.lemmas.List.Elements.{filter-append}
 use Rattle.art_operations.specs.Ended.{ended}
 use Rattle.art_operations.specs.KeyedPairs.{RiseBy}
@@ -19,6 +19,7 @@ use Rattle.art_model.proofs.lists.Lists.{Each-weaker, filter_none}
 use Rattle.art_model.proofs.pairs.MapLaws.{put_is_found}
 use Rattle.art_model.proofs.pairs.Puts.{stored_value}
 use Rattle.text_programs.specs.Counts.{CountIsOne, HasTimes, numbers_for, times}
+use Rattle.text_programs.proofs.EndedLemmas.{same_ended}
 
 -- one word more
 times_more : (key : List ℕ) (ws : List (List ℕ)) (w : List ℕ) → times key (ws ++ w ∷ []) ≡ times key ws + cond (are_same key w) 1 0
@@ -54,14 +55,6 @@ value_is_first bytes key pairs = go (with_key (of_key bytes) key pairs)
     go (x ∷ xs) = refl
 
 -- ---- words, and their keys
-
--- strings are equal where they are with their ends
-same_ended : (a b : List ℕ) → are_same (ended a) (ended b) ≡ are_same a b
-same_ended a b = go (are_same a b) refl
-  where
-    go : (t : Bool) → are_same a b ≡ t → are_same (ended a) (ended b) ≡ t
-    go true e = subst (λ c. are_same (ended a) (ended c) ≡ true) (sym (same_equal a b e)) (front_same (ended a))
-    go false e = not_same (ended a) (ended b) (λ h. false≢true (sym e ∙ subst (λ c. are_same a c ≡ true) (append_cancel_right a b (0 ∷ []) h) (front_same a)))
 
 -- the numbers that are found under a word
 abbrev found : List ℕ → List (List ℕ × ℕ) → List ℕ

@@ -2,8 +2,9 @@
 use Rattle.std.specs.Prelude.{◌≡◌, ◌≢◌, ◌<◌, ◌≤◌, ◌==◌, ◌^◌, ℕ, List, Option, Some, None, IfSome, if◌then◌else◌}
 use Rattle.std.specs.Int.{bytes_high_first}
 use Rattle.art_operations.specs.Escapes.{escape}
-use Rattle.art_operations.specs.Joins.{joined_bytes}
+use Rattle.art_operations.specs.Joins.{AreKeys, joined_bytes}
 use Rattle.art_operations.specs.KeyedValues.{value_of}
+use Rattle.art_operations.specs.Numbers.{HasBytes}
 
 -- the open sessions: a token, and when it ends
 abbrev pub Open : Type 0
@@ -41,6 +42,10 @@ Ends = List ((ℕ × List ℕ) × Unit {0})
 -- the bytes of an end and a token
 abbrev pub end_bytes : ℕ × List ℕ → List ℕ
 end_bytes = joined_bytes (bytes_high_first 8) escape
+
+-- an end and a token that have bytes
+abbrev pub IsEndKey : ℕ × List ℕ → Type 0
+IsEndKey = AreKeys (HasBytes 8) (λ text. Unit {0})
 
 -- what is listed of a token at a time, where it ends then
 abbrev pub listed_at : ℕ → Option ℕ → Option (Unit {0})

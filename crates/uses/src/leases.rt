@@ -33,6 +33,7 @@ pub fn put_in<K: AsBytes + Drop, V: Drop, const P: usize>(
     ensures pairs { (pairs : List (K × V)) → IsCanonical (of_key K.bytes) P store.old root pairs →
         IfSome result (λ new. IsCanonical (of_key K.bytes) P store.new (Some new)
         (put (of_key K.bytes) (key, value) pairs)) }
+    ensures root { IfSome result (IsCanonicalRoot (of_key K.bytes) P store.new) }
     ensures apart { IfSome result (λ new.
         KeepsApart (of_key K.bytes) P store.old store.new root (Some new)) }
     ensures leaves { IfNone result (store.new.leaves ≡ store.old.leaves) }
@@ -52,6 +53,7 @@ fn begin_tree<K: AsBytes + Drop, V: Drop, const P: usize>(
 ) -> Option<OpaqueNodePtr>
     ensures pairs { IfSome result (λ new. IsCanonical (of_key K.bytes) P store.new (Some new)
         ((key, value) ∷ [])) }
+    ensures root { IfSome result (IsCanonicalRoot (of_key K.bytes) P store.new) }
     ensures apart { IfSome result (λ new.
         KeepsApart (of_key K.bytes) P store.old store.new None (Some new)) }
     ensures leaves { IfNone result (store.new.leaves ≡ store.old.leaves) }

@@ -1,8 +1,7 @@
 //! What a line asks of an index.
 ghost use Rattle.std.specs.Prelude.{◌≡◌, ◌≢◌, IfNone, IfSome};
-ghost use Rattle.std.specs.Bool.{OnFalse, OnTrue};
-ghost use Rattle.art_operations.specs.Ended.{HasNoZero};
 
+use art_operations::keys::has_zero;
 use text_lines::words::{split_word, strip};
 
 /// What a line asks for.
@@ -49,12 +48,4 @@ impl<'a> Request<'a> {
         let (from, to) = split_word(ends)?;
         Some(Request::Between(from, to))
     }
-}
-
-// Returns whether a byte is zero.
-fn has_zero(line: &[u8]) -> bool
-    ensures found { OnTrue result (¬ HasNoZero line.now) }
-    ensures none { OnFalse result (HasNoZero line.now) }
-{
-    line.contains(&0)
 }

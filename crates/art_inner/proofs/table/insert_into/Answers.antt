@@ -8,8 +8,7 @@ loop-place-preserved c =
     let (within, low, bytes, kinds, slots) = c.loop-place.invariant in
     let test = c.loop-place-test.true in
     let low_kinds : c.loop-place.place < length c.args.kinds.now = omega (arith, within, c.requires.kinds) in
-    let low_slots : c.loop-place.place < length c.args.slots.now = omega (arith, within, c.requires.slots) in
-    (
+    let low_slots : c.loop-place.place < length c.args.slots.now = omega (arith, within, c.requires.slots) in (
       omega (arith, within),
       omega (arith, test),
       moved_back c.args.bytes.now c.loop-place.bytes c.args.at c.loop-place.place _ _ test within bytes refl,
