@@ -227,6 +227,7 @@ impl<K: NoPrefixesBytes + Drop, V: Drop, const P: usize> TreeMap<K, V, P> {
     /// Fails only if an allocation fails, and never if an equal key is stored. The error returns the pair, and the map
     /// is unchanged.
     pub fn insert(&mut self, key: K, value: V) -> Result<Option<(K, V)>, PairRefused<K, V>>
+        // If it succeeds.
         ensures pairs { OnOk result (self.new ≡ put (of_key K.bytes) (key, value) self.old) }
         ensures replaced { IfOk result (λ replaced.
             replaced ≡ put_reply (of_key K.bytes) (key, value) self.old) }
@@ -237,8 +238,10 @@ impl<K: NoPrefixesBytes + Drop, V: Drop, const P: usize> TreeMap<K, V, P> {
         ensures other_keys { OnOk result
             (KeepsOtherKeys K.is_key K.bytes key self.old self.new) }
         ensures len { IfOk result (λ replaced. CountsPut replaced self.old self.new) }
+        // In any case.
         ensures sorted { IsMap (of_key K.bytes) self.new }
 
+        // If it fails.
         ensures handed_back { IfErr result (λ refused.
             (refused.key ≡ key) × (refused.value ≡ value)) }
         ensures refused { OnErr result
@@ -320,8 +323,10 @@ impl<K: NoPrefixesBytes + Drop, V: Drop, const P: usize> TreeMap<K, V, P> {
 
     /// Removes the first pair, and returns it, or `None` if the map is empty.
     pub fn pop_first(&mut self) -> Option<(K, V)>
+        // What is left, and what is returned.
         ensures pairs { self.new ≡ without_first self.old }
         ensures removed { result ≡ first_of self.old }
+        // Of single keys: the one that went, and the others.
         ensures key { IfSome result (λ pair. K.is_key pair.0) }
         ensures stored { IfSome result (λ pair.
             value_of K.bytes pair.0 self.old ≡ Some pair.1) }
@@ -335,8 +340,10 @@ impl<K: NoPrefixesBytes + Drop, V: Drop, const P: usize> TreeMap<K, V, P> {
 
     /// Removes the last pair, and returns it, or `None` if the map is empty.
     pub fn pop_last(&mut self) -> Option<(K, V)>
+        // What is left, and what is returned.
         ensures pairs { self.new ≡ without_last self.old }
         ensures removed { result ≡ last_of self.old }
+        // Of single keys: the one that went, and the others.
         ensures key { IfSome result (λ pair. K.is_key pair.0) }
         ensures stored { IfSome result (λ pair.
             value_of K.bytes pair.0 self.old ≡ Some pair.1) }

@@ -8,6 +8,7 @@ use Rattle.art_parts.specs.declared.names.OpaqueNodePtr.{OpaqueNodePtr}
 use Rattle.art_model.specs.Stores.{pair_of}
 use Rattle.art_reading.specs.Iterators.{IsIteratorOf}
 use denote.Ref.{Bor}
+pub use Rattle.std.specs.Map.{keys_of, values_of}
 
 module _ {K V : Type 0} where
   -- the pairs of so many leaves from this one on
@@ -67,14 +68,6 @@ module _ {K V : Type 0} where
   -- the same of the last pair
   abbrev pub TakesLast : List (K × V) → Option (Bor K × Bor V) → List (K × V) → Type 0
   TakesLast s r t = MatchOption r ((s ≡ []) × (t ≡ [])) (λ x. s ≡ t ++ deref_pair x ∷ [])
-
--- the keys of pairs
-abbrev pub keys_of : {K V : Type 0} → List (K × V) → List K
-keys_of pairs = map (λ x. x.0) pairs
-
--- the values of pairs
-abbrev pub values_of : {K V : Type 0} → List (K × V) → List V
-values_of pairs = map (λ x. x.1) pairs
 
 module _ {A : Type 0} where
   -- the first of a list was returned as a borrow, and the others are left; or there was none

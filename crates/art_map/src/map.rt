@@ -62,10 +62,10 @@ pub use both::BothInsertError;
 pub use entry::{Entry, EntryOf};
 pub use extract::{ExtractPrefix, ExtractPrefixOf, ExtractRange, ExtractRangeOf};
 pub use iter::{Leaves, MapIter, MapIterOf};
+use owned::whole_walk;
 pub use owned::{IntoIter, IntoKeys, IntoValues};
 pub use parts::{Keys, KeysOf, Values, ValuesOf};
 pub use range::{Range, RangeOf};
-use owned::whole_walk;
 use remove::take_all_below;
 pub use split::SplitRefused;
 
@@ -335,6 +335,7 @@ impl<K: AsBytes + Drop, V: Drop, const P: usize> ByteMap<K, V, P> {
     /// It is one descent along the bytes of the key. Prefixes that are not stored whole are all read from the same
     /// leaf, which takes a further descent.
     pub fn insert(&mut self, key: K, value: V) -> Result<Option<(K, V)>, MapInsertError<K, V>>
+        // If it succeeds.
         ensures pairs { OnOk result (self.new ≡ put (of_key K.bytes) (key, value) self.old) }
         ensures replaced { IfOk result (λ replaced.
             replaced ≡ put_reply (of_key K.bytes) (key, value) self.old) }
@@ -344,9 +345,11 @@ impl<K: AsBytes + Drop, V: Drop, const P: usize> ByteMap<K, V, P> {
             value_at K.bytes other self.new ≡ value_at K.bytes other self.old) }
         ensures accepted { OnOk result
             (is_conflict (of_key K.bytes) (K.bytes key) self.old ≡ false) }
+        // In any case.
         ensures was_sorted { IsMap (of_key K.bytes) self.old }
         ensures sorted { IsMap (of_key K.bytes) self.new }
 
+        // If it fails.
         ensures refused { IfErr result (IsRefusalOf K.bytes key value self.old) }
         ensures kept { OnErr result (self.new ≡ self.old) }
     {

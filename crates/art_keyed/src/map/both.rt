@@ -29,6 +29,7 @@ impl<K: NoPrefixesBytes + Drop, V: Drop, const P: usize> TreeMap<K, V, P> {
         other: &mut TreeMap<L, W, Q>,
         other_pair: (L, W),
     ) -> Result<(Option<(K, V)>, Option<(L, W)>), BothRefused<K, V, L, W>>
+        // If it succeeds: this map, and then the other one.
         ensures pairs { OnOk result (self.new ≡ put (of_key K.bytes) pair self.old) }
         ensures replaced { IfOk result (λ replaced.
             replaced.0 ≡ put_reply (of_key K.bytes) pair self.old) }
@@ -44,6 +45,7 @@ impl<K: NoPrefixesBytes + Drop, V: Drop, const P: usize> TreeMap<K, V, P> {
         ensures second_other_keys { OnOk result
             (KeepsOtherKeys L.is_key L.bytes other_pair.0 other.old other.new) }
 
+        // If it fails.
         ensures handed_back { IfErr result (λ refused.
             (refused.pair ≡ pair) × (refused.other ≡ other_pair)) }
         ensures refused { OnErr result (IsOneNew K.bytes pair.0 self.old L.bytes other_pair.0 other.old) }

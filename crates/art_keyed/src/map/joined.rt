@@ -45,9 +45,11 @@ impl<A: DecodeBytes + Drop, B: DecodeBytes + Drop, V: Drop, const P: usize> Tree
     /// Removes the first of the pairs whose keys have this first key, and returns it, or `None` if there is none. It
     /// allocates nothing and never fails.
     pub fn pop_first_with(&mut self, first: &A) -> Option<(Joined<A, B>, V)>
+        // What is left, and what is returned.
         ensures pairs { self.new ≡ without_first_with A.bytes (A.bytes first.now) self.old }
         ensures removed { result ≡
             first_of (pairs_with_first A.bytes (A.bytes first.now) self.old) }
+        // Of single keys: the one that went, and the others.
         ensures key { IfSome result (λ pair. AreKeys A.is_key B.is_key pair.0) }
         ensures stored { IfSome result (λ pair.
             value_of (joined_bytes A.bytes B.bytes) pair.0 self.old ≡ Some pair.1) }

@@ -34,8 +34,10 @@ impl<K: StringBytes + Drop, V: Drop, const P: usize> TreeMap<K, V, P> {
     /// Removes the first of the pairs whose strings start with that of a key, and returns it, or `None` if there is
     /// none. It allocates nothing and never fails.
     pub fn pop_first_below(&mut self, prefix: &K) -> Option<(K, V)>
+        // What is left, and what is returned.
         ensures pairs { self.new ≡ without_below (of_key K.text) (K.text prefix.now) 1 self.old }
         ensures removed { result ≡ first_of (strings_below K.text (K.text prefix.now) self.old) }
+        // Of single keys: the one that went, and the others.
         ensures key { IfSome result (λ pair. K.is_key pair.0) }
         ensures stored { IfSome result (λ pair.
             value_of K.bytes pair.0 self.old ≡ Some pair.1) }

@@ -49,6 +49,7 @@ impl<K: AsBytes + Drop, V: Drop, const P: usize> ByteMap<K, V, P> {
         other: &mut ByteMap<L, W, Q>,
         other_pair: (L, W),
     ) -> Result<(Option<(K, V)>, Option<(L, W)>), BothInsertError<K, V, L, W>>
+        // If it succeeds.
         ensures pairs { OnOk result (self.new ≡ put (of_key K.bytes) pair self.old) }
         ensures other_pairs { OnOk result (other.new ≡ put (of_key L.bytes) other_pair other.old) }
         ensures replaced { IfOk result (λ replaced.
@@ -60,6 +61,7 @@ impl<K: AsBytes + Drop, V: Drop, const P: usize> ByteMap<K, V, P> {
         ensures other_accepted { OnOk result
             (is_conflict (of_key L.bytes) (L.bytes other_pair.0) other.old ≡ false) }
 
+        // If it fails.
         ensures refused { IfErr result
             (IsRefusalOfBoth K.bytes L.bytes pair self.old other_pair other.old) }
         ensures kept { OnErr result (self.new ≡ self.old) }

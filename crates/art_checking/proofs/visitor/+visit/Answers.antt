@@ -13,9 +13,13 @@ leaf_at-node-requires g t c =
 
 pub inner_at-node-requires : goal.inner_at-node-requires
 inner_at-node-requires g t c =
-    let (layout, full) = c.requires in
-    (search rules, (search rules, (search rules, (search rules, (search rules,
-    full_inner c.args.store.now full c.in-Inner.inner c.in-Inner.ensures.proper c.in-Inner.ensures.name)))))
+    let (layout, full) = c.requires in (
+      search rules,
+      (
+        search rules,
+        full_inner c.args.store.now full c.in-Inner.inner c.in-Inner.ensures.proper c.in-Inner.ensures.name,
+      ),
+    )
 
 pub returns-in-Leaf : goal.returns-in-Leaf
 returns-in-Leaf g t c layout full =

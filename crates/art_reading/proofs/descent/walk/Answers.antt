@@ -27,7 +27,7 @@ pub step_at-requires : goal.step_at-requires
 step_at-requires g c =
     let (pairs, layout, by) = c.requires.root in
     let d = c.down.invariant.on_way pairs layout by in
-    (search rules, (search rules, (search rules, (search rules, (c.down.invariant.short, stored_short d (shown_here by d c.in-Some.node c.in-Some.ensures.kind c.in-Some.ensures.view))))))
+    (search rules, (c.down.invariant.short, stored_short d (shown_here by d c.in-Some.node c.in-Some.ensures.kind c.in-Some.ensures.view)))
 
 pub returns-in_err-place-clause-ends : goal.returns-in_err-place-clause-ends
 returns-in_err-place-clause-ends g c pairs layout by =

@@ -21,17 +21,8 @@ child_at_end-byte-requires g c =
     let (layout, full) = c.requires in
     let d = c.down.invariant.along layout full in (
       search rules,
-      (
-        search rules,
-        (
-          search rules,
-          (
-            search rules,
-            edge_some (IsAlong c.args.end (path_after c.down.steps)) c.args.store.now layout d
-                (edge_shown (IsAlong c.args.end (path_after c.down.steps)) c.args.store.now layout d c.in-Inner.ensures.proper c.in-Inner.ensures.name c.in-Some.ensures.view),
-          ),
-        ),
-      ),
+      edge_some (IsAlong c.args.end (path_after c.down.steps)) c.args.store.now layout d
+          (edge_shown (IsAlong c.args.end (path_after c.down.steps)) c.args.store.now layout d c.in-Inner.ensures.proper c.in-Inner.ensures.name c.in-Some.ensures.view),
     )
 
 pub down-smaller : goal.down-smaller

@@ -43,27 +43,18 @@ has_prefix-requires g c =
       (
         search rules,
         (
-          search rules,
+          c.requires,
           (
-            search rules,
+            c.in-Inner.ensures.proper,
             (
-              search rules,
+              c.in-Some.ensures.view,
               (
-                c.requires,
+                long ∙ c.prefix_len-prefix_len.ensures,
                 (
-                  c.in-Inner.ensures.proper,
-                  (
-                    c.in-Some.ensures.view,
-                    (
-                      long ∙ c.prefix_len-prefix_len.ensures,
-                      (
-                        λ pairs layout by.
-                            let o = (c.down.invariant.readings.is_number pairs layout by).on_key in
-                            (path_of o.descent.at.path, at_on by o c.in-Inner.ensures.name),
-                        c.down.invariant.guide,
-                      ),
-                    ),
-                  ),
+                  λ pairs layout by.
+                      let o = (c.down.invariant.readings.is_number pairs layout by).on_key in
+                      (path_of o.descent.at.path, at_on by o c.in-Inner.ensures.name),
+                  c.down.invariant.guide,
                 ),
               ),
             ),
@@ -87,7 +78,7 @@ beside-requires g c =
     let o = (c.down.invariant.readings.is_number pairs layout by).on_key in
     let at = shown_met (stands_there by o.descent.at) c.in-Inner.ensures.proper c.in-Inner.ensures.name c.in-Some.ensures.view in
     let gap = sym c.lookup_child.ensures ∙ c.in_default-lookup_child.is in
-    (search rules, (search rules, (search rules, (search rules, (has_child o at c.prefix_len-prefix_len.ensures, gap)))))
+    (search rules, (has_child o at c.prefix_len-prefix_len.ensures, gap))
 
 pub returns-in_default-lookup_child-clause-beside : goal.returns-in_default-lookup_child-clause-beside
 returns-in_default-lookup_child-clause-beside g c pairs layout by =

@@ -15,7 +15,7 @@ beside-other-requires g c =
     let e = entry c.requires.answers c.requires.point refl by in
     let some = gap_some (entry_inner by e) (entry_gap by e) c.in-Some.ensures.view in
     let absent = gap_absent (entry_inner by e) (entry_gap by e) c.in-Some.ensures.view in
-    (search rules, (search rules, (search rules, (search rules, (some, absent)))))
+    (search rules, (some, absent))
 
 pub links_beside-links-requires : goal.links_beside-links-requires
 links_beside-links-requires g c =
