@@ -1,18 +1,18 @@
 -- Keys that are a text and its end byte, as they are looked up.
 use Rattle.std.proofs.Common.{◌≡◌, ◌≢◌, ℕ, ◌+◌, ◌-◌, ◌<◌, ◌≤◌, ◌↔◌, ◌⊎◌, inl, inr, min, List, [], ◌∷◌, ◌++◌, length, take, drop, get_or, length-append, length-drop, refl, ap, ap₂, sym, subst, ◌∙◌, arith, Option, Some, None, Bool, true, false, cond, eqb, eqb-true, eq-eqb, nat_eq, append-nil, IsTrue, is_ok}
+use Rattle.std.specs.List.{cons_option}
 use Rattle.std.specs.Option.{option_map}
-use Rattle.std.proofs.lemmas.Bool.{le-ltb, lt-ltb, cases_lt, false≢true}
-use Rattle.std.proofs.lemmas.List.{drop-append-le}
+use Rattle.std.proofs.lemmas.Bool.{le-ltb, lt-ltb, false≢true}
+use Rattle.std.proofs.lemmas.List.{drop-append-le, get_or_append_left, take_rest}
 use Rattle.art_inner.specs.Inner.{Inner, child_at}
 use Rattle.art_parts.specs.Headers.{Prefix}
 use Rattle.art_parts.specs.declared.names.OpaqueNodePtr.{OpaqueNodePtr}
 use Rattle.art_model.specs.Keys.{IsFront, common_front}
 use Rattle.art_reading.specs.declared.matching.PrefixMatchBehavior.{PrefixMatchBehavior}
 use Rattle.art_reading.specs.declared.matching.PrefixMatchBehavior.TheVariants.{Pessimistic, Optimistic}
-use Rattle.art_reading.specs.Descents.{IsAskedFor}
-use Rattle.art_reading.specs.declared.matching.Asked.{Asked}
-use Rattle.art_reading.specs.declared.matching.Asked.TheVariants.{Same, Front}
-use Rattle.art_reading.specs.Matching.{HasRest, behavior_after, child_below, compared_from, prefix_match}
+use Rattle.art_reading.specs.declared.matching.Step.{Step}
+use Rattle.art_reading.specs.declared.matching.Step.TheVariants.{AtEnd, Nowhere}
+use Rattle.art_reading.specs.Matching.{HasRest, LeadsTo, LeafKeyIsPrefix, behavior_after, child_below, compared_from, prefix_match}
 
 -- what is shared with a longer list
 shared_more : (stored rest more : List ℕ) → length stored ≤ length rest → common_front stored (rest ++ more) ≡ common_front stored rest
@@ -70,6 +70,59 @@ module _ (behavior : PrefixMatchBehavior) (node : Inner) (key : List ℕ) (depth
       pub behavior_passed : {after : PrefixMatchBehavior} → after ≡ behavior_after behavior node.prefix rest → after ≡ behavior_after behavior node.prefix (drop depth key)
       behavior_passed e = e ∙ sym (ap (behavior_after behavior node.prefix) has.is ∙ after_more node.prefix rest has.last stored within behavior)
 
+-- the first bytes of a key, all or all but the last one
+module _ {key front : List ℕ} (has : HasRest key front) (depth : ℕ) where
+  -- the rest of them from a place on
+  pub rest_of : depth ≤ length front → HasRest (drop depth key) (take (length front - depth) (drop depth front))
+  rest_of within = record {
+    last = has.last;
+    is = ap (drop depth) has.is ∙ drop-append-le depth front has.last within ∙ ap (λ z. z ++ has.last) (sym (take_rest front depth));
+    few = has.few;
+  }
+
+  -- they are no longer than the key
+  pub front_within : length front ≤ length key
+  front_within = let l = ap length has.is in let k = length-append front has.last in omega arith
+
+  -- the key has at most one byte more
+  pub front_near : length key ≤ length front + 1
+  front_near = let l = ap length has.is in let k = length-append front has.last in let f = has.few in omega arith
+
+  -- a byte of them is one of the key
+  pub front_byte : depth < length front → get_or front depth 0 ≡ get_or key depth 0
+  front_byte within = sym (ap (λ z. get_or z depth 0) has.is ∙ get_or_append_left front has.last 0 depth within)
+
+-- the bytes of a key in a slice, and the last one where it is not there
+pub parts_rest : {key front : List ℕ} (last : Option ℕ) → key ≡ front ++ cons_option last [] → HasRest key front
+parts_rest {key} {front} last is = record { last = cons_option last []; is = is; few = few last }
+  where
+    few : (o : Option ℕ) → length (cons_option o []) ≤ 1
+    few None = omega arith
+    few (Some x) = omega arith
+
+-- all bytes but the last one
+pub last_rest : (front : List ℕ) (last : ℕ) → HasRest (front ++ last ∷ []) front
+last_rest front last = record { last = last ∷ []; is = refl; few = omega arith }
+
+-- what a node's header says of its prefix
+pub prefix_same : (prefix : Prefix) {len : ℕ} {stored : List ℕ} → len ≡ prefix.len → stored ≡ prefix.stored → ◌≡◌ {A = Prefix} (record { len = len; stored = stored }) prefix
+prefix_same prefix is same = ap₂ (λ l s. record { len = l; stored = s }) is same
+
+-- first bytes of a key that are no longer than the prefix of the node
+pub ended_there : (behavior : PrefixMatchBehavior) (node : Inner) (key front : List ℕ) (depth prefix_len left : ℕ) → HasRest key front → depth ≤ length front → left ≡ length front - depth → prefix_len ≡ node.prefix.len → left ≤ prefix_len →
+    {step : Step} → step ≡ cond (eqb prefix_len left) AtEnd Nowhere → LeadsTo behavior behavior node key front depth step
+ended_there behavior node key front depth prefix_len left has within rest len short {step} is = go (eqb prefix_len left) refl
+  where
+    go : (t : Bool) → eqb prefix_len left ≡ t → LeadsTo behavior behavior node key front depth step
+    go true e =
+        let same = eqb-true prefix_len left e in
+        subst (LeadsTo behavior behavior node key front depth) (sym (is ∙ ap (λ t. cond t AtEnd Nowhere) e)) (omega arith, refl)
+    go false e =
+        let near = front_near has depth in
+        let other : prefix_len ≢ left = λ same. let on = eq-eqb prefix_len left same in absurd (false≢true (sym e ∙ on)) in
+        subst (LeadsTo behavior behavior node key front depth) (sym (is ∙ ap (λ t. cond t AtEnd Nowhere) e))
+        (none_beyond behavior node key depth (omega (arith, other, near, rest, len, short, within)))
+
 -- a prefix of a text and its end is one of the text, or the whole
 front_or_whole : (a t : List ℕ) (end : ℕ) → IsFront a (t ++ end ∷ []) → IsFront a t ⊎ (a ≡ t ++ end ∷ [])
 front_or_whole [] t end front = inl (t, refl)
@@ -124,24 +177,15 @@ none_dropped xs n short = go (drop n xs) (length-drop n xs)
 
 module _ (key text : List ℕ) (end n : ℕ) (r : Bool) where
   -- after the end of the text the lengths decide
-  after_same : n ≡ length text + 1 → IsTrue r ↔ (length key ≡ length text + 1) → length text < length key → IsTrue r ↔ (drop n key ≡ drop n (text ++ end ∷ []))
-  after_same is test long = (
-    λ t. let e = test.0 t in none_dropped key n (omega arith) ∙ sym (none_after_end text end n is),
-    λ same. test.1 (let l = ap length (same ∙ none_after_end text end n is) in let k = length-drop n key in omega arith),
-  )
-
   after_front : n ≡ length text + 1 → IsTrue r ↔ (length key ≡ length text + 1) → length text < length key → IsTrue r ↔ IsFront (drop n key) (drop n (text ++ end ∷ []))
   after_front is test long = (
     λ t. let e = test.0 t in subst (λ z. IsFront z (drop n (text ++ end ∷ []))) (sym (none_dropped key n (omega arith))) (drop n (text ++ end ∷ []), refl),
     λ (s, f). test.1 (let l = ap length (sym f ∙ none_after_end text end n is) in let k = length-drop n key in let j = length-append (drop n key) s in omega arith),
   )
 
--- what is asked for after the end of the text is determined by the lengths
-pub after_end : (asked : Asked) (behavior : PrefixMatchBehavior) (depth from : ℕ) (key text : List ℕ) (end : ℕ) → (behavior ≡ Pessimistic → from ≡ min depth (length key)) → (behavior ≡ Optimistic → from ≡ 0) →
-    length text < from → from ≤ length key → IsTrue (nat_eq (length key) (length text + 1)) ↔ IsAskedFor asked behavior depth key (text ++ end ∷ [])
-after_end Same behavior depth from key text end compared passed_over beyond within =
-    after_same key text end (compared_from behavior depth key (text ++ end ∷ [])) _ (from_end behavior depth from key text end compared passed_over beyond)
-    (λ t. eqb-true (length key) (length text + 1) t, λ e. eq-eqb (length key) (length text + 1) e) (omega arith)
-after_end Front behavior depth from key text end compared passed_over beyond within =
+-- after the end of the text the lengths decide whether the key is a prefix
+pub after_end : (behavior : PrefixMatchBehavior) (depth from : ℕ) (key text : List ℕ) (end : ℕ) → (behavior ≡ Pessimistic → from ≡ min depth (length key)) → (behavior ≡ Optimistic → from ≡ 0) →
+    length text < from → from ≤ length key → IsTrue (nat_eq (length key) (length text + 1)) ↔ LeafKeyIsPrefix behavior depth key (text ++ end ∷ [])
+after_end behavior depth from key text end compared passed_over beyond within =
     after_front key text end (compared_from behavior depth key (text ++ end ∷ [])) _ (from_end behavior depth from key text end compared passed_over beyond)
     (λ t. eqb-true (length key) (length text + 1) t, λ e. eq-eqb (length key) (length text + 1) e) (omega arith)

@@ -1,6 +1,7 @@
 -- the steps of a descent, in the shape of its code
-use Rattle.std.proofs.Common.{◌≡◌, ◌≢◌, ℕ, ◌+◌, ◌<◌, ◌≤◌, ◌⊎◌, inl, inr, List, [], length, drop, get_or, refl, ap, sym, ◌∙◌, arith, subst, length-drop, Option, Some, None, Result, Ok, Err}
+use Rattle.std.proofs.Common.{◌≡◌, ◌≢◌, ℕ, ◌+◌, ◌<◌, ◌≤◌, ◌⊎◌, inl, inr, List, [], ◌∷◌, ◌++◌, length, length-append, drop, get_or, refl, ap, ap₂, sym, ◌∙◌, arith, subst, length-drop, Option, Some, None, Result, Ok, Err}
 use Rattle.std.proofs.lemmas.Bool.{le-ltb, lt-ltb, cases_lt}
+use Rattle.std.proofs.Math.Seq.{get_or-append_seam}
 use Rattle.std.specs.FinMap as map
 use Rattle.art_inner.specs.Inner.{Inner, child_at}
 use Rattle.art_parts.specs.Names.{leaf_name}
@@ -20,7 +21,7 @@ use Rattle.art_model.specs.Writes.{as_inner}
 use Rattle.art_model.specs.Canonical.{IsCanonicalTree}
 use Rattle.art_model.proofs.stores.Stores.{path_holds}
 use Rattle.art_model.proofs.stores.Canonical.{tree_radix}
-use Rattle.art_model.proofs.stores.Shown.{IsShown, IsThere, leaf_shown, shown_met}
+use Rattle.art_model.proofs.stores.Shown.{IsShown, IsThere, inner_met, leaf_shown, shown_met}
 use Rattle.art_reading.specs.declared.descent.LastLeaf.{LastLeaf}
 use Rattle.art_reading.specs.declared.matching.PrefixMatchBehavior.{PrefixMatchBehavior}
 use Rattle.art_reading.specs.declared.path.AttemptOptimisticPrefixMatch.{AttemptOptimisticPrefixMatch}
@@ -32,6 +33,7 @@ use Rattle.art_reading.specs.PathSteps.{step_down}
 use Rattle.art_reading.specs.Stored.{ComparesAll}
 use Rattle.art_reading.specs.Descents.{IsLastLeaf}
 use Rattle.art_reading.proofs.Outcomes.{Why, err_why, ok_compared, ok_sure}
+use Rattle.art_reading.proofs.Endings.{none_beyond}
 use Rattle.art_reading.proofs.OnWay.{IsOnWay, leaf_leads, leaf_whole, leaf_only, leaf_least, leaf_exactly, IsEnd, ends_short, ends_off, ends_childless, still_compared, goes_on}
 
 -- a reference to an inner node has the kind of one
@@ -146,3 +148,44 @@ module _ {K V : Type 0} {s : Nodes K V} {bytes : K × V → List ℕ} {P : ℕ} 
           let (was, all, stored) = ok_compared shown.prefix (drop depth key) behavior m e (sym is ∙ sure) in
           still_compared d at was all stored) (λ was stored. is ∙ ok_sure shown.prefix (drop depth key) behavior m e was stored) in
           subst (Below to) (sym counted) (subst (λ z. Below z (now + 1)) same down)
+
+  -- the node's prefix ends with these bytes of the key
+  module _ (front : List ℕ) (ended : depth + shown.prefix.len ≡ length front) where
+    -- the key has no more bytes
+    pub stops_whole : {after : ℕ} → after ≡ now + 1 → key ≡ front ++ [] → Ends after
+    stops_whole counted is =
+        let l = ap length is in
+        let k = length-append front [] in
+        stops counted (none_beyond behavior shown key depth (omega arith))
+
+    -- the key has one more byte
+    module _ (last : ℕ) (is : key ≡ front ++ last ∷ []) {left : PrefixMatchBehavior} (same : left ≡ behavior) where
+      below_same : child_below left shown (front ++ last ∷ []) depth ≡ child_below behavior shown key depth
+      below_same = ap₂ (λ b k. child_below b shown k depth) same (sym is)
+
+      -- no child is under it
+      pub stops_last : {after : ℕ} → after ≡ now + 1 → None ≡ child_below left shown (front ++ last ∷ []) depth → Ends after
+      stops_last counted none = stops counted (none ∙ below_same)
+
+      -- a child is under it
+      pub steps_last : {after : ℕ} {child : OpaqueNodePtr} {behavior' : PrefixMatchBehavior} → after ≡ now + 1 → Some (length front, child) ≡ child_below left shown (front ++ last ∷ []) depth →
+          behavior' ≡ behavior_after left shown.prefix (drop depth (front ++ last ∷ [])) → IsOnWay bytes P start key layout (step_down way p last) child (length front + 1) behavior' before after
+      steps_last {after} {child} {behavior'} counted some compared =
+          subst (λ b. IsOnWay bytes P start key layout (step_down way p b) child (length front + 1) behavior' before after)
+          (ap (λ k. get_or k (length front) 0) is ∙ get_or-append_seam front last [] 0)
+          (steps {to = (length front, child)} counted (some ∙ below_same) (compared ∙ ap₂ (λ b k. behavior_after b shown.prefix (drop depth k)) same (sym is)))
+
+module _ {K V : Type 0} {s : Nodes K V} {bytes : K × V → List ℕ} {P : ℕ} {root : OpaqueNodePtr} {pairs : List (K × V)}
+    {layout : Tree OpaqueNodePtr (K × V)} {start : PrefixMatchBehavior} {key : List ℕ} {way : TreePath} {name : OpaqueNodePtr} {depth : ℕ} {behavior : PrefixMatchBehavior}
+    {before now : ℕ} (by : IsCanonicalTree bytes P s root pairs layout) (d : IsOnWay bytes P start key layout way name depth behavior before now) where
+  -- at an inner node after the end of the key no key matches
+  pub stops_after : {after : ℕ} → after ≡ now + 1 → name.kind ≢ Leaf → length key ≤ depth →
+      (match_of bytes key pairs ≡ []) × (before + length (nodes_on_way bytes key layout) ≤ after)
+      × (ComparesAll P start layout → before + length (nodes_on_way bytes key layout) ≡ after)
+  stops_after {after} counted proper short = go (map.get s.inners (as_inner name)) refl
+    where
+      go : (o : Option Inner) → map.get s.inners (as_inner name) ≡ o →
+          (match_of bytes key pairs ≡ []) × (before + length (nodes_on_way bytes key layout) ≤ after)
+          × (ComparesAll P start layout → before + length (nodes_on_way bytes key layout) ≡ after)
+      go None gone = absurd (inner_met (node_there by d) proper refl (sym gone))
+      go (Some shown) there = stops by d (shown_met (node_there by d) proper refl (sym there)) counted (none_beyond behavior shown key depth (omega arith))

@@ -1,5 +1,5 @@
 -- How a lookup compares the prefix of an inner node, and the key of a leaf, with its query.
-use Rattle.std.specs.Prelude.{◌≡◌, ℕ, min, ◌||◌, nat_lt, if◌then◌else◌, length, slice_get, drop, Bool, true, List, ◌++◌, ◌≤◌, None, Result, Ok, Err, ◌+◌, ◌&&◌, is_ok, get_or, Option}
+use Rattle.std.specs.Prelude.{◌≡◌, ℕ, min, ◌||◌, nat_lt, if◌then◌else◌, length, slice_get, drop, Bool, true, List, ◌++◌, ◌≤◌, ◌<◌, Some, None, Result, Ok, Err, ◌+◌, ◌&&◌, is_ok, get_or, Option}
 use Rattle.art_parts.specs.Headers.{Prefix}
 use Rattle.std.specs.Option.{option_map}
 use Rattle.art_inner.specs.Inner.{Inner, child_at}
@@ -7,6 +7,8 @@ use Rattle.art_parts.specs.declared.names.OpaqueNodePtr.{OpaqueNodePtr}
 use Rattle.art_model.specs.Keys.{IsFront, common_front}
 use Rattle.art_reading.specs.declared.matching.PrefixMatchBehavior.{PrefixMatchBehavior}
 use Rattle.art_reading.specs.declared.matching.PrefixMatchBehavior.TheVariants.{Pessimistic, Optimistic}
+use Rattle.art_reading.specs.declared.matching.Step.{Step}
+use Rattle.art_reading.specs.declared.matching.Step.TheVariants.{Down, AtEnd, Nowhere}
 use Rattle.art_reading.specs.declared.path.AttemptOptimisticPrefixMatch.{AttemptOptimisticPrefixMatch}
 use Rattle.art_reading.specs.declared.path.PessimisticMismatch.{PessimisticMismatch}
 
@@ -60,6 +62,14 @@ child_below behavior node key depth =
     if is_ok (prefix_match behavior node.prefix (drop depth key)) && nat_lt place (length key) then
     option_map (λ child. (place, child)) (child_at node.children (get_or key place 0))
     else None
+
+-- where the first bytes of a key lead below a node at a depth: to the child that the key leads to, to what the byte after them decides, or to no child
+abbrev pub LeadsTo : PrefixMatchBehavior → PrefixMatchBehavior → Inner → List ℕ → List ℕ → ℕ → Step → Type 0
+LeadsTo before after node key front depth (Down place child) =
+    (Some (place, child) ≡ child_below before node key depth) × (depth ≤ place) × (place < length front)
+    × (after ≡ behavior_after before node.prefix (drop depth key))
+LeadsTo before after node key front depth AtEnd = (depth + node.prefix.len ≡ length front) × (after ≡ before)
+LeadsTo before after node key front depth Nowhere = None ≡ child_below before node key depth
 
 -- how many of the first bytes of a leaf's key and of the query are not compared: none once bytes were skipped
 abbrev pub compared_from : PrefixMatchBehavior → ℕ → List ℕ → List ℕ → ℕ

@@ -10,7 +10,7 @@ ghost use Rattle.art_reading.specs.Readings.{CountsReadings, ReadsBelow, levels}
 ghost use Rattle.art_reading.specs.PartEnds.{EndsBelow};
 ghost use Rattle.art_reading.specs.Descents.{CountsVisitsFrom, IsEndChild, IsKeysLeaf, LeadsToEnd, WalkEnds, asked_of};
 
-use crate::matching::{Asked, PrefixMatchBehavior};
+use crate::matching::{Asked, PrefixMatchBehavior, Step};
 use crate::path::{LastSteps, TreePath};
 use crate::query::KeyQuery;
 use art_nodes::node::{AsBytes, InnerPtr, InnerRef, LeafNode, LeafPtr, NodePtr, OpaqueNodePtr};
@@ -134,6 +134,7 @@ fn walk<'a, Q: KeyQuery, K: AsBytes + Drop, V: Drop, const PREFIX_LEN: usize>(
     let mut name = root;
     let mut depth = 0;
     let mut behavior = start;
+    let (front, last) = query.parts();
     'down: loop {
         visits.add_one();
         // Inner nodes come first, so that the kinds of name and node are one test in machine code.
@@ -157,10 +158,31 @@ fn walk<'a, Q: KeyQuery, K: AsBytes + Drop, V: Drop, const PREFIX_LEN: usize>(
                 behavior,
             });
         };
-        let (place, child) = behavior.step_at(node, query, depth)?;
-        steps.step_down(inner, query.byte_at(place));
-        name = child;
-        depth = place + 1;
+        match behavior.step_at(node, front, depth) {
+            Step::Down(place, child) => {
+                steps.step_down(inner, front[place]);
+                name = child;
+                depth = place + 1;
+            }
+            Step::AtEnd => {
+                let last = last?;
+                let child = behavior.last_step(node, front, last, depth)?;
+                visits.add_one();
+                let name = child.as_leaf()?;
+                let Some(node) = store.leaf(name) else {
+                    unreachable!()
+                };
+                steps.step_down(inner, last);
+                return Some(LastLeaf {
+                    path: steps.path(),
+                    name,
+                    node,
+                    depth: front.len() + 1,
+                    behavior,
+                });
+            }
+            Step::Nowhere => return None,
+        }
     }
 }
 

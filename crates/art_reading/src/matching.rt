@@ -1,11 +1,11 @@
 //! The comparison of keys and prefixes on a descent.
-ghost use Rattle.std.specs.Prelude.{◌≡◌, ◌+◌, ◌<◌, ◌≤◌, ◌↔◌, length, take, drop, is_ok, false, IfSome, IsSome, IsTrue};
+ghost use Rattle.std.specs.Prelude.{◌≡◌, ◌+◌, ◌<◌, ◌≤◌, ◌↔◌, ◌==◌, if◌then◌else◌, [], ◌∷◌, ◌++◌, length, take, drop, is_ok, false, IsSome, IsTrue};
 ghost use Rattle.art_model.specs.Keys.{IsFront};
 ghost use Rattle.art_reading.specs.Matching.{shared_len};
 ghost use Rattle.art_reading.specs.declared.matching.PrefixMatchBehavior.TheVariants.{Optimistic, Pessimistic};
+ghost use Rattle.art_reading.specs.declared.matching.Step.TheVariants.{AtEnd, Nowhere};
 
 use crate::path::{AttemptOptimisticPrefixMatch, PessimisticMismatch};
-use crate::query::KeyQuery;
 use art_nodes::node::{AsBytes, InnerNode, InnerRef, LeafNode, OpaqueNodePtr};
 use std::simd::prelude::*;
 
@@ -31,8 +31,21 @@ pub enum PrefixMatchBehavior {
     Optimistic,
 }
 
+// Where the first bytes of a key lead below an inner node.
+#[derive(Clone, Copy)]
+pub(crate) enum Step {
+    // To a child, under the byte at this place.
+    Down(usize, OpaqueNodePtr),
+    // They end with the node's prefix: the byte after them decides.
+    AtEnd,
+    // To no child.
+    Nowhere,
+}
+
 impl PrefixMatchBehavior {
-    ghost use Rattle.art_reading.specs.Matching.{LeafKeyIsPrefix, MatchesLeafKey, behavior_after, child_below, parts_from, prefix_match};
+    ghost use Rattle.art_reading.specs.Matching.{HasRest, LeadsTo, LeafKeyIsPrefix, MatchesLeafKey, behavior_after, child_below, parts_from, prefix_match};
+    ghost use Rattle.std.specs.Prelude.{List, ℕ};
+    ghost use Rattle.std.specs.Option.{option_map};
     ghost use Rattle.art_inner.specs.Views.{ref_view};
 
     /// Compares the prefix of an inner node with the rest of the key, from the node's depth on. Returns the prefix's
@@ -100,33 +113,33 @@ impl PrefixMatchBehavior {
         }
     }
 
-    // Where the key leads below an inner node: the place of its byte after the prefix, and the child under that byte.
+    // Where a key leads below an inner node, of which all bytes but perhaps the last one are given. Where these end with
+    // the prefix of the node nothing is compared yet.
     #[inline(always)]
-    fn step<Q: KeyQuery, N: InnerNode<P>, const P: usize>(
+    fn step<N: InnerNode<P>, const P: usize>(
         &mut self,
         node: &N,
-        query: Q,
+        front: &[u8],
         depth: usize,
-    ) -> Option<(usize, OpaqueNodePtr)>
-        requires depth { depth ≤ length (Q.key query) }
+    ) -> Step
+        requires depth { depth ≤ length front.now }
         requires stored { length (N.view_of node.now).prefix.stored
             ≤ (N.view_of node.now).prefix.len }
-        ensures child { result ≡ child_below self.old (N.view_of node.now) (Q.key query) depth }
-        ensures within { IfSome result (λ child.
-            (depth ≤ child.0) × (child.0 < length (Q.key query))) }
-        ensures behavior { IsSome result → self.new ≡
-            behavior_after self.old (N.view_of node.now).prefix (drop depth (Q.key query)) }
+        ensures { (key : List ℕ) → HasRest key front.now →
+            LeadsTo self.old self.new (N.view_of node.now) key front.now depth result }
     {
-        let prefix_len = node.prefix_len();
-        if prefix_len >= query.len() - depth {
-            return None;
+        let (prefix_len, left) = (node.prefix_len(), front.len() - depth);
+        if prefix_len >= left {
+            return ended(prefix_len, left);
         }
-        if !self.passes(node, query.rest(depth)) {
-            return None;
+        if !self.passes(node, &front[depth..]) {
+            return Step::Nowhere;
         }
         let place = depth + prefix_len;
-        let child = node.lookup_child(query.byte_at(place))?;
-        Some((place, child))
+        match node.lookup_child(front[place]) {
+            Some(child) => Step::Down(place, child),
+            None => Step::Nowhere,
+        }
     }
 
     // Whether the rest of the key continues with the prefix of a node, as far as it is compared. An empty
@@ -145,26 +158,45 @@ impl PrefixMatchBehavior {
 
     // The same as `step` at a node of any kind. All that a lookup reads of a node is behind one test of the kind.
     #[inline(always)]
-    pub(crate) fn step_at<Q: KeyQuery, const P: usize>(
+    pub(crate) fn step_at<const P: usize>(
         &mut self,
         node: InnerRef<'_, P>,
-        query: Q,
+        front: &[u8],
         depth: usize,
-    ) -> Option<(usize, OpaqueNodePtr)>
-        requires depth { depth ≤ length (Q.key query) }
+    ) -> Step
+        requires depth { depth ≤ length front.now }
         requires stored { length (ref_view node).prefix.stored ≤ (ref_view node).prefix.len }
-        ensures child { result ≡ child_below self.old (ref_view node.entry) (Q.key query) depth }
-        ensures within { IfSome result (λ child.
-            (depth ≤ child.0) × (child.0 < length (Q.key query))) }
-        ensures behavior { IsSome result → self.new ≡
-            behavior_after self.old (ref_view node.entry).prefix (drop depth (Q.key query)) }
+        ensures { (key : List ℕ) → HasRest key front.now →
+            LeadsTo self.old self.new (ref_view node.entry) key front.now depth result }
     {
         match node {
-            InnerRef::Node4(node) => self.step(node, query, depth),
-            InnerRef::Node16(node) => self.step(node, query, depth),
-            InnerRef::Node48(node) => self.step(node, query, depth),
-            InnerRef::Node256(node) => self.step(node, query, depth),
+            InnerRef::Node4(node) => self.step(node, front, depth),
+            InnerRef::Node16(node) => self.step(node, front, depth),
+            InnerRef::Node48(node) => self.step(node, front, depth),
+            InnerRef::Node256(node) => self.step(node, front, depth),
         }
+    }
+
+    // The child under the last byte of a key, where the bytes before it end with the prefix of the node.
+    #[inline(always)]
+    pub(crate) fn last_step<const P: usize>(
+        &mut self,
+        node: InnerRef<'_, P>,
+        front: &[u8],
+        last: u8,
+        depth: usize,
+    ) -> Option<OpaqueNodePtr>
+        requires depth { depth + (ref_view node).prefix.len ≡ length front.now }
+        requires stored { length (ref_view node).prefix.stored ≤ (ref_view node).prefix.len }
+        ensures child { option_map (λ child. (length front.now, child)) result ≡
+            child_below self.old (ref_view node.entry) (front.now ++ last ∷ []) depth }
+        ensures behavior { IsSome result → self.new ≡ behavior_after self.old
+            (ref_view node.entry).prefix (drop depth (front.now ++ last ∷ [])) }
+    {
+        if !self.goes_on(node.prefix_len(), node.read_prefix(), &front[depth..]) {
+            return None;
+        }
+        node.lookup_child(last)
     }
 
     /// Returns whether the key is the leaf's, as far as it is still to be compared from a depth on.
@@ -232,6 +264,18 @@ impl PrefixMatchBehavior {
             PrefixMatchBehavior::Pessimistic => depth.min(leaf_bytes.len()).min(key_bytes.len()),
             PrefixMatchBehavior::Optimistic => 0,
         }
+    }
+}
+
+// Where the first bytes of a key lead that are no longer than the prefix of a node.
+#[inline(always)]
+fn ended(prefix_len: usize, left: usize) -> Step
+    ensures { result ≡ if prefix_len == left then AtEnd else Nowhere }
+{
+    if prefix_len == left {
+        Step::AtEnd
+    } else {
+        Step::Nowhere
     }
 }
 

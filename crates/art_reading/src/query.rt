@@ -1,8 +1,9 @@
 //! Keys to look up: one slice of bytes, or a text and its end byte.
-ghost use Rattle.std.specs.Prelude.{◌≡◌, ◌+◌, ◌<◌, ◌≤◌, ◌^◌, ◌↔◌, [], ◌∷◌, ◌++◌, min, length, drop, get_or, IsTrue};
+ghost use Rattle.std.specs.Prelude.{◌≡◌, ◌+◌, ◌<◌, ◌≤◌, ◌^◌, ◌↔◌, [], ◌∷◌, ◌++◌, min, length, IsTrue};
+ghost use Rattle.std.specs.List.{cons_option};
 ghost use Rattle.art_model.specs.Keys.{IsFront};
 ghost use Rattle.art_reading.specs.Descents.{IsAskedFor};
-ghost use Rattle.art_reading.specs.Matching.{HasRest};
+ghost use Rattle.art_reading.specs.Matching.{LeafKeyIsPrefix, MatchesLeafKey};
 ghost use Rattle.art_reading.specs.declared.matching.PrefixMatchBehavior.TheVariants.{Optimistic, Pessimistic};
 
 use crate::matching::{Asked, PrefixMatchBehavior, are_equal, begins_with};
@@ -19,19 +20,9 @@ pub trait KeyQuery: Copy {
     fn fits(&self)
         ensures { length (key self.now) + 1 < 2 ^ 64 };
 
-    /// Returns the number of bytes.
-    fn len(&self) -> usize
-        ensures { result ≡ length (key self.now) };
-
-    /// Returns the byte at a place.
-    fn byte_at(&self, place: usize) -> u8
-        requires { place < length (key self.now) }
-        ensures { result ≡ get_or (key self.now) place 0 };
-
-    /// Returns the bytes from a place on, possibly without the last one.
-    fn rest(&self, place: usize) -> &[u8]
-        requires { place < length (key self.now) }
-        ensures { HasRest (drop place (key self.now)) result.now };
+    /// Returns the bytes that stand in a slice: all, or all but the last one, which it returns too.
+    fn parts(&self) -> (&[u8], Option<u8>)
+        ensures { key self.now ≡ result.0.now ++ cons_option result.1 [] };
 
     /// Returns whether a leaf's key is asked for, as far as it is still to be compared from a depth on.
     fn finds<K: AsBytes, V>(
@@ -51,18 +42,8 @@ impl KeyQuery for &[u8] {
     fn fits(&self) {}
 
     #[inline(always)]
-    fn len(&self) -> usize {
-        (*self).len()
-    }
-
-    #[inline(always)]
-    fn byte_at(&self, place: usize) -> u8 {
-        (*self)[place]
-    }
-
-    #[inline(always)]
-    fn rest(&self, place: usize) -> &[u8] {
-        &(*self)[place..]
+    fn parts(&self) -> (&[u8], Option<u8>) {
+        (*self, None)
     }
 
     #[inline(always)]
@@ -92,18 +73,8 @@ impl KeyQuery for EndedQuery<'_> {
     }
 
     #[inline(always)]
-    fn len(&self) -> usize {
-        self.text.len() + 1
-    }
-
-    #[inline(always)]
-    fn byte_at(&self, place: usize) -> u8 {
-        byte_at(self.text, self.end, place)
-    }
-
-    #[inline(always)]
-    fn rest(&self, place: usize) -> &[u8] {
-        &self.text[place..]
+    fn parts(&self) -> (&[u8], Option<u8>) {
+        (self.text, Some(self.end))
     }
 
     #[inline(always)]
@@ -119,15 +90,6 @@ impl KeyQuery for EndedQuery<'_> {
     }
 }
 
-// The byte of a text at a place, or its end.
-#[inline(always)]
-fn byte_at(text: &[u8], end: u8, place: usize) -> u8
-    requires { place ≤ length text.now }
-    ensures { result ≡ get_or (text.now ++ end ∷ []) place 0 }
-{
-    if place < text.len() { text[place] } else { end }
-}
-
 // Whether the key of a leaf is that of a text, or a prefix of it, as far as it is still to be compared.
 #[inline(always)]
 fn finds_ended(
@@ -141,14 +103,52 @@ fn finds_ended(
     ensures { IsTrue result ↔
         IsAskedFor asked behavior depth key.now (text.now ++ end ∷ []) }
 {
+    match asked {
+        Asked::Same => is_same(text, end, behavior, key, depth),
+        Asked::Front => is_front(text, end, behavior, key, depth),
+    }
+}
+
+// Whether a key is a text and its end, as far as it is still to be compared.
+#[inline(always)]
+fn is_same(text: &[u8], end: u8, behavior: PrefixMatchBehavior, key: &[u8], depth: usize) -> bool
+    ensures { IsTrue result ↔ MatchesLeafKey behavior depth key.now (text.now ++ end ∷ []) }
+{
+    let Some((last, front)) = key.split_last() else {
+        return false;
+    };
+    if front.len() != text.len() {
+        return false;
+    }
+    let from = passed_over(behavior, depth);
+    if from > text.len() {
+        return true;
+    }
+    *last == end && are_equal(&front[from..], &text[from..])
+}
+
+// How many of the first bytes are not compared, in a key that has so many.
+#[inline(always)]
+fn passed_over(behavior: PrefixMatchBehavior, depth: usize) -> usize
+    ensures compared { behavior ≡ Pessimistic → result ≡ depth }
+    ensures passed_over { behavior ≡ Optimistic → result ≡ 0 }
+{
+    match behavior {
+        PrefixMatchBehavior::Pessimistic => depth,
+        PrefixMatchBehavior::Optimistic => 0,
+    }
+}
+
+// Whether a key is a prefix of a text and its end, or the whole, as far as it is still to be compared. A lookup asks for
+// the whole alone, and is inlined as long as this is not.
+fn is_front(text: &[u8], end: u8, behavior: PrefixMatchBehavior, key: &[u8], depth: usize) -> bool
+    ensures { IsTrue result ↔ LeafKeyIsPrefix behavior depth key.now (text.now ++ end ∷ []) }
+{
     let from = first_compared(behavior, key.len(), depth);
     if from > text.len() {
         return key.len() == text.len() + 1;
     }
-    match asked {
-        Asked::Same => is_ended(&key[from..], &text[from..], end),
-        Asked::Front => is_front_of_ended(&key[from..], &text[from..], end),
-    }
+    is_front_of_ended(&key[from..], &text[from..], end)
 }
 
 // Where the comparison with a key of this length begins, if the text is not shorter.
@@ -175,8 +175,7 @@ fn is_ended(bytes: &[u8], text: &[u8], end: u8) -> bool
     }
 }
 
-// Whether the bytes are a prefix of a text and its end, or the whole. A lookup asks for the whole alone, and is inlined
-// as long as this is not.
+// Whether the bytes are a prefix of a text and its end, or the whole.
 fn is_front_of_ended(bytes: &[u8], text: &[u8], end: u8) -> bool
     ensures { IsTrue result ↔ IsFront bytes.now (text.now ++ end ∷ []) }
 {

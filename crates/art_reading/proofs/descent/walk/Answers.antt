@@ -1,7 +1,9 @@
-use Rattle.std.proofs.Common.{arith, refl, rules}
+use Rattle.std.proofs.Common.{[], ◌∷◌, ◌++◌, ap, arith, length, length-append, refl, rules, ◌∙◌}
+use Rattle.std.specs.List.{cons_option}
 use Rattle.std.proofs.lemmas.Bool.{false≢true}
 use Rattle.art_model.proofs.stores.Shown.{leaf_met, inner_met}
-use Rattle.art_reading.proofs.Steps.{begins, node_there, ref_proper, shown_here, last_leaf, stops, steps}
+use Rattle.art_reading.proofs.Endings.{front_byte, front_near, front_within, parts_rest}
+use Rattle.art_reading.proofs.Steps.{begins, node_there, ref_proper, shown_here, last_leaf, steps, steps_last, stops, stops_after, stops_last, stops_whole}
 use Rattle.art_reading.proofs.OnWay.{stored_short}
 use Rattle.art_reading.proofs.descent.walk.Goals as goal
 
@@ -21,7 +23,8 @@ unreachable-requires-in_default-leaf g c =
 
 pub returns-in_default-clause-ends : goal.returns-in_default-clause-ends
 returns-in_default-clause-ends g c pairs layout by =
-    rw c.path-path.ensures (last_leaf by _ (c.down.invariant.on_way pairs layout by) c.in-Some-as_leaf.ensures.name c.in-Some-leaf.ensures c.down.invariant.short c.add_one.ensures)
+    let within = front_within (parts_rest _ c.parts-last.ensures) 0 in
+    rw c.path-path.ensures (last_leaf by _ (c.down.invariant.on_way pairs layout by) c.in-Some-as_leaf.ensures.name c.in-Some-leaf.ensures (omega arith) c.add_one.ensures)
 
 pub step_at-requires : goal.step_at-requires
 step_at-requires g c =
@@ -29,21 +32,82 @@ step_at-requires g c =
     let d = c.down.invariant.on_way pairs layout by in
     (search rules, (c.down.invariant.short, stored_short d (shown_here by d c.in-Some.node c.in-Some.ensures.kind c.in-Some.ensures.view)))
 
-pub returns-in_err-place-clause-ends : goal.returns-in_err-place-clause-ends
-returns-in_err-place-clause-ends g c pairs layout by =
-    let d = c.down.invariant.on_way pairs layout by in
-    let at = shown_here by d c.in-Some.node c.in-Some.ensures.kind c.in-Some.ensures.view in
-    rw c.from_residual.ensures (stops by d at c.add_one.ensures c.in_err-place.ensures.child)
-
 pub step_down-requires : goal.step_down-requires
 step_down-requires g c = ref_proper _ c.in-Some.ensures.kind
 
 pub down-preserved : goal.down-preserved
-down-preserved g c = record {
-  short = let below = c.in_ok-place.ensures.within in omega arith;
-  few = let below = c.in_ok-place.ensures.within in omega arith;
-  on_way = λ pairs layout by.
-      let d = c.down.invariant.on_way pairs layout by in
-      let at = shown_here by d c.in-Some.node c.in-Some.ensures.kind c.in-Some.ensures.view in
-      rw (c.step_down.ensures, c.byte_at.ensures) (steps by d at c.add_one.ensures c.in_ok-place.ensures.child (c.in_ok-place.ensures.behavior refl));
-}
+down-preserved g c =
+    let has = parts_rest _ c.parts-last.ensures in
+    let (below, above, within, after) = c.in-Down.ensures (g.Q.KeyQuery.key c.args.query) has in
+    record {
+      short = omega arith;
+      few = omega arith;
+      on_way = λ pairs layout by.
+          let d = c.down.invariant.on_way pairs layout by in
+          let at = shown_here by d c.in-Some.node c.in-Some.ensures.kind c.in-Some.ensures.view in
+          rw (c.step_down.ensures, front_byte has c.in-Down.place within) (steps by d at c.add_one.ensures below after);
+    }
+
+pub last_step-requires : goal.last_step-requires
+last_step-requires g c =
+    let (pairs, layout, by) = c.requires.root in
+    let d = c.down.invariant.on_way pairs layout by in
+    let (ended, same) = c.in-AtEnd.ensures (g.Q.KeyQuery.key c.args.query) (parts_rest _ c.parts-last.ensures) in
+    (search rules, (ended, stored_short d (shown_here by d c.in-Some.node c.in-Some.ensures.kind c.in-Some.ensures.view)))
+
+pub returns-in_err-last-in-AtEnd-clause-ends : goal.returns-in_err-last-in-AtEnd-clause-ends
+returns-in_err-last-in-AtEnd-clause-ends g c pairs layout by =
+    let has = parts_rest _ c.parts-last.ensures in
+    let d = c.down.invariant.on_way pairs layout by in
+    let at = shown_here by d c.in-Some.node c.in-Some.ensures.kind c.in-Some.ensures.view in
+    let (ended, same) = c.in-AtEnd.ensures (g.Q.KeyQuery.key c.args.query) has in
+    rw c.from_residual.ensures
+    (stops_whole by d at _ ended c.add_one.ensures (c.parts-last.ensures ∙ ap (λ o. c.parts-last.result.0.now ++ cons_option o []) c.in_err-last-in-AtEnd.was))
+
+pub returns-in_err-child-in-AtEnd-clause-ends : goal.returns-in_err-child-in-AtEnd-clause-ends
+returns-in_err-child-in-AtEnd-clause-ends g c pairs layout by =
+    let has = parts_rest _ c.parts-last.ensures in
+    let d = c.down.invariant.on_way pairs layout by in
+    let at = shown_here by d c.in-Some.node c.in-Some.ensures.kind c.in-Some.ensures.view in
+    let (ended, same) = c.in-AtEnd.ensures (g.Q.KeyQuery.key c.args.query) has in
+    let is = c.parts-last.ensures ∙ ap (λ o. c.parts-last.result.0.now ++ cons_option o []) c.in_ok-last-in-AtEnd.was in
+    rw c.from_residual-in_err-child-in-AtEnd.ensures (stops_last by d at _ ended _ is same c.add_one.ensures c.in_err-child-in-AtEnd.ensures.child)
+
+pub returns-in_err-name-in-AtEnd-clause-ends : goal.returns-in_err-name-in-AtEnd-clause-ends
+returns-in_err-name-in-AtEnd-clause-ends g c pairs layout by =
+    let has = parts_rest _ c.parts-last.ensures in
+    let d = c.down.invariant.on_way pairs layout by in
+    let at = shown_here by d c.in-Some.node c.in-Some.ensures.kind c.in-Some.ensures.view in
+    let (ended, same) = c.in-AtEnd.ensures (g.Q.KeyQuery.key c.args.query) has in
+    let is = c.parts-last.ensures ∙ ap (λ o. c.parts-last.result.0.now ++ cons_option o []) c.in_ok-last-in-AtEnd.was in
+    let below = steps_last by d at _ ended _ is same c.add_one.ensures c.in_ok-child-in-AtEnd.ensures.child (c.in_ok-child-in-AtEnd.ensures.behavior refl) in
+    rw c.from_residual-in_err-name-in-AtEnd.ensures
+    (stops_after by below c.add_one-in-AtEnd.ensures (λ leaf. false≢true (c.in_err-name-in-AtEnd.ensures.leaf.1 leaf)) (front_near has 0))
+
+pub unreachable-requires-in_default-leaf-2 : goal.unreachable-requires-in_default-leaf-2
+unreachable-requires-in_default-leaf-2 g c =
+    let (pairs, layout, by) = c.requires.root in
+    let has = parts_rest _ c.parts-last.ensures in
+    let d = c.down.invariant.on_way pairs layout by in
+    let at = shown_here by d c.in-Some.node c.in-Some.ensures.kind c.in-Some.ensures.view in
+    let (ended, same) = c.in-AtEnd.ensures (g.Q.KeyQuery.key c.args.query) has in
+    let is = c.parts-last.ensures ∙ ap (λ o. c.parts-last.result.0.now ++ cons_option o []) c.in_ok-last-in-AtEnd.was in
+    let below = steps_last by d at _ ended _ is same c.add_one.ensures c.in_ok-child-in-AtEnd.ensures.child (c.in_ok-child-in-AtEnd.ensures.behavior refl) in
+    leaf_met (node_there by below) c.in_ok-name-in-AtEnd.ensures.name c.in_default-leaf-2.ensures
+
+pub returns-in-AtEnd-clause-ends : goal.returns-in-AtEnd-clause-ends
+returns-in-AtEnd-clause-ends g c pairs layout by =
+    let has = parts_rest _ c.parts-last.ensures in
+    let d = c.down.invariant.on_way pairs layout by in
+    let at = shown_here by d c.in-Some.node c.in-Some.ensures.kind c.in-Some.ensures.view in
+    let (ended, same) = c.in-AtEnd.ensures (g.Q.KeyQuery.key c.args.query) has in
+    let is = c.parts-last.ensures ∙ ap (λ o. c.parts-last.result.0.now ++ cons_option o []) c.in_ok-last-in-AtEnd.was in
+    let below = steps_last by d at _ ended _ is same c.add_one.ensures c.in_ok-child-in-AtEnd.ensures.child (c.in_ok-child-in-AtEnd.ensures.behavior refl) in
+    rw (c.path.ensures, c.step_down-in-AtEnd.ensures)
+    (last_leaf by _ below c.in_ok-name-in-AtEnd.ensures.name c.in-Some-leaf-2.ensures (omega (arith, front_near has 0, ap length is, length-append c.parts-last.result.0.now (c.in_ok-last-in-AtEnd.last ∷ []))) c.add_one-in-AtEnd.ensures)
+
+pub returns-in-Nowhere-clause-ends : goal.returns-in-Nowhere-clause-ends
+returns-in-Nowhere-clause-ends g c pairs layout by =
+    let d = c.down.invariant.on_way pairs layout by in
+    let at = shown_here by d c.in-Some.node c.in-Some.ensures.kind c.in-Some.ensures.view in
+    stops by d at c.add_one.ensures (c.in-Nowhere.ensures (g.Q.KeyQuery.key c.args.query) (parts_rest _ c.parts-last.ensures))

@@ -13,7 +13,8 @@ returns-clause-steps g c =
       refl,
       refl,
       λ has.
-          subst (λ (ends : Bound g.row.K.Denot × Bound g.row.K.Denot). ExtractsFirst (of_key g.K.AsBytes.bytes) (λ x. is_key_from order ends.0 x.0 && is_key_up_to order ends.1 x.0) c.args.self.now.map.now c.extract_in.result c.extract_in.new.self)
+          subst (λ (ends : Bound g.row.K.Denot × Bound g.row.K.Denot). ExtractsFirst (of_key g.K.AsBytes.bytes)
+          (λ x. is_key_from order ends.0 x.0 && is_key_up_to order ends.1 x.0) c.args.self.now.map.now c.extract_in.result c.extract_in.new.self)
           (ap₂ (λ a b. (a, b)) (c.start_bound.ensures has) (c.end_bound.ensures has)) c.extract_in.ensures,
     )
 
