@@ -111,17 +111,6 @@ pub fn count_touched<const P: usize>(
     )
 }
 
-/// Returns how many nodes of a kind a store has.
-pub fn count_kind<const P: usize>(store: &NodeStore<Key, u32, P>, kind: NodeType) -> usize {
-    let mut count = 0usize;
-    for slot in 0..=LAST_SLOT {
-        if is_used(store, OpaqueNodePtr::from_parts(kind, slot)) {
-            count = count.saturating_add(1);
-        }
-    }
-    count
-}
-
 /// Returns how many leaves and how many inner nodes a store has.
 pub fn count_nodes<const P: usize>(store: &NodeStore<Key, u32, P>) -> (usize, usize) {
     shapes::count_nodes(store, LAST_SLOT)

@@ -1,3 +1,2 @@
 -- The laws of nodes and stores that the proofs here use.
-pub use Rattle.art_nodes.proofs.StoreLaws.{leaf_laws, inner_laws, inner_changed_here}
-pub use Rattle.art_inner.proofs.ChildrenLaws.{children_laws}
+pub use Rattle.art_nodes.proofs.StoreLaws.{leaf_laws, inner_laws}

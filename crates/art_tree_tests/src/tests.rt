@@ -1,6 +1,4 @@
-mod by_hand;
 mod locality;
-mod odd_trees;
 mod oracle;
 mod parts;
 mod refusals;

@@ -7,9 +7,7 @@ use art_nodes::store::NodeStore;
 use art_operations::well_formed::{WellFormedChecker, WellFormedTreeStats};
 use art_test_support::commands::{Asked, Row, Told as Reply, ran_from};
 use art_test_support::expected::same;
-use art_test_support::trees::{
-    Key, keys_after, keys_of_three, keys_of_zeros, planted_all, planted_keys,
-};
+use art_test_support::trees::{Key, keys_after, keys_of_three, keys_of_zeros, planted_keys};
 use std::alloc::{AllocError, Global};
 use std::test::Fail;
 
@@ -196,23 +194,6 @@ fn three_without_root(alloc: Global) -> [bool; 3] {
 #[test]
 fn no_tree_has_no_length(rt: HostRuntime) -> Result<(), Fail> {
     same(three_without_root(rt.alloc()), [true; 3])
-}
-
-/// How many nodes the tree of two keys has, where two other lengths are passed to the check.
-fn counts_of_two(store: &mut NodeStore<Key, u32, 4>) -> Option<[Option<Counts>; 2]> {
-    let root = planted_all(store, &[&[1, 0], &[1, 1]]).ok()??;
-    Some([counts_of(store, root, 0), counts_of(store, root, 5)])
-}
-
-/// The same in a store of its own.
-fn counts_of_two_alone(alloc: Global) -> Option<[Option<Counts>; 2]> {
-    counts_of_two(&mut NodeStore::new(alloc))
-}
-
-#[test]
-fn the_length_of_a_tree_is_not_compared(rt: HostRuntime) -> Result<(), Fail> {
-    let counts = counts_of_two_alone(rt.alloc());
-    same(counts, Some([Some((2, 1, 3)); 2]))
 }
 
 #[test]

@@ -1,7 +1,5 @@
 //! Two keys of fixed lengths joined into one, in an array.
 use art_keyed::map::TreeMap;
-use art_keyed::set::TreeSet;
-use art_keys::joined::Joined;
 use art_keys::joined_array::JoinedArray;
 use art_keys::laws::{DecodeBytes, FixedBytes};
 use art_keys::signed::{I16Key, I64Key};
@@ -34,44 +32,6 @@ fn the_second_key_stands_after_the_first_in_the_array() -> Result<(), Fail> {
     )
 }
 
-// Numbers in ascending order.
-static FIRSTS: [u8; 4] = [0, 1, 127, 255];
-
-static SECONDS: [i16; 5] = [i16::MIN, -1, 0, 1, i16::MAX];
-
-// Whether two keys in arrays compare as the pairs do, and as the same two keys in a vector.
-fn compares(alloc: Global, a: (u8, i16), b: (u8, i16)) -> Option<bool> {
-    let wanted = a.0.cmp(&b.0).then(a.1.cmp(&b.1));
-    let x = Joined::join(alloc, &U8Key::from(a.0), &I16Key::from(a.1)).ok()?;
-    let y = Joined::join(alloc, &U8Key::from(b.0), &I16Key::from(b.1)).ok()?;
-    let (p, q) = (small(a.0, a.1), small(b.0, b.1));
-    Some(p.cmp(&q) == wanted && x.cmp(&y) == wanted && p.as_bytes() == x.as_bytes())
-}
-
-// How many keys compare so with one of them.
-fn count_compared(alloc: Global, a: (u8, i16)) -> Option<usize> {
-    let mut count = 0usize;
-    for first in FIRSTS.iter() {
-        for second in SECONDS.iter() {
-            let is_right = compares(alloc, a, (*first, *second))?;
-            count = count.saturating_add(is_right as usize);
-        }
-    }
-    Some(count)
-}
-
-#[test]
-fn arrays_are_in_the_order_of_the_pairs(rt: HostRuntime) -> Result<(), Fail> {
-    let alloc = rt.alloc();
-    let seen = [
-        count_compared(alloc, (0, i16::MIN)),
-        count_compared(alloc, (1, 0)),
-        count_compared(alloc, (127, -1)),
-        count_compared(alloc, (255, i16::MAX)),
-    ];
-    same(seen, [Some(20); 4])
-}
-
 #[test]
 fn a_key_in_an_array_comes_back_from_its_bytes() -> Result<(), Fail> {
     let key = small(9, 300);
@@ -84,16 +44,6 @@ fn a_key_in_an_array_comes_back_from_its_bytes() -> Result<(), Fail> {
         ),
         (true, 3, true),
     )
-}
-
-// A key of three: two joined into one, and another one.
-type Three = JoinedArray<Small, U8Key, 4>;
-
-#[test]
-fn arrays_are_joined_again() -> Result<(), Fail> {
-    let key: Three = JoinedArray::join(&small(1, 2), &U8Key::from(3));
-    let first = key.first();
-    same((first.second().get(), key.second().get()), (2, 3))
 }
 
 type Times = TreeMap<JoinedArray<U64Key, I64Key, 16>, u32, 4>;
@@ -137,19 +87,4 @@ fn starve(times: &mut Times, alloc: Global) -> Option<([usize; 6], Option<u32>)>
 fn without_memory_arrays_are_looked_up(rt: HostRuntime) -> Result<(), Fail> {
     let seen = starve(&mut TreeMap::new(rt.alloc()), rt.alloc());
     same(seen, Some(([3, 5, 1, 4, 0, 15], Some(1))))
-}
-
-// How many keys of a set have a first key, and how many have another.
-fn count_in(set: &mut TreeSet<Small, 2>) -> Option<(usize, usize)> {
-    for second in 0..6i16 {
-        set.insert(small(4, second)).ok()?;
-    }
-    set.insert(small(5, 0)).ok()?;
-    let four = set.with_first(&U8Key::from(4)).count();
-    Some((four, set.with_first(&U8Key::from(6)).count()))
-}
-
-#[test]
-fn a_set_of_arrays_has_those_with_a_first_key(rt: HostRuntime) -> Result<(), Fail> {
-    same(count_in(&mut TreeSet::new(rt.alloc())), Some((6, 0)))
 }

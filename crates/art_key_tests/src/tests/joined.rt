@@ -1,8 +1,6 @@
 //! Joined keys are split again.
-use super::short::Short;
 use art_keys::escaped::Escaped;
 use art_keys::joined::Joined;
-use art_keys::laws::DecodeBytes;
 use art_keys::signed::Signed;
 use art_keys::terminated::Terminated;
 use art_keys::unsigned::Unsigned;
@@ -10,88 +8,6 @@ use art_node_support::expected::same;
 use art_node_support::memory::all_memory;
 use std::alloc::Global;
 use std::test::Fail;
-
-// How many short strings there are of at most three bytes.
-const COUNT: usize = 85;
-
-// Whether a key is split into these two.
-fn comes_apart<A: DecodeBytes + PartialEq + Drop, B: DecodeBytes + PartialEq + Drop>(
-    alloc: Global,
-    key: &Joined<A, B>,
-    first: &A,
-    second: &B,
-) -> Option<bool> {
-    let (one, other) = key.split(alloc).ok()?;
-    Some([one == *first, other == *second] == [true; 2])
-}
-
-// Whether two keys are recovered from their join.
-fn come_back<A: DecodeBytes + PartialEq + Drop, B: DecodeBytes + PartialEq + Drop>(
-    alloc: Global,
-    first: &A,
-    second: &B,
-) -> Option<bool> {
-    let key = Joined::join(alloc, first, second).ok()?;
-    comes_apart(alloc, &key, first, second)
-}
-
-static NUMBERS: [i32; 6] = [i32::MIN, -257, -1, 0, 1, i32::MAX];
-
-// How many numbers are recovered from a join with a string, as the second key and as the first one.
-fn count_numbers(alloc: Global, string: &Escaped) -> Option<usize> {
-    let mut count = 0usize;
-    for number in NUMBERS.iter() {
-        let number = Signed::from(*number);
-        count = count.saturating_add(come_back(alloc, string, &number)? as usize);
-        count = count.saturating_add(come_back(alloc, &number, string)? as usize);
-    }
-    Some(count)
-}
-
-// The string of a number, and then the number.
-fn numbered(alloc: Global, number: u16) -> Option<Joined<Escaped, Unsigned<2>>> {
-    let string = Escaped::encode(alloc, Short::new(number as usize).as_slice()).ok()?;
-    Joined::join(alloc, &string, &Unsigned::from(number)).ok()
-}
-
-// Whether a string is recovered from a join with the string of a number and the number.
-fn comes_back_before(alloc: Global, first: &Escaped, number: u16) -> Option<bool> {
-    let rest = numbered(alloc, number)?;
-    come_back(alloc, first, &rest)
-}
-
-// How many strings are recovered after a string, with a number after both.
-fn count_strings(alloc: Global, first: &Escaped) -> Option<usize> {
-    let mut count = 0usize;
-    for number in 0..COUNT as u16 {
-        count = count.saturating_add(comes_back_before(alloc, first, number)? as usize);
-    }
-    Some(count)
-}
-
-// How many of both are recovered with the short string of a number.
-fn count_with(alloc: Global, number: usize) -> (Option<usize>, Option<usize>) {
-    match Escaped::encode(alloc, Short::new(number).as_slice()) {
-        Ok(first) => (count_numbers(alloc, &first), count_strings(alloc, &first)),
-        Err(_) => (None, None),
-    }
-}
-
-// How many of both are recovered with all short strings.
-fn count_pairs(alloc: Global) -> Option<(usize, usize)> {
-    let (mut numbers, mut strings) = (0usize, 0usize);
-    for number in 0..COUNT {
-        let (of_numbers, of_strings) = count_with(alloc, number);
-        numbers = numbers.saturating_add(of_numbers?);
-        strings = strings.saturating_add(of_strings?);
-    }
-    Some((numbers, strings))
-}
-
-#[test]
-fn short_strings_and_numbers_come_back_from_their_joins(rt: HostRuntime) -> Result<(), Fail> {
-    same(count_pairs(rt.alloc()), Some((85 * 12, 85 * 85)))
-}
 
 type Left = Joined<Terminated, [u8; 2]>;
 

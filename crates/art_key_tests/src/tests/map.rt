@@ -1,6 +1,5 @@
 //! Maps of keys that never conflict.
 use art_keyed::map::TreeMap;
-use art_keys::escaped::Escaped;
 use art_keys::laws::NoPrefixesBytes;
 use art_keys::signed::Signed;
 use art_keys::terminated::Terminated;
@@ -41,62 +40,12 @@ fn a_map_is_printed_in_order(rt: HostRuntime) -> Result<(), Fail> {
     same(seen, Some(true))
 }
 
-// Inserts strings as escaped keys, with their indices as values.
-fn plant_escaped(
-    map: &mut TreeMap<Escaped, u32, 8>,
-    alloc: Global,
-    texts: [&[u8]; 4],
-) -> Option<()> {
-    for (i, text) in texts.iter().enumerate() {
-        let key = Escaped::encode(alloc, text).ok()?;
-        if map.insert(key, i as u32).is_err() {
-            return None;
-        }
-    }
-    Some(())
-}
-
-// What a map of escaped keys returns.
-fn escaped(
-    map: &mut TreeMap<Escaped, u32, 8>,
-    alloc: Global,
-) -> Option<([Option<u32>; 4], Option<u32>, usize)> {
-    plant_escaped(map, alloc, [b"cart", b"", b"car", b"c\0"])?;
-    let key = Escaped::encode(alloc, b"car").ok()?;
-    let found = map.get(&key).copied();
-    Some((values(map), found, map.len()))
-}
-
-#[test]
-fn strings_that_go_on_after_others_are_stored_in_order(rt: HostRuntime) -> Result<(), Fail> {
-    let seen = escaped(&mut TreeMap::new(rt.alloc()), rt.alloc());
-    same(
-        seen,
-        Some(([Some(1), Some(3), Some(2), Some(0)], Some(2), 4)),
-    )
-}
-
 // Inserts four numbers, with their indices as values.
 fn plant_numbers(map: &mut TreeMap<Signed<4>, u32, 8>) -> Option<()> {
     for (i, n) in [5i32, -1, 0, i32::MIN].iter().enumerate() {
         map.insert(Signed::from(*n), i as u32).ok()?;
     }
     Some(())
-}
-
-// What a map of numbers returns.
-fn numbers(map: &mut TreeMap<Signed<4>, u32, 8>) -> Option<([Option<u32>; 4], bool, usize)> {
-    plant_numbers(map)?;
-    let order = values(map);
-    let is_there = map.contains_key(&Signed::from(-1));
-    let (key, _) = map.remove(&Signed::from(-1))?;
-    Some((order, is_there && i32::from(key) == -1, map.len()))
-}
-
-#[test]
-fn negative_numbers_come_first(rt: HostRuntime) -> Result<(), Fail> {
-    let seen = numbers(&mut TreeMap::new(rt.alloc()));
-    same(seen, Some(([Some(3), Some(1), Some(2), Some(0)], true, 3)))
 }
 
 // Whether a map of numbers is compacted, and its values and its length after one more insertion.
@@ -155,42 +104,34 @@ fn a_word_may_begin_another(rt: HostRuntime) -> Result<(), Fail> {
     )
 }
 
-// The values of the clone of a map of arrays, and whether the map has the same.
-fn cloned(map: &mut TreeMap<[u8; 2], u32, 8>) -> Option<([Option<u32>; 4], bool)> {
-    if map.insert([1, 2], 7).is_err() || map.insert([1, 1], 8).is_err() {
-        return None;
-    }
-    let copy = map.clone().ok()?;
-    Some((values(&copy), values(map) == values(&copy)))
-}
+// How many pairs a range has, the values next to a number, and whether the number and another one are stored.
+type Part = (usize, [Option<u32>; 2], [bool; 2]);
 
-#[test]
-fn a_clone_has_clones_of_the_pairs(rt: HostRuntime) -> Result<(), Fail> {
-    let seen = cloned(&mut TreeMap::new(rt.alloc()));
-    same(seen, Some(([Some(8), Some(7), None, None], true)))
-}
-
-// How many pairs are in two ranges, and the values next to a number.
-fn count_part(map: &TreeMap<Signed<4>, u32, 8>) -> (usize, usize, Option<u32>, Option<u32>) {
+fn part_of(map: &TreeMap<Signed<4>, u32, 8>) -> Part {
     let number = Signed::from(-1);
     (
         map.range(Signed::from(-5)..Signed::from(5)).count(),
-        map.range(Signed::from(5)..=Signed::from(-5)).count(),
-        value_of(map.first_from(Bound::Excluded(&number))),
-        value_of(map.last_up_to(Bound::Included(&number))),
+        [
+            value_of(map.first_from(Bound::Excluded(&number))),
+            value_of(map.last_up_to(Bound::Included(&number))),
+        ],
+        [
+            map.contains_key(&number),
+            map.contains_key(&Signed::from(1)),
+        ],
     )
 }
 
 // The same for a map of four numbers.
-fn parts(map: &mut TreeMap<Signed<4>, u32, 8>) -> Option<(usize, usize, Option<u32>, Option<u32>)> {
+fn parts(map: &mut TreeMap<Signed<4>, u32, 8>) -> Option<Part> {
     plant_numbers(map)?;
-    Some(count_part(map))
+    Some(part_of(map))
 }
 
 #[test]
 fn numbers_between_two_are_a_part(rt: HostRuntime) -> Result<(), Fail> {
     let seen = parts(&mut TreeMap::new(rt.alloc()));
-    same(seen, Some((2, 0, Some(2), Some(1))))
+    same(seen, Some((2, [Some(2), Some(1)], [true, false])))
 }
 
 // What is found by texts, and how many words start with one.
@@ -219,71 +160,6 @@ fn look_up(
 fn words_are_found_by_their_bytes(rt: HostRuntime) -> Result<(), Fail> {
     let seen = look_up(&mut TreeMap::new(rt.alloc()), rt.alloc());
     same(seen, Some(([Some(2), Some(1), None, None, None], 3)))
-}
-
-// How many words with a prefix are removed, and how many when that is done again.
-fn remove_twice(
-    map: &mut TreeMap<Escaped, u32, 8>,
-    alloc: Global,
-    bytes: &[u8],
-) -> Option<[usize; 2]> {
-    let prefix = Escaped::encode(alloc, bytes).ok()?;
-    Some([map.remove_prefix(&prefix), map.remove_prefix(&prefix)])
-}
-
-// The value of a string, looked up by its bytes.
-fn value_under(map: &TreeMap<Escaped, u32, 8>, alloc: Global, bytes: &[u8]) -> Option<Option<u32>> {
-    Some(map.get_text(alloc, bytes).ok()?.copied())
-}
-
-// What removals of the words with a prefix return, and which words are left.
-type Left = ([usize; 2], [Option<Option<u32>>; 4]);
-
-fn remove_below(map: &mut TreeMap<Escaped, u32, 8>, alloc: Global) -> Option<Left> {
-    plant_escaped(map, alloc, [b"cart", b"cat", b"car", b"ca"])?;
-    let removed = remove_twice(map, alloc, b"car")?;
-    let left = [
-        value_under(map, alloc, b"cart"),
-        value_under(map, alloc, b"cat"),
-        value_under(map, alloc, b"car"),
-        value_under(map, alloc, b"ca"),
-    ];
-    Some((removed, left))
-}
-
-#[test]
-fn words_that_begin_with_a_word_go_at_once(rt: HostRuntime) -> Result<(), Fail> {
-    let seen = remove_below(&mut TreeMap::new(rt.alloc()), rt.alloc());
-    let left = [Some(None), Some(Some(1)), Some(None), Some(Some(3))];
-    same(seen, Some(([2, 0], left)))
-}
-
-// What is found of escaped strings by their bytes.
-fn look_up_bytes(
-    map: &mut TreeMap<Escaped, u32, 8>,
-    alloc: Global,
-) -> Option<[Option<Option<u32>>; 5]> {
-    plant_escaped(map, alloc, [b"cart", b"", b"car", b"c\0"])?;
-    Some([
-        value_under(map, alloc, b"car"),
-        value_under(map, alloc, b""),
-        value_under(map, alloc, b"ca"),
-        value_under(map, alloc, b"c\0"),
-        value_under(map, alloc, b"c\x01"),
-    ])
-}
-
-#[test]
-fn escaped_strings_are_found_by_their_bytes(rt: HostRuntime) -> Result<(), Fail> {
-    let seen = look_up_bytes(&mut TreeMap::new(rt.alloc()), rt.alloc());
-    let found = [
-        Some(Some(2)),
-        Some(Some(1)),
-        Some(None),
-        Some(Some(3)),
-        Some(None),
-    ];
-    same(seen, Some(found))
 }
 
 // Writes values by three calls.

@@ -51,22 +51,20 @@ fn removed(map: &mut Map, removal: Removal<[u8; 1]>) -> (bool, Option<([u8; 1], 
     (filled, pair, map.len())
 }
 
+// Removals from a map of five pairs, each with the byte of the pair that goes.
+static REMOVALS: [(Removal<[u8; 1]>, u8); 3] = [
+    (Removal::Key([3]), 3),
+    (Removal::First, 1),
+    (Removal::Last, 5),
+];
+
 #[test]
 fn a_parent_shrinks_for_a_removal(rt: HostRuntime) -> Result<(), Fail> {
-    let seen = removed(&mut ByteMap::new(rt.alloc()), Removal::Key([3]));
-    as_expected(Some((seen, (true, Some(([3], 3)), 4))))
-}
-
-#[test]
-fn a_parent_shrinks_for_the_first(rt: HostRuntime) -> Result<(), Fail> {
-    let seen = removed(&mut ByteMap::new(rt.alloc()), Removal::First);
-    as_expected(Some((seen, (true, Some(([1], 1)), 4))))
-}
-
-#[test]
-fn a_parent_shrinks_for_the_last(rt: HostRuntime) -> Result<(), Fail> {
-    let seen = removed(&mut ByteMap::new(rt.alloc()), Removal::Last);
-    as_expected(Some((seen, (true, Some(([5], 5)), 4))))
+    for (removal, byte) in &REMOVALS {
+        let seen = removed(&mut ByteMap::new(rt.alloc()), *removal);
+        as_expected(Some((seen, (true, Some(([*byte], *byte as u32)), 4))))?;
+    }
+    Ok(())
 }
 
 /// The value of a pair, if there is one.
@@ -117,43 +115,6 @@ fn pairs_come_from_both_ends(rt: HostRuntime) -> Result<(), Fail> {
     as_expected(Some((seen, (true, came))))
 }
 
-// What queries return: whether there is no pair, and whether two keys are stored; the values of both, and the first and
-// the last one.
-type Asked = ([bool; 3], [Option<u32>; 4]);
-
-fn asked(map: &Map) -> Asked {
-    (
-        [
-            map.is_empty(),
-            map.contains_key(&[2]),
-            map.contains_key(&[6]),
-        ],
-        [
-            map.get(&[2]).copied(),
-            map.get(&[6]).copied(),
-            value_of(map.first_key_value()),
-            value_of(map.last_key_value()),
-        ],
-    )
-}
-
-// Whether a map was filled, what queries return then and after it is cleared, and whether it was filled again.
-fn cleared(map: &mut Map) -> (bool, Asked, Asked, bool) {
-    let is_filled = fill(map);
-    let before = asked(map);
-    map.clear();
-    let after = asked(map);
-    (is_filled, before, after, fill(map))
-}
-
-#[test]
-fn a_cleared_map_has_nothing(rt: HostRuntime) -> Result<(), Fail> {
-    let seen = cleared(&mut ByteMap::new(rt.alloc()));
-    let before = ([false, true, false], [Some(2), None, Some(1), Some(5)]);
-    let after = ([true, false, false], [None; 4]);
-    as_expected(Some((seen, (true, before, after, true))))
-}
-
 fn debug_text(alloc: Global, map: &Map) -> Option<bool> {
     let text = format!(in alloc; "{map:?}").ok()?;
     Some(text.as_str() == "{[1]: 1, [2]: 2, [3]: 3, [4]: 4, [5]: 5}")
@@ -185,28 +146,6 @@ fn cloned(map: &Map) -> Option<([Option<u32>; 2], usize)> {
     }
 }
 
-// Whether a map was filled, the same of it, and how many pairs it then has.
-fn filled_and_cloned(map: &mut Map) -> (bool, Option<([Option<u32>; 2], usize)>, usize) {
-    (fill(map), cloned(map), map.len())
-}
-
-#[test]
-fn a_clone_goes_its_own_way(rt: HostRuntime) -> Result<(), Fail> {
-    let seen = filled_and_cloned(&mut ByteMap::new(rt.alloc()));
-    as_expected(Some((seen, (true, Some(([Some(1), Some(5)], 4)), 5))))
-}
-
-// The same with 60 pairs.
-fn many_cloned(map: &mut Map) -> (bool, Option<([Option<u32>; 2], usize)>, usize) {
-    (fill_many(map), cloned(map), map.len())
-}
-
-#[test]
-fn a_clone_of_many_goes_its_own_way(rt: HostRuntime) -> Result<(), Fail> {
-    let seen = many_cloned(&mut ByteMap::new(rt.alloc()));
-    as_expected(Some((seen, (true, Some(([Some(1), Some(5)], 59)), 60))))
-}
-
 // Removes the keys from 6 to 60, and returns whether five are left.
 fn empty_most(map: &mut Map) -> bool {
     for byte in 6..61u8 {
@@ -215,13 +154,42 @@ fn empty_most(map: &mut Map) -> bool {
     map.len() == 5
 }
 
-// The same if five of 60 are left.
-fn few_left_cloned(map: &mut Map) -> (bool, Option<([Option<u32>; 2], usize)>, usize) {
-    (fill_many(map) && empty_most(map), cloned(map), map.len())
+// Which pairs a map has before it is cloned.
+#[derive(Clone, Copy, PartialEq, Debug)]
+enum Filling {
+    Few,
+    Many,
+    // Few of many.
+    FewLeft,
+}
+
+// Whether a map has these pairs.
+fn fill_so(map: &mut Map, filling: Filling) -> bool {
+    match filling {
+        Filling::Few => fill(map),
+        Filling::Many => fill_many(map),
+        Filling::FewLeft => fill_many(map) && empty_most(map),
+    }
+}
+
+// Whether a map was filled, the same of a clone of it, and how many pairs it then has.
+fn filled_and_cloned(
+    map: &mut Map,
+    filling: Filling,
+) -> (bool, Option<([Option<u32>; 2], usize)>, usize) {
+    (fill_so(map, filling), cloned(map), map.len())
 }
 
 #[test]
-fn a_clone_of_the_few_left_goes_its_own_way(rt: HostRuntime) -> Result<(), Fail> {
-    let seen = few_left_cloned(&mut ByteMap::new(rt.alloc()));
-    as_expected(Some((seen, (true, Some(([Some(1), Some(5)], 4)), 5))))
+fn a_clone_goes_its_own_way(rt: HostRuntime) -> Result<(), Fail> {
+    for (filling, len) in [
+        (Filling::Few, 5usize),
+        (Filling::Many, 60),
+        (Filling::FewLeft, 5),
+    ] {
+        let seen = filled_and_cloned(&mut ByteMap::new(rt.alloc()), filling);
+        let copied = Some(([Some(1), Some(5)], len.saturating_sub(1)));
+        as_expected(Some(((filling, seen), (filling, (true, copied, len)))))?;
+    }
+    Ok(())
 }

@@ -1,6 +1,6 @@
 //! Maps whose pairs were moved into the order of their keys.
 use super::beside_btree::{Map as Drawn, Model, agree_on_call, agree_on_pairs};
-use super::calls::{Map, Removal, remove};
+use super::calls::Map;
 use art_operations::map::ByteMap;
 use art_operations::set::ByteSet;
 use art_test_support::expected::{as_expected, same};
@@ -45,71 +45,6 @@ fn compacted(map: &mut Map) -> ([bool; 2], [u32; 2], [Option<u32>; 2]) {
 fn a_compact_map_has_the_same_pairs(rt: HostRuntime) -> Result<(), Fail> {
     let seen = compacted(&mut ByteMap::new(rt.alloc()));
     as_expected(Some((seen, ([true; 2], [124_679, 976_421], [Some(4), None]))))
-}
-
-// For a compact map: whether a pair is inserted between two others, another one that is removed, and the digits then;
-// and the same digits after the map is compacted again.
-fn changed(map: &mut Map) -> (bool, Option<([u8; 1], u32)>, [[u32; 2]; 2]) {
-    fill_unsorted(map);
-    let is_compact = map.compact().is_ok();
-    let is_new = matches!(map.insert([5], 5), Ok(None));
-    let gone = remove(map, Removal::Key([7]));
-    let before = digits(map);
-    let is_right = is_compact && is_new && map.compact().is_ok();
-    (is_right, gone, [before, digits(map)])
-}
-
-#[test]
-fn a_compact_map_is_changed(rt: HostRuntime) -> Result<(), Fail> {
-    let seen = changed(&mut ByteMap::new(rt.alloc()));
-    as_expected(Some((seen, (true, Some(([7], 7)), [[124_569, 965_421]; 2]))))
-}
-
-// Whether a map is compacted, and its digits then.
-fn made_compact(map: &mut Map) -> (bool, [u32; 2]) {
-    (map.compact().is_ok(), digits(map))
-}
-
-// The same for a map with no pair, with one and with two.
-fn of_few(map: &mut Map) -> [(bool, [u32; 2]); 3] {
-    let none = made_compact(map);
-    drop(map.insert([8], 8));
-    let one = made_compact(map);
-    drop(map.insert([3], 3));
-    let two = made_compact(map);
-    [none, one, two]
-}
-
-#[test]
-fn a_map_of_few_pairs_is_compact(rt: HostRuntime) -> Result<(), Fail> {
-    let seen = of_few(&mut ByteMap::new(rt.alloc()));
-    as_expected(Some((seen, [(true, [0, 0]), (true, [8, 8]), (true, [38, 83])])))
-}
-
-// Inserts the keys below a number, in steps of 7, and returns whether they are in order after the map is compacted.
-fn is_in_order(map: &mut Map, count: u8) -> bool {
-    for step in 0..count as u32 {
-        let byte = (step * 7 % count as u32) as u8;
-        drop(map.insert([byte], byte as u32));
-    }
-    let mut agree = map.compact().is_ok();
-    let mut pairs = map.iter();
-    for byte in 0..count {
-        agree &= pairs.next() == Some((&[byte], &(byte as u32)));
-    }
-    agree & pairs.next().is_none()
-}
-
-#[test]
-fn leaves_of_each_kind_of_node_are_moved(rt: HostRuntime) -> Result<(), Fail> {
-    let alloc = rt.alloc();
-    let seen = [
-        is_in_order(&mut ByteMap::new(alloc), 4),
-        is_in_order(&mut ByteMap::new(alloc), 16),
-        is_in_order(&mut ByteMap::new(alloc), 48),
-        is_in_order(&mut ByteMap::new(alloc), 250),
-    ];
-    as_expected(Some((seen, [true; 4])))
 }
 
 // The number of the first call after which a map and a `BTreeMap` differ, if they do. The map is compacted every 40

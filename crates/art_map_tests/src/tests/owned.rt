@@ -29,24 +29,6 @@ fn pairs_come_by_value_from_both_ends(rt: HostRuntime) -> Result<(), Fail> {
 }
 
 #[test]
-fn pairs_that_did_not_come_are_dropped(rt: HostRuntime) -> Result<(), Fail> {
-    let mut pairs = filled(rt.alloc()).into_iter();
-    let seen = (pairs.next(), pairs.len());
-    drop(pairs);
-    as_expected(Some((seen, (Some(([1], 1)), 4))))
-}
-
-#[test]
-fn no_pair_comes_of_an_empty_map(rt: HostRuntime) -> Result<(), Fail> {
-    let map: Map = ByteMap::new(rt.alloc());
-    let mut pairs = map.into_iter();
-    as_expected(Some((
-        (pairs.next(), pairs.next_back(), pairs.len()),
-        (None, None, 0),
-    )))
-}
-
-#[test]
 fn keys_and_values_come_by_value(rt: HostRuntime) -> Result<(), Fail> {
     let mut keys = filled(rt.alloc()).into_keys();
     let mut values = filled(rt.alloc()).into_values();
@@ -60,16 +42,4 @@ fn keys_and_values_come_by_value(rt: HostRuntime) -> Result<(), Fail> {
         (seen, keys.len(), values.len()),
         ((Some([1]), Some([5]), Some(1), Some(5)), 3, 3),
     )))
-}
-
-#[test]
-fn a_loop_takes_all_pairs(rt: HostRuntime) -> Result<(), Fail> {
-    let mut sum = 0u32;
-    for (key, value) in filled(rt.alloc()) {
-        sum = sum
-            .wrapping_mul(10)
-            .wrapping_add(key[0] as u32)
-            .wrapping_add(value);
-    }
-    as_expected(Some((sum, 24_690)))
 }

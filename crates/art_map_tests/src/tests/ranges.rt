@@ -1,8 +1,5 @@
-//! Parts of a map: the pairs with a prefix, those between two bounds, and those next to a bound. Some are worked out by
-//! hand, others are drawn and compared with a `BTreeMap`.
-ghost use Rattle.std.specs.Prelude.{◌<◌, ◌^◌, length};
-
-use super::calls::value_of;
+//! Parts of a map: the pairs with a prefix, those between two bounds, and those next to a bound. They are drawn and
+//! compared with a `BTreeMap`.
 use art_operations::map::{ByteMap, Range};
 use art_test_support::expected::as_expected;
 use art_test_support::numbers::Numbers;
@@ -40,21 +37,6 @@ fn fill(map: &mut Map) -> bool {
     map.len() == 7
 }
 
-// The first two values of a part, the last two, and how many pairs are between.
-type Seen = ([Option<u32>; 4], usize);
-
-fn seen(mut part: Range<'_, Key, u32, 1>) -> Seen
-    requires { length part < 2 ^ 64 }
-{
-    let ends = [
-        value_of(part.next()),
-        value_of(part.next_back()),
-        value_of(part.next()),
-        value_of(part.next_back()),
-    ];
-    (ends, part.count())
-}
-
 // The bounds that a part has for the number of its pairs, before its first pair and after it.
 fn hints(mut part: Range<'_, Key, u32, 1>) -> [(usize, Option<usize>); 2] {
     let before = part.size_hint();
@@ -74,117 +56,6 @@ fn a_part_has_at_most_the_pairs_that_are_left(rt: HostRuntime) -> Result<(), Fai
     let empty = [(0, Some(7)), (0, Some(7))];
     let seen = bounded(&mut ByteMap::new(rt.alloc()));
     as_expected(Some((seen, (true, [whole, empty]))))
-}
-
-// Whether a map was filled, and the pairs with some prefixes.
-fn below(map: &mut Map) -> (bool, [Seen; 6]) {
-    let filled = fill(map);
-    let parts = [
-        seen(map.prefix(&[])),
-        seen(map.prefix(&[1])),
-        seen(map.prefix(&[1, 1, 3])),
-        seen(map.prefix(&[1, 2])),
-        seen(map.prefix(&[2, 5, 5, 5])),
-        seen(map.prefix(&[2, 5, 5, 5, 0])),
-    ];
-    (filled, parts)
-}
-
-#[test]
-fn pairs_below_a_prefix_come_from_both_ends(rt: HostRuntime) -> Result<(), Fail> {
-    let expected = [
-        ([Some(0), Some(6), Some(1), Some(5)], 3),
-        ([Some(0), Some(3), Some(1), Some(2)], 0),
-        ([Some(2), Some(3), None, None], 0),
-        ([None, None, None, None], 0),
-        ([Some(4), None, None, None], 0),
-        ([None, None, None, None], 0),
-    ];
-    as_expected(Some((below(&mut ByteMap::new(rt.alloc())), (true, expected))))
-}
-
-// The same for some bounds.
-fn between(map: &mut Map) -> (bool, [Seen; 6]) {
-    let filled = fill(map);
-    let (low, high): (&[u8], &[u8]) = (&[1, 1, 1, 6], &[3, 0, 0, 7]);
-    let (prefix, gap): (&[u8], &[u8]) = (&[1, 1, 2], &[2, 5, 4]);
-    let parts = [
-        seen(map.range(low..=high)),
-        seen(map.range((Bound::Excluded(low), Bound::Excluded(high)))),
-        seen(map.range(prefix..gap)),
-        seen(map.range(..=prefix)),
-        seen(map.range((Bound::Excluded(gap), Bound::Unbounded))),
-        seen(map.range(high..low)),
-    ];
-    (filled, parts)
-}
-
-#[test]
-fn pairs_between_bounds_come_from_both_ends(rt: HostRuntime) -> Result<(), Fail> {
-    let expected = [
-        ([Some(1), Some(5), Some(2), Some(4)], 1),
-        ([Some(2), Some(4), Some(3), None], 0),
-        ([Some(2), Some(3), None, None], 0),
-        ([Some(0), Some(1), None, None], 0),
-        ([Some(4), Some(6), Some(5), None], 0),
-        ([None, None, None, None], 0),
-    ];
-    as_expected(Some((between(&mut ByteMap::new(rt.alloc())), (true, expected))))
-}
-
-// Whether a map was filled, and the values next to some bounds.
-fn beside(map: &mut Map) -> (bool, [Option<u32>; 8]) {
-    let filled = fill(map);
-    let (key, gap): (&[u8], &[u8]) = (&[2, 5, 5, 5], &[1, 1, 2]);
-    let values = [
-        value_of(map.first_from(Bound::Included(key))),
-        value_of(map.first_from(Bound::Excluded(key))),
-        value_of(map.first_from(Bound::Excluded(gap))),
-        value_of(map.first_from(Bound::Unbounded)),
-        value_of(map.last_up_to(Bound::Included(key))),
-        value_of(map.last_up_to(Bound::Excluded(key))),
-        value_of(map.last_up_to(Bound::Included(gap))),
-        value_of(map.last_up_to(Bound::Unbounded)),
-    ];
-    (filled, values)
-}
-
-#[test]
-fn pairs_next_to_a_bound_are_found(rt: HostRuntime) -> Result<(), Fail> {
-    let expected = [
-        Some(4),
-        Some(5),
-        Some(2),
-        Some(0),
-        Some(4),
-        Some(3),
-        Some(1),
-        Some(6),
-    ];
-    as_expected(Some((beside(&mut ByteMap::new(rt.alloc())), (true, expected))))
-}
-
-// Whether a map was filled, how many pairs were removed with each of some prefixes, and the values that are left at
-// both ends.
-fn removed(map: &mut Map) -> (bool, [usize; 4], [Option<u32>; 2]) {
-    let filled = fill(map);
-    let counts = [
-        map.remove_prefix(&[1, 1, 3]),
-        map.remove_prefix(&[1, 1, 3]),
-        map.remove_prefix(&[2, 5, 5, 5, 0]),
-        map.remove_prefix(&[3, 9, 0, 0]),
-    ];
-    let ends = [
-        value_of(map.iter().next()),
-        value_of(map.iter().next_back()),
-    ];
-    (filled, counts, ends)
-}
-
-#[test]
-fn pairs_below_a_prefix_go(rt: HostRuntime) -> Result<(), Fail> {
-    let expected = (true, [2, 0, 0, 1], [Some(0), Some(5)]);
-    as_expected(Some((removed(&mut ByteMap::new(rt.alloc())), expected)))
 }
 
 // ---- drawn calls

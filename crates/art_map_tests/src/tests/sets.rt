@@ -17,38 +17,6 @@ fn of_three(alloc: Global) -> Set {
 }
 
 #[test]
-fn a_key_is_new_once(rt: HostRuntime) -> Result<(), Fail> {
-    let mut set: Set = ByteSet::new(rt.alloc());
-    let seen = (set.insert([7]).ok(), set.insert([7]).ok(), set.len());
-    as_expected(Some((seen, (Some(true), Some(false), 1))))
-}
-
-#[test]
-fn a_removed_key_is_gone(rt: HostRuntime) -> Result<(), Fail> {
-    let mut set = of_three(rt.alloc());
-    let seen = (set.contains(&[2]), set.remove(&[2]), set.remove(&[2]));
-    as_expected(Some((
-        (seen, set.contains(&[2]), set.len()),
-        ((true, true, false), false, 2),
-    )))
-}
-
-#[test]
-fn keys_of_a_set_rise(rt: HostRuntime) -> Result<(), Fail> {
-    let set = of_three(rt.alloc());
-    let mut keys = set.iter();
-    let seen = (
-        keys.next().copied(),
-        keys.next().copied(),
-        keys.next_back().copied(),
-    );
-    as_expected(Some((
-        (seen, set.first().copied(), set.last().copied()),
-        ((Some([1]), Some([2]), Some([3])), Some([1]), Some([3])),
-    )))
-}
-
-#[test]
 fn ends_of_a_set_are_taken(rt: HostRuntime) -> Result<(), Fail> {
     let mut set = of_three(rt.alloc());
     let seen = (set.pop_first(), set.pop_last(), set.len());

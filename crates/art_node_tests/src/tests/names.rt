@@ -35,38 +35,6 @@ fn orders_names_by_kind_then_slot(rt: HostRuntime) -> Result<(), Fail> {
     same(first_out_of_order(&rising), None)
 }
 
-#[test]
-fn orders_leaf_names_by_slot(rt: HostRuntime) -> Result<(), Fail> {
-    let rising = [0usize, 1, 9, 10].map(LeafPtr::from_slot);
-    same(first_out_of_order(&rising), None)
-}
-
-#[test]
-fn orders_inner_names_by_kind_then_slot(rt: HostRuntime) -> Result<(), Fail> {
-    let rising = [
-        inner(NodeType::Node4, 8),
-        inner(NodeType::Node4, 9),
-        inner(NodeType::Node16, 7),
-        inner(NodeType::Node48, 6),
-        inner(NodeType::Node256, 4),
-        inner(NodeType::Node256, 5),
-    ];
-    same(first_out_of_order(&rising), None)
-}
-
-#[test]
-fn orders_leaves_before_inner_nodes_where_names_are_told_apart(
-    rt: HostRuntime,
-) -> Result<(), Fail> {
-    let rising = [
-        NodePtr::Leaf(LeafPtr::from_slot(3)),
-        NodePtr::Leaf(LeafPtr::from_slot(8)),
-        NodePtr::Inner(inner(NodeType::Node4, 2)),
-        NodePtr::Inner(inner(NodeType::Node256, 1)),
-    ];
-    same(first_out_of_order(&rising), None)
-}
-
 fn hash_of<T: Hash>(value: &T) -> u64 {
     let mut hasher = DefaultHasher::new();
     value.hash(&mut hasher);

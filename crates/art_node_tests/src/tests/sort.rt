@@ -9,6 +9,7 @@ use art_node_support::nodes::{Key, nodes_seen};
 use art_node_support::placing::{Plain, leaf_at, placed_all};
 use art_nodes::node::{LeafPtr, NodeType, OpaqueNodePtr};
 use art_nodes::store::NodeStore;
+use std::alloc::Global;
 use std::test::Fail;
 
 // Three leaves in slots against their order, one freed slot between them, one leaf that is not in their row, and a node
@@ -171,32 +172,46 @@ fn have_same_nodes<const P: usize>(
     }
 }
 
-// Places the nodes that are not sorted in one store, sorts them there, and places in another those that are then to be
-// seen. Returns whether the call failed, and whether both stores have the same nodes.
+// Places the nodes that are not sorted, and sorts them. Returns whether that failed.
+fn place_and_sort<const P: usize>(store: &mut NodeStore<Key, u32, P>) -> Option<bool> {
+    let names = placed_all(store, &UNSORTED).ok()??;
+    is_refused(store, &names)
+}
+
+// Places those that are then to be seen.
+fn place_expected<const P: usize>(
+    store: &mut NodeStore<Key, u32, P>,
+    is_refused: bool,
+) -> Option<()> {
+    let expected: &[Plain<'_>] = if is_refused { &UNSORTED } else { &SORTED };
+    placed_all(store, expected).ok()??;
+    Some(())
+}
+
+// Does both, in two stores. Returns whether the call failed, and whether both stores have the same nodes.
 fn sort_placed<const P: usize>(
     store: &mut NodeStore<Key, u32, P>,
     other: &mut NodeStore<Key, u32, P>,
 ) -> Option<(bool, bool)> {
-    let names = placed_all(store, &UNSORTED).ok()??;
-    let is_refused = is_refused(store, &names)?;
-    let expected: &[Plain] = if is_refused { &UNSORTED } else { &SORTED };
-    placed_all(other, expected).ok()??;
+    let is_refused = place_and_sort(store)?;
+    place_expected(other, is_refused)?;
     Some((is_refused, have_same_nodes(store, other)?))
+}
+
+// The same in stores of its own.
+fn sort_in(alloc: Global) -> Option<(bool, bool)> {
+    sort_placed::<2>(&mut NodeStore::new(alloc), &mut NodeStore::new(alloc))
 }
 
 #[test]
 fn leaves_are_sorted_by_their_links(rt: HostRuntime) -> Result<(), Fail> {
-    let mut store: NodeStore<Key, u32, 2> = NodeStore::new(rt.alloc());
-    let sorted = sort_placed(&mut store, &mut NodeStore::new(rt.alloc()));
-    same(sorted, Some((false, true)))
+    same(sort_in(rt.alloc()), Some((false, true)))
 }
 
 // Asserts, with each allocation made to fail, that all nodes stay.
 #[test]
 fn refused_each_request_leaves_the_leaves_in_their_slots(rt: HostRuntime) -> Result<(), Fail> {
-    let mut store: NodeStore<Key, u32, 2> = NodeStore::new(rt.alloc());
-    let sorted = sort_placed(&mut store, &mut NodeStore::new(rt.alloc()));
-    if let Some((is_refused, are_same)) = sorted {
+    if let Some((is_refused, are_same)) = sort_in(rt.alloc()) {
         assert!(rt; are_same);
         if is_refused {
             println!(rt; "asserted")?;

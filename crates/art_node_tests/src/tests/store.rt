@@ -1,8 +1,8 @@
-ghost use Rattle.std.specs.Prelude.{◌≡◌, ◌≢◌, Some, None, IsSome, IfSome, IfOk};
+ghost use Rattle.std.specs.Prelude.{◌≡◌, ◌≢◌, Some, None, IsSome, IfOk};
 ghost use Rattle.std.specs.FinMap as map;
 ghost use Rattle.art_inner.specs.InnerChanges.{with_child};
 ghost use Rattle.art_nodes.specs.LeafChanges.{with_links};
-ghost use Rattle.art_inner.specs.Inner.{child_at, childless};
+ghost use Rattle.art_inner.specs.Inner.{childless};
 
 use art_node_support::expected::same;
 use art_node_support::memory::{all_memory, begin_refusals, end_refusals};
@@ -45,40 +45,6 @@ fn place_behind<K: AsBytes + Drop, V: Drop, const P: usize>(
     Ok(name)
 }
 
-// A caller: frees one leaf and gives its pair to another, whose pair it returns.
-#[tactic(auto, using(crate::proofs::Laws::leaf_laws))]
-fn move_pair<K: AsBytes + Drop, V: Drop, const P: usize>(
-    store: &mut NodeStore<K, V, P>,
-    from: LeafPtr,
-    to: LeafPtr,
-) -> (K, V)
-    requires from { IsSome (map.get store.old.leaves from) }
-    requires to { IsSome (map.get store.old.leaves to) }
-    requires distinct { to ≢ from }
-    ensures gone { map.get store.new.leaves from ≡ None }
-    ensures stays { IsSome (map.get store.new.leaves to) }
-{
-    let leaf = store.free_leaf(from);
-    store.swap_pair(to, leaf.key, leaf.value)
-}
-
-// A caller: replaces a leaf's value and then restores it; no other leaf has changed.
-#[tactic(auto, using(crate::proofs::Laws::leaf_laws))]
-fn try_value<K: AsBytes + Drop, V: Drop, const P: usize>(
-    store: &mut NodeStore<K, V, P>,
-    leaf: LeafPtr,
-    other: LeafPtr,
-    value: V,
-) -> V
-    requires leaf { IsSome (map.get store.old.leaves leaf) }
-    requires distinct { other ≢ leaf }
-    ensures stays { IsSome (map.get store.new.leaves leaf) }
-    ensures kept { map.get store.new.leaves other ≡ map.get store.old.leaves other }
-{
-    let old = store.swap_value(leaf, value);
-    store.swap_value(leaf, old)
-}
-
 // A caller: places a node with one child.
 #[tactic(auto, using(crate::proofs::Laws::inner_laws))]
 fn place_above<K: AsBytes + Drop, V: Drop, const P: usize>(
@@ -95,62 +61,6 @@ fn place_above<K: AsBytes + Drop, V: Drop, const P: usize>(
     let name = store.place_inner(node).map_err(|refused| refused.1)?;
     store.write_child(name, byte, child);
     Ok(name)
-}
-
-// A caller: frees one inner node and gives its header to another.
-#[tactic(auto, using(crate::proofs::Laws::inner_laws))]
-fn move_header<K: AsBytes + Drop, V: Drop, const P: usize>(
-    store: &mut NodeStore<K, V, P>,
-    from: InnerPtr,
-    to: InnerPtr,
-    header: Header<P>,
-) -> AnyInner<P>
-    requires from { IsSome (map.get store.old.inners from) }
-    requires to { IsSome (map.get store.old.inners to) }
-    requires distinct { to ≢ from }
-    ensures gone { map.get store.new.inners from ≡ None }
-    ensures stays { IsSome (map.get store.new.inners to) }
-{
-    let node = store.free_inner(from);
-    store.set_header(to, header);
-    node
-}
-
-// A caller: removes a child.
-#[tactic(auto, using(crate::proofs::Laws::inner_changed_here, crate::proofs::Laws::children_laws))]
-fn cut_child<K: AsBytes + Drop, V: Drop, const P: usize>(
-    store: &mut NodeStore<K, V, P>,
-    from: InnerPtr,
-    byte: u8,
-) -> Option<OpaqueNodePtr>
-    requires { IsSome (map.get store.old.inners from) }
-    ensures stays { IsSome (map.get store.new.inners from) }
-    ensures gone { IfSome (map.get store.new.inners from) (λ node. child_at node.children byte ≡ None) }
-{
-    store.remove_child(from, byte)
-}
-
-// A caller: no placement fails that the promise covers.
-#[tactic(auto, using(crate::proofs::Laws::leaf_laws))]
-fn place_promised<K: AsBytes + Drop, V: Drop, const P: usize>(
-    store: &mut NodeStore<K, V, P>,
-    leaves: (LeafNode<K, V>, LeafNode<K, V>),
-    header: Header<P>,
-) -> Result<(LeafPtr, InnerPtr, LeafPtr), AllocError>
-    ensures reserved { IfOk result (λ names. IsSome (map.get store.new.leaves names.2)) }
-{
-    store.reserve(2, Some(NodeType::Node16))?;
-    let Ok(first) = store.place_leaf(leaves.0) else {
-        unreachable!()
-    };
-    let node = AnyInner::from_header(NodeType::Node16, header);
-    let Ok(upper) = store.place_inner(node) else {
-        unreachable!()
-    };
-    let Ok(second) = store.place_leaf(leaves.1) else {
-        unreachable!()
-    };
-    Ok((first, upper, second))
 }
 
 // What a leaf holds.
@@ -231,33 +141,6 @@ fn place(store: &mut Store, leaf: LeafNode<[u8; 1], u32>) -> Result<LeafPtr, All
     store.place_leaf(leaf).map_err(|refused| refused.1)
 }
 
-// Whether a store has a leaf and a Node4 in the first slot.
-fn has_first(store: &Store) -> Option<[bool; 2]> {
-    let inner = InnerPtr::from_parts(NodeType::Node4, 0)?;
-    Some([
-        store.leaf(LeafPtr::from_slot(0)).is_some(),
-        store.inner(inner).is_some(),
-    ])
-}
-
-#[test]
-fn an_empty_store_has_no_node(rt: HostRuntime) -> Result<(), Fail> {
-    let found = has_first(&Store::new(rt.alloc()));
-    same(found, Some([false; 2]))
-}
-
-// Whether a copy of two bytes with the allocator of a store has them.
-fn is_copied_by(store: &Store) -> Option<bool> {
-    let bytes = [1, 2].to_vec(store.alloc()).ok()?;
-    Some(bytes.as_slice() == [1, 2].as_slice())
-}
-
-#[test]
-fn a_store_hands_out_its_allocator(rt: HostRuntime) -> Result<(), Fail> {
-    let copied = is_copied_by(&Store::new(rt.alloc()));
-    same(copied, Some(true))
-}
-
 // Places a leaf and another one behind it, and returns both names.
 #[tactic(auto, using(crate::proofs::Laws::leaf_laws))]
 fn place_pair(store: &mut Store) -> Result<(LeafPtr, LeafPtr), AllocError>
@@ -267,57 +150,6 @@ fn place_pair(store: &mut Store) -> Result<(LeafPtr, LeafPtr), AllocError>
     let first = place(store, leaf_of(1, 10))?;
     let second = place_behind(store, first, leaf_of(2, 20)).map_err(|refused| refused.1)?;
     Ok((first, second))
-}
-
-// Frees the first of two leaves and gives its pair to the second; returns whether each is right: what is under the
-// second name before, the old pair, and what is under both names afterwards.
-fn move_first(store: &mut Store) -> Option<[bool; 4]> {
-    let (first, second) = place_pair(store).ok()?;
-    if first == second {
-        return None;
-    }
-    let before = leaf_seen(store, second);
-    let pair = move_pair(store, first, second);
-    Some([
-        before == expected_leaf(2, 20, Some(first)),
-        pair == ([2], 20),
-        leaf_seen(store, second) == expected_leaf(1, 10, Some(first)),
-        leaf_seen(store, first) == None,
-    ])
-}
-
-#[test]
-fn leaves_are_linked_and_freed(rt: HostRuntime) -> Result<(), Fail> {
-    let mut store = Store::new(rt.alloc());
-    same(move_first(&mut store), Some([true; 4]))
-}
-
-// Replaces the value of the second of two leaves; returns whether each is right: the old value, what is under both
-// names then, what `try_value` returns, and that the second leaf is unchanged after it.
-fn give_value(store: &mut Store) -> Option<[bool; 5]> {
-    let (first, second) = place_pair(store).ok()?;
-    if first == second || store.leaf(second).is_none() {
-        return None;
-    }
-    let old = store.swap_value(second, 21);
-    let given = leaf_seen(store, second);
-    if store.leaf(second).is_none() {
-        return None;
-    }
-    let tried = try_value(store, second, first, 22);
-    Some([
-        old == 20,
-        given == expected_leaf(2, 21, Some(first)),
-        leaf_seen(store, first) == expected_leaf(1, 10, None),
-        tried == 22,
-        leaf_seen(store, second) == given,
-    ])
-}
-
-#[test]
-fn a_leaf_is_given_another_value(rt: HostRuntime) -> Result<(), Fail> {
-    let mut store = Store::new(rt.alloc());
-    same(give_value(&mut store), Some([true; 5]))
 }
 
 // Places a node with this child under 3 and one with none, and returns both names.
@@ -332,47 +164,6 @@ fn place_two(store: &mut Store, child: OpaqueNodePtr) -> Result<(InnerPtr, Inner
         .place_inner(node4(&[8, 9]))
         .map_err(|refused| refused.1)?;
     Ok((lower, upper))
-}
-
-// Writes and frees the first of two nodes, and gives the second one its header; returns whether each is
-// right: the first as it is written, under two bytes, and as it is freed, and what is then under both names.
-fn move_lower(store: &mut Store) -> Option<[bool; 5]> {
-    let child = LeafPtr::from_slot(7).to_opaque();
-    let (lower, upper) = place_two(store, child).ok()?;
-    let with_child = expected_node4([5, 6], 1, Some(child));
-    let written = [inner_seen(store, lower, 3), inner_seen(store, lower, 4)];
-    let freed = move_header(store, lower, upper, Header::new(&[5, 6], 2));
-    Some([
-        written[0] == with_child,
-        written[1] == expected_node4([5, 6], 1, None),
-        read_inner(freed.as_ref(), 3) == with_child,
-        inner_seen(store, upper, 3) == expected_node4([5, 6], 0, None),
-        inner_seen(store, lower, 3) == None,
-    ])
-}
-
-#[test]
-fn inner_nodes_are_written_and_freed(rt: HostRuntime) -> Result<(), Fail> {
-    let mut store = Store::new(rt.alloc());
-    same(move_lower(&mut store), Some([true; 5]))
-}
-
-// Removes an only child, which is under 3, after none under 4; returns whether what is returned each time and what is
-// left are right.
-fn cut_off(store: &mut Store) -> Option<[bool; 3]> {
-    let child = LeafPtr::from_slot(7).to_opaque();
-    let upper = place_above(store, Header::new(&[5, 6], 2), 3, child).ok()?;
-    Some([
-        cut_child(store, upper, 4) == None,
-        cut_child(store, upper, 3) == Some(child),
-        inner_seen(store, upper, 3) == expected_node4([5, 6], 0, None),
-    ])
-}
-
-#[test]
-fn a_child_is_cut_off(rt: HostRuntime) -> Result<(), Fail> {
-    let mut store = Store::new(rt.alloc());
-    same(cut_off(&mut store), Some([true; 3]))
 }
 
 // Places five pairs of leaves, and returns the names of the last one.
@@ -412,8 +203,8 @@ fn clone_placed(store: &mut Store) -> Option<[bool; 3]> {
 
 #[test]
 fn nodes_are_cloned_under_their_names(rt: HostRuntime) -> Result<(), Fail> {
-    let mut store = Store::new(rt.alloc());
-    same(clone_placed(&mut store), Some([true; 3]))
+    let seen = clone_placed(&mut Store::new(rt.alloc()));
+    same(seen, Some([true; 3]))
 }
 
 #[test]
@@ -440,11 +231,12 @@ fn counts_of(store: &Store) -> (usize, [usize; 3]) {
 // one is freed.
 fn count_steps(store: &mut Store) -> Option<[(usize, [usize; 3]); 4]> {
     let empty = counts_of(store);
-    let (first, _) = place_pair(store).ok()?;
+    let (first, second) = place_pair(store).ok()?;
     let placed = counts_of(store);
     store.free_leaf(first);
     let freed = counts_of(store);
-    move_lower(store)?;
+    let (lower, _) = place_two(store, second.to_opaque()).ok()?;
+    store.free_inner(lower);
     Some([empty, placed, freed, counts_of(store)])
 }
 
@@ -580,8 +372,8 @@ fn hand_back(store: &mut Store) -> Result<[bool; 4], AllocError> {
 
 #[test]
 fn without_memory_placements_hand_the_node_back(rt: HostRuntime) -> Result<(), Fail> {
-    let mut store = Store::new(rt.alloc());
-    same(hand_back(&mut store).ok(), Some([true; 4]))
+    let seen = hand_back(&mut Store::new(rt.alloc()));
+    same(seen.ok(), Some([true; 4]))
 }
 
 // Places a leaf, and returns whether a reservation without memory fails, and whether the leaf under the name is right
@@ -599,8 +391,8 @@ fn reserve_without_memory(store: &mut Store) -> Result<[bool; 2], AllocError> {
 
 #[test]
 fn without_memory_reservations_leave_the_nodes(rt: HostRuntime) -> Result<(), Fail> {
-    let mut store = Store::new(rt.alloc());
-    same(reserve_without_memory(&mut store).ok(), Some([true; 2]))
+    let seen = reserve_without_memory(&mut Store::new(rt.alloc()));
+    same(seen.ok(), Some([true; 2]))
 }
 
 // Whether each of two leaves and a node that were promised is placed without memory, and a promise is repeated in

@@ -182,13 +182,6 @@ fn none_or_one_leaf_comes(rt: HostRuntime) -> Result<(), Fail> {
     same(came.map(|came| came.from_none_and_all), Some(wanted))
 }
 
-#[test]
-fn two_leaves_come(rt: HostRuntime) -> Result<(), Fail> {
-    let wanted = [[None; 4], [Some(1), Some(0), None, None]];
-    let came = came_with(rt.alloc(), &[&[1], &[2]]);
-    same(came.map(|came| came.from_none_and_all), Some(wanted))
-}
-
 // What the freeing of the leaves between the first and the last one touches of these nodes.
 fn touched_of<const P: usize>(
     store: &mut NodeStore<Key, u32, P>,

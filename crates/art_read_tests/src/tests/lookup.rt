@@ -3,10 +3,7 @@ ghost use Rattle.std.specs.Prelude.{◌<◌};
 ghost use Rattle.art_model.specs.Pairs.{of_key};
 ghost use Rattle.art_model.specs.Roots.{IsCanonicalRoot};
 
-use art_nodes::node::{
-    FromHeader, Header, InnerNode, InnerNode4, InnerNode16, InnerNode48, InnerNodeDirect, LeafNode,
-    OpaqueNodePtr,
-};
+use art_nodes::node::{FromHeader, Header, InnerNode, InnerNode4, LeafNode, OpaqueNodePtr};
 use art_nodes::store::NodeStore;
 use art_operations::lookup::{
     PrefixMatchBehavior, Visits, prefix_search_visiting, search_visiting,
@@ -135,21 +132,6 @@ fn reads_nothing_where_stored_bytes_differ(rt: HostRuntime) -> Result<(), Fail> 
     same(seen, Some(([(None, 1); 2], (Some(1), 2))))
 }
 
-// Searches that end at a node without a child for the next byte.
-static WITHOUT_CHILD: [Search<'static>; 5] = [
-    Search::Whole(&[7]),
-    Search::Whole(&[0, 0, 9, 255]),
-    Search::Whole(&[0, 0, 0, 0, 0, 0, 0, 0, 0, 0, 7]),
-    Search::Prefix(&[7, 255]),
-    Search::Prefix(&[0, 254]),
-];
-
-#[test]
-fn reads_nothing_for_a_missing_child(rt: HostRuntime) -> Result<(), Fail> {
-    let wanted = [(None, 1), (None, 3), (None, 11), (None, 1), (None, 2)];
-    same(readings_with(rt.alloc(), &WITHOUT_CHILD), Some(wanted))
-}
-
 // What searches past bytes that no node stores find, with how many nodes each of the first two reads.
 type Past = ([(Option<u32>, usize); 2], [Option<u32>; 2]);
 
@@ -226,48 +208,6 @@ fn finds_below_a_prefix_of_which_nothing_is_stored(rt: HostRuntime) -> Result<()
     same(seen, Some((Some((2, 0)), [None, Some(1)])))
 }
 
-// What the same searches find in a tree whose prefixes are stored up to some length.
-fn found_at<const P: usize>(store: &NodeStore<Key, u32, P>, root: OpaqueNodePtr) -> [Option<u32>; 5]
-    requires { IsCanonicalRoot (of_key (λ key. key.items)) P store.now root }
-{
-    [
-        found(store, root, Search::Whole(&[1, 2, 3])),
-        found(store, root, Search::Whole(&[1, 2])),
-        found(store, root, Search::Prefix(&[1, 2])),
-        found(store, root, Search::Prefix(&[1, 2, 4, 9])),
-        found(store, root, Search::Prefix(&[2])),
-    ]
-}
-
-// Plants two keys, and searches.
-fn answers_at<const P: usize>(store: &mut NodeStore<Key, u32, P>) -> Option<[Option<u32>; 5]> {
-    let root = planted_all(store, &[&[1, 2, 3], &[1, 2, 4]]).ok()??;
-    Some(found_at(store, root))
-}
-
-// The same in a store of its own.
-fn answers_with<const P: usize>(alloc: Global) -> Option<[Option<u32>; 5]>
-    requires { P < 256 }
-{
-    answers_at::<P>(&mut NodeStore::new(alloc))
-}
-
-// The same with each number of stored bytes.
-fn answers_with_each(alloc: Global) -> [Option<[Option<u32>; 5]>; 4] {
-    [
-        answers_with::<0>(alloc),
-        answers_with::<2>(alloc),
-        answers_with::<4>(alloc),
-        answers_with::<16>(alloc),
-    ]
-}
-
-#[test]
-fn answers_the_same_at_every_length(rt: HostRuntime) -> Result<(), Fail> {
-    let wanted = [Some(0), None, None, Some(1), None];
-    same(answers_with_each(rt.alloc()), [Some(wanted); 4])
-}
-
 // The result of the comparison of a prefix, and how the next ones are to be made.
 type Compared = (
     Result<AttemptOptimisticPrefixMatch, PessimisticMismatch>,
@@ -285,11 +225,14 @@ fn compared<N: InnerNode<P>, const P: usize>(
     (outcome, behavior)
 }
 
-// A match of so many bytes, of which some were not compared.
-fn matched(len: usize) -> Result<AttemptOptimisticPrefixMatch, PessimisticMismatch> {
+// A match of so many bytes, with whether some were not compared.
+fn matched(
+    len: usize,
+    any_implicit_bytes: bool,
+) -> Result<AttemptOptimisticPrefixMatch, PessimisticMismatch> {
     Ok(AttemptOptimisticPrefixMatch {
         matched_bytes: len,
-        any_implicit_bytes: true,
+        any_implicit_bytes,
     })
 }
 
@@ -307,6 +250,7 @@ fn mismatch(
 #[test]
 fn compares_stored_bytes_and_then_lengths(rt: HostRuntime) -> Result<(), Fail> {
     let node: InnerNode4<2> = InnerNode4::from_header(Header::new(&[1, 1], 4));
+    let stored: InnerNode4<2> = InnerNode4::from_header(Header::new(&[1, 1], 2));
     let first = PrefixMatchBehavior::default();
     let (pessimistic, optimistic) = (
         PrefixMatchBehavior::Pessimistic,
@@ -318,37 +262,17 @@ fn compares_stored_bytes_and_then_lengths(rt: HostRuntime) -> Result<(), Fail> {
         compared(&node, pessimistic, &[1, 1, 9, 1, 5]),
         compared(&node, optimistic, &[9, 9, 9]),
         compared(&node, optimistic, &[9, 9, 9, 9]),
+        compared(&stored, pessimistic, &[1, 1, 9]),
     ];
     let wanted = [
         (mismatch(1, Some(1)), pessimistic),
         (mismatch(3, None), optimistic),
-        (matched(4), optimistic),
+        (matched(4, true), optimistic),
         (mismatch(3, None), optimistic),
-        (matched(4), optimistic),
+        (matched(4, true), optimistic),
+        (matched(2, false), pessimistic),
     ];
     same((first, seen), (pessimistic, wanted))
-}
-
-// Compares the prefix of a node of one kind with a key that starts with it.
-fn compared_whole<N: InnerNode<4>>(header: Header<4>) -> Compared {
-    let node = N::from_header(header);
-    compared(&node, PrefixMatchBehavior::Pessimistic, &[7, 8, 9])
-}
-
-#[test]
-fn stays_pessimistic_where_all_is_stored(rt: HostRuntime) -> Result<(), Fail> {
-    let whole = Ok(AttemptOptimisticPrefixMatch {
-        matched_bytes: 2,
-        any_implicit_bytes: false,
-    });
-    let header: Header<4> = Header::new(&[7, 8], 2);
-    let seen = [
-        compared_whole::<InnerNode4<4>>(header),
-        compared_whole::<InnerNode16<4>>(header),
-        compared_whole::<InnerNode48<4>>(header),
-        compared_whole::<InnerNodeDirect<4>>(header),
-    ];
-    same(seen, [(whole, PrefixMatchBehavior::Pessimistic); 4])
 }
 
 // Whether keys are equal to [1, 2, 3] from a depth on or whole.

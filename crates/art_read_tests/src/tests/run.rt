@@ -1,6 +1,4 @@
 //! Runs of commands.
-ghost use Rattle.std.specs.Prelude.{◌<◌};
-
 use art_nodes::node::{LeafPtr, OpaqueNodePtr};
 use art_nodes::store::NodeStore;
 use art_operations::insert::InsertPrefixError;
@@ -42,46 +40,9 @@ fn left_in<const P: usize>(
     ran(first, second, rows).ok()
 }
 
-// The same in stores of its own.
-fn left_at<const P: usize>(alloc: Global, rows: &[Row<'_>]) -> Option<Left>
-    requires { P < 256 }
-{
-    left_in::<P>(&mut NodeStore::new(alloc), &mut NodeStore::new(alloc), rows)
-}
-
-/// The same where four bytes of a prefix are stored.
+/// The same in stores of its own.
 pub fn left_by(alloc: Global, rows: &[Row<'_>]) -> Option<Left> {
-    left_at::<4>(alloc, rows)
-}
-
-// The same with each number of stored bytes.
-fn left_at_each(alloc: Global, rows: &[Row<'_>]) -> [Option<Left>; 4] {
-    [
-        left_at::<0>(alloc, rows),
-        left_at::<2>(alloc, rows),
-        left_at::<4>(alloc, rows),
-        left_at::<16>(alloc, rows),
-    ]
-}
-
-// Insertions of a key, and of one that it is the prefix of, with these values.
-macro_rules! related {
-    ($value:literal, $longer_value:literal) => {
-        [
-            (Asked::Insert(&[1], $value), Told::Inserted(None)),
-            (
-                Asked::Insert(&[1, 2], $longer_value),
-                Told::Conflict(&[1, 2], $longer_value, &[1, 2]),
-            ),
-        ]
-    };
-}
-
-static RELATED: [Row<'static>; 2] = related!(10, 12);
-
-#[test]
-fn refuses_a_related_key(rt: HostRuntime) -> Result<(), Fail> {
-    same(left_at_each(rt.alloc(), &RELATED), [Some(A_TREE); 4])
+    left_in::<4>(&mut NodeStore::new(alloc), &mut NodeStore::new(alloc), rows)
 }
 
 // Insertions that replace related keys.
@@ -98,11 +59,6 @@ static OVER_RELATED: [Row<'static>; 7] = [
     (Asked::InsertPrefix(&[], 7), Told::Overwrote(None, 2)),
 ];
 
-#[test]
-fn overwrites_related_keys(rt: HostRuntime) -> Result<(), Fail> {
-    same(left_by(rt.alloc(), &OVER_RELATED), Some(A_TREE))
-}
-
 // Commands on one key, and on one that is not stored.
 static EACH: [Row<'static>; 6] = [
     (Asked::Insert(&[5], 1), Told::Inserted(None)),
@@ -113,16 +69,6 @@ static EACH: [Row<'static>; 6] = [
     (Asked::Delete(&[5]), Told::Deleted(None)),
 ];
 
-#[test]
-fn answers_each_command(rt: HostRuntime) -> Result<(), Fail> {
-    same(left_by(rt.alloc(), &EACH), Some(NO_TREE))
-}
-
-#[test]
-fn runs_no_commands(rt: HostRuntime) -> Result<(), Fail> {
-    same(left_by(rt.alloc(), &[]), Some(NO_TREE))
-}
-
 // Matches before and after the only key.
 static LONGEST: [Row<'static>; 4] = [
     (Asked::LongestMatch(&[1, 2, 3, 4]), Told::MatchLen(None)),
@@ -130,11 +76,6 @@ static LONGEST: [Row<'static>; 4] = [
     (Asked::LongestMatch(&[1, 2, 3, 4]), Told::MatchLen(Some(3))),
     (Asked::LongestMatch(&[1, 2]), Told::MatchLen(None)),
 ];
-
-#[test]
-fn measures_the_longest_match(rt: HostRuntime) -> Result<(), Fail> {
-    same(left_by(rt.alloc(), &LONGEST), Some(A_TREE))
-}
 
 // Five keys, and deletions at either end until none is left.
 static AT_THE_ENDS: [Row<'static>; 11] = [
@@ -152,8 +93,18 @@ static AT_THE_ENDS: [Row<'static>; 11] = [
 ];
 
 #[test]
-fn deletes_at_the_ends(rt: HostRuntime) -> Result<(), Fail> {
-    same(left_by(rt.alloc(), &AT_THE_ENDS), Some(NO_TREE))
+fn answers_each_command(rt: HostRuntime) -> Result<(), Fail> {
+    let runs: [(&[Row<'_>], Left); 5] = [
+        (&OVER_RELATED, A_TREE),
+        (&EACH, NO_TREE),
+        (&[], NO_TREE),
+        (&LONGEST, A_TREE),
+        (&AT_THE_ENDS, NO_TREE),
+    ];
+    for (rows, left) in runs {
+        same(left_by(rt.alloc(), rows), Some(left))?;
+    }
+    Ok(())
 }
 
 // Whether an error has this text.
@@ -248,7 +199,14 @@ fn replies_with(alloc: Global, rows: &[Row<'_>], wanted: &str) -> Option<(Option
     replies_seen::<4>(first, &mut NodeStore::new(alloc), rows, wanted)
 }
 
-static IN_CONFLICT: [Row<'static>; 2] = related!(0, 1);
+// Insertions of a key, and of one that it is the prefix of.
+static IN_CONFLICT: [Row<'static>; 2] = [
+    (Asked::Insert(&[1], 0), Told::Inserted(None)),
+    (
+        Asked::Insert(&[1, 2], 1),
+        Told::Conflict(&[1, 2], 1, &[1, 2]),
+    ),
+];
 
 #[test]
 fn a_longer_key_is_in_conflict(rt: HostRuntime) -> Result<(), Fail> {

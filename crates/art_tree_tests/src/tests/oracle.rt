@@ -1,5 +1,4 @@
 mod against_oracle;
-mod built;
 mod by_list;
 mod drawn;
 mod refused;

@@ -1,12 +1,10 @@
 //! The sorted list of pairs, by its public calls.
-ghost use Rattle.std.specs.Prelude.{IfOk};
 ghost use Rattle.art_model.specs.Pairs.{IsMap, of_key};
 
 use art_nodes::node::AsBytes;
-use art_oracle::pairs::{contains, has_related, insert_at, remove, replace_at, search};
+use art_oracle::pairs::{has_related, insert_at, search};
 use art_test_support::expected::same;
 use art_test_support::memory::all_memory;
-use art_test_support::trees::Key;
 use std::alloc::{AllocError, Global};
 use std::test::Fail;
 
@@ -26,99 +24,6 @@ pub fn insert_apart<K: AsBytes + Drop, V: Drop>(
         }
         _ => Ok(false),
     }
-}
-
-/// Replaces the value of a stored key, and returns the old one.
-fn replace<K: AsBytes + Drop, V: Drop>(pairs: &mut Vec<(K, V)>, key: K, value: V) -> Option<V>
-    requires { IsMap (of_key K.bytes) pairs.old.items }
-    ensures { IsMap (of_key K.bytes) pairs.new.items }
-{
-    let Ok(at) = search(pairs, key.as_bytes()) else {
-        return None;
-    };
-    let (_, old) = replace_at(pairs, at, key, value);
-    Some(old)
-}
-
-/// Removes a key, and returns its value.
-fn take<K: AsBytes + Drop, V: Drop>(pairs: &mut Vec<(K, V)>, key: &[u8]) -> Option<V>
-    requires { IsMap (of_key K.bytes) pairs.old.items }
-    ensures { IsMap (of_key K.bytes) pairs.new.items }
-{
-    let (_, value) = remove(pairs, key)?;
-    Some(value)
-}
-
-/// The keys [1], [2, 1] and [2, 3], with the values 10, 20 and 30.
-fn three_pairs(alloc: Global) -> Result<Vec<(Key, u32)>, AllocError>
-    ensures { IfOk result (λ pairs. IsMap (of_key ⟦<Vec<u8> as AsBytes>⟧.bytes) pairs.items) }
-{
-    let mut pairs = Vec::new(alloc);
-    insert_apart(&mut pairs, [2, 3].to_vec(alloc)?, 30)?;
-    insert_apart(&mut pairs, [1].to_vec(alloc)?, 10)?;
-    insert_apart(&mut pairs, [2, 1].to_vec(alloc)?, 20)?;
-    Ok(pairs)
-}
-
-/// What searches among three pairs return.
-fn searched(pairs: &[(Key, u32)]) -> ([Result<usize, usize>; 3], [bool; 2])
-    requires { IsMap (of_key ⟦<Vec<u8> as AsBytes>⟧.bytes) pairs.now }
-{
-    (
-        [
-            search(pairs, &[1]),
-            search(pairs, &[2, 3]),
-            search(pairs, &[2]),
-        ],
-        [contains(pairs, &[1]), contains(pairs, &[1, 0])],
-    )
-}
-
-#[test]
-fn keeps_keys_in_order(rt: HostRuntime) -> Result<(), Fail> {
-    let pairs = three_pairs(rt.alloc())?;
-    let wanted = ([Ok(0), Ok(2), Err(1)], [true, false]);
-    same(searched(&pairs), wanted)
-}
-
-/// Whether each of three further keys is inserted.
-fn are_apart(alloc: Global, pairs: &mut Vec<(Key, u32)>) -> Result<[bool; 3], AllocError>
-    requires { IsMap (of_key ⟦<Vec<u8> as AsBytes>⟧.bytes) pairs.old.items }
-{
-    Ok([
-        insert_apart(pairs, [2].to_vec(alloc)?, 0)?,
-        insert_apart(pairs, [1, 0].to_vec(alloc)?, 0)?,
-        insert_apart(pairs, [2, 2].to_vec(alloc)?, 0)?,
-    ])
-}
-
-#[test]
-fn sees_related_keys(rt: HostRuntime) -> Result<(), Fail> {
-    let mut pairs = three_pairs(rt.alloc())?;
-    let came = are_apart(rt.alloc(), &mut pairs)?;
-    same((came, pairs.len()), ([false, false, true], 4))
-}
-
-/// The old values of keys whose values are replaced, and then of one that is removed twice.
-fn replaced_and_taken(
-    alloc: Global,
-    pairs: &mut Vec<(Key, u32)>,
-) -> Result<[Option<u32>; 4], AllocError>
-    requires { IsMap (of_key ⟦<Vec<u8> as AsBytes>⟧.bytes) pairs.old.items }
-{
-    Ok([
-        replace(pairs, [2, 1].to_vec(alloc)?, 21),
-        replace(pairs, [2].to_vec(alloc)?, 0),
-        take(pairs, &[2, 1]),
-        take(pairs, &[2, 1]),
-    ])
-}
-
-#[test]
-fn replaces_and_removes(rt: HostRuntime) -> Result<(), Fail> {
-    let mut pairs = three_pairs(rt.alloc())?;
-    let old = replaced_and_taken(rt.alloc(), &mut pairs)?;
-    same((old, pairs.len()), ([Some(20), None, Some(21), None], 2))
 }
 
 /// Whether a pair is inserted where allocations fail, and how many pairs there are then.

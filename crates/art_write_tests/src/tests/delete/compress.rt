@@ -1,17 +1,12 @@
 //! Deletions from a parent with two children.
-ghost use Rattle.std.specs.Prelude.{◌<◌};
-
 use super::points::{delete, deletion_from, gone_with, take_out};
-use art_nodes::node::{NodeType, OpaqueNodePtr};
+use art_nodes::node::OpaqueNodePtr;
 use art_nodes::store::NodeStore;
 use art_test_support::cases::{Outline, outline_of, pair_below};
 use art_test_support::expected::as_expected;
 use art_test_support::memory::all_memory;
-use art_test_support::nodes::count_nodes;
 use art_test_support::points::Gone;
-use art_test_support::side_by_side::kind_if_same;
 use art_test_support::trees::{Key, child, planted_all};
-use std::alloc::{AllocError, Global};
 use std::test::Fail;
 
 // The root that a deletion leaves, the deleted pair, and what else is seen.
@@ -54,51 +49,6 @@ fn merges_a_prefix_that_is_not_stored_whole(rt: HostRuntime) -> Result<(), Fail>
     as_expected(merge_long::<2>(&mut NodeStore::new(rt.alloc())))
 }
 
-// The pairs that are left without the last of five keys.
-static LEFT: [(&[u8], u32); 4] = [(&[0], 0), (&[1, 1, 1, 5], 1), (&[1, 1, 1, 6], 2), (&[2], 3)];
-
-// The same with keys of their own.
-fn pairs_left(alloc: Global) -> Result<Vec<(Key, u32)>, AllocError> {
-    let mut pairs = Vec::new(alloc);
-    for (key, value) in &LEFT {
-        pairs.push((key.to_vec(alloc)?, *value))?;
-    }
-    Ok(pairs)
-}
-
-// How many slots the deletion of an inserted key places, frees and changes, whether the root is the same as before, and
-// the greatest kind of node where the tree is the one of the other keys.
-type Undone = ((usize, usize, usize), bool, Option<NodeType>);
-
-// What is seen of that, and what is expected.
-fn undone<const P: usize>(
-    store: &mut NodeStore<Key, u32, P>,
-    other: &mut NodeStore<Key, u32, P>,
-) -> Option<(Undone, Undone)> {
-    let slices: [&[u8]; 5] = [&[0], &[1, 1, 1, 5], &[1, 1, 1, 6], &[2], &[1, 1, 9]];
-    let seen = deletion_from(store, &slices, &[1, 1, 9])?;
-    let other_root = planted_all(other, &slices[..4]).ok()?;
-    let pairs = pairs_left(store.alloc()).ok()?;
-    let same = kind_if_same((&*store, seen.new_root), (&*other, other_root), &pairs);
-    let undone = (seen.touched, seen.new_root == Some(seen.root), same.ok()?);
-    Some((undone, ((0, 2, 4), true, Some(NodeType::Node4))))
-}
-
-// The same in stores of its own.
-fn undone_with<const P: usize>(alloc: Global) -> Option<(Undone, Undone)>
-    requires { P < 256 }
-{
-    undone::<P>(&mut NodeStore::new(alloc), &mut NodeStore::new(alloc))
-}
-
-// None of a prefix is stored, or four bytes are, or sixteen are.
-#[test]
-fn undoes_an_insertion(rt: HostRuntime) -> Result<(), Fail> {
-    as_expected(undone_with::<0>(rt.alloc()))?;
-    as_expected(undone_with::<4>(rt.alloc()))?;
-    as_expected(undone_with::<16>(rt.alloc()))
-}
-
 // The root that is left without [1, 9] beside [1, 1, 5] and [1, 1, 6], while all memory is held, and what is expected.
 fn compress_without_memory<const P: usize>(
     store: &mut NodeStore<Key, u32, P>,
@@ -113,21 +63,4 @@ fn compress_without_memory<const P: usize>(
 #[test]
 fn without_memory_a_parent_is_compressed(rt: HostRuntime) -> Result<(), Fail> {
     as_expected(compress_without_memory::<4>(&mut NodeStore::new(rt.alloc())))
-}
-
-// What is left without the only key, with how many leaves and inner nodes there are, and what is expected.
-fn delete_last<const P: usize>(
-    store: &mut NodeStore<Key, u32, P>,
-) -> Option<(Left<(usize, usize)>, Left<(usize, usize)>)> {
-    let root = planted_all(store, &[&[1, 2, 3]]).ok()??;
-    let (new_root, gone) = delete(store, root, &[1, 2, 3])?;
-    Some((
-        (new_root, gone, count_nodes(store)),
-        (None, gone_with(0), (0, 0)),
-    ))
-}
-
-#[test]
-fn leaves_nothing_of_one_leaf(rt: HostRuntime) -> Result<(), Fail> {
-    as_expected(delete_last::<16>(&mut NodeStore::new(rt.alloc())))
 }

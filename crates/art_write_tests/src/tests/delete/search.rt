@@ -12,9 +12,7 @@ use art_operations::lookup::Visits;
 use art_operations::path::TreePath;
 use art_test_support::cases::{FOUR, names_of_four};
 use art_test_support::expected::{as_expected, same};
-use art_test_support::trees::{
-    Key, child, keys_of_three, keys_of_zeros, planted_all, planted_keys, value_of,
-};
+use art_test_support::trees::{Key, child, keys_of_three, planted_all, planted_keys, value_of};
 use std::test::Fail;
 
 // The point of a key, and how many nodes the search reads.
@@ -30,17 +28,6 @@ fn searched<const P: usize>(
     (point, visits.count())
 }
 
-// The value of a point's leaf, and how many nodes were read for the point.
-fn with_value<const P: usize>(
-    store: &NodeStore<Key, u32, P>,
-    (point, count): (Option<DeletePoint>, usize),
-) -> (Option<u32>, usize) {
-    match point {
-        Some(point) => (value_of(store, point.leaf_node_ptr), count),
-        None => (None, count),
-    }
-}
-
 // The points of the first and the last leaf.
 fn ends<const P: usize>(store: &NodeStore<Key, u32, P>, root: OpaqueNodePtr) -> [DeletePoint; 2]
     requires { IsCanonicalRoot (of_key (λ key. key.items)) P store.now root }
@@ -49,43 +36,6 @@ fn ends<const P: usize>(store: &NodeStore<Key, u32, P>, root: OpaqueNodePtr) -> 
         find_minimum_to_delete(store, root),
         find_maximum_to_delete(store, root),
     ]
-}
-
-// The point of a leaf that is the root.
-fn point_at_root(root: OpaqueNodePtr) -> Option<DeletePoint> {
-    Some(DeletePoint {
-        path: TreePath::Root,
-        leaf_node_ptr: root.as_leaf()?,
-    })
-}
-
-// The points of the only leaf, as they are found, and as they are expected.
-type OfOne = [Option<DeletePoint>; 3];
-
-fn points_of_one<const P: usize>(store: &mut NodeStore<Key, u32, P>) -> Option<(OfOne, OfOne)> {
-    let root = planted_all(store, &[&[1, 2, 3]]).ok()??;
-    let found = search_for_delete_point(store, root, &[1, 2, 3]);
-    let [first, last] = ends(store, root);
-    Some(([found, Some(first), Some(last)], [point_at_root(root); 3]))
-}
-
-#[test]
-fn names_no_parent_of_the_root(rt: HostRuntime) -> Result<(), Fail> {
-    as_expected(points_of_one::<16>(&mut NodeStore::new(rt.alloc())))
-}
-
-// How many nodes a search reads for a key that differs from the stored bytes of the root's prefix, and whether it finds
-// a point.
-fn searched_aside(store: &mut NodeStore<Key, u32, 16>) -> Option<(bool, usize)> {
-    let root = planted_all(store, &[&[1, 2, 3], &[1, 2, 4]]).ok()??;
-    let (point, count) = searched(store, root, &[9, 9, 3]);
-    Some((point.is_some(), count))
-}
-
-#[test]
-fn reads_nothing_where_stored_bytes_differ(rt: HostRuntime) -> Result<(), Fail> {
-    let seen = searched_aside(&mut NodeStore::new(rt.alloc()));
-    same(seen, Some((false, 1)))
 }
 
 // The points of three leaves, and how many nodes lead to each.
@@ -151,36 +101,6 @@ fn names_parents_and_grandparents(rt: HostRuntime) -> Result<(), Fail> {
     as_expected(points_of_four::<0>(&mut NodeStore::new(rt.alloc())))
 }
 
-// The first of some keys that has a point, with the point.
-fn first_found<'a, const P: usize>(
-    store: &NodeStore<Key, u32, P>,
-    root: OpaqueNodePtr,
-    keys: &[&'a [u8]],
-) -> Option<(&'a [u8], DeletePoint)>
-    requires { IsCanonicalRoot (of_key (λ key. key.items)) P store.now root }
-{
-    for &key in keys {
-        if let Some(point) = search_for_delete_point(store, root, key) {
-            return Some((key, point));
-        }
-    }
-    None
-}
-
-// Whether none of these keys has a point in the tree of three others.
-fn has_none<const P: usize>(store: &mut NodeStore<Key, u32, P>, keys: &[&[u8]]) -> Option<bool> {
-    let root = planted_all(store, &[&[1, 2, 3], &[1, 2, 4], &[6]]).ok()??;
-    Some(first_found(store, root, keys).is_none())
-}
-
-static ABSENT: [&[u8]; 6] = [&[], &[1], &[1, 2], &[1, 2, 5], &[1, 2, 3, 4], &[7]];
-
-#[test]
-fn finds_no_point_of_an_absent_key(rt: HostRuntime) -> Result<(), Fail> {
-    let seen = has_none::<16>(&mut NodeStore::new(rt.alloc()), &ABSENT);
-    same(seen, Some(true))
-}
-
 // The first of some keys for which the two searches name different points.
 fn first_told_apart<'a, const P: usize>(
     store: &NodeStore<Key, u32, P>,
@@ -225,58 +145,6 @@ static SOUGHT: [&[u8]; 9] = [
 fn names_the_same_points_by_lengths(rt: HostRuntime) -> Result<(), Fail> {
     let seen = are_named_alike::<16>(&mut NodeStore::new(rt.alloc()), &SOUGHT);
     same(seen, Some(true))
-}
-
-// The values of four keys, two of which are absent, and how many nodes the searches read.
-fn counted_below_zeros<const P: usize>(
-    store: &NodeStore<Key, u32, P>,
-    root: OpaqueNodePtr,
-) -> [(Option<u32>, usize); 4]
-    requires { IsCanonicalRoot (of_key (λ key. key.items)) P store.now root }
-{
-    [
-        with_value(store, searched(store, root, &[255])),
-        with_value(
-            store,
-            searched(store, root, &[0, 0, 0, 0, 0, 0, 0, 0, 0, 0, 0, 255]),
-        ),
-        with_value(store, searched(store, root, &[0, 0, 0, 0])),
-        with_value(store, searched(store, root, &[])),
-    ]
-}
-
-// The same in the tree of twelve keys of zeros.
-fn counted_zeros<const P: usize>(
-    store: &mut NodeStore<Key, u32, P>,
-) -> Option<[(Option<u32>, usize); 4]> {
-    let zeros = keys_of_zeros(store.alloc()).ok()?;
-    let root = planted_keys(store, zeros)?;
-    Some(counted_below_zeros(store, root))
-}
-
-#[test]
-fn counts_readings(rt: HostRuntime) -> Result<(), Fail> {
-    let seen = counted_zeros::<4>(&mut NodeStore::new(rt.alloc()));
-    same(
-        seen,
-        Some([(Some(0), 2), (Some(11), 12), (None, 5), (None, 1)]),
-    )
-}
-
-// The same for a key that is not that of the leaf that it leads to, and for that one.
-fn counted_skipped<const P: usize>(
-    store: &mut NodeStore<Key, u32, P>,
-) -> Option<[(Option<u32>, usize); 2]> {
-    let root = planted_all(store, &[&[1, 1, 1, 1, 5], &[1, 1, 1, 1, 6]]).ok()??;
-    let other = searched(store, root, &[1, 1, 9, 1, 5]);
-    let own = searched(store, root, &[1, 1, 1, 1, 5]);
-    Some([with_value(store, other), with_value(store, own)])
-}
-
-#[test]
-fn compares_the_whole_key_after_skipped_bytes(rt: HostRuntime) -> Result<(), Fail> {
-    let seen = counted_skipped::<2>(&mut NodeStore::new(rt.alloc()));
-    same(seen, Some([(None, 2), (Some(0), 2)]))
 }
 
 // The point of the leaf that three bytes lead to from the root, each from a node to its child.

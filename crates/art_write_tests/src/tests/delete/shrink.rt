@@ -53,20 +53,6 @@ fn take_all_out<const P: usize>(
     Some((root, None))
 }
 
-// The same in their tree.
-fn all_taken_out<const P: usize>(
-    store: &mut NodeStore<Key, u32, P>,
-) -> Option<(Option<OpaqueNodePtr>, Option<usize>)> {
-    let root = planted_bytes(store, 256)?;
-    take_all_out(store, root)
-}
-
-#[test]
-fn shrinks_through_every_kind(rt: HostRuntime) -> Result<(), Fail> {
-    let left = all_taken_out::<4>(&mut NodeStore::new(rt.alloc()));
-    same(left, Some((None, None)))
-}
-
 // What the deletion of one of these keys touches.
 fn touched_by(alloc: Global, slices: &[&[u8]], key: &[u8]) -> Option<(usize, usize, usize)> {
     let seen = deletion_from::<4>(&mut NodeStore::new(alloc), slices, key);

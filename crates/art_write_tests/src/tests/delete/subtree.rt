@@ -183,14 +183,9 @@ fn left_with<const P: usize>(alloc: Global, row: &Row) -> Option<Left>
     left_of::<P>(&mut NodeStore::new(alloc), &mut NodeStore::new(alloc), row)
 }
 
-// Nothing of a prefix is stored, or two, four or sixteen bytes are.
-fn left_with_each(alloc: Global, row: &Row) -> [Option<Left>; 4] {
-    [
-        left_with::<0>(alloc, row),
-        left_with::<2>(alloc, row),
-        left_with::<4>(alloc, row),
-        left_with::<16>(alloc, row),
-    ]
+// Nothing of a prefix is stored, or four bytes are.
+fn left_with_each(alloc: Global, row: &Row) -> [Option<Left>; 2] {
+    [left_with::<0>(alloc, row), left_with::<4>(alloc, row)]
 }
 
 #[test]
@@ -200,44 +195,10 @@ fn leaves_the_tree_of_the_other_keys(rt: HostRuntime) -> Result<(), Fail> {
         let expected = Some((removed, row.touched, Some(row.kind)));
         same(
             (row.prefix, left_with_each(rt.alloc(), row)),
-            (row.prefix, [expected; 4]),
+            (row.prefix, [expected; 2]),
         )?;
     }
     Ok(())
-}
-
-// Whether there are points of some prefixes in the tree of some keys.
-fn have_points<const P: usize>(
-    store: &mut NodeStore<Key, u32, P>,
-    prefixes: &[&[u8]],
-) -> Option<usize> {
-    let root = planted_all(store, &[&[1, 1, 1, 5], &[1, 1, 1, 6], &[2]]).ok()??;
-    let mut found = 0usize;
-    for prefix in prefixes {
-        if search_for_prefix_delete_point(store, root, prefix).is_some() {
-            found = found.saturating_add(1);
-        }
-    }
-    Some(found)
-}
-
-static ABSENT: [&[u8]; 6] = [
-    &[3],
-    &[1, 2],
-    &[1, 1, 2],
-    &[1, 1, 1, 7],
-    &[2, 0],
-    &[1, 2, 1, 5],
-];
-
-#[test]
-fn finds_no_point_where_no_key_begins_with_the_prefix(rt: HostRuntime) -> Result<(), Fail> {
-    let found = [
-        have_points::<0>(&mut NodeStore::new(rt.alloc()), &ABSENT),
-        have_points::<2>(&mut NodeStore::new(rt.alloc()), &ABSENT),
-        have_points::<16>(&mut NodeStore::new(rt.alloc()), &ABSENT),
-    ];
-    same(found, [Some(0); 3])
 }
 
 // The tree of so many keys of one byte and two keys that start with 255.
@@ -254,17 +215,6 @@ fn planted_with_two<const P: usize>(
     planted_keys(store, all)
 }
 
-// The kind of the root that is left without these two, and what was touched.
-fn shrunk<const P: usize>(
-    store: &mut NodeStore<Key, u32, P>,
-    count: u16,
-) -> Option<(NodeType, Touched)> {
-    let root = planted_with_two(store, count)?;
-    let before = nodes_seen(store).ok()?;
-    let done = remove_below(store, root, &before, &[255])?;
-    Some((done.new_root?.node_type(), done.touched))
-}
-
 // The numbers of other children from which a node becomes one of a smaller kind, with that kind, and what is touched. A
 // node of the kind of the two keys' parent has its name.
 static SHRINKING: [(u16, NodeType, Touched); 3] = [
@@ -272,15 +222,6 @@ static SHRINKING: [(u16, NodeType, Touched); 3] = [
     (16, NodeType::Node16, (1, 4, 1)),
     (48, NodeType::Node48, (1, 4, 1)),
 ];
-
-#[test]
-fn shrinks_a_parent_of_each_kind(rt: HostRuntime) -> Result<(), Fail> {
-    for (count, kind, touched) in &SHRINKING {
-        let seen = shrunk::<4>(&mut NodeStore::new(rt.alloc()), *count);
-        same(seen, Some((*kind, *touched)))?;
-    }
-    Ok(())
-}
 
 // More nodes of one kind than a store has room for before they are requested.
 const MORE_THAN_FIT: usize = 100_000;

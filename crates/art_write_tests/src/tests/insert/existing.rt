@@ -1,12 +1,8 @@
 //! Insertions that give a node a further child, or replace a value.
-
-use super::effect::{
-    Effect, apart, done_below, done_in_place, effect_in, effect_of, told_without_memory,
-};
+use super::effect::{Effect, apart, done_below, done_in_place, effect_of, told_without_memory};
 use art_nodes::node::{NodeType, OpaqueNodePtr};
 use art_nodes::store::NodeStore;
 use art_operations::insert::InsertParentNodeChange;
-use art_test_support::cases::planted_bytes;
 use art_test_support::expected::{as_expected, same};
 use art_test_support::points::{Insertion, Way};
 use art_test_support::trees::{Key, child, value_of};
@@ -132,50 +128,23 @@ fn grown(alloc: Global, slices: &[&[u8]], key: &[u8], wanted: Wanted) -> Option<
     grow::<16>(&mut NodeStore::new(alloc), slices, key, wanted)
 }
 
-#[test]
-fn adds_a_child_where_there_is_room(rt: HostRuntime) -> Result<(), Fail> {
-    as_expected(grown(rt.alloc(), &[&[1], &[2]], &[3], Wanted::Child))
-}
+// Keys of a tree, one that is inserted into it, and what is expected of that.
+static CASES: [(&[&[u8]], &[u8], Wanted); 5] = [
+    (&[&[1], &[2]], &[3], Wanted::Child),
+    (&[&[1], &[2], &[3], &[4]], &[5], Wanted::LargerRoot),
+    (
+        &[&[0], &[1, 1], &[1, 2], &[1, 4], &[1, 5], &[2]],
+        &[1, 3],
+        Wanted::LargerChild,
+    ),
+    (&[&[1, 1], &[1, 2]], &[1, 2], Wanted::InPlace(1)),
+    (&[&[]], &[], Wanted::InPlace(0)),
+];
 
 #[test]
-fn puts_a_larger_root_in_the_place_of_a_full_one(rt: HostRuntime) -> Result<(), Fail> {
-    let slices: [&[u8]; 4] = [&[1], &[2], &[3], &[4]];
-    as_expected(grown(rt.alloc(), &slices, &[5], Wanted::LargerRoot))
-}
-
-#[test]
-fn tells_the_parent_of_a_larger_child(rt: HostRuntime) -> Result<(), Fail> {
-    let slices: [&[u8]; 6] = [&[0], &[1, 1], &[1, 2], &[1, 4], &[1, 5], &[2]];
-    as_expected(grown(rt.alloc(), &slices, &[1, 3], Wanted::LargerChild))
-}
-
-#[test]
-fn hands_back_the_old_value(rt: HostRuntime) -> Result<(), Fail> {
-    let slices: [&[u8]; 2] = [&[1, 1], &[1, 2]];
-    as_expected(grown(rt.alloc(), &slices, &[1, 2], Wanted::InPlace(1)))
-}
-
-#[test]
-fn replaces_the_value_of_the_empty_key(rt: HostRuntime) -> Result<(), Fail> {
-    as_expected(grown(rt.alloc(), &[&[]], &[], Wanted::InPlace(0)))
-}
-
-// The kind of the root of so many keys of one byte with one more, and whether it has that key's leaf.
-fn grown_from<const P: usize>(
-    store: &mut NodeStore<Key, u32, P>,
-    count: u8,
-) -> Option<(NodeType, bool)> {
-    let root = planted_bytes(store, u16::from(count))?;
-    let done = effect_in(store, root, apart(&[count], None))?.done;
-    let found = child(store, done.new_root, count);
-    Some((done.new_root.kind, found == Some(done.leaf.to_opaque())))
-}
-
-#[test]
-fn grows_to_each_kind(rt: HostRuntime) -> Result<(), Fail> {
-    for (count, kind) in [(16u8, NodeType::Node48), (48, NodeType::Node256)] {
-        let grown = grown_from::<16>(&mut NodeStore::new(rt.alloc()), count);
-        same(grown, Some((kind, true)))?;
+fn gives_a_node_a_child_or_replaces_a_value(rt: HostRuntime) -> Result<(), Fail> {
+    for (slices, key, wanted) in &CASES {
+        as_expected(grown(rt.alloc(), slices, key, *wanted))?;
     }
     Ok(())
 }

@@ -15,7 +15,7 @@ use art_operations::lookup::search_unchecked;
 use art_operations::path::TreePath;
 use art_test_support::expected::{as_expected, same};
 use art_test_support::nodes::count_nodes;
-use art_test_support::points::{Gone, Insertion, Way, put};
+use art_test_support::points::{Insertion, Way, put};
 use art_test_support::trees::{Key, keys_of_three, planted_all, planted_keys, value_of};
 use std::alloc::Global;
 use std::test::Fail;
@@ -210,23 +210,6 @@ fn expected_at_root(seen: Effect, used: usize, leaves: usize, inners: usize) -> 
     (effect, ALONE)
 }
 
-// Keys that replace the whole tree, and how many of their bytes are used.
-static AT_ROOT: [(&[u8], usize); 4] = [(&[], 0), (&[4], 0), (&[4, 1], 0), (&[4, 1, 2], 2)];
-
-// The result of such a key in the tree of two others, and the expected result.
-fn tried_at_root(alloc: Global, key: &[u8], used: usize) -> Option<(Outcome, Outcome)> {
-    let seen = tried(alloc, &[&[4, 1, 2, 7], &[4, 1, 2, 8]], key, &[])?;
-    Some((seen, expected_at_root(seen.0, used, 2, 1)))
-}
-
-#[test]
-fn gives_way_at_the_root(rt: HostRuntime) -> Result<(), Fail> {
-    for (key, used) in &AT_ROOT {
-        as_expected(tried_at_root(rt.alloc(), key, *used))?;
-    }
-    Ok(())
-}
-
 // The result of the empty key in the tree of these, and the expected result.
 fn overwritten_by_empty<const P: usize>(
     store: &mut NodeStore<Key, u32, P>,
@@ -268,10 +251,9 @@ fn tried_for_one(alloc: Global, old: &[u8], key: &[u8]) -> Option<(Outcome, Outc
 }
 
 // Keys, each with one that it replaces.
-static FOR_ONE: [(&[u8], &[u8]); 4] = [
+static FOR_ONE: [(&[u8], &[u8]); 3] = [
     (&[1, 2, 3], &[1, 2]),
     (&[1, 2, 3], &[1, 2, 3, 4]),
-    (&[1, 2, 3], &[]),
     (&[], &[1]),
 ];
 
@@ -283,30 +265,7 @@ fn replaces_one_leaf(rt: HostRuntime) -> Result<(), Fail> {
     Ok(())
 }
 
-// The expected result of [1, 2], which replaces the leaf of [1, 2, 3] between two others.
-fn expected_between(seen: Effect) -> Option<Outcome> {
-    let leaf = seen.below?;
-    let effect = expected_for_leaf(seen, at_child(seen.root, 1, leaf, 1)?, leaf, 1)?;
-    let after = After {
-        nodes: (3, 1),
-        has_key: true,
-        values: [Some(0), Some(9), Some(2)],
-    };
-    Some((effect, after))
-}
-
 static BETWEEN: [&[u8]; 3] = [&[0], &[1, 2, 3], &[2]];
-
-// The result of this key, and the expected result.
-fn tried_between(alloc: Global) -> Option<(Outcome, Outcome)> {
-    let seen = tried(alloc, &BETWEEN, &[1, 2], &[1, 2, 3])?;
-    Some((seen, expected_between(seen.0)?))
-}
-
-#[test]
-fn replaces_one_leaf_between_others(rt: HostRuntime) -> Result<(), Fail> {
-    as_expected(tried_between(rt.alloc()))
-}
 
 // The kind of a point.
 #[derive(Clone, Copy, PartialEq, Eq, Debug)]
@@ -328,104 +287,6 @@ fn kind_of(point: PrefixInsertPoint) -> Kind {
         InsertKind::Exact { .. } => Kind::Exact,
         InsertKind::IntoExisting { .. } => Kind::IntoExisting,
     }
-}
-
-// What an insertion by a point that overwrites nothing did.
-#[derive(Clone, Copy, PartialEq, Eq, Debug)]
-struct Ordinary {
-    kind: Kind,
-    /// The value of the pair that was replaced.
-    existing: Option<u32>,
-    removed: usize,
-    keeps_root: bool,
-    /// Whether a parent is reported, and under which byte.
-    told: Option<u8>,
-    touched: (usize, usize, usize),
-}
-
-// The value of a pair that was replaced.
-fn value_of_gone(pair: Option<Gone>) -> Option<u32> {
-    Some(pair?.value)
-}
-
-// The result of a key that is related to no unequal one.
-fn tried_apart(alloc: Global, slices: &[&[u8]], key: &[u8]) -> Option<Ordinary> {
-    let (seen, _) = tried(alloc, slices, key, key)?;
-    let told = match seen.done.change {
-        InsertParentNodeChange::NoChange => None,
-        InsertParentNodeChange::NewParent {
-            leaf_node_key_byte,
-            ..
-        } => Some(leaf_node_key_byte),
-    };
-    Some(Ordinary {
-        kind: kind_of(seen.point),
-        existing: value_of_gone(seen.done.existing),
-        removed: seen.removed,
-        keeps_root: seen.done.new_root == seen.root,
-        told,
-        touched: seen.done.touched,
-    })
-}
-
-// Keys that are related to no unequal one, and the result of each.
-static APART: [(&[&[u8]], &[u8], Ordinary); 4] = [
-    (
-        &[&[1], &[2]],
-        &[3],
-        Ordinary {
-            kind: Kind::IntoExisting,
-            existing: None,
-            removed: 0,
-            keeps_root: true,
-            told: Some(3),
-            touched: (1, 0, 2),
-        },
-    ),
-    (
-        &[&[1], &[2]],
-        &[2],
-        Ordinary {
-            kind: Kind::Exact,
-            existing: Some(1),
-            removed: 0,
-            keeps_root: true,
-            told: None,
-            touched: (0, 0, 1),
-        },
-    ),
-    (
-        &[&[1, 2, 3, 4]],
-        &[1, 2, 9],
-        Ordinary {
-            kind: Kind::SplitLeaf,
-            existing: None,
-            removed: 0,
-            keeps_root: false,
-            told: Some(9),
-            touched: (2, 0, 1),
-        },
-    ),
-    (
-        &[&[7, 1, 1, 1, 1, 5], &[7, 1, 1, 1, 1, 6]],
-        &[7, 1, 1, 9],
-        Ordinary {
-            kind: Kind::MismatchPrefix,
-            existing: None,
-            removed: 0,
-            keeps_root: false,
-            told: Some(9),
-            touched: (2, 0, 2),
-        },
-    ),
-];
-
-#[test]
-fn comes_in_beside_unrelated_keys(rt: HostRuntime) -> Result<(), Fail> {
-    for (slices, key, expected) in &APART {
-        same(tried_apart(rt.alloc(), slices, key), Some(*expected))?;
-    }
-    Ok(())
 }
 
 // The first of these keys for which the point is another than an insertion finds.

@@ -3,7 +3,7 @@ ghost use Rattle.std.specs.Prelude.{◌<◌};
 ghost use Rattle.art_model.specs.Pairs.{of_key};
 ghost use Rattle.art_model.specs.Roots.{IsCanonicalRoot};
 
-use art_nodes::node::{InnerPtr, LeafPtr, OpaqueNodePtr, OptionalLeafPtr};
+use art_nodes::node::{OpaqueNodePtr, OptionalLeafPtr};
 use art_nodes::store::NodeStore;
 use art_operations::insert::{
     InsertKind, InsertPoint, InsertSearchError, search_for_insert_point,
@@ -11,10 +11,9 @@ use art_operations::insert::{
 };
 use art_operations::lookup::Visits;
 use art_operations::path::{ExplicitMismatch, TreePath};
-use art_test_support::cases::{FOUR, names_of_four};
 use art_test_support::expected::{as_expected, same};
 use art_test_support::memory::all_memory;
-use art_test_support::trees::{Key, child, planted_all, value_of};
+use art_test_support::trees::{Key, child, planted_all};
 use std::alloc::Global;
 use std::test::Fail;
 
@@ -95,8 +94,6 @@ fn at_leaf(root: OpaqueNodePtr) -> Option<Told> {
 enum Wanted {
     /// That it differs from the root's prefix, where the first leaf is read for it.
     PartsByLeaf,
-    /// The same where no leaf is read.
-    Parts,
     Related,
     BesideChildren,
     BesideLeaf,
@@ -107,7 +104,6 @@ enum Wanted {
 fn expected(root: OpaqueNodePtr, below: Option<OpaqueNodePtr>, wanted: Wanted) -> Option<Told> {
     match wanted {
         Wanted::PartsByLeaf => parted(root, Some(below?.as_leaf()?)),
-        Wanted::Parts => parted(root, None),
         Wanted::Related => Some(Told::Related(true)),
         Wanted::BesideChildren => beside_children(root),
         Wanted::BesideLeaf => beside_leaf(root),
@@ -140,130 +136,34 @@ fn all_told<const P: usize>(alloc: Global, slices: &[&[u8]], rows: &[Row<'_>]) -
 }
 
 // A key that differs from a long prefix, and two that end in it or with it.
-fn long_rows(first: Wanted) -> [Row<'static>; 3] {
-    [
-        (&[7, 1, 1, 9], first),
-        (&[7, 1, 1, 1], Wanted::Related),
-        (&[7, 1, 1, 1, 1], Wanted::Related),
-    ]
-}
-
-#[test]
-fn reads_a_leaf_for_a_long_prefix(rt: HostRuntime) -> Result<(), Fail> {
-    all_told::<2>(rt.alloc(), &LONG, &long_rows(Wanted::PartsByLeaf))
-}
-
-#[test]
-fn reads_no_leaf_for_a_stored_prefix(rt: HostRuntime) -> Result<(), Fail> {
-    all_told::<16>(rt.alloc(), &LONG, &long_rows(Wanted::Parts))
-}
-
-// Two keys that end in the key of a leaf or continue after it, and the empty one.
-static RELATED: [Row<'static>; 3] = [
-    (&[1, 2], Wanted::Related),
-    (&[1, 2, 3, 4], Wanted::Related),
-    (&[], Wanted::Related),
+static AT_A_LONG_PREFIX: [Row<'static>; 3] = [
+    (&[7, 1, 1, 9], Wanted::PartsByLeaf),
+    (&[7, 1, 1, 1], Wanted::Related),
+    (&[7, 1, 1, 1, 1], Wanted::Related),
 ];
 
 #[test]
-fn refuses_related_keys(rt: HostRuntime) -> Result<(), Fail> {
-    all_told::<16>(rt.alloc(), &[&[1, 2, 3]], &RELATED)
+fn reads_a_leaf_for_a_long_prefix(rt: HostRuntime) -> Result<(), Fail> {
+    all_told::<2>(rt.alloc(), &LONG, &AT_A_LONG_PREFIX)
 }
+
+// Keys of a tree, and others in it: beside its leaves, related to a leaf, which they split, and the empty one.
+static IN_TREES: [(&[&[u8]], &[Row<'static>]); 4] = [
+    (&[&[1], &[2]], &[(&[3], Wanted::BesideChildren)]),
+    (
+        &[&[1, 2, 3]],
+        &[(&[1, 2], Wanted::Related), (&[1, 2, 3, 4], Wanted::Related)],
+    ),
+    (&[&[1, 2, 3, 4]], &[(&[1, 2, 9], Wanted::BesideLeaf)]),
+    (&[&[]], &[(&[], Wanted::AtLeaf), (&[1], Wanted::Related)]),
+];
 
 #[test]
-fn stands_beside_the_children_of_a_node(rt: HostRuntime) -> Result<(), Fail> {
-    all_told::<16>(rt.alloc(), &[&[1], &[2]], &[(&[3], Wanted::BesideChildren)])
-}
-
-#[test]
-fn splits_a_leaf(rt: HostRuntime) -> Result<(), Fail> {
-    let rows: [Row<'_>; 1] = [(&[1, 2, 9], Wanted::BesideLeaf)];
-    all_told::<16>(rt.alloc(), &[&[1, 2, 3, 4]], &rows)
-}
-
-#[test]
-fn finds_the_leaf_of_the_empty_key(rt: HostRuntime) -> Result<(), Fail> {
-    let rows: [Row<'_>; 2] = [(&[], Wanted::AtLeaf), (&[1], Wanted::Related)];
-    all_told::<16>(rt.alloc(), &[&[]], &rows)
-}
-
-// The paths and the used bytes of two keys beside the nodes at [1] and [1, 2], and the point of a stored key.
-fn told_below<const P: usize>(
-    store: &NodeStore<Key, u32, P>,
-    root: OpaqueNodePtr,
-    value: Option<u32>,
-) -> Option<Below>
-    requires { IsCanonicalRoot (of_key (λ key. key.items)) P store.now root }
-{
-    let beside = search_for_insert_point(store, root, &[1, 9, 9]).ok()?;
-    let below = search_for_insert_point(store, root, &[1, 2, 9]).ok()?;
-    Some(Below {
-        beside: (beside.path, beside.key_bytes_used),
-        below: (below.path, below.key_bytes_used),
-        of_leaf: told_of(store, root, &[1, 2, 3]),
-        value,
-    })
-}
-
-// What is reported of three keys below the root's child.
-#[derive(Clone, Copy, PartialEq, Eq, Debug)]
-struct Below {
-    beside: (TreePath, usize),
-    below: (TreePath, usize),
-    of_leaf: Told,
-    // The value of the stored key's leaf.
-    value: Option<u32>,
-}
-
-// What is expected, by the names of the inner nodes and of the leaf of [1, 2, 3].
-fn expected_below(
-    root: OpaqueNodePtr,
-    [top, parent, lowest]: [InnerPtr; 3],
-    leaf: LeafPtr,
-) -> Below {
-    let of_child = TreePath::ChildOfRoot {
-        parent: top,
-        child_key_byte: 1,
-    };
-    let of_grandchild = TreePath::Normal {
-        grandparent: top,
-        parent_key_byte: 1,
-        parent,
-        child_key_byte: 2,
-    };
-    let of_leaf = InsertPoint {
-        path: TreePath::Normal {
-            grandparent: parent,
-            parent_key_byte: 2,
-            parent: lowest,
-            child_key_byte: 3,
-        },
-        insert_kind: InsertKind::Exact {
-            leaf_node_ptr: leaf,
-        },
-        key_bytes_used: 3,
-        root,
-    };
-    Below {
-        beside: (of_child, 1),
-        below: (of_grandchild, 2),
-        of_leaf: Told::Point(of_leaf),
-        value: Some(0),
+fn names_the_points_of_keys(rt: HostRuntime) -> Result<(), Fail> {
+    for (slices, rows) in &IN_TREES {
+        all_told::<16>(rt.alloc(), slices, rows)?;
     }
-}
-
-// What is reported in the tree of four keys, and what is expected.
-fn below_of_four<const P: usize>(store: &mut NodeStore<Key, u32, P>) -> Option<(Below, Below)> {
-    let root = planted_all(store, &FOUR).ok()??;
-    let (inners, leaves) = names_of_four(store, root)?;
-    let value = value_of(store, leaves[0]);
-    let seen = told_below(store, root, value)?;
-    Some((seen, expected_below(root, inners, leaves[0])))
-}
-
-#[test]
-fn names_parents_and_grandparents(rt: HostRuntime) -> Result<(), Fail> {
-    as_expected(below_of_four::<0>(&mut NodeStore::new(rt.alloc())))
+    Ok(())
 }
 
 // What is reported of a key that differs from the others, of a stored one, and of a related one.
