@@ -178,7 +178,6 @@ impl PrefixMatchBehavior {
     }
 
     // The child under the last byte of a key, where the bytes before it end with the prefix of the node.
-    #[inline(always)]
     pub(crate) fn last_step<const P: usize>(
         &mut self,
         node: InnerRef<'_, P>,
