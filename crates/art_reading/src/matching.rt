@@ -217,7 +217,6 @@ impl PrefixMatchBehavior {
     }
 
     /// Returns whether the leaf's key is a prefix of the key, as far as they are still to be compared from a depth on.
-    #[inline(always)]
     pub fn leaf_key_is_prefix<K: AsBytes, V>(
         self,
         leaf: &LeafNode<K, V>,
