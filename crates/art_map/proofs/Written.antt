@@ -1,8 +1,7 @@
 -- A value that is written to the leaf of a key.
-use Rattle.std.proofs.Common.{◌≡◌, ◌⊎◌, ℕ, List, [], ◌∷◌, Option, Some, None, IfSome, IsSome, is_some, refl, ap, sym, ◌∙◌, subst, inl, true, ◌++◌, length, length-append, ◌+◌}
+use Rattle.std.proofs.Common.{◌≡◌, ℕ, List, [], ◌∷◌, Option, Some, IfSome, IsSome, is_some, refl, ap, sym, ◌∙◌, subst, inl, true, ◌++◌, length, length-append, ◌+◌}
 use Rattle.std.specs.FinMap.{get}
 use Rattle.std.specs.Option.{option_map}
-use Rattle.std.proofs.lemmas.Bool.{false≢true}
 use Rattle.std.proofs.lemmas.List.{length-map}
 use Rattle.art_parts.specs.Names.{leaf_name}
 use Rattle.art_parts.specs.declared.leaf.LeafNode.{LeafNode}

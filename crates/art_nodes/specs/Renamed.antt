@@ -1,5 +1,5 @@
 -- Leaves that were renamed, and the nodes that name them.
-use Rattle.std.specs.Prelude.{◌≡◌, List, [], ◌∷◌, Option, Some, None, IsSomeAnd, ⊤}
+use Rattle.std.specs.Prelude.{◌≡◌, List, [], ◌∷◌, Option, Some, IsSomeAnd, ⊤}
 use Rattle.std.specs.Option.{option_map}
 use Rattle.std.specs.FinMap as map
 use Rattle.art_inner.specs.InnerRenamed.{inner_renamed}

@@ -24,8 +24,6 @@ use Rattle.art_model.proofs.leaves.Links.{link_of}
 use Rattle.art_model.proofs.lists.Lists.{Each-weaker, first_and_rest, others_and_last}
 use Rattle.art_model.proofs.radix.Parts.{where_after, where_all, where_before, where_none}
 use Rattle.art_model.proofs.places.Paths.{leaf_names-plug}
-use Rattle.art_model.proofs.leaves.Segments.{but_last}
-use Rattle.art_model.specs.Pairs.{without_last}
 use Rattle.art_reading.specs.declared.range.Cut.{Cut}
 use Rattle.art_reading.specs.declared.range.Cut.TheVariants.{Before, After}
 use Rattle.art_reading.specs.declared.descent.End.{End}

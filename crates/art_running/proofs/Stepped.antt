@@ -18,9 +18,8 @@ use Rattle.art_model.proofs.stores.Canonical.{tree_radix}
 use Rattle.art_running.specs.Answers.{Answers}
 use Rattle.art_writing.specs.Deleted.{TouchesFor, ParentChange, no_parent, keeps, shrinks, is_compressed, parent_change, LeadsTo, placed_for_deletion}
 use Rattle.art_writing.specs.Inserted.{Touches, unlinked_leaf, is_full, placed_for}
-use Rattle.art_running.specs.Needs.{needs}
 use Rattle.art_writing.specs.Points.{AnswersTo}
-use Rattle.art_running.specs.Steps.{Changes, MayRefuse, Promises, TouchesBy}
+use Rattle.art_running.specs.Steps.{TouchesBy}
 use Rattle.art_writing.specs.declared.delete.DeletePoint.{DeletePoint}
 use Rattle.art_reading.specs.declared.end_node.InsertKind.{InsertKind}
 use Rattle.art_reading.specs.declared.end_node.InsertKind.TheVariants.{MismatchPrefix, SplitLeaf, Exact, IntoExisting}
@@ -28,10 +27,10 @@ use Rattle.art_writing.specs.declared.insert.InsertPoint.{InsertPoint}
 use Rattle.art_writing.specs.declared.insert.InsertPrefixError.{InsertPrefixError}
 use Rattle.art_running.specs.declared.run.Command.{Command}
 use Rattle.art_running.specs.declared.run.Side.{Side}
-use Rattle.art_running.specs.declared.run.Command.TheVariants.{Insert, InsertPrefix, Delete, DeleteMin, DeleteMax, Clone}
+use Rattle.art_running.specs.declared.run.Command.TheVariants.{Insert, InsertPrefix}
 use Rattle.art_running.specs.declared.run.Reply.TheVariants.{Inserted, Conflict, Deleted, NoMemory}
 use Rattle.art_writing.proofs.Standing.{tree_stays}
-use Rattle.art_running.proofs.Moves.{Layout, StepFrom, has_tree, own_pairs, nothing, in_store}
+use Rattle.art_running.proofs.Moves.{Layout, StepFrom, has_tree, own_pairs, nothing}
 use Rattle.art_writing.proofs.KeysFound.{conflict_new, not_false}
 use Rattle.art_writing.proofs.Unstored.{refused_new}
 use Rattle.art_running.proofs.Needed.{needs_inserted, needs_deleted}

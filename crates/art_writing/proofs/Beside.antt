@@ -8,7 +8,6 @@ use Rattle.art_parts.specs.declared.leaf.LeafNode.{LeafNode}
 use Rattle.art_parts.specs.declared.names.LeafPtr.{LeafPtr}
 use Rattle.art_parts.specs.declared.names.OpaqueNodePtr.{OpaqueNodePtr}
 use Rattle.art_model.specs.Layouts.{AreLinked, Links, first_or, last_or, leaf_names, leaf_names_below}
-use Rattle.art_model.specs.Pairs.{first_of, last_of}
 use Rattle.art_model.specs.Stores.{links_at}
 use Rattle.art_model.specs.Trees.{Subtrees, child, no_child}
 use Rattle.art_model.proofs.leaves.Chains.{links_leaf}

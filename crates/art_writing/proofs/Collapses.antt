@@ -14,13 +14,13 @@ use Rattle.art_nodes.proofs.StoreLaws.{inner_changed_here, inner_changed_elsewhe
 use Rattle.art_model.specs.Footprints.{IsIn}
 use Rattle.art_model.specs.Keys.{IsFront}
 use Rattle.art_model.specs.Kept.{ChangesInPlace, Frees, KeepsOthers}
-use Rattle.art_model.specs.Layouts.{leaf_node, inner_node, name_of, names_of, names_below, leaf_names, leaf_names_below, entries_of}
+use Rattle.art_model.specs.Layouts.{leaf_node, inner_node, name_of, names_of, names_below, leaf_names, entries_of}
 use Rattle.art_model.specs.Layouts.{slots_of, first_or, last_or, AreDistinct, AreLinked, Holds, IsLayout}
 use Rattle.art_model.specs.Pairs.{first_of}
 use Rattle.art_model.specs.Paths.{Frame, plug, IsPath, HoldsPath, pairs_before, pairs_after, leaves_before, leaves_after, names_before, names_after}
 use Rattle.art_model.specs.Radix.{IsRadix, join, pairs_of}
 use Rattle.art_model.specs.Stores.{content_at, held_leaf, held_inner, node_at, links_at, pair_of, tree_node}
-use Rattle.art_model.specs.Trees.{Tree, leaf, inner, Subtrees, child, no_child}
+use Rattle.art_model.specs.Trees.{Tree, leaf, inner, child, no_child}
 use Rattle.art_model.specs.Writes.{as_inner, parent_of, with_links_around, with_child_at}
 use Rattle.art_model.proofs.stores.Canonical.{IsLaidOut}
 use Rattle.art_model.proofs.leaves.Chains.{AreBeside, relinked_beside}
@@ -29,7 +29,7 @@ use Rattle.art_model.proofs.leaves.Leaves.{joined_elsewhere, joined_pair}
 use Rattle.art_model.proofs.leaves.Links.{relink, last_or-push, first_in}
 use Rattle.art_model.proofs.changes.IntoHole.{leaves_after_in, leaves_before_in}
 use Rattle.art_model.proofs.lists.Lists.{Each-left, each_from, each_in, first_and_rest, in_around, in_either, in_left, in_right}
-use Rattle.art_model.proofs.stores.Names.{among_below, apart_in, taken_distinct, takes_leaves}
+use Rattle.art_model.proofs.stores.Names.{apart_in, taken_distinct, takes_leaves}
 use Rattle.art_model.proofs.changes.OutOf.{HasLeafBelow, parent_is, slots_left}
 use Rattle.art_model.proofs.lists.Pairwises.{Pairwise-across, Pairwise-append, Pairwise-left, Pairwise-right}
 use Rattle.art_model.proofs.places.Paths.{entries_before, entries_after, entries_of-plug, leaf_names-plug, leaf_names_below-join}

@@ -1,6 +1,6 @@
 -- A node is removed with one of its two children, and the other replaces it.
 use Rattle.std.proofs.Common.{◌≡◌, ℕ, ◌+◌, ◌≤◌, List, [], ◌∷◌, ◌++◌, length, take, min}
-use Rattle.std.proofs.Common.{Option, Some, None, IsSome, IsSomeAnd, refl, ap, sym, ◌∙◌, arith, append_assoc}
+use Rattle.std.proofs.Common.{Option, Some, None, IsSome, IsSomeAnd, refl, ap, ◌∙◌, arith, append_assoc}
 use Rattle.std.proofs.lemmas.List.{take-take}
 use Rattle.art_inner.specs.Inner.{Inner}
 use Rattle.art_parts.specs.declared.leaf.LeafNode.{LeafNode}

@@ -1,6 +1,5 @@
 -- The copying of a tree into another store: the copies above the one whose children are being copied, and what is copied so far.
 use Rattle.std.proofs.Common.{◌≡◌, ◌≢◌, ℕ, suc, ◌+◌, ◌*◌, ◌<◌, List, [], ◌∷◌, ◌++◌, length, length-append, reverse, Option, Some, None, IsSome, true, refl, ap, sym, ◌∙◌, subst, arith}
-use Rattle.std.proofs.lemmas.List.{reverse-append}
 use Rattle.std.specs.Option.{option_or}
 use Rattle.std.specs.FinMap as map
 use Rattle.art_inner.specs.InnerChanges.{with_child}

@@ -1,37 +1,32 @@
 -- Subtree delete points: the node that one names, the tree with one leaf in its place, and the tree without it.
 use Rattle.std.proofs.Common.{◌≡◌, ◌≢◌, ℕ, ◌+◌, ◌≤◌, ◌<◌, ◌^◌, zero, suc, List, [], ◌∷◌, ◌++◌, length, length-append, append-nil, take}
-use Rattle.std.proofs.Common.{drop, take-append-drop, Option, Some, None, IsSome, IsSomeAnd, IfSome, IsTrue, IsFalse, OnOk, Result, is_err}
-use Rattle.std.proofs.Common.{cond, eq-eqb, true, false, not, Bool, refl, ap, ap₂, sym, ◌∙◌, subst, arith, ◌⊎◌, inl, inr}
+use Rattle.std.proofs.Common.{drop, take-append-drop, Option, Some, None, IsSome, IfSome}
+use Rattle.std.proofs.Common.{true, false, not, refl, ap, ap₂, sym, ◌∙◌, subst, arith, ◌⊎◌, inl, inr}
 use Rattle.std.specs.List.{AllByRecursion as Each}
 use Rattle.std.specs.Option.{option_map}
 use Rattle.std.specs.FinMap as map
-use Rattle.std.proofs.lemmas.Bool.{true≢false, le-leb}
+use Rattle.std.proofs.lemmas.Bool.{true≢false}
 use Rattle.std.proofs.lemmas.List.Elements.{filter-append}
 use Rattle.art_inner.specs.InnerChanges.{without_child}
-use Rattle.art_inner.specs.Inner.{Inner, child_at}
 use Rattle.art_parts.specs.declared.leaf.LeafNode.{LeafNode}
 use Rattle.art_parts.specs.declared.names.InnerPtr.{InnerPtr}
 use Rattle.art_parts.specs.declared.names.LeafPtr.{LeafPtr}
 use Rattle.art_parts.specs.declared.names.OpaqueNodePtr.{OpaqueNodePtr}
-use Rattle.art_parts.specs.Kinds.{kind_index, kind_least, next_smaller}
 use Rattle.art_parts.specs.Names.{leaf_cmp, leaf_name}
-use Rattle.art_parts.specs.declared.names.NodeType.{NodeType}
-use Rattle.art_parts.specs.declared.names.NodeType.TheVariants.{Node4, Node16, Node48, Node256, Leaf}
-use Rattle.art_nodes.specs.Nodes.{Nodes, Promise, change, covers, no_promise}
+use Rattle.art_nodes.specs.Nodes.{Nodes, change}
 use Rattle.art_nodes.proofs.StoreLaws.{inner_changed_elsewhere}
 use Rattle.art_model.specs.Canonical.{IsCanonical, IsCanonicalTree}
 use Rattle.art_model.specs.Footprints.{IsIn}
-use Rattle.art_model.specs.Kept.{ChangesInPlace, Frees, KeepsInners, KeepsLeaves, SameNodes, inners_in, leaves_in}
+use Rattle.art_model.specs.Kept.{ChangesInPlace, Frees, KeepsInners, KeepsLeaves, inners_in, leaves_in}
 use Rattle.art_model.specs.Keys.{IsFront, Precedes, is_front}
 use Rattle.art_model.specs.Layouts.{Holds, IsLayout, entries_of, first_or, leaf_names, name_of, names_of, slots_of}
 use Rattle.art_model.specs.Pairs.{first_of, remove_key}
 use Rattle.art_model.specs.Parts.{below, not_below}
 use Rattle.art_model.specs.Paths.{Frame, HoldsPath, IsPath, plug, pairs_before, pairs_after, leaves_before, leaves_after}
 use Rattle.art_model.specs.Places.{inner_nodes, inner_nodes_below, least_key, least_below}
-use Rattle.art_model.specs.Promises.{inner_taken, promise_after}
 use Rattle.art_model.specs.Radix.{AreRadix, IsRadix, bytes_of, pairs_of, pairs_below}
 use Rattle.art_model.specs.Roots.{ForRoot, ForTree, IsCanonicalRoot, IsFullTree, IsRootOf}
-use Rattle.art_model.specs.Stores.{content_at, node_at, links_at, pair_of}
+use Rattle.art_model.specs.Stores.{node_at, links_at, pair_of}
 use Rattle.art_model.specs.Trees.{Tree, leaf, inner, Subtrees, child, no_child}
 use Rattle.art_model.specs.Writes.{Inners, IsThere, as_inner, with_links_around, parent_of, with_child_at}
 use Rattle.art_model.proofs.pairs.Between.{remove_key-between}
@@ -59,22 +54,19 @@ use Rattle.art_reading.specs.declared.path.TreePath.{TreePath}
 use Rattle.art_reading.specs.declared.descent.End.TheVariants.{First}
 use Rattle.art_reading.specs.declared.descent.LastNode.{LastNode}
 use Rattle.art_writing.specs.Collapsed.{IsCollapsed, IsSubtreeTaken}
-use Rattle.art_writing.specs.Deleted.{IsDeletePointIn, LeadsTo, ParentChange, change_of, no_parent, parent_change, placed_by, placed_for_deletion}
+use Rattle.art_writing.specs.Deleted.{IsDeletePointIn, LeadsTo, change_of, parent_change, placed_by, placed_for_deletion}
 use Rattle.art_writing.specs.Inserted.{unlinked_leaf}
 use Rattle.art_writing.specs.Subtrees.{HasPrefixBelow, IsPrefixPoint, IsSubtreePointIn, LeadsToNode, pairs_beside}
 use Rattle.art_writing.specs.ParentWrites.{HasChild, IsBeside}
 use Rattle.art_writing.specs.declared.delete.DeletePoint.{DeletePoint}
 use Rattle.art_writing.specs.declared.delete.DeleteResult.{DeleteResult}
-use Rattle.art_writing.specs.declared.delete.subtree.SubtreeDeleteResult.{SubtreeDeleteResult}
 use Rattle.art_writing.specs.declared.delete.subtree.Collapsed.{Collapsed}
 use Rattle.art_writing.specs.declared.delete.subtree.SubtreeDeletePoint.{SubtreeDeletePoint}
 use Rattle.art_writing.specs.declared.writes.Direction.TheVariants.{After}
-use Rattle.art_writing.proofs.Below.{change-keeps, change_seen, has_child}
+use Rattle.art_writing.proofs.Below.{change_seen, has_child}
 use Rattle.art_writing.proofs.BranchReads.{beside_is}
 use Rattle.art_writing.proofs.Collapses as collapses
 use Rattle.art_writing.proofs.Deletions.{leaf_at, some_same}
-use Rattle.art_writing.proofs.Reserved.{not_refused}
-use Rattle.art_writing.proofs.Standing.{tree_stays}
 use Rattle.art_writing.proofs.Ways.{last_step-path_of}
 
 -- ---- inner nodes and the keys below them

@@ -1,12 +1,11 @@
 -- A leaf replaces all that is in the hole, which is freed, from the equations of the store's maps: the new layout, and what is touched.
-use Rattle.std.proofs.Common.{◌≡◌, ◌≢◌, ℕ, List, [], ◌∷◌, ◌++◌, length, length-append, map, ◌+◌, ap₂, true, false, not, Option, Some, None, refl, ap, sym, ◌∙◌, subst, arith, inl, inr}
+use Rattle.std.proofs.Common.{◌≡◌, ◌≢◌, ℕ, List, [], ◌∷◌, ◌++◌, length, length-append, map, ◌+◌, ap₂, true, false, not, Some, None, refl, ap, sym, ◌∙◌, subst, arith, inl, inr}
 use Rattle.std.specs.List.{AllByRecursion as Each}
 use Rattle.std.specs.Option.{option_map}
 use Rattle.std.specs.FinMap.{get}
 use Rattle.std.proofs.lemmas.List.{length-map}
 use Rattle.art_parts.specs.Names.{leaf_name, inner_name}
 use Rattle.art_nodes.specs.Nodes.{Nodes}
-use Rattle.art_inner.specs.Inner.{Inner}
 use Rattle.art_parts.specs.declared.names.NodeType.TheVariants.{Leaf}
 use Rattle.art_parts.specs.declared.names.LeafPtr.{LeafPtr}
 use Rattle.art_parts.specs.declared.names.InnerPtr.{InnerPtr}
@@ -18,7 +17,7 @@ use Rattle.art_model.specs.Trees.{Tree, leaf, Subtrees}
 use Rattle.art_model.specs.Radix.{pairs_of}
 use Rattle.art_model.specs.Paths.{Frame, plug, leaves_before, leaves_after, names_before, names_after, HoldsPath}
 use Rattle.art_model.specs.Layouts.{leaf_node, names_of, names_below, leaf_names, leaf_names_below, entries_of, name_of, first_or, last_or, AreDistinct, AreLinked, Holds}
-use Rattle.art_model.specs.Stores.{Held, content_at, held_leaf, held_inner, node_at, tree_node, links_at, pair_of, IsUsed}
+use Rattle.art_model.specs.Stores.{content_at, node_at, tree_node, links_at, pair_of, IsUsed}
 use Rattle.art_model.specs.Writes.{as_inner, parent_of, with_child_at, with_leaf, IsThere}
 use Rattle.art_model.specs.Footprints.{IsIn, Footprint, PlacesOneFor}
 use Rattle.art_model.specs.Kept.{ChangesInPlace, Frees}

@@ -1,5 +1,5 @@
 -- The last of the texts that are prefixes of a query.
-use Rattle.std.proofs.Common.{◌≡◌, ℕ, ◌≤◌, ◌⊎◌, List, [], ◌∷◌, ◌++◌, length, arith, subst, ap, sym, ◌∙◌, append_assoc, append-nil, Some, true, inl, inr}
+use Rattle.std.proofs.Common.{◌≡◌, ℕ, ◌≤◌, ◌⊎◌, List, [], ◌∷◌, ◌++◌, length, arith, ap, sym, ◌∙◌, append_assoc, append-nil, Some, true, inl, inr}
 use Rattle.std.specs.List.{AllByRecursion as Each}
 use Rattle.art_model.specs.Keys.{IsFront, is_before, is_front}
 use Rattle.art_model.specs.KeyLaws.{HasSmallerByte, IsProperFront}

@@ -9,7 +9,7 @@ use Rattle.art_parts.specs.declared.names.LeafPtr.{LeafPtr}
 use Rattle.art_parts.specs.declared.names.InnerPtr.{InnerPtr}
 use Rattle.art_parts.specs.declared.names.OpaqueNodePtr.{OpaqueNodePtr}
 use Rattle.art_model.specs.Trees.{Tree, leaf, inner, Subtrees, child, no_child}
-use Rattle.art_model.specs.Radix.{bytes_of, join, pairs_of, HaveChildren, HaveChildrenBelow}
+use Rattle.art_model.specs.Radix.{join, pairs_of, HaveChildren, HaveChildrenBelow}
 use Rattle.art_model.specs.Pairs.{first_of, last_of}
 use Rattle.art_model.specs.Layouts.{name_of, slots_of, leaf_names, Holds}
 use Rattle.art_model.specs.Stores.{node_at, header_at}

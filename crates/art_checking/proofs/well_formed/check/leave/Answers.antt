@@ -1,4 +1,4 @@
-use Rattle.std.proofs.Common.{◌∙◌, sym}
+use Rattle.std.proofs.Common.{◌∙◌}
 use Rattle.art_inner.specs.Views.{ref_view}
 use Rattle.art_model.specs.Pairs.{of_key}
 use Rattle.art_checking.proofs.Faulty.{too_few_at}

@@ -1,8 +1,4 @@
-use Rattle.std.proofs.Common.{subst}
-use Rattle.std.specs.Range.Bound.{bound_map}
 use Rattle.art_model.specs.Pairs.{of_key}
-use Rattle.art_map.specs.MapExtract.{ExtractsFirst}
-use Rattle.art_keyed.specs.KeyedPairs.{is_key_from, is_key_up_to}
 use Rattle.art_keyed.proofs.Extracted.{extracts_keys}
 use Rattle.art_keyed.proofs.Parted.{without_keeps}
 use Rattle.art_keyed.proofs.map.TreeMap.extract_in.Goals as goal

@@ -1,4 +1,3 @@
-use Rattle.std.proofs.Common.{arith}
 use Rattle.art_inner.specs.InnerChanges.{with_child}
 use Rattle.art_nodes.proofs.StoreLemmas.{gives_way, only4, only16, only48, only256}
 use Rattle.art_nodes.proofs.store.InnerSlabs.put_larger.Goals as goal

@@ -1,6 +1,6 @@
 use Rattle.std.proofs.Common.{◌+◌, arith, refl}
 use Rattle.slab.specs.Slab.{HasRoomFor}
-use Rattle.art_parts.specs.declared.names.NodeType.TheVariants.{Node4, Node16, Node48}
+use Rattle.art_parts.specs.declared.names.NodeType.TheVariants.{Node16, Node48}
 use Rattle.art_nodes.proofs.StoreLemmas.{promised_from_node16, promised_from_node48, room_of, same_slots}
 use Rattle.art_nodes.proofs.store.InnerSlabs.reserve.Goals as goal
 

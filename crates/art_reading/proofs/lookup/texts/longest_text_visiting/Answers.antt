@@ -1,9 +1,8 @@
-use Rattle.std.proofs.Common.{◌≡◌, List, length, take, length-take, None, Some, ap, arith, refl, sym, ◌∙◌}
+use Rattle.std.proofs.Common.{length, length-take, Some, ap, arith, sym, ◌∙◌}
 use Rattle.art_model.specs.Keys.{common_front}
 use Rattle.art_model.specs.Pairs.{of_key, without_last}
 use Rattle.art_reading.proofs.Parts.{leaf_not_gone}
 use Rattle.art_model.specs.Texts.{texts_in_front, text_of}
-use Rattle.art_model.specs.Lookups.{FindsLast}
 use Rattle.art_reading.proofs.LongestTexts.{found_again, found_none, found_whole, last_pair, last_there, own_pair, shared_short, shared_within}
 use Rattle.art_reading.proofs.lookup.texts.longest_text_visiting.Goals as goal
 

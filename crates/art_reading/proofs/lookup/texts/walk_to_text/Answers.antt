@@ -1,4 +1,4 @@
-use Rattle.std.proofs.Common.{◌≡◌, ◌+◌, get_or, Some, ap, arith, refl, subst, sym, ◌∙◌}
+use Rattle.std.proofs.Common.{◌+◌, get_or, Some, ap, arith, refl, subst, sym, ◌∙◌}
 use Rattle.art_inner.specs.Inner.{child_at}
 use Rattle.art_inner.specs.Views.{ref_view}
 use Rattle.art_model.specs.Keys.{IsFront}
