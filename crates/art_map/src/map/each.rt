@@ -11,13 +11,13 @@ ghost use Rattle.art_map.specs.MapItems.{IsRange, keys_of, pairs_between};
 ghost use Rattle.art_map.specs.MapPairs.{HoldsPairs, pairs_at};
 ghost use Rattle.art_map.specs.MapParts.{not_between};
 
+use super::ByteMap;
 use super::owned::whole_walk;
-use super::{ByteMap, bound_of};
 use art_nodes::node::{AsBytes, OpaqueNodePtr};
 use art_nodes::store::NodeStore;
 use art_reading::iterator::RawIterator;
 use art_reading::range::{prefix_unchecked, range_unchecked};
-use std::ops::{Bound, RangeBounds};
+use std::ops::Bound;
 
 impl<K: AsBytes + Drop, V: Drop, const P: usize> ByteMap<K, V, P> {
     /// Calls the closure on each pair, in the order of the keys, to change the value in place. The keys stay.
@@ -44,56 +44,10 @@ impl<K: AsBytes + Drop, V: Drop, const P: usize> ByteMap<K, V, P> {
         change_pairs(&mut self.store, self.root, self.len, walk, f);
     }
 
-    /// Does what `for_each_mut_by_ref` does, for the pairs whose keys are in a range. The others are unchanged.
+    /// Does what `for_each_mut_by_ref` does, for the pairs whose keys are between two bounds. The others are unchanged.
     ///
     /// It costs what `range` does, and a step of an iteration for each of these pairs.
-    pub fn for_each_mut_in<'k, R: RangeBounds<&'k [u8]> + Drop, F: FnMut(&K, &mut V)>(
-        &mut self,
-        range: R,
-        f: &mut F,
-    )
-        requires { F.IsAlwaysCallable f.old }
-        ensures pairs { R.has_bounds range → ChangesPairs F.FnMut f.old (between (of_key K.bytes)
-            (bound_map (λ b. b.now) (R.start_bound range))
-            (bound_map (λ b. b.now) (R.end_bound range)) self.old)
-            (between (of_key K.bytes) (bound_map (λ b. b.now) (R.start_bound range))
-            (bound_map (λ b. b.now) (R.end_bound range)) self.new) f.new }
-        ensures others { R.has_bounds range →
-            not_between (of_key K.bytes) (bound_map (λ b. b.now) (R.start_bound range))
-            (bound_map (λ b. b.now) (R.end_bound range)) self.new ≡
-            not_between (of_key K.bytes) (bound_map (λ b. b.now) (R.start_bound range))
-            (bound_map (λ b. b.now) (R.end_bound range)) self.old }
-        ensures keys { keys_of self.new ≡ keys_of self.old }
-        ensures callable { F.IsAlwaysCallable f.new }
-    {
-        self.change_between(
-            bound_of(range.start_bound()),
-            bound_of(range.end_bound()),
-            f,
-        );
-    }
-
-    /// Does what `for_each_mut_by_ref` does, for the pairs whose keys start with these bytes. The others are unchanged.
-    ///
-    /// It costs what `prefix` does, and a step of an iteration for each of these pairs.
-    pub fn for_each_mut_below<F: FnMut(&K, &mut V)>(&mut self, prefix: &[u8], f: &mut F)
-        requires { F.IsAlwaysCallable f.old }
-        ensures pairs { ChangesPairs F.FnMut f.old (below (of_key K.bytes) prefix.now self.old)
-            (below (of_key K.bytes) prefix.now self.new) f.new }
-        ensures others { not_below (of_key K.bytes) prefix.now self.new ≡
-            not_below (of_key K.bytes) prefix.now self.old }
-        ensures keys { keys_of self.new ≡ keys_of self.old }
-        ensures callable { F.IsAlwaysCallable f.new }
-    {
-        let Some(root) = self.root else {
-            return;
-        };
-        let walk = prefix_unchecked(&self.store, root, prefix);
-        change_pairs(&mut self.store, self.root, self.len, walk, f);
-    }
-
-    // Calls the closure on the pairs whose keys are between two bounds.
-    fn change_between<F: FnMut(&K, &mut V)>(
+    pub fn for_each_mut_in<F: FnMut(&K, &mut V)>(
         &mut self,
         from: Bound<&[u8]>,
         to: Bound<&[u8]>,
@@ -115,6 +69,25 @@ impl<K: AsBytes + Drop, V: Drop, const P: usize> ByteMap<K, V, P> {
             return;
         };
         let walk = range_unchecked(&self.store, root, from, to);
+        change_pairs(&mut self.store, self.root, self.len, walk, f);
+    }
+
+    /// Does what `for_each_mut_by_ref` does, for the pairs whose keys start with these bytes. The others are unchanged.
+    ///
+    /// It costs what `prefix` does, and a step of an iteration for each of these pairs.
+    pub fn for_each_mut_below<F: FnMut(&K, &mut V)>(&mut self, prefix: &[u8], f: &mut F)
+        requires { F.IsAlwaysCallable f.old }
+        ensures pairs { ChangesPairs F.FnMut f.old (below (of_key K.bytes) prefix.now self.old)
+            (below (of_key K.bytes) prefix.now self.new) f.new }
+        ensures others { not_below (of_key K.bytes) prefix.now self.new ≡
+            not_below (of_key K.bytes) prefix.now self.old }
+        ensures keys { keys_of self.new ≡ keys_of self.old }
+        ensures callable { F.IsAlwaysCallable f.new }
+    {
+        let Some(root) = self.root else {
+            return;
+        };
+        let walk = prefix_unchecked(&self.store, root, prefix);
         change_pairs(&mut self.store, self.root, self.len, walk, f);
     }
 

@@ -303,9 +303,9 @@ fn agree_on_each_pair(map: &mut Map, model: &mut Model) -> bool {
 // Whether they are the same after the values of a range were changed so, and those below a byte.
 fn agree_on_part(map: &mut Map, model: &mut Model, low: Key, high: Key) -> bool {
     let (mut sum, mut other) = (1u32, 1u32);
-    let range = (Bound::Excluded(&low[..]), Bound::Included(&high[..]));
     map.for_each_mut_in(
-        range,
+        Bound::Excluded(&low[..]),
+        Bound::Included(&high[..]),
         &mut |key: &Key, value: &mut u32| gather(&mut sum, key, value),
     );
     for (key, value) in model.iter_mut() {

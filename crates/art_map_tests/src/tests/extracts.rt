@@ -39,10 +39,11 @@ fn first_below(model: &Model, prefix: &[u8]) -> Option<(Key, u32)> {
 
 // Whether a pair is the first one of the other map, which loses it.
 fn agree_on_pair(own: Option<(Key, u32)>, model: &mut Model, first: Option<(Key, u32)>) -> bool {
-    if let Some((key, _)) = first {
-        model.remove(&key);
+    let agree = own == first;
+    if let Some(pair) = first {
+        model.remove(&pair.0);
     }
-    own == first
+    agree
 }
 
 // Whether the same pairs between two bounds are removed from both, at most so many.

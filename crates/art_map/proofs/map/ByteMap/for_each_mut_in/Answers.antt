@@ -9,7 +9,7 @@ use Rattle.art_map.specs.MapParts.{not_between}
 use Rattle.art_map.proofs.Items.{no_pairs}
 use Rattle.art_map.proofs.Puts.{at_some}
 use Rattle.art_map.proofs.Ranges.{range_pairs, range_there}
-use Rattle.art_map.proofs.map.ByteMap.change_between.Goals as goal
+use Rattle.art_map.proofs.map.ByteMap.for_each_mut_in.Goals as goal
 
 pub returns-in_default-clause-pairs : goal.returns-in_default-clause-pairs
 returns-in_default-clause-pairs g c =
