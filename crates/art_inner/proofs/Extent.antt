@@ -1,5 +1,6 @@
 -- Sorted children are determined by what they have under each byte; parts of them; children that are read off a function.
-use Rattle.std.proofs.Common.{◌≡◌, ◌≢◌, ◌⊎◌, ℕ, zero, suc, ◌+◌, ◌-◌, ◌<◌, ◌≤◌, min, max, eqb, cond, [], ◌∷◌, ◌++◌, length, Option, Some, None, is_some, IsSome, All, get_or, slice_get, append_assoc, refl, sym, ap, ◌∙◌, inl, inr, arith, subst}
+use Rattle.std.proofs.Common.{◌≡◌, ◌≢◌, ◌⊎◌, ℕ, zero, suc, ◌+◌, ◌-◌, ◌<◌, ◌≤◌, min, max, eqb, cond, [], ◌∷◌, ◌++◌, length, Option, Some}
+use Rattle.std.proofs.Common.{None, is_some, IsSome, All, get_or, slice_get, append_assoc, refl, sym, ap, ◌∙◌, inl, inr, arith, subst}
 use Rattle.std.proofs.lemmas.List.{length-append}
 use Rattle.std.proofs.lemmas.Bool.{cases_eq}
 use Rattle.std.specs.Option.{option_map}
@@ -12,7 +13,8 @@ use Rattle.art_parts.proofs.Comparisons.{by_order}
 use Rattle.art_inner.specs.Rests.{IsRest, rest_list}
 use Rattle.art_inner.specs.declared.children.Rest.{Rest}
 use Rattle.art_inner.specs.declared.children.Rest.TheVariants as rest
-use Rattle.art_inner.proofs.ChildrenLaws.{first_is_least, last_is_greatest, rises_around, at_here, at_later, child_here, child_elsewhere, child_gone, child_kept, put_child-above, IsRising-remove_child}
+use Rattle.art_inner.proofs.ChildrenLaws.{first_is_least, last_is_greatest, rises_around, at_here, at_later, child_here, child_elsewhere}
+use Rattle.art_inner.proofs.ChildrenLaws.{child_gone, child_kept, put_child-above, IsRising-remove_child}
 use Rattle.art_inner.proofs.ChildrenLemmas.{part_here, part_not}
 
 some_is_not : (n : OpaqueNodePtr) → Some n ≢ None

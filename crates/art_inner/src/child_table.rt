@@ -8,8 +8,8 @@ use crate::table::Table;
 use art_parts::header::Header;
 use art_parts::names::{NodeType, OpaqueNodePtr};
 
-/// The header of an inner node. It is a trait, so that an inner node has a type for a parameter in the place of a number: a
-/// trait's method can take it then.
+/// The header of an inner node. By this trait a node has the header's type for a parameter, and not a number: then a
+/// method of any trait can take it.
 pub trait NodeHeader {
     ghost use Rattle.art_parts.specs.Headers.{Prefix};
 

@@ -323,8 +323,8 @@ fn place_in_four(bytes: &[u8; 4], byte: u8) -> usize
     4
 }
 
-// Inserts a child at a place of three parts of one length, and drops the last one. One loop for the three takes half of the
-// instructions that three take.
+// Inserts a child at a place of three parts of one length, and drops the last one. One loop for the three takes fewer
+// instructions than a loop for each.
 #[inline(always)]
 fn insert_into(
     bytes: &mut [u8],

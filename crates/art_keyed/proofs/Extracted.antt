@@ -24,7 +24,8 @@ pub extracts_same : {A : Type 0} (bytes : A → List ℕ) (Known : A → Type 0)
     Each Known before → Each Known after → ExtractsFirst bytes test before taken after → ExtractsFirst bytes other before taken after
 extracts_same {A} bytes Known test other same {before} {after} {taken} all left is =
     let of : (xs : List A) → Each Known xs → filter test xs ≡ filter other xs = filter_same Known test other same in
-    let off : (xs : List A) → Each Known xs → filter (λ x. not (test x)) xs ≡ filter (λ x. not (other x)) xs = filter_same Known (λ x. not (test x)) (λ x. not (other x)) (λ x known. ap not (same x known)) in
+    let off : (xs : List A) → Each Known xs → filter (λ x. not (test x)) xs ≡ filter (λ x. not (other x)) xs = filter_same
+    Known (λ x. not (test x)) (λ x. not (other x)) (λ x known. ap not (same x known)) in
     record {
       pairs = is.pairs;
       first = subst (λ (parts : List A × List A). MatchOption taken ((parts.0 ≡ []) × (parts.1 ≡ [])) (λ x. parts.0 ≡ x ∷ parts.1)) (ap₂ (λ xs ys. (xs, ys)) (of before all) (of after left)) is.first;

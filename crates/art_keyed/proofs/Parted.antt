@@ -60,7 +60,8 @@ module _ {K : Type 0} (is_key : K → Type 0) (bytes : K → List ℕ) where
   not_between_by key_of keeps from to low high is_low is_high of_from of_to xs all =
       rw (is_low ∙ map_twice bytes from, is_high ∙ map_twice bytes to)
       (filter_same (λ x. is_key (key_of x)) _ _
-      (λ x of_x. ap not (λ i. same_from is_key bytes keeps (bound_map (λ b. b.now) from) (key_of x) of_from of_x i && same_up_to is_key bytes keeps (bound_map (λ b. b.now) to) (key_of x) of_to of_x i)) xs all)
+      (λ x of_x. ap not (λ i. same_from is_key bytes keeps (bound_map (λ b. b.now) from) (key_of x) of_from of_x i
+      && same_up_to is_key bytes keeps (bound_map (λ b. b.now) to) (key_of x) of_to of_x i)) xs all)
 
   pub not_between_keys : {V : Type 0} {order : K → K → Ordering} → KeepsOrder is_key bytes order → (from to : Bound (Bor K)) (low high : Bound (List ℕ)) →
       low ≡ bound_map (λ b. bytes b.now) from → high ≡ bound_map (λ b. bytes b.now) to →

@@ -1,5 +1,6 @@
 -- What holds while a closure changes values of a map, leaf by leaf.
-use Rattle.std.proofs.Common.{◌≡◌, ◌≢◌, ℕ, ◌<◌, ◌≤◌, List, [], ◌∷◌, ◌++◌, length, filter, Bool, true, false, cond, not, refl, ap, ap₂, sym, ◌∙◌, subst, arith, append_assoc, append-nil, Option, Some, None, inl, inr}
+use Rattle.std.proofs.Common.{◌≡◌, ◌≢◌, ℕ, ◌<◌, ◌≤◌, List, [], ◌∷◌, ◌++◌, length, filter, Bool, true, false, cond, not, refl, ap, ap₂, sym}
+use Rattle.std.proofs.Common.{◌∙◌, subst, arith, append_assoc, append-nil, Option, Some, None, inl, inr}
 use Rattle.std.specs.FinMap.{get}
 use Rattle.std.specs.List.{AllByRecursion as Each}
 use Rattle.std.specs.Option.{option_map}

@@ -98,7 +98,8 @@ module _ {K V : Type 0} (bytes : K → List ℕ) where
     range_all = extracts_all (of_key bytes) (λ x. is_between low high (bytes x.0)) IsWithin (ExtractsBetween bytes) (λ q. q.map.now)
         (λ s taken t within step. (
           (ap (bound_map (λ b. b.now)) step.1 ∙ within.0, ap (bound_map (λ b. b.now)) step.2 ∙ within.1),
-          subst (λ (ends : Bound (List ℕ) × Bound (List ℕ)). ExtractsFirst (of_key bytes) (λ x. is_between ends.0 ends.1 (bytes x.0)) s.map.now taken t.map.now) (ap₂ (λ a b. (a, b)) within.0 within.1) step.3,
+          subst (λ (ends : Bound (List ℕ) × Bound (List ℕ)). ExtractsFirst (of_key bytes) (λ x. is_between ends.0 ends.1 (bytes x.0)) s.map.now taken t.map.now)
+              (ap₂ (λ a b. (a, b)) within.0 within.1) step.3,
         ))
 
   module _ (prefix : List ℕ) where

@@ -1,5 +1,6 @@
 -- What is left of a map after a closure was called on its pairs, one by one.
-use Rattle.std.proofs.Common.{◌≡◌, ℕ, ◌<◌, List, [], ◌∷◌, ◌++◌, Bool, true, false, cond, filter, length, refl, ap, ap₂, sym, ◌∙◌, subst, arith, length-append, append_assoc, append-nil, Option, Some, None, Bor}
+use Rattle.std.proofs.Common.{◌≡◌, ℕ, ◌<◌, List, [], ◌∷◌, ◌++◌, Bool, true, false, cond, filter, length, refl, ap, ap₂, sym, ◌∙◌, subst}
+use Rattle.std.proofs.Common.{arith, length-append, append_assoc, append-nil, Option, Some, None, Bor}
 use Rattle.std.specs.Borrow.{MutBor}
 use Rattle.std.specs.Fn.{CalledAt, Mut}
 use Rattle.std.specs.List.{AllByRecursion as Each}

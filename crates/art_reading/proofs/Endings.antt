@@ -109,7 +109,8 @@ pub prefix_same : (prefix : Prefix) {len : ℕ} {stored : List ℕ} → len ≡ 
 prefix_same prefix is same = ap₂ (λ l s. record { len = l; stored = s }) is same
 
 -- first bytes of a key that are no longer than the prefix of the node
-pub ended_there : (behavior : PrefixMatchBehavior) (node : Inner) (key front : List ℕ) (depth prefix_len left : ℕ) → HasRest key front → depth ≤ length front → left ≡ length front - depth → prefix_len ≡ node.prefix.len → left ≤ prefix_len →
+pub ended_there : (behavior : PrefixMatchBehavior) (node : Inner) (key front : List ℕ) (depth prefix_len left : ℕ) → HasRest key front →
+    depth ≤ length front → left ≡ length front - depth → prefix_len ≡ node.prefix.len → left ≤ prefix_len →
     {step : Step} → step ≡ cond (eqb prefix_len left) AtEnd Nowhere → LeadsTo behavior behavior node key front depth step
 ended_there behavior node key front depth prefix_len left has within rest len short {step} is = go (eqb prefix_len left) refl
   where

@@ -50,7 +50,8 @@ module _ (IsReply : List ℕ → List ℕ → Type 0) where
   module _ (AsksForNothing : List ℕ → Type 0) where
     -- the reply to one more line is appended, and stays
     pub one_reply_more : (number : ℕ) (line seen : List ℕ) (asks : Bool) (old now new kept : Option (List ℕ)) → seen ≡ line → asks ≡ true →
-        IsTried IsReply AsksForNothing seen asks now new → Keeps new kept → (before : List (List ℕ)) → number ≡ length before + 1 → HaveReplies IsReply before old now → HaveReplies IsReply (before ++ line ∷ []) old kept
+        IsTried IsReply AsksForNothing seen asks now new → Keeps new kept → (before : List (List ℕ)) →
+        number ≡ length before + 1 → HaveReplies IsReply before old now → HaveReplies IsReply (before ++ line ∷ []) old kept
     one_reply_more number line seen asks old now new kept e true_is tried keeps before n h =
         let (reply, is, more) = subst (λ t. IsTried IsReply AsksForNothing seen t now new) true_is tried in
         record {

@@ -1,5 +1,6 @@
 -- lists: what holds of each element, which elements are in a list, and prefixes
-use Rattle.std.proofs.Common.{filter, ◌≡◌, ℕ, List, [], ◌∷◌, ◌++◌, length, drop, reverse, Option, Some, None, IsSome, refl, ap, arith, sym, ◌∙◌, append_assoc, drop_at, eqb, eq-eqb, true, false, cond, Bool, ap₂, eqb-true, subst, map, ◌⊎◌, inl, inr}
+use Rattle.std.proofs.Common.{filter, ◌≡◌, ℕ, List, [], ◌∷◌, ◌++◌, length, drop, reverse, Option, Some, None, IsSome, refl, ap, arith, sym}
+use Rattle.std.proofs.Common.{◌∙◌, append_assoc, drop_at, eqb, eq-eqb, true, false, cond, Bool, ap₂, eqb-true, subst, map, ◌⊎◌, inl, inr}
 use Rattle.std.specs.List.{AllByRecursion as Each}
 use Rattle.std.proofs.lemmas.List.{reverse-append}
 use Rattle.art_model.specs.Keys.{IsFront, common_front}

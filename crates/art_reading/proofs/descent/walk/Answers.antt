@@ -104,7 +104,8 @@ returns-in-AtEnd-clause-ends g c pairs layout by =
     let is = c.parts-last.ensures ∙ ap (λ o. c.parts-last.result.0.now ++ cons_option o []) c.in_ok-last-in-AtEnd.was in
     let below = steps_last by d at _ ended _ is same c.add_one.ensures c.in_ok-child-in-AtEnd.ensures.child (c.in_ok-child-in-AtEnd.ensures.behavior refl) in
     rw (c.path.ensures, c.step_down-in-AtEnd.ensures)
-    (last_leaf by _ below c.in_ok-name-in-AtEnd.ensures.name c.in-Some-leaf-2.ensures (omega (arith, front_near has 0, ap length is, length-append c.parts-last.result.0.now (c.in_ok-last-in-AtEnd.last ∷ []))) c.add_one-in-AtEnd.ensures)
+    (last_leaf by _ below c.in_ok-name-in-AtEnd.ensures.name c.in-Some-leaf-2.ensures
+    (omega (arith, front_near has 0, ap length is, length-append c.parts-last.result.0.now (c.in_ok-last-in-AtEnd.last ∷ []))) c.add_one-in-AtEnd.ensures)
 
 pub returns-in-Nowhere-clause-ends : goal.returns-in-Nowhere-clause-ends
 returns-in-Nowhere-clause-ends g c pairs layout by =

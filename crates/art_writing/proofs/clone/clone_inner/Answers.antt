@@ -177,7 +177,8 @@ returns-in_default-pop-2 g c =
     let (tree, full) = c.requires.tree in
     let is = c.back.invariant.refused tree full in
     let same = copy_undone is c.to_opaque-in-back.ensures {freed = c.free_nodes.new.store} c.free_nodes.ensures.freed c.free_nodes.ensures.improper in
-    let (leaves, inners) = all_undone is c.to_opaque-in-back.ensures (reverse-empty c.back.above.items c.back.above.len c.back.above.ok.0 c.in_default-pop-2.ensures.cases.0) c.free_nodes.new.store same in
+    let (leaves, inners) = all_undone is c.to_opaque-in-back.ensures
+    (reverse-empty c.back.above.items c.back.above.len c.back.above.ok.0 c.in_default-pop-2.ensures.cases.0) c.free_nodes.new.store same in
     record { copied = λ tree full. tt; leaves = leaves; inners = inners; lessened = rw c.free_nodes.ensures.promise c.back.invariant.lessened }
 
 pub back-preserved : goal.back-preserved

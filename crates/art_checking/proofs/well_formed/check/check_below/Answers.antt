@@ -53,7 +53,8 @@ below-preserved-in_default g c =
     let at = c.below.invariant.at in
     let enough = subst (λ o. IfSome o (λ node. kind_least c.below.name.kind ≤ length node.children)) at.met.there c.in_ok-leave.ensures.enough in
     record {
-      at = parent_goes_on at c.in_default.ensures.steps.0 enough c.in-Some-pop.parent (reverse c.pop.new.self.items) (reverse-last c.below.above.items c.pop.new.self.items c.in-Some-pop.parent c.in-Some-pop.ensures.items)
+      at = parent_goes_on at c.in_default.ensures.steps.0 enough c.in-Some-pop.parent (reverse c.pop.new.self.items)
+          (reverse-last c.below.above.items c.pop.new.self.items c.in-Some-pop.parent c.in-Some-pop.ensures.items)
           (c.in_ok-leave.ensures.place ∙ cut_off at) (sym c.leave.new.place.ok.0) c.pop-in_default.ensures.rest;
       least = tt;
     }
@@ -62,7 +63,8 @@ pub below-smaller-in_default : goal.below-smaller-in_default
 below-smaller-in_default g c =
     let at = c.below.invariant.at in
     let enough = subst (λ o. IfSome o (λ node. kind_least c.below.name.kind ≤ length node.children)) at.met.there c.in_ok-leave.ensures.enough in
-    let next = parent_goes_on at c.in_default.ensures.steps.0 enough c.in-Some-pop.parent (reverse c.pop.new.self.items) (reverse-last c.below.above.items c.pop.new.self.items c.in-Some-pop.parent c.in-Some-pop.ensures.items)
+    let next = parent_goes_on at c.in_default.ensures.steps.0 enough c.in-Some-pop.parent (reverse c.pop.new.self.items)
+    (reverse-last c.below.above.items c.pop.new.self.items c.in-Some-pop.parent c.in-Some-pop.ensures.items)
     (c.in_ok-leave.ensures.place ∙ cut_off at) (sym c.leave.new.place.ok.0) c.pop-in_default.ensures.rest in
     let few = few_left next in
     let most = capacity_most c.in-Some-pop.parent.name.kind in

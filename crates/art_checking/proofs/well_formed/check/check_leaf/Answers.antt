@@ -55,7 +55,8 @@ one_node e f = cc
 pub returns-clause-leaf : goal.returns-clause-leaf
 returns-clause-leaf g c =
     let begun = subst (IsFront c.args.place.now) c.as_bytes-key.ensures (c.begins_with.ensures.0 c.if-not-begins_with.false) in
-    on_ok_weaker c.check_order-2.result (λ after. (pair_of c.leaf_at-node.result.now, leaf_at c.args.store.now c.args.leaf c.leaf_at-node.result.now c.leaf_at-node.ensures, begun)) c.check_order-2.ensures.sibling
+    on_ok_weaker c.check_order-2.result (λ after. (pair_of c.leaf_at-node.result.now, leaf_at c.args.store.now c.args.leaf c.leaf_at-node.result.now c.leaf_at-node.ensures, begun))
+    c.check_order-2.ensures.sibling
 
 pub returns-in_err-check_order-clause-fault : goal.returns-in_err-check_order-clause-fault
 returns-in_err-check_order-clause-fault g c =

@@ -12,7 +12,8 @@ invariant_of-self g c = rw (c.remove_range.ensures.keys tt) (others_keep _ g.K.A
 pub returns-clause-keys : goal.returns-clause-keys
 returns-clause-keys g c =
     c.remove_range.ensures.keys tt
-    ∙ not_between_in_set _ g.K.AsBytes.bytes g.met.K.OrderedBytes.keeps_order c.args.from c.args.to _ _ c.bytes_of.ensures.bytes c.bytes_of-2.ensures.bytes c.bytes_of.ensures.key c.bytes_of-2.ensures.key
+    ∙ not_between_in_set _ g.K.AsBytes.bytes g.met.K.OrderedBytes.keeps_order c.args.from c.args.to _ _
+    c.bytes_of.ensures.bytes c.bytes_of-2.ensures.bytes c.bytes_of.ensures.key c.bytes_of-2.ensures.key
     c.self.inside.set c.self.invariant
     ∙ ap (set_not_between g.K.OrderedBytes.order (bound_map (λ b. b.now) c.args.from) (bound_map (λ b. b.now) c.args.to)) c.self.view_is
 

@@ -19,7 +19,8 @@ use Rattle.art_map.proofs.map.retain.find_refused.Goals as goal
 pub loop-leaf-init : goal.loop-leaf-init
 loop-leaf-init g c =
     let has = at_root (of_key g.K.AsBytes.bytes) g.row.P c.requires.holds in
-    let range = range_there has.by (λ x. is_between (bound_map (λ b. b.now) c.bound_after.result) Unbounded (g.K.AsBytes.bytes x.0)) (c.range_unchecked-walk.ensures _ has.layout has.by) has.len_is in (
+    let range = range_there has.by (λ x. is_between (bound_map (λ b. b.now) c.bound_after.result) Unbounded (g.K.AsBytes.bytes x.0))
+    (c.range_unchecked-walk.ensures _ has.layout has.by) has.len_is in (
       begins g.K.AsBytes.bytes g.row.P (λ f x next value. CalledOnPair g.F.FnMut f x true next value) (Some c.args.root) c.args.len c.args.f.now
           (pairs_between c.args.store.now c.range_unchecked-walk.result c.args.len) (pairs_at c.args.store.now (Some c.args.root)) range refl refl c.requires.holds,
       c.requires.callable,

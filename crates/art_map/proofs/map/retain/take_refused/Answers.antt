@@ -35,5 +35,6 @@ returns-clause-taken g c =
     let has = at_root (of_key bytes) g.row.P held in
     let told = subst (λ all. CallsUpTo g.F.FnMut bytes c.args.last.now c.args.f.now all (Some x) new.f (pairs_at new.store (Some c.in-Some.name)))
     (ap (pairs_at c.args.store.now) (sym c.in-Some.is)) up_to in
-    refused_taken g.F.FnMut bytes g.row.P c.args.last.now c.args.f.now (pairs_at c.args.store.now c.args.root.now) new.f c.take_out.new.store c.take_out.new.root c.take_out.new.len told c.take_out.result
+    refused_taken g.F.FnMut bytes g.row.P c.args.last.now c.args.f.now (pairs_at c.args.store.now c.args.root.now)
+    new.f c.take_out.new.store c.take_out.new.root c.take_out.new.len told c.take_out.result
     (c.take_out.ensures _ has.layout has.by x (leads _ has.layout has.by))

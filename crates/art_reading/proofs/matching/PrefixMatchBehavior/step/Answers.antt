@@ -21,7 +21,8 @@ returns-in-Some g c key has =
     let rest = rest_of has c.args.depth c.requires.depth in
     let on = c.passes.ensures.outcome in
     let at = ap (λ n. c.args.depth + n) c.prefix_len-prefix_len.ensures in (
-      child_passed c.args.self.now node key c.args.depth rest c.requires.stored long (cc) at (front_byte has (c.args.depth + c.prefix_len-prefix_len.result) (omega arith)) (sym c.in-Some.is ∙ c.lookup_child.ensures),
+      child_passed c.args.self.now node key c.args.depth rest c.requires.stored long (cc) at
+          (front_byte has (c.args.depth + c.prefix_len-prefix_len.result) (omega arith)) (sym c.in-Some.is ∙ c.lookup_child.ensures),
       omega arith,
       omega arith,
       behavior_passed c.args.self.now node key c.args.depth rest c.requires.stored long (cc) (c.passes.ensures.behavior cc),

@@ -12,7 +12,8 @@ returns-clause-steps g c =
       refl,
       refl,
       refl,
-      extracts (of_key g.K.AsBytes.bytes) (is_between (bound_map (λ b. b.now) s.from) (bound_map (λ b. b.now) s.to)) s.map.now c.take_first_in.new.self c.take_first_in.result took.sorted took.removed took.pairs,
+      extracts (of_key g.K.AsBytes.bytes) (is_between (bound_map (λ b. b.now) s.from) (bound_map (λ b. b.now) s.to))
+          s.map.now c.take_first_in.new.self c.take_first_in.result took.sorted took.removed took.pairs,
     )
 
 pub returns-clause-goes : goal.returns-clause-goes
