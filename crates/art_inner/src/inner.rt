@@ -221,7 +221,7 @@ impl<const P: usize> InnerNode4<P> {
         ensures { result ≡
             with_child last_byte last (with_child byte child (childless header.entry)) }
     {
-        InnerNodeOf {
+        InnerNode4 {
             header,
             table: Table::of_two((byte, child), (last_byte, last)),
         }
