@@ -177,9 +177,7 @@ fn next_step<K: AsBytes + Drop, V: Drop, const PREFIX_LEN: usize>(
     match name.split() {
         NodePtr::Inner(inner) => step_at_inner(store, root, key_bytes, inner, depth, guide, visits),
         NodePtr::Leaf(leaf_node_ptr) => {
-            let Some(leaf) = store.leaf(leaf_node_ptr) else {
-                unreachable!()
-            };
+            let leaf = store.leaf_at(leaf_node_ptr);
             visits.count_one();
             SearchStep::End {
                 insert_kind: kind_at_leaf(leaf_node_ptr, leaf, key_bytes),
@@ -218,9 +216,7 @@ fn step_at_inner<K: AsBytes + Drop, V: Drop, const PREFIX_LEN: usize>(
         IsStepFrom (of_key K.bytes) PREFIX_LEN key_bytes.now pairs layout
         path (inner_name inner) depth at result) }
 {
-    let Some(node) = store.inner(inner) else {
-        unreachable!()
-    };
+    let node = store.inner_at(inner);
     visits.count_one();
     match match_full_prefix(store, root, inner, node, key_bytes, depth, guide, visits) {
         Ok(matched) => step_past_prefix(key_bytes, inner, node, depth + matched.matched_bytes),
@@ -398,9 +394,7 @@ fn match_long_prefix<K: AsBytes + Drop, V: Drop, const PREFIX_LEN: usize>(
     let mut visits = Visits::new();
     let read_from = guide_from(store, root, key_bytes, opaque, depth, *guide, &mut visits);
     *guide = Some(read_from);
-    let Some(leaf) = store.leaf(read_from) else {
-        unreachable!()
-    };
+    let leaf = store.leaf_at(read_from);
     visits.count_one();
     let prefix = &leaf.key.as_bytes()[depth..depth + len];
     match match_prefix(prefix, &key_bytes[depth..], None) {

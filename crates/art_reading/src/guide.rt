@@ -97,9 +97,7 @@ fn walk_by_places<K: AsBytes + Drop, V: Drop, const PREFIX_LEN: usize>(
         let NodePtr::Inner(inner) = name.split() else {
             return name;
         };
-        let Some(node) = store.inner(inner) else {
-            unreachable!()
-        };
+        let node = store.inner_at(inner);
         visits.count_one();
         let prefix_len = node.prefix_len();
         if prefix_len >= key_bytes.len() - depth {

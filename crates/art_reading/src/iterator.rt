@@ -139,16 +139,12 @@ impl RawIterator {
     {
         let (first, last) = self.ends?;
         let taken = end.of((first, last));
-        let Some(leaf) = store.leaf(taken) else {
-            unreachable!()
-        };
+        let leaf = store.leaf_at(taken);
         if first == last {
             self.ends = None;
             return Some((taken, leaf));
         }
-        let Some(linked) = end.of((leaf.next, leaf.previous)) else {
-            unreachable!()
-        };
+        let linked = end.of((leaf.next, leaf.previous)).unwrap();
         let next = foreseen(end, taken, linked);
         self.ends = Some(end.of(((next, last), (first, next))));
         Some((taken, leaf))

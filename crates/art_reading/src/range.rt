@@ -65,9 +65,7 @@ pub fn prefix_visiting<K: AsBytes + Drop, V: Drop, const PREFIX_LEN: usize>(
         return RawIterator::empty();
     };
     let (_, first) = walk_to_end_visiting(store, end.name, End::First, visits);
-    let Some(leaf) = store.leaf(first) else {
-        unreachable!()
-    };
+    let leaf = store.leaf_at(first);
     visits.count_one();
     if !leaf.key.as_bytes().starts_with(prefix) {
         return RawIterator::empty();
@@ -116,16 +114,12 @@ pub fn range_visiting<K: AsBytes + Drop, V: Drop, const PREFIX_LEN: usize>(
     let Some(first) = first_from_visiting(store, root, from, visits) else {
         return RawIterator::empty();
     };
-    let Some(leaf) = store.leaf(first) else {
-        unreachable!()
-    };
+    let leaf = store.leaf_at(first);
     visits.count_one();
     if !ends_after(to, leaf.key.as_bytes()) {
         return RawIterator::empty();
     }
-    let Some(last) = last_up_to_visiting(store, root, to, visits) else {
-        unreachable!()
-    };
+    let last = last_up_to_visiting(store, root, to, visits).unwrap();
     RawIterator::new(store, first, last)
 }
 
@@ -270,17 +264,13 @@ fn leaf_at_cut<K: AsBytes + Drop, V: Drop, const PREFIX_LEN: usize>(
 {
     let name = walk_beside(store, root, key_bytes, visits);
     let (_, first) = walk_to_end_visiting(store, name, End::First, visits);
-    let Some(leaf) = store.leaf(first) else {
-        unreachable!()
-    };
+    let leaf = store.leaf_at(first);
     visits.count_one();
     if !cut.is_after(key_bytes, leaf.key.as_bytes()) {
         return end.of((Some(first), leaf.previous));
     }
     let (_, last) = walk_to_end_visiting(store, name, End::Last, visits);
-    let Some(leaf) = store.leaf(last) else {
-        unreachable!()
-    };
+    let leaf = store.leaf_at(last);
     visits.count_one();
     end.of((leaf.next, Some(last)))
 }
@@ -309,9 +299,7 @@ fn walk_beside<K: AsBytes + Drop, V: Drop, const PREFIX_LEN: usize>(
         let NodePtr::Inner(inner) = name.split() else {
             return name;
         };
-        let Some(node) = store.inner(inner) else {
-            unreachable!()
-        };
+        let node = store.inner_at(inner);
         visits.count_one();
         let prefix_len = node.prefix_len();
         if prefix_len >= key_bytes.len() - depth {
@@ -371,9 +359,7 @@ fn has_prefix<K: AsBytes + Drop, V: Drop, const PREFIX_LEN: usize>(
     let opaque = name.to_opaque();
     let read_from = guide_from(store, root, key_bytes, opaque, depth, *guide, visits);
     *guide = Some(read_from);
-    let Some(leaf) = store.leaf(read_from) else {
-        unreachable!()
-    };
+    let leaf = store.leaf_at(read_from);
     visits.count_one();
     leaf.key.as_bytes()[depth..].starts_with(prefix)
 }

@@ -198,7 +198,7 @@ fn clone_of(root: OpaqueNodePtr, ends: Option<LeafEnds>) -> CloneResult
     ensures first { option_map (λ ends. ends.first) ends ≡ Some result.min_leaf }
     ensures last { option_map (λ ends. ends.last) ends ≡ Some result.max_leaf }
 {
-    let Some(ends) = ends else { unreachable!() };
+    let ends = ends.unwrap();
     CloneResult {
         root,
         min_leaf: ends.first,
