@@ -35,8 +35,8 @@ impl Model for RawIterator {
 
 impl RawIterator {
     /// Returns an iterator over the leaves from `start` to `end`, which are linked one to the next.
-    pub fn new<K: AsBytes + Drop, V: Drop, const PREFIX_LEN: usize>(
-        _store: &NodeStore<K, V, PREFIX_LEN>,
+    pub fn new<K: AsBytes + Drop, V: Drop, const P: usize>(
+        _store: &NodeStore<K, V, P>,
         start: LeafPtr,
         end: LeafPtr,
     ) -> Self
@@ -58,9 +58,9 @@ impl RawIterator {
 
     /// Returns the name of the first leaf that is left, or `None`. Its link is read before, so that the leaf may be
     /// freed at once.
-    pub fn next<K: AsBytes + Drop, V: Drop, const PREFIX_LEN: usize>(
+    pub fn next<K: AsBytes + Drop, V: Drop, const P: usize>(
         &mut self,
-        store: &NodeStore<K, V, PREFIX_LEN>,
+        store: &NodeStore<K, V, P>,
     ) -> OptionalLeafPtr
         requires { (names : List OpaqueNodePtr) × IsIteratorOf store.now self.old names }
         ensures leaf { (names : List OpaqueNodePtr) → IsIteratorOf store.now self.old names →
@@ -75,9 +75,9 @@ impl RawIterator {
 
     /// Returns the name of the last leaf that is left, or `None`. Its link is read before, so that the leaf may be
     /// freed at once.
-    pub fn next_back<K: AsBytes + Drop, V: Drop, const PREFIX_LEN: usize>(
+    pub fn next_back<K: AsBytes + Drop, V: Drop, const P: usize>(
         &mut self,
-        store: &NodeStore<K, V, PREFIX_LEN>,
+        store: &NodeStore<K, V, P>,
     ) -> OptionalLeafPtr
         requires { (names : List OpaqueNodePtr) × IsIteratorOf store.now self.old names }
         ensures leaf { (names : List OpaqueNodePtr) → IsIteratorOf store.now self.old names →
@@ -92,9 +92,9 @@ impl RawIterator {
 
     /// Returns the name of the first leaf that is left, as `next` does, and the leaf itself, which is read once.
     #[inline(always)]
-    pub fn next_leaf<'s, K: AsBytes + Drop, V: Drop, const PREFIX_LEN: usize>(
+    pub fn next_leaf<'s, K: AsBytes + Drop, V: Drop, const P: usize>(
         &mut self,
-        store: &'s NodeStore<K, V, PREFIX_LEN>,
+        store: &'s NodeStore<K, V, P>,
     ) -> Option<(LeafPtr, &'s LeafNode<K, V>)>
         requires { (names : List OpaqueNodePtr) × IsIteratorOf store.now self.old names }
         ensures name { (names : List OpaqueNodePtr) → IsIteratorOf store.now self.old names →
@@ -109,9 +109,9 @@ impl RawIterator {
 
     /// Returns the name of the last leaf that is left, as `next_back` does, and the leaf itself, which is read once.
     #[inline(always)]
-    pub fn next_back_leaf<'s, K: AsBytes + Drop, V: Drop, const PREFIX_LEN: usize>(
+    pub fn next_back_leaf<'s, K: AsBytes + Drop, V: Drop, const P: usize>(
         &mut self,
-        store: &'s NodeStore<K, V, PREFIX_LEN>,
+        store: &'s NodeStore<K, V, P>,
     ) -> Option<(LeafPtr, &'s LeafNode<K, V>)>
         requires { (names : List OpaqueNodePtr) × IsIteratorOf store.now self.old names }
         ensures name { (names : List OpaqueNodePtr) → IsIteratorOf store.now self.old names →
@@ -126,9 +126,9 @@ impl RawIterator {
 
     // Removes the leaf at an end from those that are left, and reads it once.
     #[inline(always)]
-    fn take_end<'s, K: AsBytes + Drop, V: Drop, const PREFIX_LEN: usize>(
+    fn take_end<'s, K: AsBytes + Drop, V: Drop, const P: usize>(
         &mut self,
-        store: &'s NodeStore<K, V, PREFIX_LEN>,
+        store: &'s NodeStore<K, V, P>,
         end: End,
     ) -> Option<(LeafPtr, &'s LeafNode<K, V>)>
         requires { (names : List OpaqueNodePtr) × IsIteratorOf store.now self.old names }

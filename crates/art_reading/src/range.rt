@@ -32,13 +32,13 @@ use std::ops::Bound;
 ///
 /// It allocates nothing. It descends to the node below which these leaves are, by at most one inner node for each byte
 /// of the prefix, then to the first and the last of them, and reads one key.
-pub fn prefix_unchecked<K: AsBytes + Drop, V: Drop, const PREFIX_LEN: usize>(
-    store: &NodeStore<K, V, PREFIX_LEN>,
+pub fn prefix_unchecked<K: AsBytes + Drop, V: Drop, const P: usize>(
+    store: &NodeStore<K, V, P>,
     root: OpaqueNodePtr,
     prefix: &[u8],
 ) -> RawIterator
-    requires { IsCanonicalRoot (of_key K.bytes) PREFIX_LEN store.now root }
-    ensures { ForTree (of_key K.bytes) PREFIX_LEN store.now root (λ pairs layout.
+    requires { IsCanonicalRoot (of_key K.bytes) P store.now root }
+    ensures { ForTree (of_key K.bytes) P store.now root (λ pairs layout.
         IsIteratorOf store.now result
         (leaves_where (λ x. is_front prefix.now (K.bytes x.0)) layout)) }
 {
@@ -48,17 +48,17 @@ pub fn prefix_unchecked<K: AsBytes + Drop, V: Drop, const PREFIX_LEN: usize>(
 /// Returns what `prefix_unchecked` does, and counts each reading of a node: at least the nodes whose place is a prefix
 /// of these bytes, and at most two for each level of the tree, the leaves being a level. A full counter stays full.
 #[inline(always)]
-pub fn prefix_visiting<K: AsBytes + Drop, V: Drop, const PREFIX_LEN: usize>(
-    store: &NodeStore<K, V, PREFIX_LEN>,
+pub fn prefix_visiting<K: AsBytes + Drop, V: Drop, const P: usize>(
+    store: &NodeStore<K, V, P>,
     root: OpaqueNodePtr,
     prefix: &[u8],
     visits: &mut Visits,
 ) -> RawIterator
-    requires { IsCanonicalRoot (of_key K.bytes) PREFIX_LEN store.now root }
-    ensures leaves { ForTree (of_key K.bytes) PREFIX_LEN store.now root (λ pairs layout.
+    requires { IsCanonicalRoot (of_key K.bytes) P store.now root }
+    ensures leaves { ForTree (of_key K.bytes) P store.now root (λ pairs layout.
         IsIteratorOf store.now result
         (leaves_where (λ x. is_front prefix.now (K.bytes x.0)) layout)) }
-    ensures visits { CountsBelow (of_key K.bytes) PREFIX_LEN store.now root prefix.now
+    ensures visits { CountsBelow (of_key K.bytes) P store.now root prefix.now
         visits.old visits.new }
 {
     let Some(end) = walk_below_visiting(store, root, prefix, visits) else {
@@ -80,14 +80,14 @@ pub fn prefix_visiting<K: AsBytes + Drop, V: Drop, const PREFIX_LEN: usize>(
 /// after the second.
 ///
 /// It allocates nothing, and costs at most what `first_from_unchecked` and `last_up_to_unchecked` do together.
-pub fn range_unchecked<K: AsBytes + Drop, V: Drop, const PREFIX_LEN: usize>(
-    store: &NodeStore<K, V, PREFIX_LEN>,
+pub fn range_unchecked<K: AsBytes + Drop, V: Drop, const P: usize>(
+    store: &NodeStore<K, V, P>,
     root: OpaqueNodePtr,
     from: Bound<&[u8]>,
     to: Bound<&[u8]>,
 ) -> RawIterator
-    requires { IsCanonicalRoot (of_key K.bytes) PREFIX_LEN store.now root }
-    ensures { ForTree (of_key K.bytes) PREFIX_LEN store.now root (λ pairs layout.
+    requires { IsCanonicalRoot (of_key K.bytes) P store.now root }
+    ensures { ForTree (of_key K.bytes) P store.now root (λ pairs layout.
         IsIteratorOf store.now result (leaves_where (λ x.
         is_between (bound_map (λ b. b.now) from.entry) (bound_map (λ b. b.now) to.entry) (K.bytes x.0))
         layout)) }
@@ -98,19 +98,19 @@ pub fn range_unchecked<K: AsBytes + Drop, V: Drop, const PREFIX_LEN: usize>(
 /// Returns what `range_unchecked` does, and counts each reading of a node: at least the nodes whose place is a prefix
 /// of the first bound's key, and at most twice the most that `first_from_visiting` counts, and one.
 #[inline(always)]
-pub fn range_visiting<K: AsBytes + Drop, V: Drop, const PREFIX_LEN: usize>(
-    store: &NodeStore<K, V, PREFIX_LEN>,
+pub fn range_visiting<K: AsBytes + Drop, V: Drop, const P: usize>(
+    store: &NodeStore<K, V, P>,
     root: OpaqueNodePtr,
     from: Bound<&[u8]>,
     to: Bound<&[u8]>,
     visits: &mut Visits,
 ) -> RawIterator
-    requires { IsCanonicalRoot (of_key K.bytes) PREFIX_LEN store.now root }
-    ensures leaves { ForTree (of_key K.bytes) PREFIX_LEN store.now root (λ pairs layout.
+    requires { IsCanonicalRoot (of_key K.bytes) P store.now root }
+    ensures leaves { ForTree (of_key K.bytes) P store.now root (λ pairs layout.
         IsIteratorOf store.now result (leaves_where (λ x.
         is_between (bound_map (λ b. b.now) from.entry) (bound_map (λ b. b.now) to.entry) (K.bytes x.0))
         layout)) }
-    ensures visits { CountsToBounds (of_key K.bytes) PREFIX_LEN store.now root
+    ensures visits { CountsToBounds (of_key K.bytes) P store.now root
         (bound_map (λ b. b.now) from.entry) visits.old visits.new }
 {
     let Some(first) = first_from_visiting(store, root, from, visits) else {
@@ -134,13 +134,13 @@ pub fn range_visiting<K: AsBytes + Drop, V: Drop, const PREFIX_LEN: usize>(
 /// It allocates nothing. It descends by the bytes of the bound, and from where this ends to the first and the last leaf
 /// below. Prefixes that are not stored whole are all read from the same leaf, which takes a further descent.
 /// `first_from_visiting` counts what it reads.
-pub fn first_from_unchecked<K: AsBytes + Drop, V: Drop, const PREFIX_LEN: usize>(
-    store: &NodeStore<K, V, PREFIX_LEN>,
+pub fn first_from_unchecked<K: AsBytes + Drop, V: Drop, const P: usize>(
+    store: &NodeStore<K, V, P>,
     root: OpaqueNodePtr,
     from: Bound<&[u8]>,
 ) -> OptionalLeafPtr
-    requires { IsCanonicalRoot (of_key K.bytes) PREFIX_LEN store.now root }
-    ensures leaf { ForTree (of_key K.bytes) PREFIX_LEN store.now root (λ pairs layout.
+    requires { IsCanonicalRoot (of_key K.bytes) P store.now root }
+    ensures leaf { ForTree (of_key K.bytes) P store.now root (λ pairs layout.
         option_map leaf_name result ≡ first_of
         (leaves_where (λ x. is_from (bound_map (λ b. b.now) from.entry) (K.bytes x.0)) layout)) }
     ensures there { IfSome result (λ leaf. IsSome (map.get store.now.leaves leaf)) }
@@ -152,18 +152,18 @@ pub fn first_from_unchecked<K: AsBytes + Drop, V: Drop, const PREFIX_LEN: usize>
 /// prefix of the bound's key, and at most three for each level of the tree, the leaves being a level, and two. A full
 /// counter stays full.
 #[inline(always)]
-pub fn first_from_visiting<K: AsBytes + Drop, V: Drop, const PREFIX_LEN: usize>(
-    store: &NodeStore<K, V, PREFIX_LEN>,
+pub fn first_from_visiting<K: AsBytes + Drop, V: Drop, const P: usize>(
+    store: &NodeStore<K, V, P>,
     root: OpaqueNodePtr,
     from: Bound<&[u8]>,
     visits: &mut Visits,
 ) -> OptionalLeafPtr
-    requires { IsCanonicalRoot (of_key K.bytes) PREFIX_LEN store.now root }
-    ensures leaf { ForTree (of_key K.bytes) PREFIX_LEN store.now root (λ pairs layout.
+    requires { IsCanonicalRoot (of_key K.bytes) P store.now root }
+    ensures leaf { ForTree (of_key K.bytes) P store.now root (λ pairs layout.
         option_map leaf_name result ≡ first_of
         (leaves_where (λ x. is_from (bound_map (λ b. b.now) from.entry) (K.bytes x.0)) layout)) }
     ensures there { IfSome result (λ leaf. IsSome (map.get store.now.leaves leaf)) }
-    ensures visits { CountsToBound (of_key K.bytes) PREFIX_LEN store.now root
+    ensures visits { CountsToBound (of_key K.bytes) P store.now root
         (bound_map (λ b. b.now) from.entry) visits.old visits.new }
 {
     match from {
@@ -179,13 +179,13 @@ pub fn first_from_visiting<K: AsBytes + Drop, V: Drop, const PREFIX_LEN: usize>(
 
 /// Returns the last leaf whose key is before a bound, or at it if that is included. It costs what
 /// `first_from_unchecked` does.
-pub fn last_up_to_unchecked<K: AsBytes + Drop, V: Drop, const PREFIX_LEN: usize>(
-    store: &NodeStore<K, V, PREFIX_LEN>,
+pub fn last_up_to_unchecked<K: AsBytes + Drop, V: Drop, const P: usize>(
+    store: &NodeStore<K, V, P>,
     root: OpaqueNodePtr,
     to: Bound<&[u8]>,
 ) -> OptionalLeafPtr
-    requires { IsCanonicalRoot (of_key K.bytes) PREFIX_LEN store.now root }
-    ensures leaf { ForTree (of_key K.bytes) PREFIX_LEN store.now root (λ pairs layout.
+    requires { IsCanonicalRoot (of_key K.bytes) P store.now root }
+    ensures leaf { ForTree (of_key K.bytes) P store.now root (λ pairs layout.
         option_map leaf_name result ≡ last_of
         (leaves_where (λ x. is_up_to (bound_map (λ b. b.now) to.entry) (K.bytes x.0)) layout)) }
     ensures there { IfSome result (λ leaf. IsSome (map.get store.now.leaves leaf)) }
@@ -195,18 +195,18 @@ pub fn last_up_to_unchecked<K: AsBytes + Drop, V: Drop, const PREFIX_LEN: usize>
 
 /// Returns what `last_up_to_unchecked` does, and counts as `first_from_visiting` does.
 #[inline(always)]
-pub fn last_up_to_visiting<K: AsBytes + Drop, V: Drop, const PREFIX_LEN: usize>(
-    store: &NodeStore<K, V, PREFIX_LEN>,
+pub fn last_up_to_visiting<K: AsBytes + Drop, V: Drop, const P: usize>(
+    store: &NodeStore<K, V, P>,
     root: OpaqueNodePtr,
     to: Bound<&[u8]>,
     visits: &mut Visits,
 ) -> OptionalLeafPtr
-    requires { IsCanonicalRoot (of_key K.bytes) PREFIX_LEN store.now root }
-    ensures leaf { ForTree (of_key K.bytes) PREFIX_LEN store.now root (λ pairs layout.
+    requires { IsCanonicalRoot (of_key K.bytes) P store.now root }
+    ensures leaf { ForTree (of_key K.bytes) P store.now root (λ pairs layout.
         option_map leaf_name result ≡ last_of
         (leaves_where (λ x. is_up_to (bound_map (λ b. b.now) to.entry) (K.bytes x.0)) layout)) }
     ensures there { IfSome result (λ leaf. IsSome (map.get store.now.leaves leaf)) }
-    ensures visits { CountsToBound (of_key K.bytes) PREFIX_LEN store.now root
+    ensures visits { CountsToBound (of_key K.bytes) P store.now root
         (bound_map (λ b. b.now) to.entry) visits.old visits.new }
 {
     match to {
@@ -254,18 +254,18 @@ impl Cut {
 
 // Returns the first leaf after a cut, or the last one before it.
 #[inline(always)]
-fn leaf_at_cut<K: AsBytes + Drop, V: Drop, const PREFIX_LEN: usize>(
-    store: &NodeStore<K, V, PREFIX_LEN>,
+fn leaf_at_cut<K: AsBytes + Drop, V: Drop, const P: usize>(
+    store: &NodeStore<K, V, P>,
     root: OpaqueNodePtr,
     cut: Cut,
     key_bytes: &[u8],
     end: End,
     visits: &mut Visits,
 ) -> OptionalLeafPtr
-    requires { IsCanonicalRoot (of_key K.bytes) PREFIX_LEN store.now root }
-    ensures leaf { ForTree (of_key K.bytes) PREFIX_LEN store.now root (λ pairs layout.
+    requires { IsCanonicalRoot (of_key K.bytes) P store.now root }
+    ensures leaf { ForTree (of_key K.bytes) P store.now root (λ pairs layout.
         IsLeafAtCut (of_key K.bytes) cut key_bytes.now layout end result) }
-    ensures visits { CountsToBound (of_key K.bytes) PREFIX_LEN store.now root
+    ensures visits { CountsToBound (of_key K.bytes) P store.now root
         (bounds.Included key_bytes.now) visits.old visits.new }
 {
     let name = walk_beside(store, root, key_bytes, visits);
@@ -288,18 +288,18 @@ fn leaf_at_cut<K: AsBytes + Drop, V: Drop, const PREFIX_LEN: usize>(
 // Returns a node next to a key: what is before the node is before the key, what is after it is after the key, and all
 // keys below it are on one side.
 #[inline(always)]
-fn walk_beside<K: AsBytes + Drop, V: Drop, const PREFIX_LEN: usize>(
-    store: &NodeStore<K, V, PREFIX_LEN>,
+fn walk_beside<K: AsBytes + Drop, V: Drop, const P: usize>(
+    store: &NodeStore<K, V, P>,
     root: OpaqueNodePtr,
     key_bytes: &[u8],
     visits: &mut Visits,
 ) -> OpaqueNodePtr
-    requires { IsCanonicalRoot (of_key K.bytes) PREFIX_LEN store.now root }
-    ensures beside { ForTree (of_key K.bytes) PREFIX_LEN store.now root (λ pairs layout.
+    requires { IsCanonicalRoot (of_key K.bytes) P store.now root }
+    ensures beside { ForTree (of_key K.bytes) P store.now root (λ pairs layout.
         StandsBeside (of_key K.bytes) key_bytes.now layout result) }
     ensures visits { CountsReadings visits.old visits.new (λ number.
         (number + 2 * levels store.now result ≤ 3 * (levels store.now root + 1)) ×
-        ForTree (of_key K.bytes) PREFIX_LEN store.now root (λ pairs layout.
+        ForTree (of_key K.bytes) P store.now root (λ pairs layout.
         length (nodes_on_way (of_key K.bytes) key_bytes.now layout) ≤ number + 1)) }
 {
     let mut name = root;
@@ -336,36 +336,36 @@ fn walk_beside<K: AsBytes + Drop, V: Drop, const PREFIX_LEN: usize>(
 // Returns whether the whole prefix of a node on the key's path is this one, of the same length. A prefix that is not
 // stored whole is read from the guide leaf.
 #[inline(always)]
-fn has_prefix<K: AsBytes + Drop, V: Drop, const PREFIX_LEN: usize>(
-    store: &NodeStore<K, V, PREFIX_LEN>,
+fn has_prefix<K: AsBytes + Drop, V: Drop, const P: usize>(
+    store: &NodeStore<K, V, P>,
     root: OpaqueNodePtr,
     key_bytes: &[u8],
     name: InnerPtr,
-    node: InnerRef<'_, PREFIX_LEN>,
+    node: InnerRef<'_, P>,
     prefix: &[u8],
     depth: usize,
     guide: &mut OptionalLeafPtr,
     visits: &mut Visits,
 ) -> bool
-    requires root { IsCanonicalRoot (of_key K.bytes) PREFIX_LEN store.now root }
+    requires root { IsCanonicalRoot (of_key K.bytes) P store.now root }
     requires proper { name.kind ≢ Leaf }
     requires node { Some (ref_view node) ≡ map.get store.now.inners name }
     requires len { length prefix.now ≡ (ref_view node).prefix.len }
-    requires at { ForTree (of_key K.bytes) PREFIX_LEN store.now root (λ pairs layout.
+    requires at { ForTree (of_key K.bytes) P store.now root (λ pairs layout.
         (path : TreePath) ×
-        IsAt (of_key K.bytes) PREFIX_LEN key_bytes.now layout path (inner_name name) depth) }
-    requires guide { ForTree (of_key K.bytes) PREFIX_LEN store.now root (λ pairs layout.
+        IsAt (of_key K.bytes) P key_bytes.now layout path (inner_name name) depth) }
+    requires guide { ForTree (of_key K.bytes) P store.now root (λ pairs layout.
         MayGuide (of_key K.bytes) key_bytes.now layout guide.old) }
-    ensures guide { ForTree (of_key K.bytes) PREFIX_LEN store.now root (λ pairs layout.
+    ensures guide { ForTree (of_key K.bytes) P store.now root (λ pairs layout.
         MayGuide (of_key K.bytes) key_bytes.now layout guide.new) }
     ensures visits { CountsReadings visits.old visits.new (λ number.
         number + guide_cost store.now root guide.old ≤ 1 + guide_cost store.now root guide.new) }
-    ensures same { ForTree (of_key K.bytes) PREFIX_LEN store.now root (λ pairs layout.
+    ensures same { ForTree (of_key K.bytes) P store.now root (λ pairs layout.
         (path : TreePath) →
-        (at : IsAt (of_key K.bytes) PREFIX_LEN key_bytes.now layout path (inner_name name) depth) →
+        (at : IsAt (of_key K.bytes) P key_bytes.now layout path (inner_name name) depth) →
         IsTrue result ↔ (prefix.now ≡ prefix_of (of_key K.bytes) depth at.node)) }
 {
-    if prefix.len() <= PREFIX_LEN {
+    if prefix.len() <= P {
         return prefix.starts_with(node.read_prefix());
     }
     let opaque = name.to_opaque();

@@ -44,15 +44,15 @@ pub struct SubtreeDeleteResult {
 ///
 /// It allocates nothing. It descends to the node below which these keys are, by at most one inner node for each byte of
 /// the prefix, then to the first leaf, and reads its key.
-pub fn search_for_prefix_delete_point<K: AsBytes + Drop, V: Drop, const PREFIX_LEN: usize>(
-    store: &NodeStore<K, V, PREFIX_LEN>,
+pub fn search_for_prefix_delete_point<K: AsBytes + Drop, V: Drop, const P: usize>(
+    store: &NodeStore<K, V, P>,
     root: OpaqueNodePtr,
     prefix: &[u8],
 ) -> Option<SubtreeDeletePoint>
-    requires { IsCanonicalRoot (of_key K.bytes) PREFIX_LEN store.now root }
-    ensures point { ForTree (of_key K.bytes) PREFIX_LEN store.now root (λ pairs layout.
+    requires { IsCanonicalRoot (of_key K.bytes) P store.now root }
+    ensures point { ForTree (of_key K.bytes) P store.now root (λ pairs layout.
         IsPrefixPoint (of_key K.bytes) prefix.now layout result) }
-    ensures applies { IfSome result (IsSubtreePointIn (of_key K.bytes) PREFIX_LEN store.now root) }
+    ensures applies { IfSome result (IsSubtreePointIn (of_key K.bytes) P store.now root) }
 {
     let end = walk_below(store, root, prefix)?;
     let first = minimum_unchecked(store, end.name);
@@ -81,23 +81,23 @@ impl SubtreeDeletePoint {
     ///
     /// It never fails and allocates nothing, as `DeletePoint::apply`. It costs a step for each freed node, and a
     /// constant number of writes.
-    pub fn apply<K: AsBytes + Drop, V: Drop, const PREFIX_LEN: usize>(
+    pub fn apply<K: AsBytes + Drop, V: Drop, const P: usize>(
         self,
-        store: &mut NodeStore<K, V, PREFIX_LEN>,
+        store: &mut NodeStore<K, V, P>,
         root: OpaqueNodePtr,
     ) -> SubtreeDeleteResult
-        requires { IsSubtreePointIn (of_key K.bytes) PREFIX_LEN store.old root self }
-        ensures canonical { ForTree (of_key K.bytes) PREFIX_LEN store.old root (λ pairs layout.
+        requires { IsSubtreePointIn (of_key K.bytes) P store.old root self }
+        ensures canonical { ForTree (of_key K.bytes) P store.old root (λ pairs layout.
             (at : LeadsToNode layout self) →
-            IsCanonical (of_key K.bytes) PREFIX_LEN store.new result.new_root (pairs_beside at)) }
+            IsCanonical (of_key K.bytes) P store.new result.new_root (pairs_beside at)) }
         ensures left { IfSome result.new_root
-            (IsCanonicalRoot (of_key K.bytes) PREFIX_LEN store.new) }
-        ensures removed { ForTree (of_key K.bytes) PREFIX_LEN store.old root (λ pairs layout.
+            (IsCanonicalRoot (of_key K.bytes) P store.new) }
+        ensures removed { ForTree (of_key K.bytes) P store.old root (λ pairs layout.
             (at : LeadsToNode layout self) → result.leafs_removed ≡ length (pairs_of at.node)) }
-        ensures kept { ForTree (of_key K.bytes) PREFIX_LEN store.old root (λ pairs old.
-            ForRoot (of_key K.bytes) PREFIX_LEN store.new result.new_root (λ after new.
+        ensures kept { ForTree (of_key K.bytes) P store.old root (λ pairs old.
+            ForRoot (of_key K.bytes) P store.new result.new_root (λ after new.
             ChangesInPlace (of_key K.bytes) store.old store.new (Some old) new)) }
-        ensures apart { KeepsApart (of_key K.bytes) PREFIX_LEN
+        ensures apart { KeepsApart (of_key K.bytes) P
             store.old store.new (Some root) result.new_root }
         ensures promise { store.new.promise ≡
             promise_after (placed_for_deletion store.old self.path) store.old.promise }

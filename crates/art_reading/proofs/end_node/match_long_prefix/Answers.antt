@@ -15,7 +15,7 @@ guide_from-read_from-requires g c =
       (
         c.requires.root,
         (
-          λ pairs layout by. (path, subst (λ n. IsAt (of_key g.K.AsBytes.bytes) g.row.PREFIX_LEN c.args.key_bytes.now layout path n c.args.depth) (sym c.to_opaque-opaque.ensures) (at pairs layout by)),
+          λ pairs layout by. (path, subst (λ n. IsAt (of_key g.K.AsBytes.bytes) g.row.P c.args.key_bytes.now layout path n c.args.depth) (sym c.to_opaque-opaque.ensures) (at pairs layout by)),
           c.requires.guide,
         ),
       ),
