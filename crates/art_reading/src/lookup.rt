@@ -21,13 +21,6 @@ use art_nodes::store::NodeStore;
 pub use shortest::{shortest_text_unchecked, shortest_text_visiting};
 pub use texts::{longest_text_unchecked, longest_text_visiting};
 
-/// By default a lookup has compared all bytes so far, and no node has been read.
-pub fn look_ups_start_by_default()
-    ensures behavior { (behavior : PrefixMatchBehavior) →
-        ⟦<PrefixMatchBehavior as Default>⟧.is_default behavior → behavior ≡ Pessimistic }
-    ensures visits { (visits : Visits) → ⟦<Visits as Default>⟧.is_default visits → visits ≡ 0 }
-{}
-
 /// Returns the leaf of a key, or `None` if no stored key is equal to it.
 ///
 /// It is a single descent: it reads at most one more node than the key has bytes. If the bytes of a prefix are not all
