@@ -1,8 +1,7 @@
 //! Whether a tree is well formed, for any store and any name.
 ghost use Rattle.std.specs.Prelude.{◌≡◌, ◌+◌, ◌^◌, ◌<◌, ◌≢◌, [], IfOk, IfErr, IfSome, IsNone, IsOkAnd, IsErrAnd};
 ghost use Rattle.art_model.specs.Pairs.{of_key};
-ghost use Rattle.art_checking.specs.Checks.{IsWellFormed, prefix_bytes, prefix_cmp};
-ghost use Rattle.std.specs.Bool.{Decides};
+ghost use Rattle.art_checking.specs.Checks.{IsWellFormed, prefix_bytes};
 
 use art_nodes::node::{AsBytes, OpaqueNodePtr};
 use art_nodes::store::NodeStore;
@@ -52,13 +51,6 @@ impl KeyPrefix {
     }
 }
 
-/// Prefixes are ordered by their bytes, and are equal if these are.
-pub fn key_prefixes_are_in_order()
-    ensures order { (a b : KeyPrefix) → ⟦<KeyPrefix as Ord>⟧.cmp a b ≡ prefix_cmp a b }
-    ensures equal { (a b : KeyPrefix) →
-        Decides (⟦<KeyPrefix as PartialEq>⟧.eq a b) (prefix_bytes a ≡ prefix_bytes b) }
-{}
-
 impl Clone for KeyPrefix {
     ghost is_clone = { λ prefix copy. prefix_bytes copy ≡ prefix_bytes prefix };
 
@@ -80,13 +72,6 @@ pub struct WellFormedTreeStats {
     pub num_leaf: usize,
     pub num_inner: usize,
 }
-
-/// By default the numbers are 0.
-pub fn stats_start_at_zero()
-    ensures { (stats : WellFormedTreeStats) →
-        ⟦<WellFormedTreeStats as Default>⟧.is_default stats →
-        stats ≡ record { num_leaf = 0; num_inner = 0 } }
-{}
 
 impl WellFormedTreeStats {
     /// Returns the number of all nodes, leaves and inner nodes.

@@ -5,7 +5,7 @@ ghost use Rattle.std.specs.Option.{option_map};
 ghost use Rattle.art_parts.specs.Names.{leaf_name};
 ghost use Rattle.art_parts.specs.declared.names.OpaqueNodePtr.{OpaqueNodePtr};
 ghost use Rattle.art_model.specs.Pairs.{first_of, last_of, without_first, without_last};
-ghost use Rattle.art_reading.specs.Iterators.{GoesOn, IsIteratorOf, TakesEnd, WalksWhole};
+ghost use Rattle.art_reading.specs.Iterators.{IsIteratorOf, TakesEnd};
 
 use crate::descent::End;
 use art_nodes::node::{AsBytes, LeafNode, LeafPtr, OptionalLeafPtr};
@@ -169,14 +169,3 @@ fn foreseen(end: End, taken: LeafPtr, linked: LeafPtr) -> LeafPtr
         _ => linked,
     }
 }
-
-/// An iterator stands for the same leaves in every store in which they have the same links. So a returned leaf may be
-/// freed before the next call, and leaves that are not left of the iteration may change.
-pub fn a_walk_goes_on<K, V>()
-    ensures { GoesOn K V }
-{}
-
-/// From the first leaf of a canonical root to the last one an iterator returns all of its leaves, in order.
-pub fn a_tree_is_walked_whole<K, V>()
-    ensures { WalksWhole K V }
-{}

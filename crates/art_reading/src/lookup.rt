@@ -7,7 +7,6 @@ ghost use Rattle.art_model.specs.Pairs.{first_of, match_of, of_key, with_key};
 ghost use Rattle.art_model.specs.Roots.{ForTree, IsCanonicalRoot};
 ghost use Rattle.art_model.specs.Stores.{pair_of};
 ghost use Rattle.art_reading.specs.Descents.{CountsVisits, asked_of};
-ghost use Rattle.art_reading.specs.declared.matching.PrefixMatchBehavior.TheVariants.{Pessimistic};
 
 mod shortest;
 mod texts;
@@ -20,13 +19,6 @@ use art_nodes::node::{AsBytes, LeafNode, OpaqueNodePtr, OptionalLeafPtr};
 use art_nodes::store::NodeStore;
 pub use shortest::{shortest_text_unchecked, shortest_text_visiting};
 pub use texts::{longest_text_unchecked, longest_text_visiting};
-
-/// By default a lookup has compared all bytes so far, and no node has been read.
-pub fn look_ups_start_by_default()
-    ensures behavior { (behavior : PrefixMatchBehavior) →
-        ⟦<PrefixMatchBehavior as Default>⟧.is_default behavior → behavior ≡ Pessimistic }
-    ensures visits { (visits : Visits) → ⟦<Visits as Default>⟧.is_default visits → visits ≡ 0 }
-{}
 
 /// Returns the leaf of a key, or `None` if no stored key is equal to it.
 ///

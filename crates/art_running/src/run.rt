@@ -11,7 +11,7 @@ ghost use Rattle.art_model.specs.Clones.{KeepBytes};
 ghost use Rattle.art_model.specs.Pairs.{match_of, of_key};
 ghost use Rattle.art_model.specs.Roots.{ForTree, IsCanonicalRoot};
 ghost use Rattle.art_writing.specs.Deleted.{IsDeletePointIn};
-ghost use Rattle.art_running.specs.Runs.{IsRun, SamePairsLeaveSameTree, from_side, of_side, on};
+ghost use Rattle.art_running.specs.Runs.{IsRun, from_side, of_side, on};
 ghost use Rattle.art_running.specs.Steps.{opposite};
 ghost use Rattle.art_writing.specs.ParentWrites.{IsPlanted};
 ghost use Rattle.art_running.specs.declared.run.Command.TheVariants as commands;
@@ -135,16 +135,6 @@ pub fn run<K: AsBytes + Clone + Drop, V: Clone + Drop, const P: usize>(
         replies,
     })
 }
-
-/// Two runs that leave the same pairs leave the same tree, up to names, whatever their commands and wherever they
-/// began.
-pub fn the_same_pairs_leave_the_same_tree<
-    K: AsBytes + Clone + Drop,
-    V: Clone + Drop,
-    const P: usize,
->()
-    ensures { SamePairsLeaveSameTree K.bytes P (IsPairClone K.is_clone V.is_clone) }
-{}
 
 impl Side {
     fn opposite(self) -> Self
