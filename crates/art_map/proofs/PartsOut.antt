@@ -57,21 +57,6 @@ module _ {A : Type 0} (bytes : A → List ℕ) (prefix : List ℕ) where
           let off = other_key x y (first_begins ys x f) is in
           (rw off reply, rw off (ap (λ zs. y ∷ zs) left))
 
-  -- so it is the pair of a point that is found by its key
-  module _ (pairs : List A) (x : A) (key : List ℕ) (rising : IsMap bytes pairs) (first : Some x ≡ first_of (below bytes prefix pairs)) (key_is : key ≡ bytes x) where
-    reply_is : remove_reply bytes key pairs ≡ Some x
-    reply_is = ap (λ k. remove_reply bytes k pairs) key_is ∙ (first_below pairs x rising (sym first)).0
-
-    pub point_not_none : remove_reply bytes key pairs ≡ None → ⊥
-    point_not_none none = let some = reply_is in absurd cc
-
-    pub point_is_first : (y : A) → remove_reply bytes key pairs ≡ Some y → (Some y ≡ first_of (below bytes prefix pairs)) × (remove_key bytes (bytes y) pairs ≡ without_below bytes prefix 1 pairs)
-    point_is_first y reply =
-        let some = reply_is in
-        let same : x ≡ y = cc in
-        subst (λ q. (Some q ≡ first_of (below bytes prefix pairs)) × (remove_key bytes (bytes q) pairs ≡ without_below bytes prefix 1 pairs)) same
-        (first, (first_below pairs x rising (sym first)).1)
-
   -- if there are no such pairs, all stay
   pub nothing_out : (pairs : List A) → None ≡ first_of (below bytes prefix pairs) → without_below bytes prefix 1 pairs ≡ pairs
   nothing_out [] none = refl

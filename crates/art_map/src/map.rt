@@ -26,7 +26,8 @@ use art_reading::range::{
 };
 use art_writing::clone::clone_unchecked;
 use art_writing::delete::{
-    DeletePoint, find_maximum_to_delete, find_minimum_to_delete, search_for_delete_point_by_lengths,
+    DeletePoint, find_maximum_to_delete, find_minimum_to_delete,
+    search_for_delete_point_by_lengths, search_for_first_delete_point_below,
 };
 use art_writing::insert::{
     InsertPrefixError, InsertSearchError, PrefixInsertResult, Refused, plant,
@@ -446,7 +447,7 @@ impl<K: AsBytes + Drop, V: Drop, const P: usize> ByteMap<K, V, P> {
     }
 
     /// Removes the first pair whose key starts with these bytes, and returns it; `None` if there is none. It never
-    /// fails. It costs what `prefix` and `remove` do together.
+    /// fails. It is a single descent.
     pub fn pop_first_below(&mut self, prefix: &[u8]) -> Option<(K, V)>
         ensures pairs { self.new ≡ without_below (of_key K.bytes) prefix.now 1 self.old }
         ensures removed { result ≡ first_of (below (of_key K.bytes) prefix.now self.old) }
@@ -767,12 +768,8 @@ fn take_below<K: AsBytes + Drop, V: Drop, const P: usize>(
     let Some(name) = *root else {
         return None;
     };
-    let Some(leaf) = prefix_unchecked(store, name, prefix).next(store) else {
+    let Some(point) = search_for_first_delete_point_below(store, name, prefix) else {
         return None;
-    };
-    let key_bytes = pair_at(store, leaf).0.as_bytes();
-    let Some(point) = search_for_delete_point_by_lengths(store, name, key_bytes) else {
-        unreachable!()
     };
     Some(take_out(store, root, len, name, point))
 }

@@ -28,6 +28,7 @@ pub mod Points
 pub mod RelatedPairs
 pub mod Collapses
 pub mod Subtrees
+pub mod PointsBelow
 pub mod Gaps
 pub mod Larger
 pub mod Entered

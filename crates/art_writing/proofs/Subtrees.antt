@@ -472,27 +472,39 @@ count_fits {K} {V} t n y others all here total few = go others refl
 -- ---- the point of a prefix
 
 module _ {A : Type 0} (bytes : A → List ℕ) (prefix : List ℕ) (layout : Tree OpaqueNodePtr A) (end : LastNode) (all : HasAllBelow bytes prefix layout end.name) where
-  -- the keys below the node start with the prefix
+  -- the pairs are those before the node, below it and after it
+  split : pairs_of layout ≡ pairs_before all.at.path ++ pairs_of all.at.node ++ pairs_after all.at.path
+  split = ap pairs_of (sym all.at.whole) ∙ pairs_of-plug all.at.path all.at.node
+
+  -- all below the node start with the prefix
+  these : all.begin ≡ true → Each (λ x. is_front prefix (bytes x) ≡ true) (pairs_of all.at.node)
+  these on = subst (λ t. Each (λ x. is_front prefix (bytes x) ≡ t) (pairs_of all.at.node)) on all.alike
+
+  -- the pairs below the node are those whose keys start with the prefix
+  pub these_are : all.begin ≡ true → pairs_of all.at.node ≡ below bytes prefix (pairs_of layout)
+  these_are on =
+      let test = λ (x : A). is_front prefix (bytes x) in
+      sym (ap (below bytes prefix) split ∙ simp (
+        filter-append,
+        filter_none test (pairs_before all.at.path) all.at.before,
+        filter_all test (pairs_of all.at.node) (these on),
+        filter_none test (pairs_after all.at.path) all.at.after,
+        append-nil,
+      ) refl)
+
+  -- so the node is that of the prefix
   pub these_go : end.path ≡ path_of all.at.path → all.begin ≡ true → HasPrefixBelow bytes prefix layout (record { path = end.path; node = end.name })
   these_go path_is on =
       let test = λ (x : A). is_front prefix (bytes x) in
-      let these : Each (λ x. test x ≡ true) (pairs_of all.at.node) = subst (λ t. Each (λ x. test x ≡ t) (pairs_of all.at.node)) on all.alike in
       let stay = λ (xs : List A) (h : Each (λ x. test x ≡ false) xs).
       filter_all (λ x. not (test x)) xs (Each-weaker (λ x. test x ≡ false) (λ x. not (test x) ≡ true) (λ x e. ap not e) xs h) in
-      let split : pairs_of layout ≡ pairs_before all.at.path ++ pairs_of all.at.node ++ pairs_after all.at.path = ap pairs_of (sym all.at.whole) ∙ pairs_of-plug all.at.path all.at.node in
       record {
         at = record { path = all.at.path; node = all.at.node; whole = all.at.whole; path_is = path_is; named = all.at.named };
-        gone = sym (ap (below bytes prefix) split ∙ simp (
-          filter-append,
-          filter_none test (pairs_before all.at.path) all.at.before,
-          filter_all test (pairs_of all.at.node) these,
-          filter_none test (pairs_after all.at.path) all.at.after,
-          append-nil,
-        ) refl);
+        gone = these_are on;
         left = sym (ap (not_below bytes prefix) split ∙ simp (
           filter-append,
           stay (pairs_before all.at.path) all.at.before,
-          filter_none (λ x. not (test x)) (pairs_of all.at.node) (Each-weaker (λ x. test x ≡ true) (λ x. not (test x) ≡ false) (λ x e. ap not e) (pairs_of all.at.node) these),
+          filter_none (λ x. not (test x)) (pairs_of all.at.node) (Each-weaker (λ x. test x ≡ true) (λ x. not (test x) ≡ false) (λ x e. ap not e) (pairs_of all.at.node) (these on)),
           stay (pairs_after all.at.path) all.at.after,
           append-nil,
         ) refl);

@@ -4,11 +4,16 @@ use Rattle.art_nodes.specs.Nodes.{Nodes}
 use Rattle.art_parts.specs.declared.names.OpaqueNodePtr.{OpaqueNodePtr}
 use Rattle.art_model.specs.Canonical.{IsCanonicalTree}
 use Rattle.art_model.specs.Layouts.{name_of}
+use Rattle.art_model.specs.Pairs.{first_of}
 use Rattle.art_model.specs.Parts.{below, not_below}
 use Rattle.art_model.specs.Paths.{Frame, plug, pairs_before, pairs_after}
 use Rattle.art_model.specs.Radix.{pairs_of}
 use Rattle.art_model.specs.Trees.{Tree}
-use Rattle.art_reading.specs.PathSteps.{path_of}
+use Rattle.art_reading.specs.PathSteps.{path_of, step_down}
+use Rattle.art_reading.specs.declared.path.TreePath.{TreePath}
+use Rattle.art_reading.specs.declared.path.TreePath.TheVariants.{Root, ChildOfRoot, Normal}
+use Rattle.art_writing.specs.Deleted.{LeadsTo}
+use Rattle.art_writing.specs.declared.delete.DeletePoint.{DeletePoint}
 use Rattle.art_writing.specs.declared.delete.subtree.SubtreeDeletePoint.{SubtreeDeletePoint}
 
 -- The point names a node of the tree, with its parent and grandparent and the bytes that lead down.
@@ -36,9 +41,21 @@ module _ {A : Type 0} (bytes : A → List ℕ) (prefix : List ℕ) (tree : Tree 
   IsPrefixPoint None = below bytes prefix (pairs_of tree) ≡ []
   IsPrefixPoint (Some point) = HasPrefixBelow point
 
+  -- the point of a prefix, and that of the first pair whose key starts with it, or none where no key does
+  abbrev pub ArePointsBelow : Option (SubtreeDeletePoint × DeletePoint) → Type 0
+  ArePointsBelow None = below bytes prefix (pairs_of tree) ≡ []
+  ArePointsBelow (Some points) =
+      HasPrefixBelow points.0 × (x : A) × (first_of (below bytes prefix (pairs_of tree)) ≡ Some x) × LeadsTo tree x points.1
+
 -- the point is a subtree point of the store and the root
 abbrev pub IsSubtreePointIn : {K V : Type 0} → (K × V → List ℕ) → ℕ → Nodes K V → OpaqueNodePtr →
     SubtreeDeletePoint → Type 0
 IsSubtreePointIn {K} {V} bytes P s root point =
     (pairs : List (K × V)) × (layout : Tree OpaqueNodePtr (K × V)) ×
     IsCanonicalTree bytes P s root pairs layout × LeadsToNode layout point
+
+-- the path to a node, by the path to one above it and the path from there
+abbrev pub joined : TreePath → TreePath → TreePath
+joined above Root = above
+joined above (ChildOfRoot parent byte) = step_down above parent byte
+joined above (Normal parent byte grandparent b) = Normal parent byte grandparent b

@@ -14,10 +14,12 @@ use art_reading::matching::{Asked, PrefixMatchBehavior};
 use art_reading::path::TreePath;
 
 mod apply;
+mod below;
 mod compress;
 mod subtree;
 
-pub use subtree::{SubtreeDeletePoint, SubtreeDeleteResult, search_for_prefix_delete_point};
+pub use below::{search_for_first_delete_point_below, search_for_prefix_delete_point};
+pub use subtree::{SubtreeDeletePoint, SubtreeDeleteResult};
 
 /// Where a leaf is removed from a tree.
 #[derive(Clone, Copy, PartialEq, Eq, Debug)]

@@ -9,7 +9,7 @@ ghost use Rattle.art_model.specs.Radix.{pairs_of};
 ghost use Rattle.art_model.specs.Roots.{ForRoot, ForTree, IsCanonicalRoot};
 ghost use Rattle.art_reading.specs.PathSteps.{last_step};
 ghost use Rattle.art_writing.specs.Deleted.{placed_for_deletion};
-ghost use Rattle.art_writing.specs.Subtrees.{IsPrefixPoint, IsSubtreePointIn, LeadsToNode, pairs_beside};
+ghost use Rattle.art_writing.specs.Subtrees.{IsSubtreePointIn, LeadsToNode, pairs_beside};
 ghost use Rattle.art_writing.specs.Collapsed.{IsCollapsed};
 ghost use Rattle.art_writing.specs.ParentWrites.{HasChild};
 
@@ -19,8 +19,7 @@ use crate::deallocate::free_nodes;
 use crate::writes::{Direction, link, links_beside, replace_at};
 use art_nodes::node::{AsBytes, LeafPtr, NodeType, OpaqueNodePtr};
 use art_nodes::store::NodeStore;
-use art_reading::descent::{End, walk_below, walk_to_end};
-use art_reading::minmax::minimum_unchecked;
+use art_reading::descent::{End, walk_to_end};
 use art_reading::path::{TreePath, last_step};
 
 /// Where a node is removed from a tree with its whole subtree.
@@ -38,32 +37,6 @@ pub struct SubtreeDeleteResult {
     pub new_root: Option<OpaqueNodePtr>,
     /// How many leaves were removed.
     pub leafs_removed: usize,
-}
-
-/// Returns the point of all keys that start with a prefix, or `None` where no key does.
-///
-/// It allocates nothing. It descends to the node below which these keys are, by at most one inner node for each byte of
-/// the prefix, then to the first leaf, and reads its key.
-pub fn search_for_prefix_delete_point<K: AsBytes + Drop, V: Drop, const P: usize>(
-    store: &NodeStore<K, V, P>,
-    root: OpaqueNodePtr,
-    prefix: &[u8],
-) -> Option<SubtreeDeletePoint>
-    requires { IsCanonicalRoot (of_key K.bytes) P store.now root }
-    ensures point { ForTree (of_key K.bytes) P store.now root (λ pairs layout.
-        IsPrefixPoint (of_key K.bytes) prefix.now layout result) }
-    ensures applies { IfSome result (IsSubtreePointIn (of_key K.bytes) P store.now root) }
-{
-    let end = walk_below(store, root, prefix)?;
-    let first = minimum_unchecked(store, end.name);
-    let leaf = store.leaf_at(first);
-    if !leaf.key.as_bytes().starts_with(prefix) {
-        return None;
-    }
-    Some(SubtreeDeletePoint {
-        path: end.path,
-        node: end.name,
-    })
 }
 
 // A tree in which one leaf replaces all below a node.

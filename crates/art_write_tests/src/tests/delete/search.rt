@@ -7,6 +7,7 @@ use art_nodes::store::NodeStore;
 use art_operations::delete::{
     DeletePoint, find_maximum_to_delete, find_minimum_to_delete, search_for_delete_point,
     search_for_delete_point_by_lengths, search_for_delete_point_visiting,
+    search_for_first_delete_point_below,
 };
 use art_operations::lookup::Visits;
 use art_operations::path::TreePath;
@@ -202,4 +203,96 @@ fn both_ends<const P: usize>(
 fn finds_the_points_of_both_ends(rt: HostRuntime) -> Result<(), Fail> {
     let all = keys_of_three(rt.alloc(), [4, 3, 2])?;
     as_expected(both_ends::<16>(&mut NodeStore::new(rt.alloc()), all))
+}
+
+// The first of some keys, which are in their order, that starts with a prefix.
+fn first_with<'a>(keys: &[&'a [u8]], prefix: &[u8]) -> Option<&'a [u8]> {
+    for &key in keys {
+        if key.starts_with(prefix) {
+            return Some(key);
+        }
+    }
+    None
+}
+
+// The point of a key, if there is one.
+fn point_if_any<const P: usize>(
+    store: &NodeStore<Key, u32, P>,
+    root: OpaqueNodePtr,
+    key: Option<&[u8]>,
+) -> Option<DeletePoint>
+    requires { IsCanonicalRoot (of_key (λ key. key.items)) P store.now root }
+{
+    search_for_delete_point(store, root, key?)
+}
+
+// The first of some prefixes whose point is not that of the first key that starts with it.
+fn first_mistaken<'a, const P: usize>(
+    store: &NodeStore<Key, u32, P>,
+    root: OpaqueNodePtr,
+    keys: &[&[u8]],
+    prefixes: &[&'a [u8]],
+) -> Option<&'a [u8]>
+    requires { IsCanonicalRoot (of_key (λ key. key.items)) P store.now root }
+{
+    for &prefix in prefixes {
+        let point = search_for_first_delete_point_below(store, root, prefix);
+        if point != point_if_any(store, root, first_with(keys, prefix)) {
+            return Some(prefix);
+        }
+    }
+    None
+}
+
+// Whether the points of all prefixes are right in the tree of these keys.
+fn are_points_of_the_first<const P: usize>(
+    store: &mut NodeStore<Key, u32, P>,
+    keys: &[&[u8]],
+    prefixes: &[&[u8]],
+) -> Option<bool> {
+    let root = planted_all(store, keys).ok()??;
+    Some(first_mistaken(store, root, keys, prefixes).is_none())
+}
+
+// Keys on four levels, in their order.
+static LEVELS: [&[u8]; 8] = [
+    &[1, 2, 3, 4, 5, 5],
+    &[1, 2, 3, 4, 5, 6],
+    &[1, 2, 3, 9],
+    &[1, 7],
+    &[2],
+    &[3, 1, 1],
+    &[3, 1, 2, 1],
+    &[3, 1, 2, 2],
+];
+
+// Prefixes that end at a node, inside its prefix, at a leaf or above it, and some that no key starts with.
+static PREFIXES: [&[u8]; 18] = [
+    &[],
+    &[1],
+    &[1, 2],
+    &[1, 2, 3],
+    &[1, 2, 3, 4],
+    &[1, 2, 3, 4, 5],
+    &[1, 2, 3, 4, 5, 6],
+    &[1, 2, 3, 9],
+    &[1, 2, 9],
+    &[1, 2, 3, 4, 6],
+    &[1, 2, 3, 5],
+    &[2],
+    &[2, 1],
+    &[3],
+    &[3, 1],
+    &[3, 2],
+    &[3, 1, 2],
+    &[4],
+];
+
+#[test]
+fn names_the_point_of_the_first_key_below(rt: HostRuntime) -> Result<(), Fail> {
+    for keys in [&LEVELS[..], &LEVELS[4..5]] {
+        let seen = are_points_of_the_first::<0>(&mut NodeStore::new(rt.alloc()), keys, &PREFIXES);
+        same(seen, Some(true))?;
+    }
+    Ok(())
 }

@@ -1,0 +1,95 @@
+//! The points of keys that start with a prefix: that of all, and that of the first.
+ghost use Rattle.std.specs.Prelude.{◌≡◌, IfSome};
+ghost use Rattle.art_model.specs.Pairs.{first_of, of_key};
+ghost use Rattle.art_model.specs.Parts.{below};
+ghost use Rattle.art_model.specs.Roots.{ForTree, IsCanonicalRoot};
+ghost use Rattle.art_writing.specs.Deleted.{IsDeletePoint, IsDeletePointIn, pair_at};
+ghost use Rattle.art_writing.specs.Subtrees.{ArePointsBelow, IsPrefixPoint, IsSubtreePointIn, joined};
+
+use super::DeletePoint;
+use super::subtree::SubtreeDeletePoint;
+use art_nodes::node::{AsBytes, OpaqueNodePtr};
+use art_nodes::store::NodeStore;
+use art_reading::descent::{End, walk_below, walk_to_end};
+use art_reading::path::TreePath;
+
+/// Returns the point of all keys that start with a prefix, or `None` where no key does.
+///
+/// It allocates nothing. It descends to the node below which these keys are, by at most one inner node for each byte of
+/// the prefix, then to the first leaf, and reads its key.
+pub fn search_for_prefix_delete_point<K: AsBytes + Drop, V: Drop, const P: usize>(
+    store: &NodeStore<K, V, P>,
+    root: OpaqueNodePtr,
+    prefix: &[u8],
+) -> Option<SubtreeDeletePoint>
+    requires { IsCanonicalRoot (of_key K.bytes) P store.now root }
+    ensures point { ForTree (of_key K.bytes) P store.now root (λ pairs layout.
+        IsPrefixPoint (of_key K.bytes) prefix.now layout result) }
+    ensures applies { IfSome result (IsSubtreePointIn (of_key K.bytes) P store.now root) }
+{
+    let (all, _) = points_below(store, root, prefix)?;
+    Some(all)
+}
+
+/// Returns the point of the first key that starts with a prefix, or `None` where no key does.
+///
+/// It descends as `search_for_prefix_delete_point` does, at the same cost.
+pub fn search_for_first_delete_point_below<K: AsBytes + Drop, V: Drop, const P: usize>(
+    store: &NodeStore<K, V, P>,
+    root: OpaqueNodePtr,
+    prefix: &[u8],
+) -> Option<DeletePoint>
+    requires { IsCanonicalRoot (of_key K.bytes) P store.now root }
+    ensures point { ForTree (of_key K.bytes) P store.now root (λ pairs layout.
+        IsDeletePoint layout (first_of (below (of_key K.bytes) prefix.now pairs)) result) }
+    ensures pair { ForTree (of_key K.bytes) P store.now root (λ pairs _.
+        pair_at store.now result ≡ first_of (below (of_key K.bytes) prefix.now pairs)) }
+    ensures applies { IfSome result (IsDeletePointIn (of_key K.bytes) P store.now root) }
+{
+    let (_, first) = points_below(store, root, prefix)?;
+    Some(first)
+}
+
+// Returns the point of all keys that start with a prefix and that of the first of them, by a descent to the node below
+// which they are, and on to the first leaf.
+#[inline(always)]
+fn points_below<K: AsBytes + Drop, V: Drop, const P: usize>(
+    store: &NodeStore<K, V, P>,
+    root: OpaqueNodePtr,
+    prefix: &[u8],
+) -> Option<(SubtreeDeletePoint, DeletePoint)>
+    requires { IsCanonicalRoot (of_key K.bytes) P store.now root }
+    ensures { ForTree (of_key K.bytes) P store.now root (λ _ layout.
+        ArePointsBelow (of_key K.bytes) prefix.now layout result) }
+{
+    let end = walk_below(store, root, prefix)?;
+    let (path, first) = walk_to_end(store, end.name, End::First);
+    let leaf = store.leaf_at(first);
+    if !leaf.key.as_bytes().starts_with(prefix) {
+        return None;
+    }
+    let all = SubtreeDeletePoint {
+        path: end.path,
+        node: end.name,
+    };
+    let point = DeletePoint {
+        path: joined(end.path, path),
+        leaf_node_ptr: first,
+    };
+    Some((all, point))
+}
+
+// The path to a node below another one: that to the other one, and then that from there.
+#[inline(always)]
+fn joined(above: TreePath, below: TreePath) -> TreePath
+    ensures { result ≡ joined above below }
+{
+    match below {
+        TreePath::Root => above,
+        TreePath::ChildOfRoot {
+            parent,
+            child_key_byte,
+        } => above.step_down(parent, child_key_byte),
+        TreePath::Normal { .. } => below,
+    }
+}
