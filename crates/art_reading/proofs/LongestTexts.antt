@@ -32,7 +32,9 @@ use Rattle.art_model.proofs.stores.Stores.{path_holds}
 use Rattle.art_model.proofs.stores.Views as views
 use Rattle.art_model.specs.Texts.{AreEnded, IsEndedBy, texts_in_front, text_of}
 use Rattle.art_model.specs.Lookups.{FindsLast}
-use Rattle.art_reading.specs.TextWays.{EndsWalk, IsCovering}
+use Rattle.art_reading.specs.TextWays.{EndsAt, EndsWalk, IsCovering, leaf_of_end}
+use Rattle.art_reading.specs.declared.lookup.texts.TextEnd.{TextEnd}
+use Rattle.art_reading.specs.declared.lookup.texts.TextEnd.TheVariants.{Passed, Whole}
 use Rattle.art_model.proofs.keys.Texts.{ended_text, front_short, fronts_first, not_front, true_front}
 
 -- two tests that agree
@@ -60,6 +62,18 @@ shared_within a b = front_short (common_front a b) a (common_front_left a b)
 
 module _ {K V : Type 0} {s : Nodes K V} {bytes : K × V → List ℕ} {P : ℕ} {root : OpaqueNodePtr} {pairs : List (K × V)} {layout : Tree OpaqueNodePtr (K × V)}
     (by : IsCanonicalTree bytes P s root pairs layout) where
+  -- what a descent ends at is this leaf, or none
+  pub ends_at : (query : List ℕ) {end to : Option LeafPtr} → end ≡ to → EndsWalk bytes query pairs layout end → EndsWalk bytes query pairs layout to
+  ends_at query = subst (EndsWalk bytes query pairs layout)
+
+  -- wherever a descent along a query ends
+  pub ends_walk : (query : List ℕ) (end : TextEnd) {leaf : Option LeafPtr} → leaf ≡ leaf_of_end end → EndsAt bytes query pairs layout end → EndsWalk bytes query pairs layout leaf
+  ends_walk query end is ends = ends_at query (sym is) (go end ends)
+    where
+      go : (end : TextEnd) → EndsAt bytes query pairs layout end → EndsWalk bytes query pairs layout (leaf_of_end end)
+      go (Whole name) (covering, on) = covering
+      go (Passed passed) ends = ends
+
   module _ {n : OpaqueNodePtr} {x : K × V} (has : HasLeaf layout n x) where
     -- the pairs around that of a leaf
     pub around : pairs ≡ (pairs_before has.path ++ x ∷ []) ++ pairs_after has.path

@@ -2,6 +2,8 @@
 use Rattle.std.proofs.Common.{◌≡◌, ◌≢◌, ℕ, ◌+◌, ◌<◌, ◌≤◌, ◌⊎◌, List, [], ◌∷◌, ◌++◌, length, length-append, get_or, refl, ap, sym, ◌∙◌, subst, arith, append-nil, Option, Some, None, inl, inr}
 use Rattle.std.specs.Bool.{⊤}
 use Rattle.std.specs.List.{AllByRecursion as Each}
+use Rattle.std.specs.Option.{option_map, unwrap_or}
+use Rattle.std.proofs.lemmas.Bool.{cases_lt}
 use Rattle.art_inner.specs.Inner.{Inner, child_at}
 use Rattle.art_nodes.specs.Nodes.{Nodes}
 use Rattle.art_parts.specs.Names.{inner_name, leaf_name}
@@ -33,8 +35,19 @@ use Rattle.art_model.proofs.stores.Views.{inner_name_is}
 use Rattle.art_reading.specs.PartEnds.{StandsBetween}
 use Rattle.art_reading.proofs.Descents.{IsDescent, start, stands_there, shown_radix, front, front_len, child_there, each_under, down}
 use Rattle.art_model.specs.Texts.{AreEnded, IsEndedBy, text_of}
-use Rattle.art_reading.specs.TextWays.{EndsWalk, IsLeafOr}
+use Rattle.art_reading.specs.TextWays.{EndsAt, EndsWalk, IsLeafOr, IsTextStep}
+use Rattle.art_reading.specs.declared.lookup.texts.TextEnd.{TextEnd}
+use Rattle.art_reading.specs.declared.lookup.texts.TextEnd.TheVariants.{Whole}
 use Rattle.art_model.proofs.keys.Texts.{ended_text, front_in_text, front_of_fronts, front_short, goes_within, mark_ends}
+
+unmapped : {A B : Type 0} (f : A → B) (o : Option A) → option_map f o ≡ None → o ≡ None
+unmapped f None e = refl
+unmapped f (Some x) e = absurd cc
+
+same_parts : {A B : Type 0} {a c : A} {b d : B} → ◌≡◌ {A = Option (A × B)} (Some (a, b)) (Some (c, d)) → (a ≡ c) × (b ≡ d)
+same_parts {A = A} {B = B} {a = a} {b = b} e =
+    let both : ◌≡◌ {A = A × B} (a, b) _ = ap (λ o. unwrap_or o (a, b)) e in
+    (ap (λ (both : A × B). both.0) both, ap (λ (both : A × B). both.1) both)
 
 -- a text was found that continues with this one
 abbrev pub Covered : Option (List ℕ) → List ℕ → Type 0
@@ -166,8 +179,8 @@ module _ {K V : Type 0} {s : Nodes K V} {bytes : K × V → List ℕ} {P : ℕ} 
   pub ended_all : AreEnded bytes end pairs → AreEnded bytes end (pairs_of layout)
   ended_all = subst (AreEnded bytes end) (sym (tree_radix by).1)
 
-  pub over_pairs : (result : Option LeafPtr) → EndsWalk bytes query (pairs_of layout) layout result → EndsWalk bytes query pairs layout result
-  over_pairs result = subst (λ xs. EndsWalk bytes query xs layout result) (tree_radix by).1
+  pub over_ends : (result : TextEnd) → EndsAt bytes query (pairs_of layout) layout result → EndsAt bytes query pairs layout result
+  over_ends result = subst (λ xs. EndsAt bytes query xs layout result) (tree_radix by).1
 
   module _ (ended : AreEnded bytes end (pairs_of layout)) where
     -- a part of the tree
@@ -224,7 +237,7 @@ module _ {K V : Type 0} {s : Nodes K V} {bytes : K × V → List ℕ} {P : ℕ} 
             (all (IsAlong bytes end query way.found) (λ y a b. absurd (a.off b)) (along_place bytes end query layout way.descent.place best way.found way.is_found x leads_leaf))
 
         -- whose text is a prefix of the query
-        pub own_leaf : IsFront (text_of bytes x) query → EndsWalk bytes query (pairs_of layout) layout (Some n)
+        pub own_leaf : IsFront (text_of bytes x) query → EndsAt bytes query (pairs_of layout) layout (Whole n)
         own_leaf on =
             let has : HasLeaf layout (leaf_name n) x = record { path = way.descent.at.path; whole = ap (plug way.descent.at.path) (sym is) ∙ way.descent.at.whole } in
             let e = (subst (λ t. AreEnded bytes end (pairs_of t)) is (ended_at way.descent.at)).0 in
@@ -232,17 +245,19 @@ module _ {K V : Type 0} {s : Nodes K V} {bytes : K × V → List ℕ} {P : ℕ} 
             let in_text = longer best way.found way.is_found e.text (subst (IsFront way.descent.place) e.is leads_leaf) in
             let covered : Each (λ y. (t : List ℕ) → bytes y ≡ t ++ end ∷ [] → IsFront t query → IsFront t e.text) (pairs_of layout) =
             all (λ y. (t : List ℕ) → bytes y ≡ t ++ end ∷ [] → IsFront t query → IsFront t e.text) (λ y a t i f. in_text t (a.covered t i f))
-            (λ t i f. ([], (sym text ∙ ap without_last i ∙ ended_text t end) ∙ sym (append-nil t))) in
-            record {
-              pair = x;
-              has = has;
-              covers = Each-both (λ y. IsEndedBy end (bytes y)) (λ y. (t : List ℕ) → bytes y ≡ t ++ end ∷ [] → IsFront t query → IsFront t e.text) (λ y. IsFront (text_of bytes y) query → IsFront (text_of bytes y) (text_of bytes x))
-                  (λ y i c g.
-                  let own : text_of bytes y ≡ i.text = ap without_last i.is ∙ ended_text i.text end in
-                  subst (λ z. IsFront (text_of bytes y) z) (sym text) (subst (λ z. IsFront z e.text) (sym own) (c i.text i.is (subst (λ z. IsFront z query) own g)))) (pairs_of layout) ended covered;
-              along = all (λ y. IsFront query (bytes y) → IsFront (text_of bytes x) query) (λ y a b. on) (λ b. on);
-              short = front_short (text_of bytes x) query on;
-            }
+            (λ t i f. ([], (sym text ∙ ap without_last i ∙ ended_text t end) ∙ sym (append-nil t))) in (
+              record {
+                pair = x;
+                has = has;
+                covers = Each-both (λ y. IsEndedBy end (bytes y)) (λ y. (t : List ℕ) → bytes y ≡ t ++ end ∷ [] → IsFront t query → IsFront t e.text) (λ y. IsFront (text_of bytes y) query → IsFront (text_of bytes y) (text_of bytes x))
+                    (λ y i c g.
+                    let own : text_of bytes y ≡ i.text = ap without_last i.is ∙ ended_text i.text end in
+                    subst (λ z. IsFront (text_of bytes y) z) (sym text) (subst (λ z. IsFront z e.text) (sym own) (c i.text i.is (subst (λ z. IsFront z query) own g)))) (pairs_of layout) ended covered;
+                along = all (λ y. IsFront query (bytes y) → IsFront (text_of bytes x) query) (λ y a b. on) (λ b. on);
+                short = front_short (text_of bytes x) query on;
+              },
+              on,
+            )
           where
             longer : (best : Option LeafPtr) (found : Option (List ℕ)) → IsFound bytes end query layout way.descent.place best found → (text : List ℕ) → IsFront way.descent.place (text ++ end ∷ []) →
                 (t : List ℕ) → Covered found t → IsFront t text
@@ -402,3 +417,40 @@ module _ {K V : Type 0} {s : Nodes K V} {bytes : K × V → List ℕ} {P : ℕ} 
                   covered = covered_off c i (λ f. other (next_byte c f)) x leads;
                   off = λ begins. other (next_byte c (front_of_fronts (whole ++ c ∷ []) query (bytes x) leads begins (let k = length-append whole (c ∷ []) in omega arith)));
                 }
+
+        -- a step at the node
+        module _ {after : Option LeafPtr} {result : Option (OpaqueNodePtr × ℕ)} (step : IsTextStep shown query end depth best after result) where
+          passing : depth + shown.prefix.len ≤ length query → IsBetter bytes end query layout whole (bytes_of at.children) way.found after
+          passing enough = let same = whole_len in better (omega arith) (child_at shown.children end) refl (step.passes enough)
+
+          -- to no child
+          pub step_ends : result ≡ None → EndsWalk bytes query (pairs_of layout) layout after
+          step_ends none = go (cases_lt (length query) (depth + shown.prefix.len)) (cases_lt (depth + shown.prefix.len) (length query))
+            where
+              go : (length query < depth + shown.prefix.len) ⊎ (depth + shown.prefix.len ≤ length query) →
+                  (depth + shown.prefix.len < length query) ⊎ (length query ≤ depth + shown.prefix.len) → EndsWalk bytes query (pairs_of layout) layout after
+              go (inl less) o = let same = whole_len in subst (EndsWalk bytes query (pairs_of layout) layout) (sym (step.short less).1) (ends_short (omega arith))
+              go (inr enough) (inl more) =
+                  let same = whole_len in
+                  ends_gap (passing enough) (omega arith)
+                  (ap (λ n. child_at shown.children (get_or query n 0)) whole_len ∙ unmapped _ (child_at shown.children (get_or query (depth + shown.prefix.len) 0)) (sym (step.below more) ∙ none))
+              go (inr enough) (inr most) = let same = whole_len in ends_with (passing enough) (omega arith)
+
+          -- to this child
+          pub step_goes : {to : OpaqueNodePtr} {below : ℕ} → ◌≡◌ {A = Option (OpaqueNodePtr × ℕ)} result (Some (to, below)) → IsNestedWay bytes P end query layout to below after × (depth < below) × (below ≤ length query)
+          step_goes {to} {below} is = go (cases_lt (length query) (depth + shown.prefix.len)) (cases_lt (depth + shown.prefix.len) (length query))
+            where
+              go : (length query < depth + shown.prefix.len) ⊎ (depth + shown.prefix.len ≤ length query) →
+                  (depth + shown.prefix.len < length query) ⊎ (length query ≤ depth + shown.prefix.len) → IsNestedWay bytes P end query layout to below after × (depth < below) × (below ≤ length query)
+              go (inl less) o = let none = (step.short less).0 in absurd cc
+              go (inr enough) (inr most) = let none = step.last (omega arith) in absurd cc
+              go (inr enough) (inl more) = from (child_at shown.children (get_or query (depth + shown.prefix.len) 0)) refl (sym is ∙ step.below more)
+                where
+                  from : (found : Option OpaqueNodePtr) → child_at shown.children (get_or query (depth + shown.prefix.len) 0) ≡ found →
+                      ◌≡◌ {A = Option (OpaqueNodePtr × ℕ)} (Some (to, below)) (option_map (λ next. (next, depth + shown.prefix.len + 1)) found) → IsNestedWay bytes P end query layout to below after × (depth < below) × (below ≤ length query)
+                  from None there e = absurd cc
+                  from (Some next) there e =
+                      let same = whole_len in
+                      let (at_child, at_depth) = same_parts e in
+                      let way = goes_on (passing enough) (omega arith) (ap (λ n. child_at shown.children (get_or query n 0)) whole_len ∙ there) in
+                      (subst (λ n. IsNestedWay bytes P end query layout to n after) (sym at_depth) (subst (λ t. IsNestedWay bytes P end query layout t (depth + shown.prefix.len + 1) after) (sym at_child) way), omega arith, omega arith)

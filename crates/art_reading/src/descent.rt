@@ -1,11 +1,15 @@
 //! Descents of a tree: with a key to the leaf that may have it, with a prefix to the node below which its keys are, and
 //! to the leaf at an end. Each reads one inner node for each level.
-ghost use Rattle.std.specs.Prelude.{◌≡◌, ◌+◌, ◌-◌, ◌<◌, ◌≤◌, ◌^◌, length, min, IsSome};
+ghost use Rattle.std.specs.Prelude.{◌≡◌, ◌+◌, ◌-◌, ◌<◌, ◌≤◌, ◌^◌, [], ◌∷◌, ◌++◌, drop, length, min, IsSome, Some};
+ghost use Rattle.std.specs.FinMap as map;
+ghost use Rattle.std.specs.Option.{option_map};
+ghost use Rattle.art_inner.specs.Inner.{Inner};
 ghost use Rattle.art_inner.specs.Views.{ref_view};
 ghost use Rattle.art_parts.specs.declared.names.OpaqueNodePtr.{OpaqueNodePtr};
 ghost use Rattle.art_model.specs.Pairs.{of_key};
 ghost use Rattle.art_model.specs.Roots.{ForTree, IsCanonicalRoot, IsFullTree};
 ghost use Rattle.art_model.specs.Trees.{Tree};
+ghost use Rattle.art_reading.specs.Matching.{behavior_after, child_below};
 ghost use Rattle.art_reading.specs.Readings.{CountsReadings, ReadsBelow, levels};
 ghost use Rattle.art_reading.specs.PartEnds.{EndsBelow};
 ghost use Rattle.art_reading.specs.Descents.{CountsVisitsFrom, IsEndChild, IsKeysLeaf, LeadsToEnd, WalkEnds, asked_of};
@@ -166,7 +170,7 @@ fn walk<'a, Q: KeyQuery, K: AsBytes + Drop, V: Drop, const P: usize>(
             }
             Step::AtEnd => {
                 let last = last?;
-                let child = behavior.last_step(node, front, last, depth)?;
+                let child = last_child(store, inner, &mut behavior, front, last, depth)?;
                 visits.add_one();
                 let name = child.as_leaf()?;
                 let Some(node) = store.leaf(name) else {
@@ -184,6 +188,34 @@ fn walk<'a, Q: KeyQuery, K: AsBytes + Drop, V: Drop, const P: usize>(
             Step::Nowhere => return None,
         }
     }
+}
+
+// The child of an inner node under the last byte of a key, where the bytes before it end with the node's prefix. It
+// looks the node up once more, so that the loop of a descent need not keep its address.
+#[inline(never)]
+fn last_child<K: AsBytes + Drop, V: Drop, const PREFIX_LEN: usize>(
+    store: &NodeStore<K, V, PREFIX_LEN>,
+    inner: InnerPtr,
+    behavior: &mut PrefixMatchBehavior,
+    front: &[u8],
+    last: u8,
+    depth: usize,
+) -> Option<OpaqueNodePtr>
+    requires there { IsSome (map.get store.now.inners inner) }
+    requires passed { (node : Inner) → Some node ≡ map.get store.now.inners inner →
+        (depth + node.prefix.len ≡ length front.now)
+        × (length node.prefix.stored ≤ node.prefix.len) }
+    ensures child { (node : Inner) → Some node ≡ map.get store.now.inners inner →
+        option_map (λ child. (length front.now, child)) result ≡
+        child_below behavior.old node (front.now ++ last ∷ []) depth }
+    ensures behavior { (node : Inner) → Some node ≡ map.get store.now.inners inner →
+        IsSome result → behavior.new ≡
+        behavior_after behavior.old node.prefix (drop depth (front.now ++ last ∷ [])) }
+{
+    let Some(node) = store.inner(inner) else {
+        unreachable!()
+    };
+    behavior.last_step(node, front, last, depth)
 }
 
 /// An end of a tree's leaves.

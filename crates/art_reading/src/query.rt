@@ -114,17 +114,15 @@ fn finds_ended(
 fn is_same(text: &[u8], end: u8, behavior: PrefixMatchBehavior, key: &[u8], depth: usize) -> bool
     ensures { IsTrue result ↔ MatchesLeafKey behavior depth key.now (text.now ++ end ∷ []) }
 {
-    let Some((last, front)) = key.split_last() else {
-        return false;
-    };
-    if front.len() != text.len() {
+    let len = text.len();
+    if key.len() != len + 1 {
         return false;
     }
     let from = passed_over(behavior, depth);
-    if from > text.len() {
+    if from > len {
         return true;
     }
-    *last == end && are_equal(&front[from..], &text[from..])
+    key[len] == end && are_equal(&key[from..len], &text[from..])
 }
 
 // How many of the first bytes are not compared, in a key that has so many.

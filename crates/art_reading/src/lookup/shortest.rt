@@ -12,7 +12,7 @@ ghost use Rattle.art_model.specs.Texts.{AreEnded};
 ghost use Rattle.art_reading.specs.TextWays.{IsLeafOr};
 ghost use Rattle.art_reading.specs.ShortTexts.{EndsAtFirst, FindsFirst, texts_from};
 
-use super::texts::{leaf_under_or, text_of};
+use super::texts::{leaf_or, text_of};
 use crate::descent::Visits;
 use crate::matching::begins_with;
 use art_nodes::node::{AsBytes, InnerRef, NodePtr, OpaqueNodePtr, OptionalLeafPtr};
@@ -147,5 +147,5 @@ fn leaf_if_long<const P: usize>(
     if place < at_least {
         return None;
     }
-    leaf_under_or(node, byte, None)
+    leaf_or(node.lookup_least(byte), None)
 }

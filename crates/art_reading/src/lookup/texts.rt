@@ -2,36 +2,37 @@
 //! ends it. A text may be a prefix of another.
 ghost use Rattle.std.specs.Prelude.{◌≡◌, ◌+◌, ◌*◌, ◌≤◌, length, IsSome, IfSome};
 ghost use Rattle.std.specs.FinMap as map;
-ghost use Rattle.art_inner.specs.Inner.{child_at};
 ghost use Rattle.art_inner.specs.Views.{ref_view};
 ghost use Rattle.art_model.specs.Lookups.{FindsLast, pair_under};
 ghost use Rattle.art_model.specs.Pairs.{last_of, of_key, without_last};
 ghost use Rattle.art_model.specs.Roots.{ForTree, IsCanonicalRoot};
 ghost use Rattle.art_model.specs.Texts.{AreEnded, texts_in_front};
-ghost use Rattle.art_reading.specs.TextWays.{EndsWalk, IsLeafOr};
+ghost use Rattle.art_reading.specs.TextWays.{EndsAt, IsLeafOr, IsTextStep};
 
 use crate::descent::Visits;
 use crate::matching::{begins_with, shared_len};
-use art_nodes::node::{AsBytes, InnerRef, LeafPtr, NodePtr, OpaqueNodePtr, OptionalLeafPtr};
+use art_nodes::node::{
+    AsBytes, InnerNode, InnerRef, LeafPtr, NodePtr, OpaqueNodePtr, OptionalLeafPtr,
+};
 use art_nodes::store::NodeStore;
 
 /// Returns the leaf of the longest text that is a prefix of the query, or `None` if no text is one.
 ///
 /// It descends along the query, and compares no prefix on its way. Where the text that it finds is not a
 /// prefix of the query, it descends once more, along the bytes that both share.
-pub fn longest_text_unchecked<K: AsBytes + Drop, V: Drop, const P: usize>(
-    store: &NodeStore<K, V, P>,
+pub fn longest_text_unchecked<K: AsBytes + Drop, V: Drop, const PREFIX_LEN: usize>(
+    store: &NodeStore<K, V, PREFIX_LEN>,
     root: OpaqueNodePtr,
     query: &[u8],
     end: u8,
 ) -> OptionalLeafPtr
-    requires root { IsCanonicalRoot (of_key K.bytes) P store.now root }
-    requires ended { ForTree (of_key K.bytes) P store.now root (λ pairs _.
+    requires root { IsCanonicalRoot (of_key K.bytes) PREFIX_LEN store.now root }
+    requires ended { ForTree (of_key K.bytes) PREFIX_LEN store.now root (λ pairs _.
         AreEnded (of_key K.bytes) end pairs) }
-    ensures leaf { ForTree (of_key K.bytes) P store.now root (λ pairs layout.
+    ensures leaf { ForTree (of_key K.bytes) PREFIX_LEN store.now root (λ pairs layout.
         FindsLast layout (texts_in_front (of_key K.bytes) query.now pairs) result) }
     ensures there { IfSome result (λ leaf. IsSome (map.get store.now.leaves leaf)) }
-    ensures pair { ForTree (of_key K.bytes) P store.now root (λ pairs _.
+    ensures pair { ForTree (of_key K.bytes) PREFIX_LEN store.now root (λ pairs _.
         pair_under store.now result ≡
         last_of (texts_in_front (of_key K.bytes) query.now pairs)) }
 {
@@ -41,25 +42,29 @@ pub fn longest_text_unchecked<K: AsBytes + Drop, V: Drop, const P: usize>(
 /// Returns what `longest_text_unchecked` does, and adds one to the counter for each node that it reads: at
 /// most two for each byte of the query, and two more.
 #[inline(always)]
-pub fn longest_text_visiting<K: AsBytes + Drop, V: Drop, const P: usize>(
-    store: &NodeStore<K, V, P>,
+pub fn longest_text_visiting<K: AsBytes + Drop, V: Drop, const PREFIX_LEN: usize>(
+    store: &NodeStore<K, V, PREFIX_LEN>,
     root: OpaqueNodePtr,
     query: &[u8],
     end: u8,
     visits: &mut Visits,
 ) -> OptionalLeafPtr
-    requires root { IsCanonicalRoot (of_key K.bytes) P store.now root }
-    requires ended { ForTree (of_key K.bytes) P store.now root (λ pairs _.
+    requires root { IsCanonicalRoot (of_key K.bytes) PREFIX_LEN store.now root }
+    requires ended { ForTree (of_key K.bytes) PREFIX_LEN store.now root (λ pairs _.
         AreEnded (of_key K.bytes) end pairs) }
-    ensures leaf { ForTree (of_key K.bytes) P store.now root (λ pairs layout.
+    ensures leaf { ForTree (of_key K.bytes) PREFIX_LEN store.now root (λ pairs layout.
         FindsLast layout (texts_in_front (of_key K.bytes) query.now pairs) result) }
     ensures there { IfSome result (λ leaf. IsSome (map.get store.now.leaves leaf)) }
-    ensures pair { ForTree (of_key K.bytes) P store.now root (λ pairs _.
+    ensures pair { ForTree (of_key K.bytes) PREFIX_LEN store.now root (λ pairs _.
         pair_under store.now result ≡
         last_of (texts_in_front (of_key K.bytes) query.now pairs)) }
     ensures visits { visits.new ≤ visits.old + 2 * length query.now + 2 }
 {
-    let leaf = walk_to_text(store, root, query, end, visits)?;
+    let leaf = match walk_to_text(store, root, query, end, visits) {
+        TextEnd::Whole(leaf) => return Some(leaf),
+        TextEnd::Passed(Some(leaf)) => leaf,
+        TextEnd::Passed(None) => return None,
+    };
     let Some(node) = store.leaf(leaf) else {
         unreachable!()
     };
@@ -69,27 +74,51 @@ pub fn longest_text_visiting<K: AsBytes + Drop, V: Drop, const P: usize>(
     if shared == text.len() {
         return Some(leaf);
     }
-    walk_to_text(store, root, &query[..shared], end, visits)
+    walk_to_text(store, root, &query[..shared], end, visits).leaf()
+}
+
+// Where a descent along a query ends.
+#[derive(Clone, Copy)]
+enum TextEnd {
+    // At a leaf whose text is a prefix of the query.
+    Whole(LeafPtr),
+    // Not at such a leaf. This one was passed last under an end byte.
+    Passed(OptionalLeafPtr),
+}
+
+impl TextEnd {
+    ghost use Rattle.art_reading.specs.TextWays.{leaf_of_end};
+
+    // The leaf at the end, or the last one that was passed.
+    #[inline(always)]
+    fn leaf(self) -> OptionalLeafPtr
+        ensures { result ≡ leaf_of_end self }
+    {
+        match self {
+            TextEnd::Whole(leaf) => Some(leaf),
+            TextEnd::Passed(passed) => passed,
+        }
+    }
 }
 
 // Descends along the query to the leaf whose text starts with each text that is a prefix of the query. If
 // the query is a prefix of a stored key, the leaf's own text is a prefix of the query.
 #[inline(always)]
-fn walk_to_text<K: AsBytes + Drop, V: Drop, const P: usize>(
-    store: &NodeStore<K, V, P>,
+fn walk_to_text<K: AsBytes + Drop, V: Drop, const PREFIX_LEN: usize>(
+    store: &NodeStore<K, V, PREFIX_LEN>,
     root: OpaqueNodePtr,
     query: &[u8],
     end: u8,
     visits: &mut Visits,
-) -> OptionalLeafPtr
-    requires root { IsCanonicalRoot (of_key K.bytes) P store.now root }
-    requires ended { ForTree (of_key K.bytes) P store.now root (λ pairs _.
+) -> TextEnd
+    requires root { IsCanonicalRoot (of_key K.bytes) PREFIX_LEN store.now root }
+    requires ended { ForTree (of_key K.bytes) PREFIX_LEN store.now root (λ pairs _.
         AreEnded (of_key K.bytes) end pairs) }
-    ensures ends { ForTree (of_key K.bytes) P store.now root (λ pairs layout.
-        EndsWalk (of_key K.bytes) query.now pairs layout result) }
+    ensures ends { ForTree (of_key K.bytes) PREFIX_LEN store.now root (λ pairs layout.
+        EndsAt (of_key K.bytes) query.now pairs layout result) }
     ensures visits { visits.new ≤ visits.old + length query.now + 1 }
 {
-    let mut best = None;
+    let mut passed = None;
     let mut name = root;
     let mut depth = 0;
     'down: loop {
@@ -101,44 +130,80 @@ fn walk_to_text<K: AsBytes + Drop, V: Drop, const P: usize>(
                     unreachable!()
                 };
                 if begins_with(query, text_of(node.key.as_bytes())) {
-                    return Some(leaf);
+                    return TextEnd::Whole(leaf);
                 }
-                return best;
+                return TextEnd::Passed(passed);
             }
         };
         let Some(node) = store.inner(inner) else {
             unreachable!()
         };
-        let prefix_len = node.prefix_len();
-        if prefix_len > query.len() - depth {
-            return best;
-        }
-        let place = depth + prefix_len;
-        best = leaf_under_or(node, end, best);
-        if place == query.len() {
-            return best;
-        }
-        let Some(child) = node.lookup_child(query[place]) else {
-            return best;
+        let Some((child, below)) = step_at(node, query, end, depth, &mut passed) else {
+            return TextEnd::Passed(passed);
         };
         name = child;
-        depth = place + 1;
+        depth = below;
     }
 }
 
-// The leaf under a byte, or else another one.
+// Where a query leads below an inner node: the child, and how many of the query's bytes lead to it. The leaf under the end
+// byte, if there is one, is the last that was passed. All that is read of the node is behind one test of its kind.
 #[inline(always)]
-pub(super) fn leaf_under_or<const P: usize>(
+fn step_at<const P: usize>(
     node: InnerRef<'_, P>,
-    byte: u8,
-    other: OptionalLeafPtr,
-) -> OptionalLeafPtr
-    ensures { IsLeafOr (child_at (ref_view node.entry).children byte) other result }
+    query: &[u8],
+    end: u8,
+    depth: usize,
+    passed: &mut OptionalLeafPtr,
+) -> Option<(OpaqueNodePtr, usize)>
+    requires { depth ≤ length query.now }
+    ensures { IsTextStep (ref_view node.entry) query.now end depth passed.old passed.new result }
 {
-    let Some(child) = node.lookup_least(byte) else {
+    match node {
+        InnerRef::Node4(node) => step(node, query, end, depth, passed),
+        InnerRef::Node16(node) => step(node, query, end, depth, passed),
+        InnerRef::Node48(node) => step(node, query, end, depth, passed),
+        InnerRef::Node256(node) => step(node, query, end, depth, passed),
+    }
+}
+
+// The same at a node of one kind. The child comes first, and each arm has its own look at the end byte, so that machine
+// code reads the bytes of a node once and keeps no option.
+#[inline(always)]
+fn step<N: InnerNode<P>, const P: usize>(
+    node: &N,
+    query: &[u8],
+    end: u8,
+    depth: usize,
+    passed: &mut OptionalLeafPtr,
+) -> Option<(OpaqueNodePtr, usize)>
+    requires { depth ≤ length query.now }
+    ensures { IsTextStep (N.view_of node.now) query.now end depth passed.old passed.new result }
+{
+    let prefix_len = node.prefix_len();
+    if prefix_len > query.len() - depth {
+        return None;
+    }
+    let place = depth + prefix_len;
+    if place < query.len() {
+        if let Some(child) = node.lookup_child(query[place]) {
+            *passed = leaf_or(node.lookup_least(end), *passed);
+            return Some((child, place + 1));
+        }
+    }
+    *passed = leaf_or(node.lookup_least(end), *passed);
+    None
+}
+
+// The leaf that a name is of, or else another one.
+#[inline(always)]
+pub(super) fn leaf_or(name: Option<OpaqueNodePtr>, other: OptionalLeafPtr) -> OptionalLeafPtr
+    ensures { IsLeafOr name other result }
+{
+    let Some(name) = name else {
         return other;
     };
-    match child.as_leaf() {
+    match name.as_leaf() {
         Some(leaf) => Some(leaf),
         None => other,
     }

@@ -1,9 +1,10 @@
-use Rattle.std.proofs.Common.{[], ◌∷◌, ◌++◌, ap, arith, length, length-append, refl, rules, ◌∙◌}
+use Rattle.std.proofs.Common.{◌≡◌, ◌+◌, ◌≤◌, [], ◌∷◌, ◌++◌, IsSome, ap, arith, length, length-append, refl, rules, subst, ◌∙◌}
+use Rattle.art_inner.specs.Inner.{Inner}
 use Rattle.std.specs.List.{cons_option}
 use Rattle.std.proofs.lemmas.Bool.{false≢true}
 use Rattle.art_model.proofs.stores.Shown.{leaf_met, inner_met}
 use Rattle.art_reading.proofs.Endings.{front_byte, front_near, front_within, parts_rest}
-use Rattle.art_reading.proofs.Steps.{begins, node_there, ref_proper, shown_here, last_leaf, steps, steps_last, stops, stops_after, stops_last, stops_whole}
+use Rattle.art_reading.proofs.Steps.{begins, node_there, ref_proper, same_there, shown_here, last_leaf, steps, steps_last, stops, stops_after, stops_last, stops_whole}
 use Rattle.art_reading.proofs.OnWay.{stored_short}
 use Rattle.art_reading.proofs.descent.walk.Goals as goal
 
@@ -48,12 +49,20 @@ down-preserved g c =
           rw (c.step_down.ensures, front_byte has c.in-Down.place within) (steps by d at c.add_one.ensures below after);
     }
 
-pub last_step-requires : goal.last_step-requires
-last_step-requires g c =
+pub last_child-requires : goal.last_child-requires
+last_child-requires g c =
     let (pairs, layout, by) = c.requires.root in
     let d = c.down.invariant.on_way pairs layout by in
     let (ended, same) = c.in-AtEnd.ensures (g.Q.KeyQuery.key c.args.query) (parts_rest _ c.parts-last.ensures) in
-    (search rules, (ended, stored_short d (shown_here by d c.in-Some.node c.in-Some.ensures.kind c.in-Some.ensures.view)))
+    let stored = stored_short d (shown_here by d c.in-Some.node c.in-Some.ensures.kind c.in-Some.ensures.view) in (
+      search rules,
+      (
+        subst IsSome c.in-Some.ensures.view refl,
+        λ node there.
+            subst (λ (n : Inner). (c.down.depth + n.prefix.len ≡ length c.parts-last.result.0.now) × (length n.prefix.stored ≤ n.prefix.len))
+            (same_there c.in-Some.ensures.view there) (ended, stored),
+      ),
+    )
 
 pub returns-in_err-last-in-AtEnd-clause-ends : goal.returns-in_err-last-in-AtEnd-clause-ends
 returns-in_err-last-in-AtEnd-clause-ends g c pairs layout by =
@@ -71,7 +80,7 @@ returns-in_err-child-in-AtEnd-clause-ends g c pairs layout by =
     let at = shown_here by d c.in-Some.node c.in-Some.ensures.kind c.in-Some.ensures.view in
     let (ended, same) = c.in-AtEnd.ensures (g.Q.KeyQuery.key c.args.query) has in
     let is = c.parts-last.ensures ∙ ap (λ o. c.parts-last.result.0.now ++ cons_option o []) c.in_ok-last-in-AtEnd.was in
-    rw c.from_residual-in_err-child-in-AtEnd.ensures (stops_last by d at _ ended _ is same c.add_one.ensures c.in_err-child-in-AtEnd.ensures.child)
+    rw c.from_residual-in_err-child-in-AtEnd.ensures (stops_last by d at _ ended _ is same c.add_one.ensures (c.in_err-child-in-AtEnd.ensures.child _ c.in-Some.ensures.view))
 
 pub returns-in_err-name-in-AtEnd-clause-ends : goal.returns-in_err-name-in-AtEnd-clause-ends
 returns-in_err-name-in-AtEnd-clause-ends g c pairs layout by =
@@ -80,7 +89,7 @@ returns-in_err-name-in-AtEnd-clause-ends g c pairs layout by =
     let at = shown_here by d c.in-Some.node c.in-Some.ensures.kind c.in-Some.ensures.view in
     let (ended, same) = c.in-AtEnd.ensures (g.Q.KeyQuery.key c.args.query) has in
     let is = c.parts-last.ensures ∙ ap (λ o. c.parts-last.result.0.now ++ cons_option o []) c.in_ok-last-in-AtEnd.was in
-    let below = steps_last by d at _ ended _ is same c.add_one.ensures c.in_ok-child-in-AtEnd.ensures.child (c.in_ok-child-in-AtEnd.ensures.behavior refl) in
+    let below = steps_last by d at _ ended _ is same c.add_one.ensures (c.in_ok-child-in-AtEnd.ensures.child _ c.in-Some.ensures.view) (c.in_ok-child-in-AtEnd.ensures.behavior _ c.in-Some.ensures.view refl) in
     rw c.from_residual-in_err-name-in-AtEnd.ensures
     (stops_after by below c.add_one-in-AtEnd.ensures (λ leaf. false≢true (c.in_err-name-in-AtEnd.ensures.leaf.1 leaf)) (front_near has 0))
 
@@ -92,7 +101,7 @@ unreachable-requires-in_default-leaf-2 g c =
     let at = shown_here by d c.in-Some.node c.in-Some.ensures.kind c.in-Some.ensures.view in
     let (ended, same) = c.in-AtEnd.ensures (g.Q.KeyQuery.key c.args.query) has in
     let is = c.parts-last.ensures ∙ ap (λ o. c.parts-last.result.0.now ++ cons_option o []) c.in_ok-last-in-AtEnd.was in
-    let below = steps_last by d at _ ended _ is same c.add_one.ensures c.in_ok-child-in-AtEnd.ensures.child (c.in_ok-child-in-AtEnd.ensures.behavior refl) in
+    let below = steps_last by d at _ ended _ is same c.add_one.ensures (c.in_ok-child-in-AtEnd.ensures.child _ c.in-Some.ensures.view) (c.in_ok-child-in-AtEnd.ensures.behavior _ c.in-Some.ensures.view refl) in
     leaf_met (node_there by below) c.in_ok-name-in-AtEnd.ensures.name c.in_default-leaf-2.ensures
 
 pub returns-in-AtEnd-clause-ends : goal.returns-in-AtEnd-clause-ends
@@ -102,7 +111,7 @@ returns-in-AtEnd-clause-ends g c pairs layout by =
     let at = shown_here by d c.in-Some.node c.in-Some.ensures.kind c.in-Some.ensures.view in
     let (ended, same) = c.in-AtEnd.ensures (g.Q.KeyQuery.key c.args.query) has in
     let is = c.parts-last.ensures ∙ ap (λ o. c.parts-last.result.0.now ++ cons_option o []) c.in_ok-last-in-AtEnd.was in
-    let below = steps_last by d at _ ended _ is same c.add_one.ensures c.in_ok-child-in-AtEnd.ensures.child (c.in_ok-child-in-AtEnd.ensures.behavior refl) in
+    let below = steps_last by d at _ ended _ is same c.add_one.ensures (c.in_ok-child-in-AtEnd.ensures.child _ c.in-Some.ensures.view) (c.in_ok-child-in-AtEnd.ensures.behavior _ c.in-Some.ensures.view refl) in
     rw (c.path.ensures, c.step_down-in-AtEnd.ensures)
     (last_leaf by _ below c.in_ok-name-in-AtEnd.ensures.name c.in-Some-leaf-2.ensures
     (omega (arith, front_near has 0, ap length is, length-append c.parts-last.result.0.now (c.in_ok-last-in-AtEnd.last ∷ []))) c.add_one-in-AtEnd.ensures)
