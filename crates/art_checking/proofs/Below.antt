@@ -69,14 +69,18 @@ module _ {K V : Type 0} (bytes : K × V → List ℕ) (P : ℕ) (s : Nodes K V) 
 
   above_reached : (above : List Above) (now : Seen) (place : List ℕ) (name : OpaqueNodePtr) → AreAbove bytes P s root above now place name →
       Reaches bytes P s root place name × AreReached bytes P s root (place_in now)
-  above_reached [] now place name (start, at, is) =
-      (subst (λ n. Reaches bytes P s root place n) (sym is) (subst (λ p. Reaches bytes P s root p root) (sym at) (reach_root bytes P s root)), λ n other e. let h = start.none n in absurd cc)
+  above_reached [] now place name (start, at, is) = (
+    subst (λ n. Reaches bytes P s root place n) (sym is)
+        (subst (λ p. Reaches bytes P s root p root) (sym at) (reach_root bytes P s root)),
+    λ n other e. let h = start.none n in absurd cc,
+  )
   above_reached (f ∷ fs) now place name at =
       let (reach, all) = above_reached fs at.before at.place (inner_name f.name) at.outer in
       (reached at.turn root reach, at.turn.walked.walked.reached root (node_reached at.met reach all) reach)
 
 module _ {K V : Type 0} {bytes : K × V → List ℕ} {P : ℕ} {s : Nodes K V} where
-  module _ {root : OpaqueNodePtr} {above : List Above} {now : Seen} {whole : List ℕ} {name : InnerPtr} {depth : ℕ} {left : Children} (at : IsAt bytes P s root above now whole name depth left) where
+  module _ {root : OpaqueNodePtr} {above : List Above} {now : Seen} {whole : List ℕ} {name : InnerPtr} {depth : ℕ} {left : Children}
+      (at : IsAt bytes P s root above now whole name depth left) where
     pub own_reached : Reaches bytes P s root at.place (inner_name name)
     own_reached = (above_reached bytes P s root above at.before at.place (inner_name name) at.outer).0
 
@@ -99,9 +103,12 @@ module _ {K V : Type 0} {bytes : K × V → List ℕ} {P : ℕ} {s : Nodes K V} 
 
   -- ---- a node is reached
 
-  pub entered : {root : OpaqueNodePtr} {above : List Above} {before old : Seen} {place read : List ℕ} {name : InnerPtr} {depth : ℕ} {node : Inner} {left : Children} →
-      AreAbove bytes P s root above before place (inner_name name) → NoneFrom (place_in before) place → IsFirstMet before old (inner_name name) place → name.kind ≢ Leaf →
-      map.get s.inners name ≡ Some node → depth ≡ length place → IsEntered bytes P s place read name node left → IsAt bytes P s root above old read name depth left
+  pub entered : {root : OpaqueNodePtr} {above : List Above} {before old : Seen} {place read : List ℕ} {name : InnerPtr} {depth : ℕ}
+      {node : Inner} {left : Children} →
+      AreAbove bytes P s root above before place (inner_name name) → NoneFrom (place_in before) place →
+      IsFirstMet before old (inner_name name) place → name.kind ≢ Leaf →
+      map.get s.inners name ≡ Some node → depth ≡ length place → IsEntered bytes P s place read name node left →
+      IsAt bytes P s root above old read name depth left
   entered {before = before} {old = old} {place = place} {node = node} outer none first proper there deep enters = record {
     before = before;
     old = old;
@@ -123,7 +130,8 @@ module _ {K V : Type 0} {bytes : K × V → List ℕ} {P : ℕ} {s : Nodes K V} 
 
   -- ---- a child is next
 
-  module _ {root : OpaqueNodePtr} {above : List Above} {now : Seen} {whole pushed : List ℕ} {name : InnerPtr} {depth : ℕ} {rest left : Children} {byte : ℕ} {child : OpaqueNodePtr}
+  module _ {root : OpaqueNodePtr} {above : List Above} {now : Seen} {whole pushed : List ℕ} {name : InnerPtr} {depth : ℕ}
+      {rest left : Children} {byte : ℕ} {child : OpaqueNodePtr}
       (at : IsAt bytes P s root above now whole name depth rest) (steps : rest ≡ (byte, child) ∷ left) (more : pushed ≡ whole ++ byte ∷ []) where
     pub turn_of : IsTurn bytes P s at.old now at.place whole pushed name at.node byte child left
     turn_of = turn_from at.met.proper at.met.there at.met.rising steps at.turns more
@@ -136,10 +144,21 @@ module _ {K V : Type 0} {bytes : K × V → List ℕ} {P : ℕ} {s : Nodes K V} 
 
     -- its parent is the innermost node above it
     pub parent_above : AreAbove bytes P s root (record { name = name; depth = depth; children = left } ∷ above) now pushed child
-    parent_above = record { before = at.before; old = at.old; place = at.place; whole = whole; node = at.node; byte = byte; outer = at.outer; met = at.met; turn = turn_of }
+    parent_above = record {
+      before = at.before;
+      old = at.old;
+      place = at.place;
+      whole = whole;
+      node = at.node;
+      byte = byte;
+      outer = at.outer;
+      met = at.met;
+      turn = turn_of;
+    }
 
     -- once all below it was passed the others follow
-    pub turn_over : {new : Seen} {behind cut : List ℕ} {len : ℕ} → IsPassed bytes P s now new pushed child → IsWalked bytes P s (place_in now) (place_in new) pushed child →
+    pub turn_over : {new : Seen} {behind cut : List ℕ} {len : ℕ} → IsPassed bytes P s now new pushed child →
+        IsWalked bytes P s (place_in now) (place_in new) pushed child →
         behind ≡ pushed → length behind ≡ len → cut ≡ take (len - 1) behind → IsAt bytes P s root above new cut name depth left
     turn_over passed walked kept long cut = record {
       before = at.before;
@@ -152,7 +171,8 @@ module _ {K V : Type 0} {bytes : K × V → List ℕ} {P : ℕ} {s : Nodes K V} 
     }
 
     -- a leaf
-    pub leaf_over : {new : Seen} {cut : List ℕ} {len : ℕ} (leaf_ptr : LeafPtr) → IsFirstMet now new child pushed → leaf_name leaf_ptr ≡ child → IsLeafAt bytes P s leaf_ptr pushed →
+    pub leaf_over : {new : Seen} {cut : List ℕ} {len : ℕ} (leaf_ptr : LeafPtr) → IsFirstMet now new child pushed →
+        leaf_name leaf_ptr ≡ child → IsLeafAt bytes P s leaf_ptr pushed →
         length pushed ≡ len → cut ≡ take (len - 1) pushed → IsAt bytes P s root above new cut name depth left
     leaf_over leaf_ptr first is stands long cut = turn_over (passed_leaf first leaf_ptr is refl stands) (met_walked first.met) refl long cut
 
@@ -170,7 +190,8 @@ module _ {K V : Type 0} {bytes : K × V → List ℕ} {P : ℕ} {s : Nodes K V} 
     node_walked = walked_also refl (met_walked at.met.first.met) at.turns.walked.walked
 
     -- the node above it continues with its other children
-    pub parent_goes_on : (f : Above) (fs : List Above) → above ≡ f ∷ fs → {behind cut : List ℕ} {len : ℕ} → behind ≡ at.place → length behind ≡ len → cut ≡ take (len - 1) behind →
+    pub parent_goes_on : (f : Above) (fs : List Above) → above ≡ f ∷ fs → {behind cut : List ℕ} {len : ℕ} → behind ≡ at.place →
+        length behind ≡ len → cut ≡ take (len - 1) behind →
         IsAt bytes P s root fs now cut f.name f.depth f.children
     parent_goes_on f fs is kept long cut =
         let outer = subst (λ l. AreAbove bytes P s root l at.before at.place (inner_name name)) is at.outer in
@@ -188,7 +209,8 @@ module _ {K V : Type 0} {bytes : K × V → List ℕ} {P : ℕ} {s : Nodes K V} 
     pub root_passed : above ≡ [] → IsMetTree bytes P s now root
     root_passed is =
         let (start, at_root, is_root) = subst (λ l. AreAbove bytes P s root l at.before at.place (inner_name name)) is at.outer in
-        met_tree start.leaves start.count (subst (λ n. IsPassed bytes P s at.before now [] n) is_root (subst (λ p. IsPassed bytes P s at.before now p (inner_name name)) at_root node_passed))
+        met_tree start.leaves start.count (subst (λ n. IsPassed bytes P s at.before now [] n) is_root
+        (subst (λ p. IsPassed bytes P s at.before now p (inner_name name)) at_root node_passed))
 
 -- ---- the list of the nodes above
 

@@ -21,7 +21,8 @@ use Rattle.art_checking.specs.Checked.{IsLeastLeaf}
 
 -- ---- what is seen under a name
 module _ {K V : Type 0} (s : Nodes K V) where
-  pub inner_at : (p : InnerPtr) (node : Inner) → p.kind ≢ Leaf → map.get s.inners p ≡ Some node → node_at s (inner_name p) ≡ Some (inner_node (header_at p.kind node) node.children)
+  pub inner_at : (p : InnerPtr) (node : Inner) → p.kind ≢ Leaf → map.get s.inners p ≡ Some node →
+      node_at s (inner_name p) ≡ Some (inner_node (header_at p.kind node) node.children)
   inner_at p node proper there = ap (option_map (tree_node p.kind)) (held_in_inner s p.kind p.slot proper ∙ ap (option_map held_inner) there)
 
   pub none_at_inner : (p : InnerPtr) → p.kind ≢ Leaf → map.get s.inners p ≡ None → node_at s (inner_name p) ≡ None
@@ -48,7 +49,8 @@ abbrev pub above : OpaqueNodePtr → List OpaqueNodePtr → List OpaqueNodePtr
 above name [] = []
 above name (n ∷ ns) = name ∷ above n ns
 
-above_more : (name : OpaqueNodePtr) (ns : List OpaqueNodePtr) (c k : OpaqueNodePtr) → (bottom_of name ns ≡ k) ⊎ IsIn k (above name ns) → IsIn k (above name (ns ++ c ∷ []))
+above_more : (name : OpaqueNodePtr) (ns : List OpaqueNodePtr) (c k : OpaqueNodePtr) → (bottom_of name ns ≡ k) ⊎ IsIn k (above name ns) →
+    IsIn k (above name (ns ++ c ∷ []))
 above_more name [] c k (inl e) = inl e
 above_more name [] c k (inr i) = absurd i
 above_more name (n ∷ ns) c k (inl e) = inr (above_more n ns c k (inl e))
@@ -88,31 +90,45 @@ down_more {A} {at} {passed} {more} {start} {now} p least down is has either =
     go q (inr e) = inr (down.passes q e)
 
 -- ---- where a descent ends
-module _ {K V : Type 0} (bytes : K × V → List ℕ) (P : ℕ) (s : Nodes K V) {passed : InnerPtr → Bool} {start now : OpaqueNodePtr} (down : IsDown (node_at s) passed start now) where
-  pub ends_at_leaf : (p : LeafPtr) (found : Option LeafPtr) (o : Option (LeafNode K V)) → leaf_name p ≡ now → map.get s.leaves p ≡ o → found ≡ option_map (λ _. p) o → IsLeastLeaf bytes P s start found
-  ends_at_leaf p found None is gone e = subst (IsLeastLeaf bytes P s start) (sym e) (down.names, down.descent, λ root needed. inl (ap (node_at s) (down.ends ∙ sym is) ∙ none_at_leaf s p gone))
-  ends_at_leaf p found (Some node) is there e = subst (IsLeastLeaf bytes P s start) (sym e) (down.names, pair_of node, down.descent, down.ends ∙ sym is, leaf_at s p node there)
+module _ {K V : Type 0} (bytes : K × V → List ℕ) (P : ℕ) (s : Nodes K V) {passed : InnerPtr → Bool} {start now : OpaqueNodePtr}
+    (down : IsDown (node_at s) passed start now) where
+  pub ends_at_leaf : (p : LeafPtr) (found : Option LeafPtr) (o : Option (LeafNode K V)) → leaf_name p ≡ now → map.get s.leaves p ≡ o →
+      found ≡ option_map (λ _. p) o → IsLeastLeaf bytes P s start found
+  ends_at_leaf p found None is gone e =
+      subst (IsLeastLeaf bytes P s start) (sym e)
+      (down.names, down.descent, λ root needed. inl (ap (node_at s) (down.ends ∙ sym is) ∙ none_at_leaf s p gone))
+  ends_at_leaf p found (Some node) is there e =
+      subst (IsLeastLeaf bytes P s start) (sym e) (down.names, pair_of node, down.descent, down.ends ∙ sym is, leaf_at s p node there)
 
   module _ (p : InnerPtr) (proper : p.kind ≢ Leaf) (is : inner_name p ≡ now) where
     pub ends_nowhere : map.get s.inners p ≡ None → IsLeastLeaf bytes P s start None
     ends_nowhere gone = (down.names, down.descent, λ root needed. inl (ap (node_at s) (down.ends ∙ sym is) ∙ none_at_inner s p proper gone))
 
     pub ends_again : passed p ≡ true → IsLeastLeaf bytes P s start None
-    ends_again again = (down.names, down.descent, λ root needed. inr (inr (inl (met_twice start down.names (subst (λ n. IsIn n (above start down.names)) (is ∙ sym down.ends) (down.passes p again))))))
+    ends_again again = (
+      down.names,
+      down.descent,
+      λ root needed. inr (inr (inl (met_twice start down.names
+          (subst (λ n. IsIn n (above start down.names)) (is ∙ sym down.ends) (down.passes p again))))),
+    )
 
     pub ends_childless : (node : Inner) → map.get s.inners p ≡ Some node → node.children ≡ [] → IsLeastLeaf bytes P s start None
     ends_childless node there none = (
       down.names,
       down.descent,
-      λ root needed. inr (inl
-          (header_at p.kind node, ap (node_at s) (down.ends ∙ sym is) ∙ inner_at s p node proper there ∙ ap (λ l. Some (inner_node (header_at p.kind node) l)) none)),
+      λ root needed. inr (inl (
+        header_at p.kind node,
+        ap (node_at s) (down.ends ∙ sym is) ∙ inner_at s p node proper there
+            ∙ ap (λ l. Some (inner_node (header_at p.kind node) l)) none,
+      )),
     )
 
 -- the least leaf of a node is that of its least child
 pub least_below : {K V : Type 0} (bytes : K × V → List ℕ) (P : ℕ) (s : Nodes K V) (name : OpaqueNodePtr) (h : NodeHeader) (b : ℕ) (first : OpaqueNodePtr)
     (others : List (ℕ × OpaqueNodePtr)) (found : LeafPtr) → node_at s name ≡ Some (inner_node h ((b, first) ∷ others)) →
     IsLeastLeaf bytes P s name (Some found) → IsLeastLeaf bytes P s first (Some found)
-least_below bytes P s name h b first others found there ([], x, d, ends, leaf) = absurd (leaf_name_is s found h ((b, first) ∷ others) (ap (node_at s) (sym ends) ∙ there))
+least_below bytes P s name h b first others found there ([], x, d, ends, leaf) =
+    absurd (leaf_name_is s found h ((b, first) ∷ others) (ap (node_at s) (sym ends) ∙ there))
 least_below bytes P s name h b first others found there (n ∷ ns, x, d, ends, leaf) =
     let other = d.0.3 in
     let both : ◌≡◌ {A = ℕ × OpaqueNodePtr} (d.0.1, n) (b, first) = cc in

@@ -46,17 +46,20 @@ memory_alone OutOfMemory is = refl
 -- the only error that a canonical root can have is out of memory
 pub canonical_error : {K V : Type 0} {bytes : K × V → List ℕ} {P : ℕ} {s : Nodes K V} {root : OpaqueNodePtr} (error : MalformedTreeError) →
     IsCanonicalRoot bytes P s root → IsTrueOf bytes P s root (fault_of error) → error ≡ OutOfMemory
-canonical_error {bytes = bytes} {P = P} {s = s} {root = root} error (pairs, layout, by) is = memory_alone error (no_fault bytes P s root pairs layout (laid_out by) (fault_of error) is)
+canonical_error {bytes = bytes} {P = P} {s = s} {root = root} error (pairs, layout, by) is =
+    memory_alone error (no_fault bytes P s root pairs layout (laid_out by) (fault_of error) is)
 
 -- what an error reports is true, or the allocation for it failed
-pub said : {K V : Type 0} (bytes : K × V → List ℕ) (P : ℕ) (s : Nodes K V) (root : OpaqueNodePtr) {fault : Fault} (error : MalformedTreeError) → Says fault error →
+pub said : {K V : Type 0} (bytes : K × V → List ℕ) (P : ℕ) (s : Nodes K V) (root : OpaqueNodePtr) {fault : Fault}
+    (error : MalformedTreeError) → Says fault error →
     IsTrueOf bytes P s root fault → IsTrueOf bytes P s root (fault_of error)
 said bytes P s root error (inl e) true = subst (IsTrueOf bytes P s root) (sym e) true
 said bytes P s root error (inr e) true = subst (IsTrueOf bytes P s root) (sym e) tt
 
 module _ {K V T : Type 0} (bytes : K × V → List ℕ) (P : ℕ) (s : Nodes K V) (r : Result T MalformedTreeError) where
   -- a node has fewer children than its kind may have
-  pub too_few_at : {front place : List ℕ} {kind : NodeType} (p : InnerPtr) (node : Inner) → p.kind ≢ Leaf → map.get s.inners p ≡ Some node → front ≡ place → kind ≡ p.kind →
+  pub too_few_at : {front place : List ℕ} {kind : NodeType} (p : InnerPtr) (node : Inner) → p.kind ≢ Leaf → map.get s.inners p ≡ Some node →
+      front ≡ place → kind ≡ p.kind →
       IfErr r (λ error. Says (wrong_children_count front kind (length node.children)) error × (length node.children < kind_least kind)) →
       IfErr r (IsTrueAt bytes P s place (inner_name p))
   too_few_at {front} {place} {kind} p node proper there at is =

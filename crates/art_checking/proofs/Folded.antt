@@ -59,14 +59,16 @@ module _ {K V : Type 0} (s : Nodes K V) where
     child_lower =
         let tall : height (node_at s) (map.len s.inners) name ≡ tree_height (inner n h (join l (child b t r))) =
         ap (height (node_at s) (map.len s.inners)) (sym full.0.named) ∙
-        height_is (node_at s) (inner n h (join l (child b t r))) (map.len s.inners) full.0.holds (enough_steps s (inner n h (join l (child b t r))) full.0.holds full.0.distinct) in
+        height_is (node_at s) (inner n h (join l (child b t r))) (map.len s.inners) full.0.holds
+        (enough_steps s (inner n h (join l (child b t r))) full.0.holds full.0.distinct) in
         let short : height (node_at s) (map.len s.inners) (name_of t) ≡ tree_height t =
         height_is (node_at s) t (map.len s.inners) child_full.0.holds (enough_steps s t child_full.0.holds child_full.0.distinct) in
         let part = height_join l (child b t r) in
         omega arith
 
 -- ---- the loop over the children
-module _ {K V T Out : Type 0} (OfLeaf : T → LeafNode K V → Out → T → Type 0) (OfInner : T → NodeType → Inner → Out → Out → T → Type 0) (Combines : T → Out → Out → Out → Type 0) (s : Nodes K V) where
+module _ {K V T Out : Type 0} (OfLeaf : T → LeafNode K V → Out → T → Type 0) (OfInner : T → NodeType → Inner → Out → Out → T → Type 0)
+    (Combines : T → Out → Out → Out → Type 0) (s : Nodes K V) where
   abbrev FoldsIt : Tree OpaqueNodePtr (K × V) → T → Out → T → Type 0
   FoldsIt = Folds OfLeaf OfInner Combines s
 
@@ -109,7 +111,9 @@ module _ {K V T Out : Type 0} (OfLeaf : T → LeafNode K V → Out → T → Typ
           is = ap (λ q. child q.0 t others) first;
           slots = tail;
           full_tree = subst (λ q. IsFullTree s q.1 t) first (child_full s done c t others whole);
-          lower = subst (λ q. height (node_at s) (map.len s.inners) q.1 < height (node_at s) (map.len s.inners) name) first (child_lower s done c t others whole);
+          lower =
+              subst (λ q. height (node_at s) (map.len s.inners) q.1 < height (node_at s) (map.len s.inners) name) first
+              (child_lower s done c t others whole);
         }
 
     -- a child that has a tree, and is lower than the node
@@ -122,7 +126,8 @@ module _ {K V T Out : Type 0} (OfLeaf : T → LeafNode K V → Out → T → Typ
       first_child = let n = has_next no_child cs next left is slots in ((n.tree, n.full_tree), n.lower)
 
       -- it is joined first
-      pub started : (old now : T) (out : Out) → ((t : Tree OpaqueNodePtr (K × V)) → IsFullTree s next.1 t → FoldsIt t old out now) → HasJoined layout name kind shown left old out now
+      pub started : (old now : T) (out : Out) → ((t : Tree OpaqueNodePtr (K × V)) → IsFullTree s next.1 t → FoldsIt t old out now) →
+          HasJoined layout name kind shown left old out now
       started old now out folds =
           let n = has_next no_child cs next left is slots in
           record {
@@ -134,7 +139,8 @@ module _ {K V T Out : Type 0} (OfLeaf : T → LeafNode K V → Out → T → Typ
             joins = (now, out, folds n.tree n.full_tree, (refl, refl));
           }
 
-    module _ {next : ℕ × OpaqueNodePtr} {left : List (ℕ × OpaqueNodePtr)} {old now : T} {joined : Out} (has : HasJoined layout name kind shown (next ∷ left) old joined now) where
+    module _ {next : ℕ × OpaqueNodePtr} {left : List (ℕ × OpaqueNodePtr)} {old now : T} {joined : Out}
+        (has : HasJoined layout name kind shown (next ∷ left) old joined now) where
       -- there is a next child
       pub more_child : IsBelow next.1
       more_child = let n = has_next has.done has.rest next left has.is has.slots in ((n.tree, n.full_tree), n.lower)
@@ -154,22 +160,27 @@ module _ {K V T Out : Type 0} (OfLeaf : T → LeafNode K V → Out → T → Typ
           go : (done : Subtrees OpaqueNodePtr (K × V)) (t : Tree OpaqueNodePtr (K × V)) → IsFullTree s next.1 t →
               JoinsAll OfLeaf OfInner Combines s done old joined now → JoinsAll OfLeaf OfInner Combines s (join done (child next.0 t no_child)) old out new
           go no_child t below joins = absurd joins
-          go (child c u cs) t below (mid, first, of_u, rest) = (mid, first, of_u, Joins-more cs next.0 t mid now new first joined own out rest (folds t below) combines)
+          go (child c u cs) t below (mid, first, of_u, rest) =
+              (mid, first, of_u, Joins-more cs next.0 t mid now new first joined own out rest (folds t below) combines)
 
   -- at the end the node is passed to its hook
   pub ended : {layout : Tree OpaqueNodePtr (K × V)} {name : OpaqueNodePtr} {kind : NodeType} {shown : Inner} (old now new : T) (joined out : Out) →
-      HasJoined layout name kind shown [] old joined now → content_at s name ≡ Some (held_inner shown) → OfInner now kind shown joined out new → FoldsIt layout old out new
+      HasJoined layout name kind shown [] old joined now → content_at s name ≡ Some (held_inner shown) →
+      OfInner now kind shown joined out new → FoldsIt layout old out new
   ended {layout} {name} {kind} {shown} old now new joined out has there answers = go has.rest has.slots has.is
     where
-      go : (rest : Subtrees OpaqueNodePtr (K × V)) → slots_of rest ≡ [] → layout ≡ inner name (header_at kind shown) (join has.done rest) → FoldsIt layout old out new
-      go no_child none is = subst (λ z. FoldsIt z old out new) (sym (is ∙ ap (inner name (header_at kind shown)) (join_none has.done))) (shown, now, joined, there, has.joins, answers)
+      go : (rest : Subtrees OpaqueNodePtr (K × V)) → slots_of rest ≡ [] → layout ≡ inner name (header_at kind shown) (join has.done rest) →
+          FoldsIt layout old out new
+      go no_child none is = subst (λ z. FoldsIt z old out new) (sym (is ∙ ap (inner name (header_at kind shown)) (join_none has.done)))
+          (shown, now, joined, there, has.joins, answers)
       go (child b t cs) some is = absurd cc
 
   -- a leaf is passed to its hook
   pub folds_leaf : {name : OpaqueNodePtr} (layout : Tree OpaqueNodePtr (K × V)) (p : LeafPtr) (shown : LeafNode K V) (old new : T) (out : Out) →
       IsFullTree s name layout → leaf_name p ≡ name → Some shown ≡ map.get s.leaves p → OfLeaf old shown out new → FoldsIt layout old out new
   folds_leaf layout p shown old new out full is there answers =
-      subst (λ z. FoldsIt z old out new) (sym (leaf_shown s p layout (full.0.named ∙ sym is) full.0.holds shown there)) (shown, held_at_leaf s p shown there, answers)
+      subst (λ z. FoldsIt z old out new) (sym (leaf_shown s p layout (full.0.named ∙ sym is) full.0.holds shown there))
+      (shown, held_at_leaf s p shown there, answers)
 
 not_gone : {X : Type 0} (o : Option X) → (None ≡ o → ⊥) → IsSome o
 not_gone None h = absurd (h refl)

@@ -18,7 +18,9 @@ last_part bytes more =
     ap (take (length (bytes ++ more) - length bytes)) (drop_at bytes more (length bytes) refl) ∙ take_all (length (bytes ++ more) - length bytes) more n
 
 -- one further place is appended
-pub marked-last : (bytes place : List ℕ) (marks : List Mark) (mark : Mark) → AreWithin bytes marks → mark.from ≡ length bytes → mark.to ≡ length (bytes ++ place) →
+pub marked-last : (bytes place : List ℕ) (marks : List Mark) (mark : Mark) → AreWithin bytes marks → mark.from ≡ length bytes →
+    mark.to ≡ length (bytes ++ place) →
     marked (bytes ++ place) (marks ++ mark ∷ []) ≡ marked bytes marks ++ (mark.name, place) ∷ []
 marked-last bytes place [] mark h from to = ap (λ p. (mark.name, p) ∷ []) (ap₂ (λ i j. slice_range (bytes ++ place) i j) from to ∙ last_part bytes place)
-marked-last bytes place (m ∷ marks) mark h from to = ap₂ (λ p ps. (m.name, p) ∷ ps) (part_stays bytes place m.from m.to h.0.0 h.0.1) (marked-last bytes place marks mark h.1 from to)
+marked-last bytes place (m ∷ marks) mark h from to =
+    ap₂ (λ p ps. (m.name, p) ∷ ps) (part_stays bytes place m.from m.to h.0.0 h.0.1) (marked-last bytes place marks mark h.1 from to)

@@ -53,7 +53,8 @@ eq_same n k = go n.kind k.kind n.slot k.slot
     go Leaf Leaf i j = refl
     go _ _ i j = refl
 
-is_eq_inner : (p q : InnerPtr) → is_eq (derived_inner.cmp-value.it p q) ≡ same_name (record { kind = p.kind; slot = p.slot }) (record { kind = q.kind; slot = q.slot })
+is_eq_inner : (p q : InnerPtr) → is_eq (derived_inner.cmp-value.it p q)
+    ≡ same_name (record { kind = p.kind; slot = p.slot }) (record { kind = q.kind; slot = q.slot })
 is_eq_inner p q = is_eq_same (record { kind = p.kind; slot = p.slot }) (record { kind = q.kind; slot = q.slot })
 
 pub same_self : (n : OpaqueNodePtr) → same_name n n ≡ true
@@ -71,14 +72,16 @@ same_is n k e = go (cases_Bool (eqb (kind_index n.kind) (kind_index k.kind))) e
 
 pub same_inner : (p q : InnerPtr) → is_eq (derived_inner.cmp-value.it p q) ≡ true → p ≡ q
 same_inner p q e =
-    ap (λ n. let r : InnerPtr = record { kind = n.kind; slot = n.slot } in r) (same_is (record { kind = p.kind; slot = p.slot }) (record { kind = q.kind; slot = q.slot }) (sym (is_eq_inner p q) ∙ e))
+    ap (λ n. let r : InnerPtr = record { kind = n.kind; slot = n.slot } in r)
+    (same_is (record { kind = p.kind; slot = p.slot }) (record { kind = q.kind; slot = q.slot }) (sym (is_eq_inner p q) ∙ e))
 
 pub same_apart : (n k : OpaqueNodePtr) → n ≢ k → same_name n k ≡ false
 same_apart n k off = elim (cases_Bool (same_name n k)) [ inl e ↦ absurd (off (same_is n k e)) | inr e ↦ e ]
 
 -- ---- the name met last
 -- it is at the end
-pub place_here : (met : List (OpaqueNodePtr × List ℕ)) (name : OpaqueNodePtr) (place : List ℕ) → place_under name (slice_get (met ++ (name, place) ∷ []) (length met)) ≡ Some place
+pub place_here : (met : List (OpaqueNodePtr × List ℕ)) (name : OpaqueNodePtr) (place : List ℕ) →
+    place_under name (slice_get (met ++ (name, place) ∷ []) (length met)) ≡ Some place
 place_here [] name place = rw (same_self name) refl
 place_here (m ∷ met) name place = place_here met name place
 
@@ -104,12 +107,14 @@ meets_one f g name place free is = record {
 
 pub meets_then : (f g h : Places) (ns ms : List OpaqueNodePtr) → Meets f g ns → Meets g h ms → Meets f h (ns ++ ms)
 meets_then f g h ns ms first second =
-    let apart : (n m : OpaqueNodePtr) → IsIn n ns → IsIn m ms → n ≢ m = λ n m i j e. each_in (λ k. g k ≢ None) n ns first.met i (ap g e ∙ each_in (λ k. g k ≡ None) m ms second.fresh j) in record {
+    let apart : (n m : OpaqueNodePtr) → IsIn n ns → IsIn m ms → n ≢ m =
+    λ n m i j e. each_in (λ k. g k ≢ None) n ns first.met i (ap g e ∙ each_in (λ k. g k ≡ None) m ms second.fresh j) in record {
       fresh = Each-append (λ n. f n ≡ None) ns ms first.fresh (each_from (λ m. f m ≡ None) ms
           (λ m j. sym (first.elsewhere m (λ i. apart m m i j refl)) ∙ each_in (λ k. g k ≡ None) m ms second.fresh j));
       met = Each-append (λ n. h n ≢ None) ns ms (each_from (λ n. h n ≢ None) ns
           (λ n i e. each_in (λ k. g k ≢ None) n ns first.met i (sym (second.elsewhere n (λ j. apart n n i j refl)) ∙ e))) second.met;
-      distinct = Pairwise-append ◌≢◌ ns ms first.distinct second.distinct (each_from (λ n. Each (λ m. n ≢ m) ms) ns (λ n i. each_from (λ m. n ≢ m) ms (λ m j. apart n m i j)));
+      distinct = Pairwise-append ◌≢◌ ns ms first.distinct second.distinct
+          (each_from (λ n. Each (λ m. n ≢ m) ms) ns (λ n i. each_from (λ m. n ≢ m) ms (λ m j. apart n m i j)));
       elsewhere = λ n off. second.elsewhere n (λ j. off (in_right n ns ms j)) ∙ first.elsewhere n (λ i. off (in_left n ns ms i));
     }
 

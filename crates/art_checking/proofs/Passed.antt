@@ -83,7 +83,8 @@ inner_same name leaves proper = go name.kind proper
     go Leaf off = absurd (off refl)
 
 -- Of the children of a node, in the bytes that lead to them, some were passed, and these are left.
-pub record HasPassed {K V : Type 0} (bytes : K × V → List ℕ) (P : ℕ) (s : Nodes K V) (old new : Seen) (front : List ℕ) (all left : List (ℕ × OpaqueNodePtr)) : Type 0 where
+pub record HasPassed {K V : Type 0} (bytes : K × V → List ℕ) (P : ℕ) (s : Nodes K V) (old new : Seen) (front : List ℕ)
+    (all left : List (ℕ × OpaqueNodePtr)) : Type 0 where
   pub children : Subtrees OpaqueNodePtr (K × V)
   pub slots : slots_of children ++ left ≡ all
   pub holds : HoldsBelow (node_at s) children
@@ -99,19 +100,23 @@ one_met {old} {mid} {name} {place} first = meets_one (place_in old) (place_in mi
 module _ {K V : Type 0} {bytes : K × V → List ℕ} {P : ℕ} {s : Nodes K V} {old mid : Seen} where
   module _ {place : List ℕ} {name : OpaqueNodePtr} (first : IsFirstMet old mid name place) where
     -- a leaf was passed
-    pub passed_leaf : {front : List ℕ} (leaf_ptr : LeafPtr) → leaf_name leaf_ptr ≡ name → front ≡ place → IsLeafAt bytes P s leaf_ptr front → IsPassed bytes P s old mid place name
+    pub passed_leaf : {front : List ℕ} (leaf_ptr : LeafPtr) → leaf_name leaf_ptr ≡ name → front ≡ place →
+        IsLeafAt bytes P s leaf_ptr front → IsPassed bytes P s old mid place name
     passed_leaf leaf_ptr is at (x, there, begins) = record {
       layout = leaf name x;
       named = refl;
       holds = subst (λ n. node_at s n ≡ Some (leaf_node x)) is there;
       radix = subst (λ p. IsFront p (bytes x)) at begins;
       meets = one_met first;
-      leaves = ap names_of_leaves first.leaves ∙ subst (λ n. names_of_leaves (leaves_with n old.leaves.items) ≡ names_of_leaves old.leaves.items ++ n ∷ []) is (leaf_more leaf_ptr old.leaves.items);
+      leaves = ap names_of_leaves first.leaves
+          ∙ subst (λ n. names_of_leaves (leaves_with n old.leaves.items) ≡ names_of_leaves old.leaves.items ++ n ∷ []) is
+          (leaf_more leaf_ptr old.leaves.items);
       count = first.count;
     }
 
     -- an inner node was passed
-    pub passed_inner : {new : Seen} (inner_ptr : InnerPtr) → inner_name inner_ptr ≡ name → inner_ptr.kind ≢ Leaf → IsChecked bytes P s mid new place (inner_name inner_ptr) →
+    pub passed_inner : {new : Seen} (inner_ptr : InnerPtr) → inner_name inner_ptr ≡ name → inner_ptr.kind ≢ Leaf →
+        IsChecked bytes P s mid new place (inner_name inner_ptr) →
         IsPassed bytes P s old new place name
     passed_inner {new} inner_ptr is proper done =
         let checked = subst (IsChecked bytes P s mid new place) is done in
@@ -120,7 +125,8 @@ module _ {K V : Type 0} {bytes : K × V → List ℕ} {P : ℕ} {s : Nodes K V} 
           named = head_is (names_of checked.layout) (names_head checked.layout) checked.names;
           holds = checked.holds;
           radix = checked.radix;
-          meets = subst (Meets (place_in old) (place_in new)) (sym checked.names) (meets_then (place_in old) (place_in mid) (place_in new) (name ∷ []) checked.below (one_met first) checked.meets);
+          meets = subst (Meets (place_in old) (place_in new)) (sym checked.names)
+              (meets_then (place_in old) (place_in mid) (place_in new) (name ∷ []) checked.below (one_met first) checked.meets);
           leaves = checked.leaves ∙ ap (λ ls. names_of_leaves ls ++ leaf_names checked.layout) (first.leaves ∙ kept);
           count = let one = first.count in let more = checked.count in rw checked.names (omega arith);
         }
@@ -132,7 +138,8 @@ module _ {K V : Type 0} {bytes : K × V → List ℕ} {P : ℕ} {s : Nodes K V} 
       let cs = has.children in
       let t = passed.layout in record {
         children = join cs (child b t no_child);
-        slots = ap (λ l. l ++ left) (slots_of-join cs (child b t no_child) ∙ ap (λ n. slots_of cs ++ (b, n) ∷ []) passed.named) ∙ append_assoc (slots_of cs) ((b, name) ∷ []) left ∙ has.slots;
+        slots = ap (λ l. l ++ left) (slots_of-join cs (child b t no_child) ∙ ap (λ n. slots_of cs ++ (b, n) ∷ []) passed.named)
+            ∙ append_assoc (slots_of cs) ((b, name) ∷ []) left ∙ has.slots;
         holds = HoldsBelow-join (node_at s) cs (child b t no_child) has.holds (passed.holds, tt);
         radix = AreRadix-join bytes P front cs (child b t no_child) has.radix (passed.radix, tt);
         meets = subst (Meets (place_in old) (place_in new)) (sym
@@ -140,11 +147,13 @@ module _ {K V : Type 0} {bytes : K × V → List ℕ} {P : ℕ} {s : Nodes K V} 
             (meets_then (place_in old) (place_in mid) (place_in new) (names_below cs) (names_of t) has.meets passed.meets);
         leaves = passed.leaves ∙ ap (λ ns. ns ++ leaf_names t) has.leaves ∙
             append_assoc (names_of_leaves old.leaves.items) (leaf_names_below cs) (leaf_names t) ∙
-            ap (λ ns. names_of_leaves old.leaves.items ++ ns) (sym (leaf_names_below-join cs (child b t no_child) ∙ ap (λ ns. leaf_names_below cs ++ ns) (append-nil (leaf_names t))));
+            ap (λ ns. names_of_leaves old.leaves.items ++ ns)
+            (sym (leaf_names_below-join cs (child b t no_child) ∙ ap (λ ns. leaf_names_below cs ++ ns) (append-nil (leaf_names t))));
         count =
             let one = has.count in
             let more = passed.count in
-            let long = ap length (names_below-join cs (child b t no_child) ∙ ap (λ ns. names_below cs ++ ns) (append-nil (names_of t))) ∙ length-append (names_below cs) (names_of t) in
+            let long = ap length (names_below-join cs (child b t no_child) ∙ ap (λ ns. names_below cs ++ ns) (append-nil (names_of t)))
+            ∙ length-append (names_below cs) (names_of t) in
             omega arith;
       }
 
@@ -152,7 +161,15 @@ module _ {K V : Type 0} {bytes : K × V → List ℕ} {P : ℕ} {s : Nodes K V} 
   -- no child was passed yet
   pub passed_none : (old : Seen) (front : List ℕ) (all : List (ℕ × OpaqueNodePtr)) → HasPassed bytes P s old old front all all
   passed_none old front all =
-      record { children = no_child; slots = refl; holds = tt; radix = tt; meets = meets_none (place_in old); leaves = sym (append-nil (names_of_leaves old.leaves.items)); count = omega arith }
+      record {
+        children = no_child;
+        slots = refl;
+        holds = tt;
+        radix = tt;
+        meets = meets_none (place_in old);
+        leaves = sym (append-nil (names_of_leaves old.leaves.items));
+        count = omega arith;
+      }
 
   -- a node all of whose children were passed, with as many of them as its kind has
   pub passed_all : {old new : Seen} {place : List ℕ} (part : List ℕ) (name : InnerPtr) (node : Inner) → name.kind ≢ Leaf →
@@ -198,7 +215,8 @@ not_none : {X : Type 0} (o : Option X) → is_some o ≡ true → o ≢ None
 not_none None e f = false≢true e
 not_none (Some x) e f = absurd cc
 
-still_met : (f g : Places) (names : List OpaqueNodePtr) → Meets f g names → (q : InnerPtr) → is_some (f (inner_name q)) ≡ true → is_some (g (inner_name q)) ≡ true
+still_met : (f g : Places) (names : List OpaqueNodePtr) → Meets f g names → (q : InnerPtr) → is_some (f (inner_name q)) ≡ true →
+    is_some (g (inner_name q)) ≡ true
 still_met f g names meets q e = some_from (g (inner_name q)) (stays_met f g names meets (inner_name q) (not_none (f (inner_name q)) e))
 
 -- an inner node that was met only now is one less to try
@@ -217,10 +235,13 @@ no_more_to_try inners f g names meets =
     untried_no_more (λ q. is_some (f (inner_name q))) (λ q. is_some (g (inner_name q))) (still_met f g names meets) (finite.keys inners)
 
 -- a name in use is in the store
-pub inner_is_there : {K V : Type 0} (s : Nodes K V) (p : InnerPtr) → p.kind ≢ Leaf → IsUsed s (inner_name p) → (node : Inner) × (finite.get s.inners p ≡ Some node)
+pub inner_is_there : {K V : Type 0} (s : Nodes K V) (p : InnerPtr) → p.kind ≢ Leaf → IsUsed s (inner_name p) →
+    (node : Inner) × (finite.get s.inners p ≡ Some node)
 inner_is_there {K} {V} s p proper used = go (finite.get s.inners p) refl (λ e. used (held_in_inner s p.kind p.slot proper ∙ e))
   where
-    go : (o : Option Inner) → finite.get s.inners p ≡ o → (option_map {T = Inner} {U = Held K V} held_inner (finite.get s.inners p) ≡ None → ⊥) → (node : Inner) × (finite.get s.inners p ≡ Some node)
+    go : (o : Option Inner) → finite.get s.inners p ≡ o →
+        (option_map {T = Inner} {U = Held K V} held_inner (finite.get s.inners p) ≡ None → ⊥) →
+        (node : Inner) × (finite.get s.inners p ≡ Some node)
     go None e f = absurd (f (ap (option_map held_inner) e))
     go (Some node) e f = (node, e)
 
@@ -271,9 +292,11 @@ module _ {K V : Type 0} (s : Nodes K V) where
 
     leaf_names_below_there : (cs : Subtrees OpaqueNodePtr (K × V)) → HoldsBelow (node_at s) cs → Each IsLeafName (leaf_names_below cs)
     leaf_names_below_there no_child h = tt
-    leaf_names_below_there (child b t cs) h = Each-append IsLeafName (leaf_names t) (leaf_names_below cs) (leaf_names_there t h.0) (leaf_names_below_there cs h.1)
+    leaf_names_below_there (child b t cs) h =
+        Each-append IsLeafName (leaf_names t) (leaf_names_below cs) (leaf_names_there t h.0) (leaf_names_below_there cs h.1)
 
-  pub leaves_there : (leaves : List LeafPtr) (t : Tree OpaqueNodePtr (K × V)) → names_of_leaves leaves ≡ leaf_names t → Holds (node_at s) t → Each (λ l. IsSome (finite.get s.leaves l)) leaves
+  pub leaves_there : (leaves : List LeafPtr) (t : Tree OpaqueNodePtr (K × V)) → names_of_leaves leaves ≡ leaf_names t →
+      Holds (node_at s) t → Each (λ l. IsSome (finite.get s.leaves l)) leaves
   leaves_there leaves t same holds = go leaves (subst (Each IsLeafName) (sym same) (leaf_names_there t holds))
     where
       go : (ls : List LeafPtr) → Each IsLeafName (names_of_leaves ls) → Each (λ l. IsSome (finite.get s.leaves l)) ls
@@ -311,7 +334,8 @@ module _ {K V : Type 0} {bytes : K × V → List ℕ} {P : ℕ} {s : Nodes K V} 
 
   -- once they are linked the root is canonical
   pub well_formed : (num_leaf num_met : ℕ) → AreLinked (links_at s) None (names_of_leaves seen.leaves.items) None →
-      num_leaf ≡ length seen.leaves.items → num_met ≡ count_met seen → IsWellFormed bytes P s root (record { num_leaf = num_leaf; num_inner = num_met - num_leaf })
+      num_leaf ≡ length seen.leaves.items → num_met ≡ count_met seen →
+      IsWellFormed bytes P s root (record { num_leaf = num_leaf; num_inner = num_met - num_leaf })
   well_formed num_leaf num_met linked leaf_count met_count =
       let t = met.layout in
       let long = count_leaves in

@@ -28,21 +28,30 @@ module _ {K V : Type 0} (bytes : K × V → List ℕ) (P : ℕ) (s : Nodes K V) 
   read_part depth len leaf (Some part) (ns, x, descent, ends, there) is = (x, (ns, descent, ap (node_at s) ends ∙ there), is x there)
 
   -- what was read for a depth and a length, in terms of the place and the node
-  pub read_found : (name : OpaqueNodePtr) (place : List ℕ) (node : Inner) {depth len : ℕ} {found part : Option (Bor (List ℕ))} → depth ≡ length place → len ≡ node.prefix.len → found ≡ part →
+  pub read_found : (name : OpaqueNodePtr) (place : List ℕ) (node : Inner) {depth len : ℕ} {found part : Option (Bor (List ℕ))} →
+      depth ≡ length place → len ≡ node.prefix.len → found ≡ part →
       IsReadFrom bytes P s name depth len found → IsReadFrom bytes P s name (length place) node.prefix.len part
   read_found name place node {depth} {len} {found} deep long is read =
       subst (IsReadFrom bytes P s name (length place) node.prefix.len) is (subst (λ n. IsReadFrom bytes P s name (length place) n found) long
       (subst (λ n. IsReadFrom bytes P s name n len found) deep read))
 
   -- a prefix that is stored whole is read from the node
-  pub read_whole : (p : InnerPtr) (node : Inner) (place : List ℕ) {part : List ℕ} → node.prefix.len ≤ P → length node.prefix.stored ≡ min node.prefix.len P → part ≡ node.prefix.stored →
+  pub read_whole : (p : InnerPtr) (node : Inner) (place : List ℕ) {part : List ℕ} → node.prefix.len ≤ P →
+      length node.prefix.stored ≡ min node.prefix.len P → part ≡ node.prefix.stored →
       IsRead bytes P s place (place ++ part) (inner_name p) (header_at p.kind node)
   read_whole p node place fits count is =
       let all : length node.prefix.stored ≡ node.prefix.len = omega arith in
-      record { part = node.prefix.stored; is = ap (λ q. place ++ q) is; long = all; stored = take_all P node.prefix.stored (omega arith); is_prefix = inl (fits, refl) }
+      record {
+        part = node.prefix.stored;
+        is = ap (λ q. place ++ q) is;
+        long = all;
+        stored = take_all P node.prefix.stored (omega arith);
+        is_prefix = inl (fits, refl);
+      }
 
   -- a leaf that was found is the least one
-  pub least_if : (name : OpaqueNodePtr) (found : Option LeafPtr) → IsLeastLeaf bytes P s name found → IfSome found (λ leaf. IsLeastLeaf bytes P s name (Some leaf))
+  pub least_if : (name : OpaqueNodePtr) (found : Option LeafPtr) → IsLeastLeaf bytes P s name found →
+      IfSome found (λ leaf. IsLeastLeaf bytes P s name (Some leaf))
   least_if name None least = tt
   least_if name (Some leaf) least = least
 
@@ -56,12 +65,14 @@ module _ {K V : Type 0} (bytes : K × V → List ℕ) (P : ℕ) (s : Nodes K V) 
     prefix_read part (x, descends, is) = inr (more, (x, descends, is.1, is.2))
 
     -- then the bytes of the leaf's key, of which the first ones are stored, are the prefix
-    pub read_long : (part : Bor (List ℕ)) → IsReadFrom bytes P s (inner_name p) (length place) node.prefix.len (Some part) → take P part.now ≡ node.prefix.stored →
+    pub read_long : (part : Bor (List ℕ)) → IsReadFrom bytes P s (inner_name p) (length place) node.prefix.len (Some part) →
+        take P part.now ≡ node.prefix.stored →
         IsRead bytes P s place (place ++ part.now) (inner_name p) (header_at p.kind node)
     read_long part read same = record { part = part.now; is = refl; long = read.2.0; stored = same; is_prefix = prefix_read part read }
 
     pub stores_others : (root : OpaqueNodePtr) (part : Bor (List ℕ)) →
-        IsReadFrom bytes P s (inner_name p) (length place) node.prefix.len (Some part) → length node.prefix.stored ≡ min node.prefix.len P → take P part.now ≢ node.prefix.stored →
+        IsReadFrom bytes P s (inner_name p) (length place) node.prefix.len (Some part) → length node.prefix.stored ≡ min node.prefix.len P →
+        take P part.now ≢ node.prefix.stored →
         Reaches bytes P s root place (inner_name p) → StoresOthers bytes P s root place node.prefix.stored (take P part.now)
     stores_others root part gives count off reach =
         let all : length node.prefix.stored ≡ P = omega (arith, count, more) in (

@@ -17,7 +17,8 @@ use Rattle.art_checking.proofs.Passed.{HasPassed, before_last, passed_more, pass
 use Rattle.art_checking.proofs.Walked.{HasWalked, child_reached, read_again, rising_right, walked_more, walked_none}
 
 -- Some children of a node were checked, and these are left: the prefix that was read before all of them, and what was passed and met.
-pub record HasTurned {K V : Type 0} (bytes : K × V → List ℕ) (P : ℕ) (s : Nodes K V) (old now : Seen) (place whole : List ℕ) (p : InnerPtr) (node : Inner) (left : Children) : Type 0 where
+pub record HasTurned {K V : Type 0} (bytes : K × V → List ℕ) (P : ℕ) (s : Nodes K V) (old now : Seen) (place whole : List ℕ) (p : InnerPtr)
+    (node : Inner) (left : Children) : Type 0 where
   pub read : IsRead bytes P s place whole (inner_name p) (header_at p.kind node)
   pub passed : HasPassed bytes P s old now (place ++ read.part) node.children left
   pub walked : HasWalked bytes P s (place_in old) (place_in now) place read.part (inner_name p) left
@@ -33,16 +34,20 @@ pub record IsTurn {K V : Type 0} (bytes : K × V → List ℕ) (P : ℕ) (s : No
 
 module _ {K V : Type 0} {bytes : K × V → List ℕ} {P : ℕ} {s : Nodes K V} {old : Seen} {place whole : List ℕ} {p : InnerPtr} {node : Inner} where
   -- before the first step
-  pub none_turned : {left : Children} → node.children ≡ left → IsRead bytes P s place whole (inner_name p) (header_at p.kind node) → NoneBelow (place_in old) place →
+  pub none_turned : {left : Children} → node.children ≡ left → IsRead bytes P s place whole (inner_name p) (header_at p.kind node) →
+      NoneBelow (place_in old) place →
       HasTurned bytes P s old old place whole p node left
   none_turned all read none = record {
     read = read;
     passed = subst (HasPassed bytes P s old old (place ++ read.part) node.children) all (passed_none old (place ++ read.part) node.children);
-    walked = subst (HasWalked bytes P s (place_in old) (place_in old) place read.part (inner_name p)) all (walked_none read.part (inner_name p) node.children none);
+    walked =
+        subst (HasWalked bytes P s (place_in old) (place_in old) place read.part (inner_name p)) all
+        (walked_none read.part (inner_name p) node.children none);
   }
 
   -- a step begins where the iterator returns a child, whose byte is pushed
-  pub turn_from : {now : Seen} {pushed : List ℕ} {rest : Children} {byte : ℕ} {child : OpaqueNodePtr} {left : Children} → p.kind ≢ Leaf → map.get s.inners p ≡ Some node →
+  pub turn_from : {now : Seen} {pushed : List ℕ} {rest : Children} {byte : ℕ} {child : OpaqueNodePtr} {left : Children} → p.kind ≢ Leaf →
+      map.get s.inners p ≡ Some node →
       IsRising node.children → rest ≡ (byte, child) ∷ left → HasTurned bytes P s old now place whole p node rest → pushed ≡ whole ++ byte ∷ [] →
       IsTurn bytes P s old now place whole pushed p node byte child left
   turn_from {now} {pushed} {rest} {byte} {child} {left} proper there rising steps has more =
@@ -56,7 +61,8 @@ module _ {K V : Type 0} {bytes : K × V → List ℕ} {P : ℕ} {s : Nodes K V} 
         rises = (rising_right before ((byte, child) ∷ left) (subst IsRising (sym slots) rising)).0;
       }
 
-module _ {K V : Type 0} {bytes : K × V → List ℕ} {P : ℕ} {s : Nodes K V} {old now : Seen} {place whole pushed : List ℕ} {p : InnerPtr} {node : Inner} {byte : ℕ} {child : OpaqueNodePtr}
+module _ {K V : Type 0} {bytes : K × V → List ℕ} {P : ℕ} {s : Nodes K V} {old now : Seen} {place whole pushed : List ℕ} {p : InnerPtr}
+    {node : Inner} {byte : ℕ} {child : OpaqueNodePtr}
     {left : Children} (turn : IsTurn bytes P s old now place whole pushed p node byte child left) where
   -- the child is reached by the bytes that were pushed
   pub reached : (root : OpaqueNodePtr) → Reaches bytes P s root place (inner_name p) → Reaches bytes P s root pushed child
@@ -67,7 +73,8 @@ module _ {K V : Type 0} {bytes : K × V → List ℕ} {P : ℕ} {s : Nodes K V} 
   free = subst (NoneFrom (place_in now)) (sym turn.at) turn.walked.free.0
 
   -- The step ends once the child and all below it were passed, and the byte was removed: the next child follows.
-  pub turned : {new : Seen} {behind rest : List ℕ} {len : ℕ} → IsPassed bytes P s now new pushed child → IsWalked bytes P s (place_in now) (place_in new) pushed child →
+  pub turned : {new : Seen} {behind rest : List ℕ} {len : ℕ} → IsPassed bytes P s now new pushed child →
+      IsWalked bytes P s (place_in now) (place_in new) pushed child →
       behind ≡ pushed → length behind ≡ len → rest ≡ take (len - 1) behind → HasTurned bytes P s old new place rest p node left
   turned {new} {behind} {rest} {len} passed walked kept long cut = record {
     read = read_again bytes P s rest turn.read (before_last behind rest (place ++ turn.read.part) byte len (kept ∙ turn.at) long cut);

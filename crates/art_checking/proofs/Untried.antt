@@ -38,7 +38,8 @@ module _ {K : Type 0} (f g : K → Bool) (more : (k : K) → f k ≡ true → g 
       let ih = untried_less ks k i e h in
       go (f l) refl (g l) refl ih
     where
-      go : (a : Bool) → f l ≡ a → (b : Bool) → g l ≡ b → untried g ks < untried f ks → cond b (untried g ks) (suc (untried g ks)) < cond a (untried f ks) (suc (untried f ks))
+      go : (a : Bool) → f l ≡ a → (b : Bool) → g l ≡ b → untried g ks < untried f ks →
+          cond b (untried g ks) (suc (untried g ks)) < cond a (untried f ks) (suc (untried f ks))
       go true e true h l = l
       go true d false h m = absurd (true≢false (sym (more l d) ∙ h))
       go false e true h l = omega arith

@@ -30,7 +30,8 @@ below_at : (a : ℕ) (xs : entries.Children) (b : ℕ) (n : OpaqueNodePtr) (ys :
 below_at a [] b n ys h = h.0
 below_at a (x ∷ xs) b n ys h = below_at a xs b n ys h.1
 
-pub child_there : (xs : entries.Children) (b : ℕ) (n : OpaqueNodePtr) (ys : entries.Children) → entries.IsRising (xs ++ (b, n) ∷ ys) → child_at (xs ++ (b, n) ∷ ys) b ≡ Some n
+pub child_there : (xs : entries.Children) (b : ℕ) (n : OpaqueNodePtr) (ys : entries.Children) → entries.IsRising (xs ++ (b, n) ∷ ys) →
+    child_at (xs ++ (b, n) ∷ ys) b ≡ Some n
 child_there [] b n ys h = rw (eq-eqb b b refl) refl
 child_there (x ∷ xs) b n ys h = rw (ne_eqb x.0 b (λ e. let l = below_at x.0 xs b n ys h.0 in omega arith)) (child_there xs b n ys h.1)
 
@@ -52,8 +53,10 @@ module _ {A : Type 0} (at : OpaqueNodePtr → Option (Node OpaqueNodePtr A)) whe
   read_more : (bytes : A → List ℕ) (P : ℕ) (front : List ℕ) (name : OpaqueNodePtr) (steps : List (ℕ × OpaqueNodePtr)) (step : ℕ × OpaqueNodePtr)
       (place part : List ℕ) → IsReadAs at bytes P front name steps place → HasPrefix at bytes P (length place) (end_of name steps) part →
       IsReadAs at bytes P front name (steps ++ step ∷ []) (place ++ part ++ step.0 ∷ [])
-  read_more bytes P front name [] step place part is has = (part, subst (λ p. HasPrefix at bytes P (length p) name part) is has, ap (λ p. p ++ part ++ step.0 ∷ []) is)
-  read_more bytes P front name (s ∷ ss) step place part (q, own, rest) has = (q, own, read_more bytes P (front ++ q ++ s.0 ∷ []) s.1 ss step place part rest has)
+  read_more bytes P front name [] step place part is has =
+      (part, subst (λ p. HasPrefix at bytes P (length p) name part) is has, ap (λ p. p ++ part ++ step.0 ∷ []) is)
+  read_more bytes P front name (s ∷ ss) step place part (q, own, rest) has =
+      (q, own, read_more bytes P (front ++ q ++ s.0 ∷ []) s.1 ss step place part rest has)
 
 module _ {K V : Type 0} (bytes : K × V → List ℕ) (P : ℕ) (s : Nodes K V) where
   -- a child of a node that is reached is reached after the node's prefix and the child's byte
@@ -64,7 +67,8 @@ module _ {K V : Type 0} (bytes : K × V → List ℕ) (P : ℕ) (s : Nodes K V) 
     steps = reach.steps ++ (b, child) ∷ [];
     is_trail = trail_more (node_at s) root reach.steps (b, child) reach.is_trail (subst (λ n. HasChild (node_at s) n (b, child)) (sym reach.ends) has);
     ends = end_more (node_at s) root reach.steps (b, child);
-    is_read = read_more (node_at s) bytes P [] root reach.steps (b, child) place part reach.is_read (subst (λ n. HasPrefix (node_at s) bytes P (length place) n part) (sym reach.ends) prefix);
+    is_read = read_more (node_at s) bytes P [] root reach.steps (b, child) place part reach.is_read
+        (subst (λ n. HasPrefix (node_at s) bytes P (length place) n part) (sym reach.ends) prefix);
   }
 
   pub reach_root : (root : OpaqueNodePtr) → Reaches bytes P s root [] root
@@ -72,8 +76,10 @@ module _ {K V : Type 0} (bytes : K × V → List ℕ) (P : ℕ) (s : Nodes K V) 
 
   -- so is the next child of a node whose prefix was read
   pub child_reached : {place read : List ℕ} (p : InnerPtr) (node : entries.Inner) → p.kind ≢ Leaf → map.get s.inners p ≡ Some node →
-      entries.IsRising node.children → (is : IsRead bytes P s place read (inner_name p) (header_at p.kind node)) (done : entries.Children) (b : ℕ) (child : OpaqueNodePtr) (left : entries.Children) →
-      done ++ (b, child) ∷ left ≡ node.children → (root : OpaqueNodePtr) → Reaches bytes P s root place (inner_name p) → Reaches bytes P s root ((place ++ is.part) ++ b ∷ []) child
+      entries.IsRising node.children → (is : IsRead bytes P s place read (inner_name p) (header_at p.kind node)) (done : entries.Children)
+      (b : ℕ) (child : OpaqueNodePtr) (left : entries.Children) →
+      done ++ (b, child) ∷ left ≡ node.children → (root : OpaqueNodePtr) → Reaches bytes P s root place (inner_name p) →
+      Reaches bytes P s root ((place ++ is.part) ++ b ∷ []) child
   child_reached p node proper there rises is done b child left slots root reach =
       let at = inner_at s p node proper there in
       let under = subst (λ l. child_at l b ≡ Some child) slots (child_there done b child left (subst entries.IsRising (sym slots) rises)) in
@@ -136,16 +142,20 @@ module _ {K V : Type 0} {bytes : K × V → List ℕ} {P : ℕ} {s : Nodes K V} 
 -- ---- the children of a node, one by one
 
 -- All below some children of a node was met, and nothing below the others.
-pub record HasWalked {K V : Type 0} (bytes : K × V → List ℕ) (P : ℕ) (s : Nodes K V) (old new : Places) (place part : List ℕ) (name : OpaqueNodePtr) (left : entries.Children) : Type 0 where
+pub record HasWalked {K V : Type 0} (bytes : K × V → List ℕ) (P : ℕ) (s : Nodes K V) (old new : Places) (place part : List ℕ)
+    (name : OpaqueNodePtr) (left : entries.Children) : Type 0 where
   pub walked : IsWalked bytes P s old new place name
   pub free : Each (λ step. NoneFrom new ((place ++ part) ++ step.0 ∷ [])) left
 
 module _ {K V : Type 0} {bytes : K × V → List ℕ} {P : ℕ} {s : Nodes K V} where
-  pub walked_none : {old : Places} {place : List ℕ} (part : List ℕ) (name : OpaqueNodePtr) (left : entries.Children) → NoneBelow old place → HasWalked bytes P s old old place part name left
+  pub walked_none : {old : Places} {place : List ℕ} (part : List ℕ) (name : OpaqueNodePtr) (left : entries.Children) → NoneBelow old place →
+      HasWalked bytes P s old old place part name left
   walked_none {old} {place} part name left none = record { walked = record { below = λ n other e. inl e; reached = λ root all reach. all }; free = go left }
     where
       free : (b : ℕ) → NoneFrom old ((place ++ part) ++ b ∷ [])
-      free b n other e front = too_long place part b (subst (IsFront ((place ++ part) ++ b ∷ [])) (none n other e (front_cut place part other (front_cut (place ++ part) (b ∷ []) other front))) front)
+      free b n other e front = too_long place part b
+          (subst (IsFront ((place ++ part) ++ b ∷ []))
+          (none n other e (front_cut place part other (front_cut (place ++ part) (b ∷ []) other front))) front)
 
       go : (left : entries.Children) → Each (λ step. NoneFrom old ((place ++ part) ++ step.0 ∷ [])) left
       go [] = tt
@@ -157,16 +167,27 @@ module _ {K V : Type 0} {bytes : K × V → List ℕ} {P : ℕ} {s : Nodes K V} 
       IsWalked bytes P s mid new ((place ++ part) ++ b ∷ []) child → HasWalked bytes P s old new place part name left
   walked_more {old} {mid} {new} {place} {part} {name} {left} b child has rises step walked = record {
     walked = record {
-      below = λ n other e. elim (walked.below n other e) [ inl h ↦ has.walked.below n other h | inr f ↦ inr (front_cut place part other (front_cut (place ++ part) (b ∷ []) other f)) ];
+      below = λ n other e. elim (walked.below n other e) [
+        | inl h ↦ has.walked.below n other h
+        | inr f ↦ inr
+            (front_cut place part other (front_cut (place ++ part) (b ∷ []) other f))
+      ];
       reached = λ root all reach. walked.reached root (has.walked.reached root all reach) (step root reach);
     };
     free = go left rises has.free.1;
   }
     where
-      go : (left : entries.Children) → entries.IsBelow b left → Each (λ step. NoneFrom mid ((place ++ part) ++ step.0 ∷ [])) left → Each (λ step. NoneFrom new ((place ++ part) ++ step.0 ∷ [])) left
+      go : (left : entries.Children) → entries.IsBelow b left → Each (λ step. NoneFrom mid ((place ++ part) ++ step.0 ∷ [])) left →
+          Each (λ step. NoneFrom new ((place ++ part) ++ step.0 ∷ [])) left
       go [] r h = tt
-      go (c ∷ cs) r h =
-          (λ n other e f. elim (walked.below n other e) [ inl m ↦ h.0 n other m f | inr f2 ↦ let l = r.0 in let same = one_way (place ++ part) b c.0 other f2 f in omega arith ], go cs r.1 h.1)
+      go (c ∷ cs) r h = (
+        λ n other e f. elim (walked.below n other e) [
+          | inl m ↦ h.0 n other m f
+          | inr f2 ↦ let l = r.0 in
+              let same = one_way (place ++ part) b c.0 other f2 f in omega arith
+        ],
+        go cs r.1 h.1,
+      )
 
 -- ---- the least leaf is that of the first child
 module _ {K V : Type 0} (bytes : K × V → List ℕ) (P : ℕ) (s : Nodes K V) where

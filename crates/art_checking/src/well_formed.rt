@@ -1,7 +1,10 @@
 //! Whether a tree is well formed, for any store and any name.
 ghost use Rattle.std.specs.Prelude.{◌≡◌, ◌+◌, ◌^◌, ◌<◌, ◌≢◌, [], IfOk, IfErr, IfSome, IsNone, IsOkAnd, IsErrAnd};
 ghost use Rattle.art_model.specs.Pairs.{of_key};
-ghost use Rattle.art_checking.specs.Checks.{IsWellFormed, prefix_bytes};
+ghost use Rattle.art_checking.specs.Checks.{IsWellFormed, prefix_bytes, fault_of};
+ghost use Rattle.art_model.specs.Faults.{IsTrueOf};
+ghost use Rattle.art_model.specs.Roots.{IsCanonicalRoot};
+ghost use Rattle.art_checking.specs.declared.well_formed.fault.MalformedTreeError.TheVariants.{EmptyTreeWithLen, OutOfMemory};
 
 use art_nodes::node::{AsBytes, OpaqueNodePtr};
 use art_nodes::store::NodeStore;
@@ -120,11 +123,6 @@ impl AddAssign for WellFormedTreeStats {
 pub struct WellFormedChecker;
 
 impl WellFormedChecker {
-    ghost use Rattle.art_model.specs.Faults.{IsTrueOf};
-    ghost use Rattle.art_model.specs.Roots.{IsCanonicalRoot};
-    ghost use Rattle.art_checking.specs.Checks.{fault_of};
-    ghost use Rattle.art_checking.specs.declared.well_formed.fault.MalformedTreeError.TheVariants.{EmptyTreeWithLen, OutOfMemory};
-
     /// Returns how many nodes the tree of a canonical root has, and otherwise a fault; it accepts any store and any
     /// name. Of several faults it returns the first one met: at an inner node its prefix, then what is below its
     /// children, by rising bytes, then their number; the links of the leaves last, in their order. `OutOfMemory`

@@ -34,13 +34,15 @@ pub indent_more : (n : ℕ) → indent n ++ codes "  " ≡ indent (n + 1)
 indent_more n = let e : suc n ≡ n + 1 = omega arith in indent_next n ∙ ap indent e
 
 -- an inner node as the tree sees it under its name
-pub inner_seen_at : {K V : Type 0} (s : Nodes K V) (p : InnerPtr) (name : OpaqueNodePtr) (node : Inner) → inner_name p ≡ name → p.kind ≢ Leaf → Some node ≡ map.get s.inners p →
+pub inner_seen_at : {K V : Type 0} (s : Nodes K V) (p : InnerPtr) (name : OpaqueNodePtr) (node : Inner) → inner_name p ≡ name →
+    p.kind ≢ Leaf → Some node ≡ map.get s.inners p →
     node_at s name ≡ Some (inner_node (header_at p.kind node) node.children)
 inner_seen_at s p name node is proper there =
     ap (node_at s) (sym is) ∙ ap (option_map (tree_node p.kind)) (held_in_inner s p.kind p.slot proper ∙ ap (option_map held_inner) (sym there))
 
 -- what is written of a node in the store
-pub line_written : {E : Type 0} (s : Nodes Key ℕ) (name : OpaqueNodePtr) (there : Node OpaqueNodePtr (Key × ℕ)) (depth : ℕ) (byte : Option ℕ) (old new : Option (List ℕ)) (text : List ℕ)
+pub line_written : {E : Type 0} (s : Nodes Key ℕ) (name : OpaqueNodePtr) (there : Node OpaqueNodePtr (Key × ℕ)) (depth : ℕ)
+    (byte : Option ℕ) (old new : Option (List ℕ)) (text : List ℕ)
     (r : Result (Unit {0}) E) → node_at s name ≡ Some there → text ≡ line_at depth byte (node_text there) → OnOk r (Appends old new text) →
     OnOk r (IfSome (node_at s name) (λ node. Appends old new (line_at depth byte (node_text node))))
 line_written s name there depth byte old new text (Err e) at is written = tt
@@ -89,7 +91,8 @@ module _ (s : Nodes Key ℕ) where
       ComesTo (reversed_children depth (slots_of cs)) (children_text depth cs)
   comes_falling depth no_child holds distinct = refl
   comes_falling depth (child b t cs) holds distinct =
-      let is : IsLayout (node_at s) (name_of t) t = record { named = refl; holds = holds.0; distinct = Pairwise-left ◌≢◌ (names_of t) (names_below cs) distinct } in
+      let is : IsLayout (node_at s) (name_of t) t =
+      record { named = refl; holds = holds.0; distinct = Pairwise-left ◌≢◌ (names_of t) (names_below cs) distinct } in
       let others = comes_falling depth cs holds.1 (Pairwise-right ◌≢◌ (names_of t) (names_below cs) distinct) in
       comes_append (reversed_children depth (slots_of cs)) (record { depth = depth; byte = Some b; name = name_of t } ∷ []) (children_text depth cs)
       (tree_text depth (Some b) t) others (t, [], is, refl, refl)
@@ -124,7 +127,8 @@ module _ (s : Nodes Key ℕ) where
         text_is = ap (λ count. line_at next.depth next.byte (inner_text head count) ++ children_text (one_deeper next.depth) cs) (sym (length-slots_of cs));
       }
 
-  pub comes_turned : (pending : List Pending) (next : Pending) (text : List ℕ) → last_of pending ≡ Some next → ComesTo pending text → IsTurned next (after_turn s pending) text
+  pub comes_turned : (pending : List Pending) (next : Pending) (text : List ℕ) → last_of pending ≡ Some next → ComesTo pending text →
+      IsTurned next (after_turn s pending) text
   comes_turned [] next text last comes = absurd cc
   comes_turned (only ∷ []) next text last (layout, before, is, none, text_is) =
       let same : only ≡ next = cc in
@@ -155,7 +159,8 @@ module _ (s : Nodes Key ℕ) where
     goes_on pending left node last is h line =
         let turn = comes_turned pending node h.rest (sym last) h.comes in
         let own = line_at node.depth node.byte (node_text turn.there) in
-        let more : Appends now next own = subst (λ o. IfSome o (λ there. Appends now next (line_at node.depth node.byte (node_text there)))) turn.is_there line in
+        let more : Appends now next own =
+        subst (λ o. IfSome o (λ there. Appends now next (line_at node.depth node.byte (node_text there)))) turn.is_there line in
         record {
           written = h.written ++ own;
           rest = turn.rest;
@@ -164,7 +169,8 @@ module _ (s : Nodes Key ℕ) where
           text = appends_more old now next h.written own h.text more;
         }
 
-  pub ends : (pending : List Pending) (whole : List ℕ) (old now : Option (List ℕ)) → None ≡ last_of pending → IsWritten pending whole old now → Appends old now whole
+  pub ends : (pending : List Pending) (whole : List ℕ) (old now : Option (List ℕ)) → None ≡ last_of pending →
+      IsWritten pending whole old now → Appends old now whole
   ends [] whole old now none h = subst (Appends old now) (sym (h.whole_is ∙ ap (λ bs. h.written ++ bs) h.comes ∙ append-nil h.written)) h.text
   ends (next ∷ []) whole old now none h = absurd cc
   ends (first ∷ next ∷ pending) whole old now none h = absurd (some (next ∷ pending) first none)
@@ -180,9 +186,11 @@ module _ (P : ℕ) (s : Nodes Key ℕ) (root : OpaqueNodePtr) where
   abbrev pub ForPairs : (List (Key × ℕ) → Type 0) → Type 0
   ForPairs Holds = (pairs : List (Key × ℕ)) → IsCanonical (of_key key_bytes) P s (Some root) pairs → Holds pairs
 
-  pub begins : (pending : List Pending) (old : Option (List ℕ)) → pending ≡ pending_root root ∷ [] → ForPairs (λ pairs. IsWritten s pending (nodes_text P pairs) old old)
+  pub begins : (pending : List Pending) (old : Option (List ℕ)) → pending ≡ pending_root root ∷ [] →
+      ForPairs (λ pairs. IsWritten s pending (nodes_text P pairs) old old)
   begins pending old is pairs (layout, by) =
-      let tree : tree_text 0 None layout ≡ nodes_text P pairs = sym (ap lines_of by.is_tree ∙ ap (tree_text 0 None) (sym by.stands.1) ∙ text-unmarked 0 None layout) in
+      let tree : tree_text 0 None layout ≡ nodes_text P pairs =
+      sym (ap lines_of by.is_tree ∙ ap (tree_text 0 None) (sym by.stands.1) ∙ text-unmarked 0 None layout) in
       subst (λ l. IsWritten s l (nodes_text P pairs) old old) (sym is) (record {
         written = [];
         rest = tree_text 0 None layout;

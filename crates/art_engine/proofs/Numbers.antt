@@ -22,7 +22,8 @@ decimal_begins bs n small is = subst (λ xs. 0 < length xs) (sym is) (decimal_no
 
 pub decimal_unsigned : (bs : List ℕ) (n : ℕ) → n < 2 ^ 32 → bs ≡ decimal n → get_or bs 0 0 ≢ 43
 decimal_unsigned bs n small is plus =
-    not_in_digits own (decimal n) 43 (digits_decimal own n (omega arith)) (λ h. omega (arith, h)) 0 (decimal_nonempty n (omega arith)) (ap (λ xs. get_or xs 0 0) (sym is) ∙ plus)
+    not_in_digits own (decimal n) 43 (digits_decimal own n (omega arith)) (λ h. omega (arith, h)) 0 (decimal_nonempty n (omega arith))
+    (ap (λ xs. get_or xs 0 0) (sym is) ∙ plus)
 
 pub decimal_unpadded : (bs : List ℕ) (n : ℕ) → n < 2 ^ 32 → bs ≡ decimal n → get_or bs 0 0 ≡ 48 → length bs ≡ 1
 decimal_unpadded bs zero small is first = ap length (is ∙ decimal_digit 0 (omega arith))
@@ -32,7 +33,8 @@ pub decimal_is_utf8 : (bs : List ℕ) (n : ℕ) → n < 2 ^ 32 → bs ≡ decima
 decimal_is_utf8 bs n small is = subst IsUtf8 (sym is) (IsUtf8-from_ascii (decimal n) (IsAscii-decimal n (omega arith)))
 
 -- what parsing gives for bytes with no leading plus and no leading zero
-pub parsed : {E : Type 0} (bs : List ℕ) (r : Result ℕ E) → ParsesUnsigned 32 10 bs r → get_or bs 0 0 ≢ 43 → (get_or bs 0 0 ≡ 48 → length bs ≡ 1) → IfSome (result_ok r) (λ n. bs ≡ decimal n)
+pub parsed : {E : Type 0} (bs : List ℕ) (r : Result ℕ E) → ParsesUnsigned 32 10 bs r → get_or bs 0 0 ≢ 43 →
+    (get_or bs 0 0 ≡ 48 → length bs ≡ 1) → IfSome (result_ok r) (λ n. bs ≡ decimal n)
 parsed {E} bs (Ok n) h plain unpadded =
     let r : Result ℕ E = Ok n in
     let k = parse_plain own 32 bs r h plain in
@@ -46,7 +48,8 @@ not_parsed {E} bs (Err e) h = λ n small is.
     let k : r ≡ Ok n = parse-decimal 32 n bs r small (omega arith) is h in cc
 
 -- a number that doesn't fit a byte writes none that does
-pub too_large : {E : Type 0} (bs : List ℕ) (m : ℕ) (r : Result ℕ E) → m < 2 ^ 32 → bs ≡ decimal m → OkIff r (m < 2 ^ 8) m → IfNone (result_ok r) ((n : ℕ) → n < 2 ^ 8 → bs ≢ decimal n)
+pub too_large : {E : Type 0} (bs : List ℕ) (m : ℕ) (r : Result ℕ E) → m < 2 ^ 32 → bs ≡ decimal m → OkIff r (m < 2 ^ 8) m →
+    IfNone (result_ok r) ((n : ℕ) → n < 2 ^ 8 → bs ≢ decimal n)
 too_large bs m (Ok n) fits is h = tt
 too_large bs m (Err e) fits is h = λ n small other. h (omega (arith, decimal_injective m n (omega arith) (omega arith) (sym is ∙ other)))
 

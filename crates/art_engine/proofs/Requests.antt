@@ -53,8 +53,10 @@ BeginsOtherwise line front = (rest : List ℕ) → line ≢ front ++ rest
 
 -- a line that is not just a word, and starts with none of the other words, is no valid request
 pub no_request : (line : List ℕ) →
-    (line ≢ codes "first") × (line ≢ codes "last") × (line ≢ codes "clone") × (line ≢ codes "walk") × (line ≢ codes "back") × (line ≢ codes "nodes") × (line ≢ codes "check") →
-    BeginsOtherwise line (codes "insert ") → BeginsOtherwise line (codes "prefix ") → BeginsOtherwise line (codes "delete ") → BeginsOtherwise line (codes "longest ") →
+    (line ≢ codes "first") × (line ≢ codes "last") × (line ≢ codes "clone") × (line ≢ codes "walk") × (line ≢ codes "back") ×
+    (line ≢ codes "nodes") × (line ≢ codes "check") →
+    BeginsOtherwise line (codes "insert ") → BeginsOtherwise line (codes "prefix ") → BeginsOtherwise line (codes "delete ") →
+    BeginsOtherwise line (codes "longest ") →
     BeginsOtherwise line (codes "find ") → AsksForNothing line
 no_request line alone insert prefix delete longest find (Insert key value) small same = insert (key.word.now ++ 32 ∷ decimal value) same
 no_request line alone insert prefix delete longest find (Prefix key value) small same = prefix (key.word.now ++ 32 ∷ decimal value) same

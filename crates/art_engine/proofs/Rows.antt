@@ -35,7 +35,8 @@ row_more : (done : List (Key × ℕ)) (pair : Key × ℕ) → row_text (done ++ 
 row_more [] pair = append-nil (entry_text pair)
 row_more (d ∷ ds) pair =
     ap (λ bs. entry_text d ++ bs)
-    (flat_map-append (λ p. codes " " ++ entry_text p) ds (pair ∷ []) ∙ ap (λ bs. flat_map (λ p. codes " " ++ entry_text p) ds ++ bs) (append-nil (codes " " ++ entry_text pair)))
+    (flat_map-append (λ p. codes " " ++ entry_text p) ds (pair ∷ [])
+    ∙ ap (λ bs. flat_map (λ p. codes " " ++ entry_text p) ds ++ bs) (append-nil (codes " " ++ entry_text pair)))
     ∙ sym (append_assoc (entry_text d) (flat_map (λ p. codes " " ++ entry_text p) ds) (codes " " ++ entry_text pair))
 
 row_is : (pairs : List (Key × ℕ)) → pairs ≢ [] → pairs_text pairs ≡ row_text pairs
@@ -47,7 +48,8 @@ ordered_some Rising xs h = h
 ordered_some Falling xs h = λ e. h (sym (reverse-reverse xs) ∙ ap reverse e)
 
 -- The pairs so far are written, in order, and these are left of the iteration.
-pub record IsRow (s : Nodes Key ℕ) (order : Order) (walk : Option (LeafPtr × LeafPtr)) (pairs : List (Key × ℕ)) (written : ℕ) (old new : Option (List ℕ)) : Type 0 where
+pub record IsRow (s : Nodes Key ℕ) (order : Order) (walk : Option (LeafPtr × LeafPtr)) (pairs : List (Key × ℕ)) (written : ℕ)
+    (old new : Option (List ℕ)) : Type 0 where
   pub len : ℕ
   pub walk_is : IsWalk s walk len
   pub done : List (Key × ℕ)
@@ -81,14 +83,16 @@ module _ (s : Nodes Key ℕ) (walk left : Option (LeafPtr × LeafPtr)) (pairs : 
   grown : (done : List (Key × ℕ)) (pair : Key × ℕ) → written ≡ length done → Appends old now (row_text done) →
       Appends now next (gap_after written ++ entry_text pair) → Appends old next (row_text (done ++ pair ∷ []))
   grown done pair count text more =
-      subst (Appends old next) (ap (λ n. row_text done ++ (gap_after n ++ entry_text pair)) count ∙ sym (row_more done pair)) (appends_more old now next _ _ text more)
+      subst (Appends old next) (ap (λ n. row_text done ++ (gap_after n ++ entry_text pair)) count ∙ sym (row_more done pair))
+      (appends_more old now next _ _ text more)
 
   counted : (done : List (Key × ℕ)) (pair : Key × ℕ) → written ≡ length done → written + 1 ≡ length (done ++ pair ∷ [])
   counted done pair count = ap (λ n. n + 1) count ∙ sym (length-append done (pair ∷ []))
 
   pub row_goes_on : (order : Order) (p : LeafPtr) (pair : Key × ℕ) → IsRow s order walk pairs written old now →
       ((names : List OpaqueNodePtr) → IsIteratorOf s walk names → TakesEnd (starting_end order) s names (Some p) left) →
-      option_map pair_of (map.get s.leaves p) ≡ Some pair → Appends now next (gap_after written ++ entry_text pair) → IsRow s order left pairs (written + 1) old next
+      option_map pair_of (map.get s.leaves p) ≡ Some pair → Appends now next (gap_after written ++ entry_text pair) →
+      IsRow s order left pairs (written + 1) old next
   row_goes_on Rising p pair h taken read more =
       let step = first_step h.walk_is (λ names is. (taken names is).1) (λ names is. (taken names is).0) read in
       record {
@@ -126,7 +130,8 @@ module _ (s : Nodes Key ℕ) (walk left : Option (LeafPtr × LeafPtr)) (pairs : 
       Appends now next (codes "\n") → Appends old next (pairs_text (in_order order pairs) ++ codes "\n")
   row_ends order h some taken ended =
       let all : in_order order pairs ≡ h.done =
-      h.are ∙ ap (λ xs. h.done ++ in_order order xs) (nothing_left order h.len h.walk_is taken) ∙ ap (λ xs. h.done ++ xs) (nothing_ordered order) ∙ append-nil h.done in
+      h.are ∙ ap (λ xs. h.done ++ in_order order xs) (nothing_left order h.len h.walk_is taken)
+      ∙ ap (λ xs. h.done ++ xs) (nothing_ordered order) ∙ append-nil h.done in
       let is : pairs_text (in_order order pairs) ≡ row_text h.done = row_is (in_order order pairs) (ordered_some order pairs some) ∙ ap row_text all in
       subst (λ bs. Appends old next (bs ++ codes "\n")) (sym is) (appends_more old now next _ _ h.text ended)
 

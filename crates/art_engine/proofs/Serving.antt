@@ -22,8 +22,10 @@ pub none_served : (tree : KeptTree) (old : Option (List ℕ)) → GoesOn 1 tree 
 none_served tree old rest why new served = served
 
 module _ (number : ℕ) (first tree : KeptTree) (old now : Option (List ℕ)) (line : List ℕ) where
-  pub one_line_more : (request : Request) (after : KeptTree) (replied kept : Option (List ℕ)) → AsksFor line request → IsReplied IsClone request tree after now replied → Keeps replied kept →
-      (before : List (List ℕ)) → number ≡ length before + 1 → GoesOn number first tree old now before → GoesOn (number + 1) first after old kept (before ++ line ∷ [])
+  pub one_line_more : (request : Request) (after : KeptTree) (replied kept : Option (List ℕ)) → AsksFor line request →
+      IsReplied IsClone request tree after now replied → Keeps replied kept →
+      (before : List (List ℕ)) → number ≡ length before + 1 → GoesOn number first tree old now before →
+      GoesOn (number + 1) first after old kept (before ++ line ∷ [])
   one_line_more request after replied kept asked reply keeps before n goes rest why new served =
       subst (λ ls. AreServed ls 1 first old why new) (sym (append_assoc before (line ∷ []) rest))
       (goes (line ∷ rest) why new (inr (request, after, replied, kept, asked, reply, keeps, served)))
@@ -31,7 +33,8 @@ module _ (number : ℕ) (first tree : KeptTree) (old now : Option (List ℕ)) (l
   pub all_served : (ls : List (List ℕ)) → GoesOn number first tree old now ls → AreServed ls 1 first old Input now
   all_served ls goes = subst (λ all. AreServed all 1 first old Input now) (append-nil ls) (goes [] Input now (refl, keeps_itself now))
 
-  pub refused_here : (new : Option (List ℕ)) → AsksForNothing line → Appends now new (refusal number) → (before after : List (List ℕ)) → number ≡ length before + 1 →
+  pub refused_here : (new : Option (List ℕ)) → AsksForNothing line → Appends now new (refusal number) → (before after : List (List ℕ)) →
+      number ≡ length before + 1 →
       GoesOn number first tree old now before → AreServed (before ++ line ∷ after) 1 first old BadLine new
   refused_here new nothing appends before after n goes = goes (line ∷ after) BadLine new (inl (nothing, refl, appends))
 
@@ -45,7 +48,8 @@ all_ask (line ∷ ls) number tree old new (inr (request, left, replied, kept, as
     ((request, asked), all_ask ls (number + 1) left kept new served)
 
 -- those that end before have one that doesn't
-one_asks_for_nothing : (ls : List (List ℕ)) (number : ℕ) (tree : KeptTree) (old new : Option (List ℕ)) → AreServed ls number tree old BadLine new → OneAsksForNothing ls
+one_asks_for_nothing : (ls : List (List ℕ)) (number : ℕ) (tree : KeptTree) (old new : Option (List ℕ)) →
+    AreServed ls number tree old BadLine new → OneAsksForNothing ls
 one_asks_for_nothing [] number tree old new h = let e = h.0 in absurd cc
 one_asks_for_nothing (line ∷ ls) number tree old new (inl (nothing, is, refused)) = ([], line, ls, refl, tt, nothing)
 one_asks_for_nothing (line ∷ ls) number tree old new (inr (request, left, replied, kept, asked, reply, keeps, served)) =
@@ -75,14 +79,16 @@ module _ (text : Option (List ℕ)) (tree : KeptTree) (old new : Option (List �
   served_in_part (Some bs) h = one_asks_for_nothing (lines bs) 1 tree old new h
 
   pub ended : {E F : Type 0} (end : Result Ending E) (written : Result (Unit {0}) F) (status : ℕ) → IfOk end Served →
-      (IsOkAnd end (λ why. why ≡ BadLine) → IsOk written → status ≡ 2) → (¬ (IsOk end × IsOk written) → status ≡ 1) → status ≡ 0 → IfSome text (λ bs. AllAsk (lines bs))
+      (IsOkAnd end (λ why. why ≡ BadLine) → IsOk written → status ≡ 2) → (¬ (IsOk end × IsOk written) → status ≡ 1) → status ≡ 0 →
+      IfSome text (λ bs. AllAsk (lines bs))
   ended (Ok Input) (Ok u) status served bad failed zero = served_whole text served
   ended (Ok BadLine) (Ok u) status served bad failed zero = absurd (omega (arith, bad refl refl))
   ended (Ok why) (Err e) status served bad failed zero = absurd (omega (arith, failed (λ both. false≢true both.1)))
   ended (Err e) written status served bad failed zero = absurd (omega (arith, failed (λ both. false≢true both.0)))
 
   pub refused : {E F : Type 0} (end : Result Ending E) (written : Result (Unit {0}) F) (status : ℕ) → IfOk end Served →
-      (IsOkAnd end (λ why. why ≡ Input) → IsOk written → status ≡ 0) → (¬ (IsOk end × IsOk written) → status ≡ 1) → status ≡ 2 → IfSome text (λ bs. OneAsksForNothing (lines bs))
+      (IsOkAnd end (λ why. why ≡ Input) → IsOk written → status ≡ 0) → (¬ (IsOk end × IsOk written) → status ≡ 1) → status ≡ 2 →
+      IfSome text (λ bs. OneAsksForNothing (lines bs))
   refused (Ok BadLine) (Ok u) status served whole failed two = served_in_part text served
   refused (Ok Input) (Ok u) status served whole failed two = absurd (omega (arith, whole refl refl))
   refused (Ok why) (Err e) status served whole failed two = absurd (omega (arith, failed (λ both. false≢true both.1)))
@@ -99,6 +105,7 @@ module _ (text : Option (List ℕ)) (tree : KeptTree) (old new : Option (List �
   served (Err e) written status last done keeps empty failed other = absurd (other (failed (λ both. false≢true both.0)))
 
 -- a status other than 1 reports that the last write succeeded
-pub was_written : {E F : Type 0} (end : Result Ending E) (written : Result (Unit {0}) F) (status : ℕ) → (¬ (IsOk end × IsOk written) → status ≡ 1) → status ≢ 1 → IsOk written
+pub was_written : {E F : Type 0} (end : Result Ending E) (written : Result (Unit {0}) F) (status : ℕ) →
+    (¬ (IsOk end × IsOk written) → status ≡ 1) → status ≢ 1 → IsOk written
 was_written end (Ok u) status failed other = refl
 was_written end (Err e) status failed other = absurd (other (failed (λ both. false≢true both.1)))

@@ -14,7 +14,8 @@ chain_long Step old new (c ∷ cs) [] steps = absurd steps
 
 module _ {K V : Type 0} (bytes : K → List ℕ) (P : ℕ) (IsClone : K × V → K × V → Type 0) (from to : Shown K V) (command : Command K V) (reply : Reply K V) where
   -- the last reply to one command is the only one
-  pub only_reply : (front : List (Reply K V)) → IsRun bytes P IsClone from (command ∷ []) (front ++ reply ∷ []) to → IsRun bytes P IsClone from (command ∷ []) (reply ∷ []) to
+  pub only_reply : (front : List (Reply K V)) → IsRun bytes P IsClone from (command ∷ []) (front ++ reply ∷ []) to →
+      IsRun bytes P IsClone from (command ∷ []) (reply ∷ []) to
   only_reply [] run = run
   only_reply (r ∷ front) run =
       let long = chain_long (Step bytes P IsClone) run.start run.end (command ∷ []) ((r ∷ front) ++ reply ∷ []) run.steps in

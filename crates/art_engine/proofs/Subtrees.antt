@@ -31,17 +31,20 @@ module _ {K V : Type 0} (s : Nodes K V) where
   -- the node of an inner node's name is in the store
   pub inner_is_there : (p : InnerPtr) (root : OpaqueNodePtr) → p.kind ≢ Leaf → inner_name p ≡ root → IsTreeIn s root → map.get s.inners p ≢ None
   inner_is_there p root proper is (leaf n x, h) none = inner_name_is s p x proper (ap (node_at s) (is ∙ sym h.named) ∙ h.holds)
-  inner_is_there p root proper is (inner n head cs, h) none = let there = inner_there s p head (slots_of cs) proper (ap (node_at s) (is ∙ sym h.named) ∙ h.holds.0) in let e = there.1 in cc
+  inner_is_there p root proper is (inner n head cs, h) none =
+      let there = inner_there s p head (slots_of cs) proper (ap (node_at s) (is ∙ sym h.named) ∙ h.holds.0) in let e = there.1 in cc
 
   -- a pending node stands for a tree
   abbrev pub IsPendingTree : Pending → Type 0
   IsPendingTree next = IsTreeIn s next.name
 
   -- children that are held stand for trees
-  trees_held : (depth : ℕ) (cs : Subtrees OpaqueNodePtr (K × V)) → HoldsBelow (node_at s) cs → AreDistinct (names_below cs) → Each IsPendingTree (reversed_children depth (slots_of cs))
+  trees_held : (depth : ℕ) (cs : Subtrees OpaqueNodePtr (K × V)) → HoldsBelow (node_at s) cs → AreDistinct (names_below cs) →
+      Each IsPendingTree (reversed_children depth (slots_of cs))
   trees_held depth no_child holds distinct = tt
   trees_held depth (child b t cs) holds distinct =
-      let is : IsLayout (node_at s) (name_of t) t = record { named = refl; holds = holds.0; distinct = Pairwise-left ◌≢◌ (names_of t) (names_below cs) distinct } in
+      let is : IsLayout (node_at s) (name_of t) t =
+      record { named = refl; holds = holds.0; distinct = Pairwise-left ◌≢◌ (names_of t) (names_below cs) distinct } in
       let others = trees_held depth cs holds.1 (Pairwise-right ◌≢◌ (names_of t) (names_below cs) distinct) in
       Each-append IsPendingTree (reversed_children depth (slots_of cs)) (record { depth = depth; byte = Some b; name = name_of t } ∷ []) others ((t, is), tt)
 
@@ -49,7 +52,8 @@ module _ {K V : Type 0} (s : Nodes K V) where
   trees_under : (depth : ℕ) (name : OpaqueNodePtr) → IsTreeIn s name → Each IsPendingTree (children_of depth (node_at s name))
   trees_under depth name (leaf n x, h) = subst (λ o. Each IsPendingTree (children_of depth o)) (sym (ap (node_at s) (sym h.named) ∙ h.holds)) tt
   trees_under depth name (inner n head cs, h) =
-      subst (λ o. Each IsPendingTree (children_of depth o)) (sym (ap (node_at s) (sym h.named) ∙ h.holds.0)) (trees_held depth cs h.holds.1 (Pairwise-right ◌≢◌ (n ∷ []) (names_below cs) h.distinct))
+      subst (λ o. Each IsPendingTree (children_of depth o)) (sym (ap (node_at s) (sym h.named) ∙ h.holds.0))
+      (trees_held depth cs h.holds.1 (Pairwise-right ◌≢◌ (n ∷ []) (names_below cs) h.distinct))
 
   -- a step leaves trees
   pub trees_turned : (pending : List Pending) → Each IsPendingTree pending → Each IsPendingTree (after_turn s pending)

@@ -42,14 +42,17 @@ module _ (depth : ℕ) where
   pending_child slot = record { depth = depth; byte = Some slot.0; name = slot.1 }
 
   -- children with one more at the end
-  pub reversed_children-push : (slots : Children) (slot : ℕ × OpaqueNodePtr) → reversed_children depth (slots ++ slot ∷ []) ≡ pending_child slot ∷ reversed_children depth slots
+  pub reversed_children-push : (slots : Children) (slot : ℕ × OpaqueNodePtr) →
+      reversed_children depth (slots ++ slot ∷ []) ≡ pending_child slot ∷ reversed_children depth slots
   reversed_children-push [] slot = refl
   reversed_children-push (other ∷ slots) slot = ap (λ below. below ++ pending_child other ∷ []) (reversed_children-push slots slot)
 
   -- there are as many nodes as children
   pub length-reversed_children : (slots : Children) → length (reversed_children depth slots) ≡ length slots
   length-reversed_children [] = refl
-  length-reversed_children (slot ∷ slots) = let few = length-reversed_children slots in let all = length-append (reversed_children depth slots) (pending_child slot ∷ []) in omega arith
+  length-reversed_children (slot ∷ slots) =
+      let few = length-reversed_children slots in
+      let all = length-append (reversed_children depth slots) (pending_child slot ∷ []) in omega arith
 
   -- room for what is below is room for the children
   pub room_for : (pending : List Pending) (slots : Children) (under : List Pending) (capacity : ℕ) → under ≡ reversed_children depth slots →
@@ -74,13 +77,16 @@ module _ {K V : Type 0} (s : Nodes K V) where
         go (Some node) = refl
 
     -- an inner node has its own
-    pub children-inner : (p : InnerPtr) → p.kind ≢ Leaf → (node : Inner) → Some node ≡ map.get s.inners p → children_of depth (node_at s (inner_name p)) ≡ reversed_children depth node.children
+    pub children-inner : (p : InnerPtr) → p.kind ≢ Leaf → (node : Inner) → Some node ≡ map.get s.inners p →
+        children_of depth (node_at s (inner_name p)) ≡ reversed_children depth node.children
     children-inner p proper node there =
         ap (λ o. children_of depth (option_map (tree_node p.kind) o)) (held_in_inner s p.kind p.slot proper ∙ ap (option_map held_inner) (sym there))
 
     -- and there are none where there is no node
     pub children-none : (p : InnerPtr) → p.kind ≢ Leaf → None ≡ map.get s.inners p → children_of depth (node_at s (inner_name p)) ≡ []
-    children-none p proper there = ap (λ o. children_of depth (option_map (tree_node p.kind) o)) (held_in_inner s p.kind p.slot proper ∙ ap (option_map held_inner) (sym there))
+    children-none p proper there =
+        ap (λ o. children_of depth (option_map (tree_node p.kind) o))
+        (held_in_inner s p.kind p.slot proper ∙ ap (option_map held_inner) (sym there))
 
   -- a step of a list with its last node
   after_turn-push : (pending : List Pending) (next : Pending) → after_turn s (pending ++ next ∷ []) ≡ pending ++ below s next
@@ -103,7 +109,8 @@ module _ {K V : Type 0} (s : Nodes K V) where
     room_first capacity some (suc n) few = absurd (omega arith)
 
     -- and after one more step, with room for that
-    pub room_next : (turns capacity more : ℕ) → capacity ≤ more → HasRoomTo turns capacity → length (left_after s root (suc turns)) ≤ more → HasRoomTo (suc turns) more
+    pub room_next : (turns capacity more : ℕ) → capacity ≤ more → HasRoomTo turns capacity → length (left_after s root (suc turns)) ≤ more →
+        HasRoomTo (suc turns) more
     room_next turns capacity more grows room next earlier few = elim (cases_order earlier (suc turns)) [
       | inl e ↦ subst (λ n. length (left_after s root n) ≤ more) (sym e) next
       | inr (inl less) ↦ let enough = room earlier (omega arith) in omega arith

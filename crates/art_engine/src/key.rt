@@ -1,5 +1,8 @@
 //! How a key is written.
 
+ghost use Rattle.std.specs.Prelude.{Some};
+ghost use Rattle.art_engine.specs.KeyTexts.{key_word};
+
 use std::fmt;
 
 /// A key, which is displayed as a line writes it: `-` for the empty one, or its bytes in decimal joined by dots.
@@ -7,9 +10,6 @@ use std::fmt;
 pub struct ShownKey<'a>(pub &'a [u8]);
 
 impl fmt::Display for ShownKey<'_> {
-    ghost use Rattle.std.specs.Prelude.{Some};
-    ghost use Rattle.art_engine.specs.KeyTexts.{key_word};
-
     ghost output = { λ key. Some (key_word key.0.now) };
 
     fn fmt<W: fmt::Write>(&self, f: &mut fmt::Formatter<W>) -> fmt::Result {

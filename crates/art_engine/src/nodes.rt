@@ -5,7 +5,7 @@ ghost use Rattle.art_model.specs.Canonical.{IsCanonical};
 ghost use Rattle.art_model.specs.Pairs.{of_key};
 ghost use Rattle.art_model.specs.Stores.{node_at};
 ghost use Rattle.art_engine.specs.KeptKeys.{IsTreeIn, Key, key_bytes};
-ghost use Rattle.art_engine.specs.NodeLines.{line_at, node_text, nodes_text};
+ghost use Rattle.art_engine.specs.NodeLines.{line_at, node_text, nodes_text, line_start};
 ghost use Rattle.art_engine.specs.Shown.{AppendsUnlessNoMemory};
 
 use crate::keeping::walk::{Pending, reserve_walk, turn};
@@ -25,8 +25,6 @@ struct LineStart {
 }
 
 impl fmt::Display for LineStart {
-    ghost use Rattle.art_engine.specs.NodeLines.{line_start};
-
     ghost output = { λ place. Some (line_start place.depth place.byte) };
 
     fn fmt<W: fmt::Write>(&self, f: &mut fmt::Formatter<W>) -> fmt::Result {

@@ -15,7 +15,8 @@ same_byte : (c e : Entry) → Some c ≡ Some e → c.0 ≡ e.0
 same_byte c e is = ap (λ o. elim o [ None ↦ c.0 | Some y ↦ y.0 ]) is
 
 -- the first child that is not below a byte: none is between
-from_byte : (cs : Children) (b : ℕ) (e : Entry) → IsRising cs → slice_get cs (count_below cs b) ≡ Some e → (b ≤ e.0) × ((k : ℕ) → b ≤ k → k < e.0 → child_at cs k ≡ None)
+from_byte : (cs : Children) (b : ℕ) (e : Entry) → IsRising cs → slice_get cs (count_below cs b) ≡ Some e →
+    (b ≤ e.0) × ((k : ℕ) → b ≤ k → k < e.0 → child_at cs k ≡ None)
 from_byte [] b e rising is = absurd cc
 from_byte (c ∷ cs) b e rising is = elim (by_order c.0 b) [
   | inl l ↦
@@ -23,8 +24,11 @@ from_byte (c ∷ cs) b e rising is = elim (by_order c.0 b) [
       (later.0, λ k from to. at_later c cs k (λ same. omega (arith, l, from, same)) ∙ later.1 k from to)
   | inr h ↦
       let high : b ≤ c.0 = elim h [ inl same ↦ omega (arith, same) | inr g ↦ omega (arith, g) ] in
-      let first : c.0 ≡ e.0 = same_byte c e (sym (ap (slice_get (c ∷ cs)) (counted_here c cs b high)) ∙ is) in
-      (omega (arith, high, first), λ k from to. at_later c cs k (λ same. omega (arith, to, first, same)) ∙ nothing_below c.0 cs k rising.0 (omega (arith, to, first)))
+      let first : c.0 ≡ e.0 = same_byte c e (sym (ap (slice_get (c ∷ cs)) (counted_here c cs b high)) ∙ is) in (
+        omega (arith, high, first),
+        λ k from to. at_later c cs k (λ same. omega (arith, to, first, same))
+            ∙ nothing_below c.0 cs k rising.0 (omega (arith, to, first)),
+      )
 ]
 
 -- where no more are left, all are below the byte
@@ -46,7 +50,8 @@ none_past (c ∷ cs) last k most past =
     at_later c cs k (λ same. omega (arith, most 0 c (omega arith), past, same)) ∙ none_past cs last k (λ n d within. most (suc n) d (omega arith)) past
 
 -- the child at the place of the byte, or the last one
-pub beside_at : (cs : Children) (b place : ℕ) (e : Entry) → IsRising cs → 0 < length cs → place ≡ min (count_below cs b) (length cs - 1) → slice_get cs place ≡ Some e → IsNextTo cs b e
+pub beside_at : (cs : Children) (b place : ℕ) (e : Entry) → IsRising cs → 0 < length cs → place ≡ min (count_below cs b) (length cs - 1) →
+    slice_get cs place ≡ Some e → IsNextTo cs b e
 beside_at cs b place e rising some at is = by_place (by_order (count_below cs b) (length cs))
   where
     there : child_at cs e.0 ≡ Some e.1
@@ -73,7 +78,8 @@ beside_at cs b place e rising some at is = by_place (by_order (count_below cs b)
     by_place (inr h) = last (elim h [ inl same ↦ omega (arith, same) | inr g ↦ omega (arith, g) ])
 
 -- where a byte has no child and there is one, another byte has
-pub some_other : (cs : Children) (b : ℕ) → IsAbove 256 cs → 0 < length cs → child_at cs b ≡ None → (other : ℕ) × (other < 256) × (other ≢ b) × IsSome (child_at cs other)
+pub some_other : (cs : Children) (b : ℕ) → IsAbove 256 cs → 0 < length cs → child_at cs b ≡ None →
+    (other : ℕ) × (other < 256) × (other ≢ b) × IsSome (child_at cs other)
 some_other [] b above some none = absurd (omega (arith, some))
 some_other (c ∷ cs) b above some none =
     let here = at_here c cs c.0 refl in

@@ -28,7 +28,9 @@ child_elsewhere [] b x n differs = at_later (b, n) [] x (λ e. differs (sym e))
 child_elsewhere (c ∷ cs) b x n differs = elim (by_order c.0 b) [
   | inl l ↦ ap (λ (t : Children). child_at t x) (front c cs b n l) ∙ ap (λ t. cond (eqb c.0 x) (Some c.1) t) (child_elsewhere cs b x n differs)
   | inr h ↦ elim h [
-    | inl e ↦ ap (λ (t : Children). child_at t x) (here c cs b n e) ∙ at_later (b, n) cs x (λ k. differs (sym k)) ∙ sym (at_later c cs x (λ k. differs (sym k ∙ e)))
+    | inl e ↦
+        ap (λ (t : Children). child_at t x) (here c cs b n e) ∙ at_later (b, n) cs x (λ k. differs (sym k))
+        ∙ sym (at_later c cs x (λ k. differs (sym k ∙ e)))
     | inr g ↦ ap (λ (t : Children). child_at t x) (before c cs b n g) ∙ at_later (b, n) (c ∷ cs) x (λ k. differs (sym k))
   ]
 ]
@@ -52,7 +54,12 @@ length-put_child_new (c ∷ cs) b n none = elim (by_order c.0 b) [
 pub length-put_child_old : (cs : Children) (b : ℕ) (n : OpaqueNodePtr) → IsRising cs → IsSome (child_at cs b) → length (put_child cs b n) ≡ length cs
 length-put_child_old [] b n rising there = absurd (none_is_not there)
 length-put_child_old (c ∷ cs) b n rising there = elim (by_order c.0 b) [
-  | inl l ↦ omega (arith, ap length (front c cs b n l), length-put_child_old cs b n rising.1 (ap is_some (sym (at_later c cs b (λ e. omega (arith, l, e)))) ∙ there))
+  | inl l ↦
+      omega (
+        arith,
+        ap length (front c cs b n l),
+        length-put_child_old cs b n rising.1 (ap is_some (sym (at_later c cs b (λ e. omega (arith, l, e)))) ∙ there),
+      )
   | inr h ↦ elim h [
     | inl e ↦ omega (arith, ap length (here c cs b n e))
     | inr g ↦ absurd (omega (arith, g, later_above c.0 cs b rising.0 (ap is_some (sym (at_later c cs b (λ e. omega (arith, g, e)))) ∙ there)))
@@ -145,8 +152,10 @@ length-remove_child (c ∷ cs) b rising there = elim (cases_eq c.0 b) [
 pub remove_child-append : (before after : Children) (b : ℕ) → remove_child (before ++ after) b ≡ remove_child before b ++ remove_child after b
 remove_child-append [] after b = refl
 remove_child-append (c ∷ before) after b = elim (cases_eq c.0 b) [
-  | inl e ↦ remove_child-here c (before ++ after) b e ∙ remove_child-append before after b ∙ ap (λ (t : Children). t ++ remove_child after b) (sym (remove_child-here c before b e))
-  | inr n ↦ first_kept c (before ++ after) b n ∙ ap (λ (t : Children). c ∷ t) (remove_child-append before after b) ∙ ap (λ (t : Children). t ++ remove_child after b) (sym (first_kept c before b n))
+  | inl e ↦ remove_child-here c (before ++ after) b e ∙ remove_child-append before after b
+      ∙ ap (λ (t : Children). t ++ remove_child after b) (sym (remove_child-here c before b e))
+  | inr n ↦ first_kept c (before ++ after) b n ∙ ap (λ (t : Children). c ∷ t) (remove_child-append before after b)
+      ∙ ap (λ (t : Children). t ++ remove_child after b) (sym (first_kept c before b n))
 ]
 
 pub last_kept : (cs : Children) (c : Entry) (b : ℕ) → c.0 ≢ b → remove_child (cs ++ c ∷ []) b ≡ remove_child cs b ++ c ∷ []
@@ -162,7 +171,8 @@ rises_around [] after c rising = (tt, rising.0)
 rises_around (d ∷ before) after c rising = let later = rises_around before after c rising.1 in ((IsBelow-middle d.0 before after c rising.0, later.0), later.1)
 
 -- a child in between is removed
-pub remove_child-between : (before after : Children) (b : ℕ) (n : OpaqueNodePtr) → IsRising (before ++ (b, n) ∷ after) → remove_child (before ++ (b, n) ∷ after) b ≡ before ++ after
+pub remove_child-between : (before after : Children) (b : ℕ) (n : OpaqueNodePtr) → IsRising (before ++ (b, n) ∷ after) →
+    remove_child (before ++ (b, n) ∷ after) b ≡ before ++ after
 remove_child-between before after b n rising =
     let around = rises_around before after (b, n) rising in
     remove_child-append before ((b, n) ∷ after) b
@@ -197,7 +207,8 @@ same_place (c ∷ cs) zero d e within = omega arith
 same_place (c ∷ cs) (suc k) d e within = same_place cs k d e (omega arith)
 
 pub first_is_least : (whole cs : Children) (d : Entry) → whole ≡ cs → IsRising whole → All (λ child. (get_or whole 0 d).0 ≤ child.0) cs
-first_is_least whole cs d same rising = subst (λ (xs : Children). All (λ child. (get_or whole 0 d).0 ≤ child.0) xs) same (λ k e within. at k e within (cases_eq 0 k))
+first_is_least whole cs d same rising =
+    subst (λ (xs : Children). All (λ child. (get_or whole 0 d).0 ≤ child.0) xs) same (λ k e within. at k e within (cases_eq 0 k))
   where
     at : (k : ℕ) (e : Entry) → k < length whole → (0 ≡ k) ⊎ (0 ≢ k) → (get_or whole 0 d).0 ≤ (get_or whole k e).0
     at k e within (inl first) = subst (λ j. (get_or whole 0 d).0 ≤ (get_or whole j e).0) first (same_place whole 0 d e (omega arith))
@@ -205,10 +216,12 @@ first_is_least whole cs d same rising = subst (λ (xs : Children). All (λ child
 
 pub last_is_greatest : (whole cs : Children) (d : Entry) → whole ≡ cs → IsRising whole → All (λ child. child.0 ≤ (get_or whole (length whole - 1) d).0) cs
 last_is_greatest whole cs d same rising =
-    subst (λ (xs : Children). All (λ child. child.0 ≤ (get_or whole (length whole - 1) d).0) xs) same (λ k e within. at k e within (cases_eq k (length whole - 1)))
+    subst (λ (xs : Children). All (λ child. child.0 ≤ (get_or whole (length whole - 1) d).0) xs) same
+    (λ k e within. at k e within (cases_eq k (length whole - 1)))
   where
     at : (k : ℕ) (e : Entry) → k < length whole → (k ≡ length whole - 1) ⊎ (k ≢ length whole - 1) → (get_or whole k e).0 ≤ (get_or whole (length whole - 1) d).0
     at k e within (inl last) = subst (λ j. (get_or whole k e).0 ≤ (get_or whole j d).0) last (same_place whole k e d within)
     at k e within (inr before) = omega (arith, rises_by_place whole k (length whole - 1) e d rising (omega (arith, before)) (omega arith))
 
-pub ruleset children_laws = (child_here, child_elsewhere, put_child-above, IsRising-put_child, child_gone, child_kept, remove_child-absent, IsRising-remove_child)
+pub ruleset children_laws =
+    (child_here, child_elsewhere, put_child-above, IsRising-put_child, child_gone, child_kept, remove_child-absent, IsRising-remove_child)

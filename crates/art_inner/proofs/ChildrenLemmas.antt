@@ -70,7 +70,9 @@ part_later : (from to : ℕ) (c : Entry) (cs : Children) → part (suc from) (su
 part_later from to c cs = part_at (suc from) (suc to) (suc (min from to)) (to - min from to) (c ∷ cs) (omega arith) (omega arith)
 
 part_first : (to : ℕ) (c : Entry) (cs : Children) → part 0 (suc to) (c ∷ cs) ≡ c ∷ part 0 to cs
-part_first to c cs = part_at 0 (suc to) 0 (suc to) (c ∷ cs) (omega arith) (omega arith) ∙ ap (λ (t : Children). c ∷ t) (sym (part_at 0 to 0 to cs (omega arith) (omega arith)))
+part_first to c cs =
+    part_at 0 (suc to) 0 (suc to) (c ∷ cs) (omega arith) (omega arith)
+    ∙ ap (λ (t : Children). c ∷ t) (sym (part_at 0 to 0 to cs (omega arith) (omega arith)))
 
 pub part_between : (first last : ℕ) (cs : Children) → IsRising cs → part (count_below cs first) (count_below cs (last + 1)) cs ≡ children_between first last cs
 part_between first last [] rising = refl
@@ -96,7 +98,8 @@ part_between first last (c ∷ cs) rising = elim (by_order last c.0) [
         ∙ ap (λ (t : Children). c ∷ t) (ap (λ (n : ℕ). part n (count_below cs (last + 1)) cs) (sym (none_below c.0 first cs rising.0 k)) ∙ rest)
         ∙ sym (part_here first (last + 1) c cs k (omega (arith, h)))
 
-    within : Rest → c.0 ≤ last → (c.0 < first) ⊎ ((c.0 ≡ first) ⊎ (first < c.0)) → part (count_below (c ∷ cs) first) (count_below (c ∷ cs) (last + 1)) (c ∷ cs) ≡ children_between first last (c ∷ cs)
+    within : Rest → c.0 ≤ last → (c.0 < first) ⊎ ((c.0 ≡ first) ⊎ (first < c.0)) →
+        part (count_below (c ∷ cs) first) (count_below (c ∷ cs) (last + 1)) (c ∷ cs) ≡ children_between first last (c ∷ cs)
     within rest h (inl below) =
         ap (λ (n : ℕ). part n (count_below (c ∷ cs) (last + 1)) (c ∷ cs)) (counted_front c cs first below)
         ∙ ap (λ (n : ℕ). part (suc (count_below cs first)) n (c ∷ cs)) (to h)

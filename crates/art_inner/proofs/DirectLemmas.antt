@@ -14,7 +14,8 @@ same_place (suc n) zero h = refl
 same_place (suc n) (suc k) h = same_place n k (omega arith)
 
 pub all_vacant : (slots : List ℕ) (places : List PlaceKind) → places ≡ replicate 256 Vacant → names_by_byte (direct_at slots places) ≡ []
-all_vacant slots places is = listed_none (direct_at slots places) (λ k h. ap (λ p. in_place p (get_or slots k 0)) (ap (λ (ps : List PlaceKind). get_or ps k Node4) is ∙ same_place 256 k h))
+all_vacant slots places is = listed_none (direct_at slots places)
+    (λ k h. ap (λ p. in_place p (get_or slots k 0)) (ap (λ (ps : List PlaceKind). get_or ps k Node4) is ∙ same_place 256 k h))
 
 module _ (slots : List ℕ) (places : List PlaceKind) (b : ℕ) (within : b < 256) (as_many_slots : length slots ≡ 256) (as_many : length places ≡ 256) where
   pub direct_put : (place : PlaceKind) (child : OpaqueNodePtr) → ((slot : ℕ) → in_place place slot ≡ Some (record { kind = child.kind; slot = slot })) →

@@ -41,8 +41,12 @@ same_children (c ∷ cs) [] r s same = absurd (some_is_not c.1 (sym (at_here c c
 same_children (c ∷ cs) (d ∷ ds) r s same = by_first (same_children cs ds r.1 s.1) (by_order c.0 d.0)
   where
     by_first : (((b : ℕ) → child_at cs b ≡ child_at ds b) → cs ≡ ds) → (c.0 < d.0) ⊎ ((c.0 ≡ d.0) ⊎ (d.0 < c.0)) → c ∷ cs ≡ d ∷ ds
-    by_first go (inl l) = absurd (some_is_not c.1 (sym (at_here c cs c.0 refl) ∙ same c.0 ∙ at_later d ds c.0 (λ e. omega (arith, l, e)) ∙ nothing_below d.0 ds c.0 s.0 (omega (arith, l))))
-    by_first go (inr (inr l)) = absurd (some_is_not d.1 (sym (at_here d ds d.0 refl) ∙ sym (same d.0) ∙ at_later c cs d.0 (λ e. omega (arith, l, e)) ∙ nothing_below c.0 cs d.0 r.0 (omega (arith, l))))
+    by_first go (inl l) = absurd (some_is_not c.1
+        (sym (at_here c cs c.0 refl) ∙ same c.0 ∙ at_later d ds c.0 (λ e. omega (arith, l, e))
+        ∙ nothing_below d.0 ds c.0 s.0 (omega (arith, l))))
+    by_first go (inr (inr l)) = absurd (some_is_not d.1
+        (sym (at_here d ds d.0 refl) ∙ sym (same d.0) ∙ at_later c cs d.0 (λ e. omega (arith, l, e))
+        ∙ nothing_below c.0 cs d.0 r.0 (omega (arith, l))))
     by_first go (inr (inl e)) =
         let name : c.1 ≡ d.1 = same_some _ _ (sym (at_here c cs c.0 refl) ∙ same c.0 ∙ at_here d ds c.0 (sym e)) in
         let rest : cs ≡ ds = go (λ b. tails b (by_order b c.0)) in
@@ -104,18 +108,24 @@ pub at_outside : (from to : ℕ) (cs : Children) (b : ℕ) → (b < from) ⊎ (t
 at_outside from to [] b out = refl
 at_outside from to (c ∷ cs) b out = elim (inside_or_not from to c.0) [
   | inl w ↦ ap (λ (t : Children). child_at t b) (part_here from to c cs w.0 w.1)
-      ∙ at_later c (part_of from to cs) b (λ e. elim out [ inl l ↦ absurd (omega (arith, l, e, w.0)) | inr l ↦ absurd (omega (arith, l, e, w.1)) ]) ∙ at_outside from to cs b out
+      ∙ at_later c (part_of from to cs) b (λ e. elim out [
+        | inl l ↦ absurd (omega (arith, l, e, w.0))
+        | inr l ↦ absurd
+            (omega (arith, l, e, w.1))
+      ]) ∙ at_outside from to cs b out
   | inr n ↦ ap (λ (t : Children). child_at t b) (part_not from to c cs n) ∙ at_outside from to cs b out
 ]
 
 module _ (cs : Children) (rising : IsRising cs) where
   -- a part is another list, if that has the same under each byte of the part and nothing else
-  pub part_is : (from to : ℕ) (ds : Children) → IsRising ds → ((b : ℕ) → from ≤ b → b < to → child_at cs b ≡ child_at ds b) → ((b : ℕ) → (b < from) ⊎ (to ≤ b) → child_at ds b ≡ None) →
+  pub part_is : (from to : ℕ) (ds : Children) → IsRising ds → ((b : ℕ) → from ≤ b → b < to → child_at cs b ≡ child_at ds b) →
+      ((b : ℕ) → (b < from) ⊎ (to ≤ b) → child_at ds b ≡ None) →
       part_of from to cs ≡ ds
-  part_is from to ds other inside outside = same_children (part_of from to cs) ds (IsRising-part_of from to cs rising) other (λ b. elim (inside_or_not from to b) [
-    | inl w ↦ at_inside from to cs b w.0 w.1 ∙ inside b w.0 w.1
-    | inr n ↦ at_outside from to cs b n ∙ sym (outside b n)
-  ])
+  part_is from to ds other inside outside =
+      same_children (part_of from to cs) ds (IsRising-part_of from to cs rising) other (λ b. elim (inside_or_not from to b) [
+        | inl w ↦ at_inside from to cs b w.0 w.1 ∙ inside b w.0 w.1
+        | inr n ↦ at_outside from to cs b n ∙ sym (outside b n)
+      ])
 
   pub empty_part : (from to : ℕ) → to ≤ from → part_of from to cs ≡ []
   empty_part from to h = part_is from to [] tt (λ b l r. absurd (omega (arith, h, l, r))) (λ b n. refl)
@@ -125,7 +135,11 @@ module _ (cs : Children) (rising : IsRising cs) where
   skip_first from to none = part_is from to (part_of (from + 1) to cs) (IsRising-part_of (from + 1) to cs rising)
       (λ b l r. elim (by_order from b) [
         | inl k ↦ sym (at_inside (from + 1) to cs b (omega (arith, k)) r)
-        | inr k ↦ elim k [ inl e ↦ sym (ap (child_at cs) e) ∙ none ∙ sym (at_outside (from + 1) to cs b (inl (omega (arith, e)))) | inr g ↦ absurd (omega (arith, g, l)) ]
+        | inr k ↦ elim k [
+          | inl e ↦ sym (ap (child_at cs) e) ∙ none
+              ∙ sym (at_outside (from + 1) to cs b (inl (omega (arith, e))))
+          | inr g ↦ absurd (omega (arith, g, l))
+        ]
       ])
       (λ b n. at_outside (from + 1) to cs b (elim n [ inl l ↦ inl (omega (arith, l)) | inr l ↦ inr l ]))
 
@@ -139,10 +153,17 @@ module _ (cs : Children) (rising : IsRising cs) where
 
   -- a child is under the first byte of a part, or under the last
   pub take_first : (from to : ℕ) (n : OpaqueNodePtr) → from < to → child_at cs from ≡ Some n → part_of from to cs ≡ (from, n) ∷ part_of (from + 1) to cs
-  take_first from to n h there = part_is from to ((from, n) ∷ part_of (from + 1) to cs) (below_part from (from + 1) to cs (omega arith), IsRising-part_of (from + 1) to cs rising)
+  take_first from to n h there =
+      part_is from to ((from, n) ∷ part_of (from + 1) to cs)
+      (below_part from (from + 1) to cs (omega arith), IsRising-part_of (from + 1) to cs rising)
       (λ b l r. elim (by_order from b) [
         | inl k ↦ sym (at_later (from, n) (part_of (from + 1) to cs) b (λ e. omega (arith, k, e)) ∙ at_inside (from + 1) to cs b (omega (arith, k)) r)
-        | inr k ↦ elim k [ inl e ↦ sym (ap (child_at cs) e) ∙ there ∙ sym (at_here (from, n) (part_of (from + 1) to cs) b e) | inr g ↦ absurd (omega (arith, g, l)) ]
+        | inr k ↦
+            elim k [
+              | inl e ↦ sym (ap (child_at cs) e) ∙ there
+                  ∙ sym (at_here (from, n) (part_of (from + 1) to cs) b e)
+              | inr g ↦ absurd (omega (arith, g, l))
+            ]
       ])
       (λ b o. at_later (from, n) (part_of (from + 1) to cs) b (λ e. elim o [ inl l ↦ absurd (omega (arith, l, e)) | inr l ↦ absurd (omega (arith, l, e, h)) ])
       ∙ at_outside (from + 1) to cs b (elim o [ inl l ↦ inl (omega (arith, l)) | inr l ↦ inr l ]))
@@ -165,13 +186,17 @@ module _ (cs : Children) (rising : IsRising cs) where
   pub skip_last_at : (from to : ℕ) → from < to → child_at cs (to - 1) ≡ None → part_of from to cs ≡ part_of from (to - 1) cs
   skip_last_at from to h none = let back : to ≡ to - 1 + 1 = omega arith in ap (λ (n : ℕ). part_of from n cs) back ∙ skip_last from (to - 1) none
 
-  pub take_last_at : (from to : ℕ) (n : OpaqueNodePtr) → from < to → child_at cs (to - 1) ≡ Some n → part_of from to cs ≡ part_of from (to - 1) cs ++ (to - 1, n) ∷ []
-  take_last_at from to n h there = let back : to ≡ to - 1 + 1 = omega arith in ap (λ (k : ℕ). part_of from k cs) back ∙ take_last from (to - 1) n (omega arith) there
+  pub take_last_at : (from to : ℕ) (n : OpaqueNodePtr) → from < to → child_at cs (to - 1) ≡ Some n →
+      part_of from to cs ≡ part_of from (to - 1) cs ++ (to - 1, n) ∷ []
+  take_last_at from to n h there =
+      let back : to ≡ to - 1 + 1 = omega arith in ap (λ (k : ℕ). part_of from k cs) back ∙ take_last from (to - 1) n (omega arith) there
 
-  pub first_found : (from to left : ℕ) (n : OpaqueNodePtr) → from < to → child_at cs from ≡ Some n → left ≡ length (part_of from to cs) → (1 ≤ left) × (left - 1 ≡ length (part_of (from + 1) to cs))
+  pub first_found : (from to left : ℕ) (n : OpaqueNodePtr) → from < to → child_at cs from ≡ Some n → left ≡ length (part_of from to cs) →
+      (1 ≤ left) × (left - 1 ≡ length (part_of (from + 1) to cs))
   first_found from to left n h there count = let e = ap length (take_first from to n h there) in (omega (arith, count, e), omega (arith, count, e))
 
-  pub last_found : (from to left : ℕ) (n : OpaqueNodePtr) → from < to → child_at cs (to - 1) ≡ Some n → left ≡ length (part_of from to cs) → (1 ≤ left) × (left - 1 ≡ length (part_of from (to - 1) cs))
+  pub last_found : (from to left : ℕ) (n : OpaqueNodePtr) → from < to → child_at cs (to - 1) ≡ Some n → left ≡ length (part_of from to cs) →
+      (1 ≤ left) × (left - 1 ≡ length (part_of from (to - 1) cs))
   last_found from to left n h there count = let e = ap length (take_last_at from to n h there)
       ∙ length-append (part_of from (to - 1) cs) ((to - 1, n) ∷ []) in (omega (arith, count, e), omega (arith, count, e))
 
@@ -299,10 +324,13 @@ listed_none at none = same_children (names_by_byte at) [] (listed_rising at) tt 
 
 -- what is between two bytes of a part is a part
 module _ (cs : Children) (rising : IsRising cs) where
-  pub part_between : (from to first last f t : ℕ) → f ≡ max from first → t ≡ min to (last + 1) → part_of f t cs ≡ children_between first last (part_of from to cs)
+  pub part_between : (from to first last f t : ℕ) → f ≡ max from first → t ≡ min to (last + 1) →
+      part_of f t cs ≡ children_between first last (part_of from to cs)
   part_between from to first last f t is_f is_t =
-      part_is cs rising f t (children_between first last (part_of from to cs)) (IsRising-part_of first (last + 1) (part_of from to cs) (IsRising-part_of from to cs rising))
-      (λ b l r. sym (at_inside first (last + 1) (part_of from to cs) b (omega (arith, is_f)) (omega (arith, is_t)) ∙ at_inside from to cs b (omega (arith, is_f)) (omega (arith, is_t))))
+      part_is cs rising f t (children_between first last (part_of from to cs))
+      (IsRising-part_of first (last + 1) (part_of from to cs) (IsRising-part_of from to cs rising))
+      (λ b l r. sym (at_inside first (last + 1) (part_of from to cs) b (omega (arith, is_f)) (omega (arith, is_t))
+      ∙ at_inside from to cs b (omega (arith, is_f)) (omega (arith, is_t))))
       (λ b o. elim (inside_or_not first (last + 1) b) [
         | inl w ↦ at_inside first (last + 1) (part_of from to cs) b w.0 w.1
             ∙ at_outside from to cs b (elim o [ inl l ↦ inl (omega (arith, l, is_f, w.0)) | inr l ↦ inr (omega (arith, l, is_t, w.1)) ])
@@ -310,7 +338,8 @@ module _ (cs : Children) (rising : IsRising cs) where
       ])
 
 -- the first remaining child is written behind the earlier ones
-pub moved_over : (table rest next all written : Children) (b : ℕ) (n : OpaqueNodePtr) → table ++ rest ≡ all → rest ≡ (b, n) ∷ next → IsRising all → written ≡ put_child table b n →
+pub moved_over : (table rest next all written : Children) (b : ℕ) (n : OpaqueNodePtr) → table ++ rest ≡ all → rest ≡ (b, n) ∷ next →
+    IsRising all → written ≡ put_child table b n →
     written ++ next ≡ all
 moved_over table rest next all written b n is step rising wrote =
     let whole : table ++ (b, n) ∷ next ≡ all = ap (λ (t : Children). table ++ t) (sym step) ∙ is in
@@ -318,7 +347,8 @@ moved_over table rest next all written b n is step rising wrote =
     ap (λ (t : Children). t ++ next) (wrote ∙ put_child-above table b n above) ∙ append_assoc table ((b, n) ∷ []) next ∙ whole
 
 -- the first remaining child comes after the earlier ones
-pub pushed_over : (table rest next all written : Children) (b : ℕ) (n : OpaqueNodePtr) → table ++ rest ≡ all → rest ≡ (b, n) ∷ next → written ≡ table ++ (b, n) ∷ [] → written ++ next ≡ all
+pub pushed_over : (table rest next all written : Children) (b : ℕ) (n : OpaqueNodePtr) → table ++ rest ≡ all → rest ≡ (b, n) ∷ next →
+    written ≡ table ++ (b, n) ∷ [] → written ++ next ≡ all
 pushed_over table rest next all written b n is step wrote =
     ap (λ (t : Children). t ++ next) wrote ∙ append_assoc table ((b, n) ∷ []) next ∙ ap (λ (t : Children). table ++ t) (sym step) ∙ is
 
@@ -327,7 +357,8 @@ pub next_above : (table rest next all : Children) (b : ℕ) (n : OpaqueNodePtr) 
 next_above table rest next all b n is step rising =
     (rises_around table next (b, n) (subst IsRising (sym (ap (λ (t : Children). table ++ t) (sym step) ∙ is)) rising)).0
 
-pub next_fits : (N : ℕ) (table rest next all : Children) (b : ℕ) (n : OpaqueNodePtr) → table ++ rest ≡ all → rest ≡ (b, n) ∷ next → length all ≤ N → length table < N
+pub next_fits : (N : ℕ) (table rest next all : Children) (b : ℕ) (n : OpaqueNodePtr) → table ++ rest ≡ all → rest ≡ (b, n) ∷ next →
+    length all ≤ N → length table < N
 next_fits N table rest next all b n is step fits = omega (arith, fits, ap length is, length-append table rest, ap length step)
 
 -- the last of a list

@@ -59,8 +59,11 @@ module _ (slots : List ℕ) (kinds : List NodeType) (at : ℕ) (child : OpaqueNo
         (written_here (get_or index b 0) here)
 
     pub indexed_added : at ≡ len → length index ≡ 256 →
-        names_by_byte (indexed_at (set slots at child.slot) (set kinds at child.kind) (set index b (at + 1))) ≡ put_child (names_by_byte (indexed_at slots kinds index)) b child
-    indexed_added last as_many = listed_put (indexed_at slots kinds index) (indexed_at (set slots at child.slot) (set kinds at child.kind) (set index b (at + 1))) b within
+        names_by_byte (indexed_at (set slots at child.slot) (set kinds at child.kind) (set index b (at + 1)))
+        ≡ put_child (names_by_byte (indexed_at slots kinds index)) b child
+    indexed_added last as_many =
+        listed_put (indexed_at slots kinds index)
+        (indexed_at (set slots at child.slot) (set kinds at child.kind) (set index b (at + 1))) b within
         (λ k h d. ap (numbered (set slots at child.slot) (set kinds at child.kind)) (get_or-set_other index b k (at + 1) 0 d)
         ∙ written_other (get_or index k 0) (λ e. absurd (omega (arith, e, last, sound.0 k))))
         child
@@ -77,11 +80,14 @@ IsIndex-added index len b within sound = (λ k. bound k (cases_eq k b), λ j k e
     bound k (inl e) = omega (arith, new_here k e)
     bound k (inr d) = omega (arith, get_or-set_other index b k (len + 1) 0 d, sound.0 k)
 
-    apart : (j k : ℕ) → get_or (set index b (len + 1)) j 0 ≡ get_or (set index b (len + 1)) k 0 → get_or (set index b (len + 1)) j 0 ≢ 0 → (j ≡ b) ⊎ (j ≡ b → ⊥) → (k ≡ b) ⊎ (k ≡ b → ⊥) → j ≡ k
+    apart : (j k : ℕ) → get_or (set index b (len + 1)) j 0 ≡ get_or (set index b (len + 1)) k 0 → get_or (set index b (len + 1)) j 0 ≢ 0 →
+        (j ≡ b) ⊎ (j ≡ b → ⊥) → (k ≡ b) ⊎ (k ≡ b → ⊥) → j ≡ k
     apart j k e n (inl x) (inl y) = x ∙ sym y
     apart j k e n (inl x) (inr y) = absurd (omega (arith, e, new_here j x, get_or-set_other index b k (len + 1) 0 y, sound.0 k))
     apart j k e n (inr x) (inl y) = absurd (omega (arith, e, new_here k y, get_or-set_other index b j (len + 1) 0 x, sound.0 j))
-    apart j k e n (inr x) (inr y) = sound.1 j k (sym (get_or-set_other index b j (len + 1) 0 x) ∙ e ∙ get_or-set_other index b k (len + 1) 0 y) (λ z. n (get_or-set_other index b j (len + 1) 0 x ∙ z))
+    apart j k e n (inr x) (inr y) = sound.1 j k
+        (sym (get_or-set_other index b j (len + 1) 0 x) ∙ e ∙ get_or-set_other index b k (len + 1) 0 y)
+        (λ z. n (get_or-set_other index b j (len + 1) 0 x ∙ z))
 
 pub moved_last : (last to number : ℕ) → number ≡ last → number_after_move last to number ≡ to
 moved_last last to number e = ap (λ b. cond b to number) (eq-eqb number last e)
@@ -90,8 +96,10 @@ pub moved_other : (last to number : ℕ) → number ≢ last → number_after_mo
 moved_other last to number n = ap (λ b. cond b to number) (ne_eqb number last n)
 
 -- the place of a byte is freed, and the last place moves there
-module _ (slots : List ℕ) (kinds : List NodeType) (index new : List ℕ) (len b place : ℕ) (within : b < 256) (sound : IsIndex index len) (here : get_or index b 0 ≡ place) (there : place ≢ 0)
-    (slots_fit : len ≤ length slots) (kinds_fit : len ≤ length kinds) (gone : get_or new b 0 ≡ 0) (others : (k : ℕ) → k ≢ b → get_or new k 0 ≡ number_after_move len place (get_or index k 0)) where
+module _ (slots : List ℕ) (kinds : List NodeType) (index new : List ℕ) (len b place : ℕ) (within : b < 256) (sound : IsIndex index len)
+    (here : get_or index b 0 ≡ place) (there : place ≢ 0)
+    (slots_fit : len ≤ length slots) (kinds_fit : len ≤ length kinds) (gone : get_or new b 0 ≡ 0)
+    (others : (k : ℕ) → k ≢ b → get_or new k 0 ≡ number_after_move len place (get_or index k 0)) where
   place_fits : place ≤ len
   place_fits = omega (arith, sound.0 b, here)
 
@@ -102,11 +110,13 @@ module _ (slots : List ℕ) (kinds : List NodeType) (index new : List ℕ) (len 
   another k d n e = d (sound.1 k b (e ∙ sym here) n)
 
   kept : (k : ℕ) → k ≢ b → (number : ℕ) → number ≡ get_or index k 0 → (number ≡ len) ⊎ (number ≡ len → ⊥) →
-      numbered (set slots (place - 1) (get_or slots (len - 1) 0)) (set kinds (place - 1) (get_or kinds (len - 1) Node4)) (number_after_move len place number) ≡ numbered slots kinds number
+      numbered (set slots (place - 1) (get_or slots (len - 1) 0)) (set kinds (place - 1) (get_or kinds (len - 1) Node4))
+      (number_after_move len place number) ≡ numbered slots kinds number
   kept k d number is (inl e) =
       let at : place ≡ place - 1 + 1 = omega (arith, there) in
       ap (numbered (set slots (place - 1) (get_or slots (len - 1) 0)) (set kinds (place - 1) (get_or kinds (len - 1) Node4))) (moved_last len place number e)
-      ∙ written_here slots kinds (place - 1) (record { kind = get_or kinds (len - 1) Node4; slot = get_or slots (len - 1) 0 }) (omega (arith, there, place_fits, slots_fit))
+      ∙ written_here slots kinds (place - 1) (record { kind = get_or kinds (len - 1) Node4; slot = get_or slots (len - 1) 0 })
+      (omega (arith, there, place_fits, slots_fit))
       (omega (arith, there, place_fits, kinds_fit)) place at
       ∙ sym (ap (numbered slots kinds) e ∙ numbered_some slots kinds len (λ z. there (omega (arith, z, place_fits))))
   kept k d number is (inr n) =
@@ -114,14 +124,19 @@ module _ (slots : List ℕ) (kinds : List NodeType) (index new : List ℕ) (len 
       ∙ by_number (cases_eq number 0)
     where
       by_number : (number ≡ 0) ⊎ (number ≡ 0 → ⊥) →
-          numbered (set slots (place - 1) (get_or slots (len - 1) 0)) (set kinds (place - 1) (get_or kinds (len - 1) Node4)) number ≡ numbered slots kinds number
-      by_number (inl z) = ap (numbered (set slots (place - 1) (get_or slots (len - 1) 0)) (set kinds (place - 1) (get_or kinds (len - 1) Node4))) z ∙ sym (ap (numbered slots kinds) z)
+          numbered (set slots (place - 1) (get_or slots (len - 1) 0)) (set kinds (place - 1) (get_or kinds (len - 1) Node4)) number
+          ≡ numbered slots kinds number
+      by_number (inl z) = ap (numbered (set slots (place - 1) (get_or slots (len - 1) 0))
+          (set kinds (place - 1) (get_or kinds (len - 1) Node4))) z ∙ sym (ap (numbered slots kinds) z)
       by_number (inr z) = written_other slots kinds (place - 1) (record { kind = get_or kinds (len - 1) Node4; slot = get_or slots (len - 1) 0 })
-          (omega (arith, there, place_fits, slots_fit)) (omega (arith, there, place_fits, kinds_fit)) number (λ e. another k d (λ y. z (is ∙ y)) (omega (arith, sym is ∙ e, there)))
+          (omega (arith, there, place_fits, slots_fit)) (omega (arith, there, place_fits, kinds_fit)) number
+          (λ e. another k d (λ y. z (is ∙ y)) (omega (arith, sym is ∙ e, there)))
 
-  pub indexed_removed : names_by_byte (indexed_at (set slots (place - 1) (get_or slots (len - 1) 0)) (set kinds (place - 1) (get_or kinds (len - 1) Node4)) new) ≡ remove_child
+  pub indexed_removed : names_by_byte (indexed_at (set slots (place - 1) (get_or slots (len - 1) 0))
+      (set kinds (place - 1) (get_or kinds (len - 1) Node4)) new) ≡ remove_child
       (names_by_byte (indexed_at slots kinds index)) b
-  indexed_removed = listed_remove (indexed_at slots kinds index) (indexed_at (set slots (place - 1) (get_or slots (len - 1) 0)) (set kinds (place - 1) (get_or kinds (len - 1) Node4)) new) b within
+  indexed_removed = listed_remove (indexed_at slots kinds index)
+      (indexed_at (set slots (place - 1) (get_or slots (len - 1) 0)) (set kinds (place - 1) (get_or kinds (len - 1) Node4)) new) b within
       (λ k h d. ap (numbered (set slots (place - 1) (get_or slots (len - 1) 0)) (set kinds (place - 1) (get_or kinds (len - 1) Node4))) (others k d)
       ∙ kept k d (get_or index k 0) refl (cases_eq (get_or index k 0) len))
       (ap (numbered (set slots (place - 1) (get_or slots (len - 1) 0)) (set kinds (place - 1) (get_or kinds (len - 1) Node4))) gone)
@@ -134,19 +149,31 @@ module _ (slots : List ℕ) (kinds : List NodeType) (index new : List ℕ) (len 
     where
       bound : (k : ℕ) → (k ≡ b) ⊎ (k ≡ b → ⊥) → (get_or index k 0 ≡ len) ⊎ (get_or index k 0 ≡ len → ⊥) → get_or new k 0 ≤ len - 1
       bound k (inl e) m = omega (arith, ap (λ j. get_or new j 0) e ∙ gone)
-      bound k (inr d) (inl m) = omega (arith, others k d ∙ moved_last len place _ m, place_fits, there, m, another k d (λ z. there (omega (arith, z, m, place_fits))))
+      bound k (inr d) (inl m) =
+          omega (
+            arith,
+            others k d ∙ moved_last len place _ m,
+            place_fits,
+            there,
+            m,
+            another k d (λ z. there (omega (arith, z, m, place_fits))),
+          )
       bound k (inr d) (inr m) = omega (arith, others k d ∙ moved_other len place _ m, sound.0 k, m)
 
-      apart : (j k : ℕ) → get_or new j 0 ≡ get_or new k 0 → get_or new j 0 ≢ 0 → (j ≡ b) ⊎ (j ≡ b → ⊥) → (k ≡ b) ⊎ (k ≡ b → ⊥) → (get_or index j 0 ≡ len) ⊎ (get_or index j 0 ≡ len → ⊥) →
+      apart : (j k : ℕ) → get_or new j 0 ≡ get_or new k 0 → get_or new j 0 ≢ 0 → (j ≡ b) ⊎ (j ≡ b → ⊥) → (k ≡ b) ⊎ (k ≡ b → ⊥) →
+          (get_or index j 0 ≡ len) ⊎ (get_or index j 0 ≡ len → ⊥) →
           (get_or index k 0 ≡ len) ⊎ (get_or index k 0 ≡ len → ⊥) → j ≡ k
       apart j k e n (inl x) y l m = absurd (n (ap (λ i. get_or new i 0) x ∙ gone))
       apart j k e n (inr x) (inl y) l m = absurd (n (e ∙ ap (λ i. get_or new i 0) y ∙ gone))
       apart j k e n (inr x) (inr y) (inl l) (inl m) = sound.1 j k (l ∙ sym m) (λ z. there (omega (arith, z, l, place_fits)))
       apart j k e n (inr x) (inr y) (inl l) (inr m) = absurd
-          (another k y (λ z. there (sym (moved_last len place _ l) ∙ sym (others j x) ∙ e ∙ others k y ∙ moved_other len place _ m ∙ z)) (sym (moved_other len place _ m) ∙ sym (others k y)
+          (another k y (λ z. there (sym (moved_last len place _ l) ∙ sym (others j x) ∙ e ∙ others k y ∙ moved_other len place _ m ∙ z))
+          (sym (moved_other len place _ m) ∙ sym (others k y)
           ∙ sym e ∙ others j x ∙ moved_last len place _ l))
       apart j k e n (inr x) (inr y) (inr l) (inl m) = absurd
-          (another j x (λ z. there (sym (moved_last len place _ m) ∙ sym (others k y) ∙ sym e ∙ others j x ∙ moved_other len place _ l ∙ z)) (sym (moved_other len place _ l)
+          (another j x (λ z. there (sym (moved_last len place _ m) ∙ sym (others k y) ∙ sym e ∙ others j x ∙ moved_other len place _ l ∙ z))
+          (sym (moved_other len place _ l)
           ∙ sym (others j x) ∙ e ∙ others k y ∙ moved_last len place _ m))
-      apart j k e n (inr x) (inr y) (inr l) (inr m) = sound.1 j k (sym (moved_other len place _ l) ∙ sym (others j x) ∙ e ∙ others k y ∙ moved_other len place _ m)
+      apart j k e n (inr x) (inr y) (inr l) (inr m) =
+          sound.1 j k (sym (moved_other len place _ l) ∙ sym (others j x) ∙ e ∙ others k y ∙ moved_other len place _ m)
           (λ z. n (others j x ∙ moved_other len place _ l ∙ z))

@@ -9,7 +9,8 @@ use Rattle.art_parts.proofs.Comparisons.{by_order}
 use Rattle.art_inner.proofs.ChildrenLaws.{at_here, at_later, first_kept, remove_child-between}
 
 -- the entry at the place has the byte: its name is the one under the byte
-pub found_at : (cs : Children) (b : ℕ) (d : Entry) (at : ℕ) → at ≡ count_below cs b → at < length cs → (get_or cs at d).0 ≡ b → Some (get_or cs at d).1 ≡ child_at cs b
+pub found_at : (cs : Children) (b : ℕ) (d : Entry) (at : ℕ) → at ≡ count_below cs b → at < length cs → (get_or cs at d).0 ≡ b →
+    Some (get_or cs at d).1 ≡ child_at cs b
 found_at [] b d at k within same = absurd (omega arith)
 found_at (c ∷ cs) b d zero k within same = sym (at_here c cs b same)
 found_at (c ∷ cs) b d (suc at) k within same = elim (by_order c.0 b) [
@@ -18,16 +19,21 @@ found_at (c ∷ cs) b d (suc at) k within same = elim (by_order c.0 b) [
 ]
 
 -- the entry at the place is removed
-pub removed_at : (cs : Children) (b : ℕ) (d : Entry) (at : ℕ) → IsRising cs → at ≡ count_below cs b → at < length cs → (get_or cs at d).0 ≡ b → remove cs at ≡ remove_child cs b
+pub removed_at : (cs : Children) (b : ℕ) (d : Entry) (at : ℕ) → IsRising cs → at ≡ count_below cs b → at < length cs →
+    (get_or cs at d).0 ≡ b → remove cs at ≡ remove_child cs b
 removed_at [] b d at rising k within same = absurd (omega arith)
-removed_at (c ∷ cs) b d zero rising k within same = sym (remove_child-between [] cs b c.1 (subst (λ x. IsRising ((x, c.1) ∷ cs)) same rising)) ∙ ap (λ x. remove_child ((x, c.1) ∷ cs) b) (sym same)
+removed_at (c ∷ cs) b d zero rising k within same =
+    sym (remove_child-between [] cs b c.1 (subst (λ x. IsRising ((x, c.1) ∷ cs)) same rising))
+    ∙ ap (λ x. remove_child ((x, c.1) ∷ cs) b) (sym same)
 removed_at (c ∷ cs) b d (suc at) rising k within same = elim (by_order c.0 b) [
-  | inl h ↦ ap (λ (t : Children). c ∷ t) (removed_at cs b d at rising.1 (omega (arith, k ∙ counted_front c cs b h)) (omega arith) same) ∙ sym (first_kept c cs b (λ e. omega (arith, h, e)))
+  | inl h ↦ ap (λ (t : Children). c ∷ t) (removed_at cs b d at rising.1 (omega (arith, k ∙ counted_front c cs b h)) (omega arith) same)
+      ∙ sym (first_kept c cs b (λ e. omega (arith, h, e)))
   | inr h ↦ absurd (omega (arith, k ∙ counted_here c cs b (elim h [ inl e ↦ omega arith | inr g ↦ omega arith ])))
 ]
 
 -- the entry at the place has another byte: no entry has the byte
-pub nothing_at : (cs : Children) (b : ℕ) (d : Entry) (at : ℕ) → IsRising cs → at ≡ count_below cs b → (at < length cs → (get_or cs at d).0 ≢ b) → child_at cs b ≡ None
+pub nothing_at : (cs : Children) (b : ℕ) (d : Entry) (at : ℕ) → IsRising cs → at ≡ count_below cs b →
+    (at < length cs → (get_or cs at d).0 ≢ b) → child_at cs b ≡ None
 nothing_at cs b d at rising k other = by_value _ refl
   where
     by_value : (o : Option OpaqueNodePtr) → child_at cs b ≡ o → child_at cs b ≡ None
@@ -50,7 +56,8 @@ next_taken [] rest p d within later same = absurd (omega (arith, within))
 next_taken (x ∷ front) [] p d within later same = absurd (omega (arith, later))
 next_taken (x ∷ front) (a ∷ []) p d within later same = absurd (omega (arith, later))
 next_taken (x ∷ front) (a ∷ b ∷ rest) zero d within later same = ap (λ y. y ∷ b ∷ rest) (sym same)
-next_taken (x ∷ front) (a ∷ rest) (suc p) d within later same = ap (λ xs. x ∷ xs) (next_taken front rest p d (omega (arith, within)) (omega (arith, later)) same)
+next_taken (x ∷ front) (a ∷ rest) (suc p) d within later same =
+    ap (λ xs. x ∷ xs) (next_taken front rest p d (omega (arith, within)) (omega (arith, later)) same)
 
 -- before the first value moves
 pub not_moved : {X : Type 0} (old : List X) (at : ℕ) → old ≡ take (at + 1 - 1) (remove old at) ++ drop (at + 1 - 1) old
@@ -63,7 +70,8 @@ not_moved old at = let back : at + 1 - 1 ≡ at = omega arith in rw back (parted
     parted (x ∷ xs) (suc k) = ap (λ ys. x ∷ ys) (parted xs k)
 
 length_without : {X : Type 0} (old : List X) (at : ℕ) → at < length old → length (remove old at) ≡ length old - 1
-length_without old at within = omega (arith, length-append (take at old) (drop (suc at) old), length-take-le at old (omega (arith, within)), length-drop (suc at) old)
+length_without old at within =
+    omega (arith, length-append (take at old) (drop (suc at) old), length-take-le at old (omega (arith, within)), length-drop (suc at) old)
 
 -- a value moves one place to the front
 pub moved_front : {X : Type 0} (old part : List X) (at place : ℕ) (d x : X) → at < place → place < length old →
@@ -75,7 +83,8 @@ moved_front {X} old part at (suc p) d x after within is read =
     let on : suc p + 1 - 1 ≡ suc p = omega arith in
     let left = remove old at in
     let shown : part ≡ take p left ++ drop p old = is ∙ ap (λ (k : ℕ). take k left ++ drop k old) back in
-    let same : get_or left p d ≡ get_or old (suc p) d = get_or-remove_above old at d p (omega (arith, after)) (omega (arith, after, within)) ∙ ap (λ (k : ℕ). get_or old k d) (add-one p) in
+    let same : get_or left p d ≡ get_or old (suc p) d =
+    get_or-remove_above old at d p (omega (arith, after)) (omega (arith, after, within)) ∙ ap (λ (k : ℕ). get_or old k d) (add-one p) in
     ap (λ (k : ℕ). set part k x) back
     ∙ ap (set part p) (read ∙ ap (λ (xs : List X). get_or xs (suc p) d) shown)
     ∙ ap (λ (xs : List X). set xs p (get_or (take p left ++ drop p old) (suc p) d)) shown
@@ -83,7 +92,8 @@ moved_front {X} old part at (suc p) d x after within is read =
     ∙ ap (λ (k : ℕ). take k left ++ drop k old) (sym on)
 
 -- all later values have moved
-pub all_moved : {X : Type 0} (old part : List X) (at place : ℕ) → at < length old → place ≡ length old → part ≡ take (place - 1) (remove old at) ++ drop (place - 1) old →
+pub all_moved : {X : Type 0} (old part : List X) (at place : ℕ) → at < length old → place ≡ length old →
+    part ≡ take (place - 1) (remove old at) ++ drop (place - 1) old →
     take (length old - 1) part ≡ remove old at
 all_moved {X} old part at place within end is =
     let left = remove old at in

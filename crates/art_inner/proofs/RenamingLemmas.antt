@@ -73,13 +73,15 @@ module _ (table : List ℕ) where
   rows-new_slots (b ∷ bytes) (k ∷ kinds) (s ∷ slots) [] same are = absurd (omega (arith, same))
   rows-new_slots (b ∷ bytes) (k ∷ kinds) (s ∷ slots) (n ∷ new) same are =
       let rest = rows-new_slots bytes kinds slots new (omega (arith, same)) (λ j. are (suc j)) in
-      let name : record { kind = k; slot = n } ≡ renamed_in (new_name table) k s = ap (λ (at : ℕ). record { kind = k; slot = at }) (are 0) ∙ renamed_is table k s in
+      let name : record { kind = k; slot = n } ≡ renamed_in (new_name table) k s =
+      ap (λ (at : ℕ). record { kind = k; slot = at }) (are 0) ∙ renamed_is table k s in
       λ i. (b, name i) ∷ rest i
 
   -- the children that a table of rows shows
   pub shown-new_slots : (len : ℕ) (bytes : List ℕ) (kinds : List NodeType) (slots new : List ℕ) → length new ≡ length slots → AreNewSlots kinds slots new →
       take len (rows bytes kinds new) ≡ children_renamed (new_name table) (take len (rows bytes kinds slots))
-  shown-new_slots len bytes kinds slots new same are = ap (take len) (rows-new_slots bytes kinds slots new same are) ∙ take-renamed (new_name table) len (rows bytes kinds slots)
+  shown-new_slots len bytes kinds slots new same are =
+      ap (take len) (rows-new_slots bytes kinds slots new same are) ∙ take-renamed (new_name table) len (rows bytes kinds slots)
 
   numbered-renamed : (kinds : List NodeType) (slots new : List ℕ) → AreNewSlots kinds slots new → (number : ℕ) →
       numbered new kinds number ≡ option_map (child_renamed (new_name table)) (numbered slots kinds number)

@@ -25,11 +25,21 @@ pub record Shows {N : ℕ} (t : Inside N) (cs : Children) : Type 0 where
 
 pub shows_of : {N : ℕ} (t : Inside N) (cs : Children) → length t.slots ≡ N → length t.bytes ≡ N →
     (t.len ≤ N) × (length t.kinds ≡ N) × IsRising (take t.len (rows t.bytes t.kinds t.slots)) → take t.len (rows t.bytes t.kinds t.slots) ≡ cs → Shows t cs
-shows_of t cs slots bytes sound shows = record { slots = slots; bytes = bytes; kinds = sound.1; fits = sound.0; shows = shows; rising = subst IsRising shows sound.2 }
+shows_of t cs slots bytes sound shows =
+    record { slots = slots; bytes = bytes; kinds = sound.1; fits = sound.0; shows = shows; rising = subst IsRising shows sound.2 }
 
 -- as many as there were, with another first part
 pub length_around : {X : Type 0} (es new : List X) (n len : ℕ) → len ≤ n → length es ≡ n → length new ≡ length (take len es) → length (new ++ drop len es) ≡ n
-length_around es new n len within long same = omega (arith, within, long, same, length-append new (drop len es), length-drop len es, length-take-le len es (omega (arith, within, long)))
+length_around es new n len within long same =
+    omega (
+      arith,
+      within,
+      long,
+      same,
+      length-append new (drop len es),
+      length-drop len es,
+      length-take-le len es (omega (arith, within, long)),
+    )
 
 -- they are still sorted with one more after them
 pub rising_behind : (cs : Children) (b : ℕ) (n : OpaqueNodePtr) → IsRising cs → IsAbove b cs → IsRising (cs ++ (b, n) ∷ [])
@@ -46,7 +56,8 @@ module _ {N : ℕ} (t : Inside N) (cs : Children) (s : Shows t cs) where
   pub table_length : length cs ≡ t.len
   table_length = ap length (sym s.shows) ∙ length-take-le t.len (rows t.bytes t.kinds t.slots) (omega (arith, s.fits, length_of_all))
 
-  pub table_pushed : (b : ℕ) (n : OpaqueNodePtr) → t.len < N → take (t.len + 1) (rows (set t.bytes t.len b) (set t.kinds t.len n.kind) (set t.slots t.len n.slot)) ≡ cs ++ (b, n) ∷ []
+  pub table_pushed : (b : ℕ) (n : OpaqueNodePtr) → t.len < N →
+      take (t.len + 1) (rows (set t.bytes t.len b) (set t.kinds t.len n.kind) (set t.slots t.len n.slot)) ≡ cs ++ (b, n) ∷ []
   table_pushed b n room =
       ap (λ (m : ℕ). take m (rows (set t.bytes t.len b) (set t.kinds t.len n.kind) (set t.slots t.len n.slot))) (add-one t.len)
       ∙ ap (take (suc t.len)) (sym (rows-set t.len t.bytes t.kinds t.slots b n (s.kinds ∙ sym s.bytes) (s.slots ∙ sym s.bytes)))
@@ -59,7 +70,8 @@ module _ {N : ℕ} (t : Inside N) (cs : Children) (s : Shows t cs) where
       ∙ rows-read at t.bytes t.kinds t.slots 0 Node4 0 (s.kinds ∙ sym s.bytes) (s.slots ∙ sym s.bytes) (omega (arith, within, s.fits, s.bytes))
 
   -- the name at a place in use
-  pub table_name : (at : ℕ) → at < t.len → option_map (λ (c : Entry). c.1) (slice_get cs at) ≡ Some (record { kind = get_or t.kinds at Node4; slot = get_or t.slots at 0 })
+  pub table_name : (at : ℕ) → at < t.len →
+      option_map (λ (c : Entry). c.1) (slice_get cs at) ≡ Some (record { kind = get_or t.kinds at Node4; slot = get_or t.slots at 0 })
   table_name at within =
       ap (option_map (λ (c : Entry). c.1)) (slice_get-get_or cs at past (omega (arith, within, table_length)))
       ∙ ap (λ (c : Entry). Some c.1) (read_at at within)
@@ -99,14 +111,17 @@ module _ {N : ℕ} (t : Inside N) (cs : Children) (s : Shows t cs) where
         take (t.len + 1) (rows (nb ++ drop (t.len + 1) t.bytes) (nk ++ drop (t.len + 1) t.kinds) (ns ++ drop (t.len + 1) t.slots)) ≡ put_child cs b n
     table_inserted n nb nk ns room none put_b put_k put_s =
         let at_most : at ≤ t.len = omega (arith, place, table_length, count_below-bound cs b) in
-        let front : take t.len (rows t.bytes t.kinds t.slots) ≡ rows (take t.len t.bytes) (take t.len t.kinds) (take t.len t.slots) = rows-take t.len t.bytes t.kinds t.slots in
+        let front : take t.len (rows t.bytes t.kinds t.slots) ≡ rows (take t.len t.bytes) (take t.len t.kinds) (take t.len t.slots) =
+        rows-take t.len t.bytes t.kinds t.slots in
         let long_b : length (take t.len t.bytes) ≡ t.len = length-take-le t.len t.bytes (omega (arith, s.fits, s.bytes)) in
         let long_k : length (take t.len t.kinds) ≡ t.len = length-take-le t.len t.kinds (omega (arith, s.fits, s.kinds)) in
         let long_s : length (take t.len t.slots) ≡ t.len = length-take-le t.len t.slots (omega (arith, s.fits, s.slots)) in
         rows-take (t.len + 1) (nb ++ drop (t.len + 1) t.bytes) (nk ++ drop (t.len + 1) t.kinds) (ns ++ drop (t.len + 1) t.slots)
-        ∙ (λ i. rows (front_after t.bytes nb t.len at b at_most (omega (arith, room, s.bytes)) put_b i) (front_after t.kinds nk t.len at n.kind at_most (omega (arith, room, s.kinds)) put_k i)
+        ∙ (λ i. rows (front_after t.bytes nb t.len at b at_most (omega (arith, room, s.bytes)) put_b i)
+        (front_after t.kinds nk t.len at n.kind at_most (omega (arith, room, s.kinds)) put_k i)
         (front_after t.slots ns t.len at n.slot at_most (omega (arith, room, s.slots)) put_s i))
-        ∙ rows-between at (take t.len t.bytes) (take t.len t.kinds) (take t.len t.slots) b n (long_k ∙ sym long_b) (long_s ∙ sym long_b) (omega (arith, at_most, long_b))
+        ∙ rows-between at (take t.len t.bytes) (take t.len t.kinds) (take t.len t.slots) b n (long_k ∙ sym long_b) (long_s ∙ sym long_b)
+        (omega (arith, at_most, long_b))
         ∙ ap (λ (xs : Children). take at xs ++ (b, n) ∷ drop at xs) (sym front ∙ s.shows)
         ∙ put_child_between cs b n past at place (λ within same. none_is_not (ap is_some (sym none ∙ sym (found_at cs b past at place within same))))
 

@@ -27,20 +27,23 @@ rows-take (suc n) (b ∷ bs) [] ss = refl
 rows-take (suc n) (b ∷ bs) (k ∷ ks) [] = refl
 rows-take (suc n) (b ∷ bs) (k ∷ ks) (s ∷ ss) = ap (λ (t : Children). (b, record { kind = k; slot = s }) ∷ t) (rows-take n bs ks ss)
 
-pub rows-drop : (n : ℕ) (bs : List ℕ) (ks : List NodeType) (ss : List ℕ) → length ks ≡ length bs → length ss ≡ length bs → drop n (rows bs ks ss) ≡ rows (drop n bs) (drop n ks) (drop n ss)
+pub rows-drop : (n : ℕ) (bs : List ℕ) (ks : List NodeType) (ss : List ℕ) → length ks ≡ length bs → length ss ≡ length bs →
+    drop n (rows bs ks ss) ≡ rows (drop n bs) (drop n ks) (drop n ss)
 rows-drop zero bs ks ss e f = refl
 rows-drop (suc n) [] ks ss e f = refl
 rows-drop (suc n) (b ∷ bs) [] ss e f = absurd (omega (arith, e))
 rows-drop (suc n) (b ∷ bs) (k ∷ ks) [] e f = absurd (omega (arith, f))
 rows-drop (suc n) (b ∷ bs) (k ∷ ks) (s ∷ ss) e f = rows-drop n bs ks ss (omega (arith, e)) (omega (arith, f))
 
-pub rows-append : (bs ds : List ℕ) (ks ls : List NodeType) (ss ts : List ℕ) → length ks ≡ length bs → length ss ≡ length bs → rows (bs ++ ds) (ks ++ ls) (ss ++ ts) ≡ rows bs ks ss ++ rows ds ls ts
+pub rows-append : (bs ds : List ℕ) (ks ls : List NodeType) (ss ts : List ℕ) → length ks ≡ length bs → length ss ≡ length bs →
+    rows (bs ++ ds) (ks ++ ls) (ss ++ ts) ≡ rows bs ks ss ++ rows ds ls ts
 rows-append [] ds [] ls [] ts e f = refl
 rows-append [] ds (k ∷ ks) ls ss ts e f = absurd (omega (arith, e))
 rows-append [] ds [] ls (s ∷ ss) ts e f = absurd (omega (arith, f))
 rows-append (b ∷ bs) ds [] ls ss ts e f = absurd (omega (arith, e))
 rows-append (b ∷ bs) ds (k ∷ ks) ls [] ts e f = absurd (omega (arith, f))
-rows-append (b ∷ bs) ds (k ∷ ks) ls (s ∷ ss) ts e f = ap (λ (t : Children). (b, record { kind = k; slot = s }) ∷ t) (rows-append bs ds ks ls ss ts (omega (arith, e)) (omega (arith, f)))
+rows-append (b ∷ bs) ds (k ∷ ks) ls (s ∷ ss) ts e f =
+    ap (λ (t : Children). (b, record { kind = k; slot = s }) ∷ t) (rows-append bs ds ks ls ss ts (omega (arith, e)) (omega (arith, f)))
 
 pub rows-set : (at : ℕ) (bs : List ℕ) (ks : List NodeType) (ss : List ℕ) (b : ℕ) (n : OpaqueNodePtr) → length ks ≡ length bs → length ss ≡ length bs →
     set (rows bs ks ss) at (b, n) ≡ rows (set bs at b) (set ks at n.kind) (set ss at n.slot)
@@ -48,9 +51,11 @@ rows-set at [] ks ss b n e f = refl
 rows-set at (x ∷ bs) [] ss b n e f = absurd (omega (arith, e))
 rows-set at (x ∷ bs) (k ∷ ks) [] b n e f = absurd (omega (arith, f))
 rows-set zero (x ∷ bs) (k ∷ ks) (s ∷ ss) b n e f = refl
-rows-set (suc at) (x ∷ bs) (k ∷ ks) (s ∷ ss) b n e f = ap (λ (t : Children). (x, record { kind = k; slot = s }) ∷ t) (rows-set at bs ks ss b n (omega (arith, e)) (omega (arith, f)))
+rows-set (suc at) (x ∷ bs) (k ∷ ks) (s ∷ ss) b n e f =
+    ap (λ (t : Children). (x, record { kind = k; slot = s }) ∷ t) (rows-set at bs ks ss b n (omega (arith, e)) (omega (arith, f)))
 
-pub rows-read : (at : ℕ) (bs : List ℕ) (ks : List NodeType) (ss : List ℕ) (d : ℕ) (l : NodeType) (t : ℕ) → length ks ≡ length bs → length ss ≡ length bs → at < length bs →
+pub rows-read : (at : ℕ) (bs : List ℕ) (ks : List NodeType) (ss : List ℕ) (d : ℕ) (l : NodeType) (t : ℕ) → length ks ≡ length bs →
+    length ss ≡ length bs → at < length bs →
     get_or (rows bs ks ss) at (d, record { kind = l; slot = t }) ≡ (get_or bs at d, record { kind = get_or ks at l; slot = get_or ss at t })
 rows-read at [] ks ss d l t e f h = absurd (omega (arith, h))
 rows-read at (x ∷ bs) [] ss d l t e f h = absurd (omega (arith, e))
@@ -59,7 +64,8 @@ rows-read zero (x ∷ bs) (k ∷ ks) (s ∷ ss) d l t e f h = refl
 rows-read (suc at) (x ∷ bs) (k ∷ ks) (s ∷ ss) d l t e f h = rows-read at bs ks ss d l t (omega (arith, e)) (omega (arith, f)) (omega (arith, h))
 
 -- a place is found by the bytes alone
-pub rows-below : (bs : List ℕ) (ks : List NodeType) (ss : List ℕ) (b : ℕ) → length ks ≡ length bs → length ss ≡ length bs → count_below (rows bs ks ss) b ≡ bytes_below bs b
+pub rows-below : (bs : List ℕ) (ks : List NodeType) (ss : List ℕ) (b : ℕ) → length ks ≡ length bs → length ss ≡ length bs →
+    count_below (rows bs ks ss) b ≡ bytes_below bs b
 rows-below [] ks ss b e f = refl
 rows-below (x ∷ bs) [] ss b e f = absurd (omega (arith, e))
 rows-below (x ∷ bs) (k ∷ ks) [] b e f = absurd (omega (arith, f))
@@ -83,9 +89,11 @@ rows-get (suc at) (x ∷ bs) (k ∷ ks) (s ∷ ss) d l t e f h = rows-get at bs 
 pub child_in_place : (cs : Children) (k b : ℕ) (c : Entry) → IsRising cs → slice_get cs k ≡ Some c → c.0 ≡ b → child_at cs b ≡ Some c.1
 child_in_place [] k b c rising there same = absurd (none_is_not (ap is_some (ap (λ (o : Option Entry). option_map (λ (e : Entry). e.1) o) there)))
 child_in_place (d ∷ cs) zero b c rising there same = let is : d ≡ c = cc in at_here d cs b (ap (λ (e : Entry). e.0) is ∙ same) ∙ ap (λ (e : Entry). Some e.1) is
-child_in_place (d ∷ cs) (suc k) b c rising there same = at_later d cs b (λ e. omega (arith, e, same, byte_above d.0 cs k c rising.0 there)) ∙ child_in_place cs k b c rising.1 there same
+child_in_place (d ∷ cs) (suc k) b c rising there same =
+    at_later d cs b (λ e. omega (arith, e, same, byte_above d.0 cs k c rising.0 there)) ∙ child_in_place cs k b c rising.1 there same
 
-name_behind : (same : Bool) (c : Entry) (cs : Children) (place : ℕ) (rest : Option OpaqueNodePtr) → option_map (λ (e : Entry). e.1) (slice_get cs place) ≡ rest →
+name_behind : (same : Bool) (c : Entry) (cs : Children) (place : ℕ) (rest : Option OpaqueNodePtr) →
+    option_map (λ (e : Entry). e.1) (slice_get cs place) ≡ rest →
     option_map (λ (e : Entry). e.1) (slice_get (c ∷ cs) (cond (not same) (1 + place) 0)) ≡ cond same (Some c.1) rest
 name_behind true c cs place rest is = refl
 name_behind false c cs place rest is =
@@ -99,10 +107,13 @@ first_name zero bs ks ss b = refl
 first_name (suc n) [] ks ss b = refl
 first_name (suc n) (x ∷ bs) [] ss b = refl
 first_name (suc n) (x ∷ bs) (k ∷ ks) [] b = refl
-first_name (suc n) (x ∷ bs) (k ∷ ks) (s ∷ ss) b = name_behind (eqb x b) (x, record { kind = k; slot = s }) (take n (rows bs ks ss)) (prefix_len (λ y. not (eqb y b)) bs) _ (first_name n bs ks ss b)
+first_name (suc n) (x ∷ bs) (k ∷ ks) (s ∷ ss) b =
+    name_behind (eqb x b) (x, record { kind = k; slot = s }) (take n (rows bs ks ss)) (prefix_len (λ y. not (eqb y b)) bs) _
+    (first_name n bs ks ss b)
 
 -- where the rows show these children
-pub rows-first : (n : ℕ) (bs : List ℕ) (ks : List NodeType) (ss : List ℕ) (cs : Children) (b place : ℕ) → take n (rows bs ks ss) ≡ cs → place ≡ prefix_len (λ x. not (eqb x b)) bs →
+pub rows-first : (n : ℕ) (bs : List ℕ) (ks : List NodeType) (ss : List ℕ) (cs : Children) (b place : ℕ) → take n (rows bs ks ss) ≡ cs →
+    place ≡ prefix_len (λ x. not (eqb x b)) bs →
     option_map (λ (e : Entry). e.1) (slice_get cs place) ≡ child_at cs b
 rows-first n bs ks ss cs b place shows first =
     (λ i. option_map (λ (e : Entry). e.1) (slice_get (sym shows i) (first i))) ∙ first_name n bs ks ss b ∙ ap (λ (xs : Children). child_at xs b) shows
@@ -113,7 +124,8 @@ none_under x [] b below low = refl
 none_under x (c ∷ cs) b below low = at_later c cs b (λ e. omega (arith, below.0, e, low)) ∙ none_under x cs b below.1 low
 
 -- a byte below the first has no name
-pub rows-none_below : (n : ℕ) (bs : List ℕ) (ks : List NodeType) (ss : List ℕ) (b : ℕ) → IsRising (take n (rows bs ks ss)) → b < get_or bs 0 0 → child_at (take n (rows bs ks ss)) b ≡ None
+pub rows-none_below : (n : ℕ) (bs : List ℕ) (ks : List NodeType) (ss : List ℕ) (b : ℕ) → IsRising (take n (rows bs ks ss)) →
+    b < get_or bs 0 0 → child_at (take n (rows bs ks ss)) b ≡ None
 rows-none_below zero bs ks ss b rising low = refl
 rows-none_below (suc n) [] ks ss b rising low = refl
 rows-none_below (suc n) (x ∷ bs) [] ss b rising low = refl
@@ -158,8 +170,10 @@ rows-renamed (suc at) (x ∷ bs) (k ∷ ks) (s ∷ ss) b n e f h same =
     ap (λ (t : Children). (x, record { kind = k; slot = s }) ∷ t) (rows-renamed at bs ks ss b n (omega (arith, e)) (omega (arith, f)) (omega (arith, h)) same)
 
 -- a byte, a kind and a slot are inserted in between
-pub rows-between : (at : ℕ) (bs : List ℕ) (ks : List NodeType) (ss : List ℕ) (b : ℕ) (n : OpaqueNodePtr) → length ks ≡ length bs → length ss ≡ length bs → at ≤ length bs →
-    rows (take at bs ++ b ∷ drop at bs) (take at ks ++ n.kind ∷ drop at ks) (take at ss ++ n.slot ∷ drop at ss) ≡ take at (rows bs ks ss) ++ (b, n) ∷ drop at (rows bs ks ss)
+pub rows-between : (at : ℕ) (bs : List ℕ) (ks : List NodeType) (ss : List ℕ) (b : ℕ) (n : OpaqueNodePtr) → length ks ≡ length bs →
+    length ss ≡ length bs → at ≤ length bs →
+    rows (take at bs ++ b ∷ drop at bs) (take at ks ++ n.kind ∷ drop at ks) (take at ss ++ n.slot ∷ drop at ss)
+    ≡ take at (rows bs ks ss) ++ (b, n) ∷ drop at (rows bs ks ss)
 rows-between zero bs ks ss b n e f h = refl
 rows-between (suc at) [] ks ss b n e f h = absurd (omega (arith, h))
 rows-between (suc at) (x ∷ bs) [] ss b n e f h = absurd (omega (arith, e))
@@ -175,7 +189,8 @@ rows-remove (suc at) [] ks ss e f = refl
 rows-remove at (x ∷ bs) [] ss e f = absurd (omega (arith, e))
 rows-remove at (x ∷ bs) (k ∷ ks) [] e f = absurd (omega (arith, f))
 rows-remove zero (x ∷ bs) (k ∷ ks) (s ∷ ss) e f = refl
-rows-remove (suc at) (x ∷ bs) (k ∷ ks) (s ∷ ss) e f = ap (λ (t : Children). (x, record { kind = k; slot = s }) ∷ t) (rows-remove at bs ks ss (omega (arith, e)) (omega (arith, f)))
+rows-remove (suc at) (x ∷ bs) (k ∷ ks) (s ∷ ss) e f =
+    ap (λ (t : Children). (x, record { kind = k; slot = s }) ∷ t) (rows-remove at bs ks ss (omega (arith, e)) (omega (arith, f)))
 
 -- no more are below a byte than there are
 pub count_below-bound : (cs : Children) (b : ℕ) → count_below cs b ≤ length cs

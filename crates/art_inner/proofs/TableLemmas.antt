@@ -21,7 +21,8 @@ front c cs b n h = ap (λ t. cond t (c ∷ put_child cs b n) (cond (eqb c.0 b) (
 
 pub here : (c : Entry) (cs : Children) (b : ℕ) (n : OpaqueNodePtr) → c.0 ≡ b → put_child (c ∷ cs) b n ≡ (b, n) ∷ cs
 here c cs b n e =
-    ap (λ t. cond t (c ∷ put_child cs b n) (cond (eqb c.0 b) ((b, n) ∷ cs) ((b, n) ∷ c ∷ cs))) (le-ltb c.0 b (omega arith)) ∙ ap (λ t. cond t ((b, n) ∷ cs) ((b, n) ∷ c ∷ cs)) (eq-eqb c.0 b e)
+    ap (λ t. cond t (c ∷ put_child cs b n) (cond (eqb c.0 b) ((b, n) ∷ cs) ((b, n) ∷ c ∷ cs))) (le-ltb c.0 b (omega arith))
+    ∙ ap (λ t. cond t ((b, n) ∷ cs) ((b, n) ∷ c ∷ cs)) (eq-eqb c.0 b e)
 
 pub before : (c : Entry) (cs : Children) (b : ℕ) (n : OpaqueNodePtr) → b < c.0 → put_child (c ∷ cs) b n ≡ (b, n) ∷ c ∷ cs
 before c cs b n h =
@@ -35,7 +36,8 @@ pub counted_here : (c : Entry) (cs : Children) (b : ℕ) → b ≤ c.0 → count
 counted_here c cs b h = ap (λ t. cond t (suc (count_below cs b)) 0) (le-ltb c.0 b h)
 
 -- the entry at the place has the byte: it is set
-pub put_child_set : (cs : Children) (b : ℕ) (n : OpaqueNodePtr) (d : Entry) (at : ℕ) → at ≡ count_below cs b → at < length cs → (get_or cs at d).0 ≡ b → set cs at (b, n) ≡ put_child cs b n
+pub put_child_set : (cs : Children) (b : ℕ) (n : OpaqueNodePtr) (d : Entry) (at : ℕ) → at ≡ count_below cs b → at < length cs →
+    (get_or cs at d).0 ≡ b → set cs at (b, n) ≡ put_child cs b n
 put_child_set [] b n d at k within same = absurd (omega arith)
 put_child_set (c ∷ cs) b n d zero k within same = sym (here c cs b n same)
 put_child_set (c ∷ cs) b n d (suc at) k within same = elim (by_order c.0 b) [
@@ -52,7 +54,9 @@ put_child_between (c ∷ cs) b n d zero k other = elim (by_order c.0 b) [
   | inr h ↦ elim h [ inl e ↦ absurd (other (omega arith) e) | inr g ↦ sym (before c cs b n g) ]
 ]
 put_child_between (c ∷ cs) b n d (suc at) k other = elim (by_order c.0 b) [
-  | inl h ↦ ap (λ xs. c ∷ xs) (put_child_between cs b n d at (omega (arith, k ∙ counted_front c cs b h)) (λ within. other (omega arith))) ∙ sym (front c cs b n h)
+  | inl h ↦
+      ap (λ xs. c ∷ xs) (put_child_between cs b n d at (omega (arith, k ∙ counted_front c cs b h)) (λ within. other (omega arith)))
+      ∙ sym (front c cs b n h)
   | inr h ↦ absurd (omega (arith, k ∙ counted_here c cs b (elim h [ inl e ↦ omega arith | inr g ↦ omega arith ])))
 ]
 
@@ -92,7 +96,8 @@ later_above x (c ∷ cs) b below there = elim (by_order c.0 b) [
 ]
 
 -- where a child is under the byte, the place is its own
-pub place_of_child : (cs : Children) (b : ℕ) (d : Entry) → IsRising cs → IsSome (child_at cs b) → (count_below cs b < length cs) × ((get_or cs (count_below cs b) d).0 ≡ b)
+pub place_of_child : (cs : Children) (b : ℕ) (d : Entry) → IsRising cs → IsSome (child_at cs b) →
+    (count_below cs b < length cs) × ((get_or cs (count_below cs b) d).0 ≡ b)
 place_of_child [] b d rising there = absurd (none_is_not there)
 place_of_child (c ∷ cs) b d rising there = elim (by_order c.0 b) [
   | inl l ↦
@@ -145,7 +150,8 @@ moved_back {X} old part at (suc p) d x before within is read =
     ∙ ap (λ (k : ℕ). take (suc k) old ++ take (length old - 1 - k) (drop k old)) (sym back)
 
 -- a value is written to the free place
-pub put_at_place : {X : Type 0} (old : List X) (at m : ℕ) (x : X) → at < length old → set (take (suc at) old ++ take m (drop at old)) at x ≡ take at old ++ x ∷ take m (drop at old)
+pub put_at_place : {X : Type 0} (old : List X) (at m : ℕ) (x : X) → at < length old →
+    set (take (suc at) old ++ take m (drop at old)) at x ≡ take at old ++ x ∷ take m (drop at old)
 put_at_place [] at m x within = absurd (omega (arith, within))
 put_at_place (a ∷ old) zero m x within = refl
 put_at_place (a ∷ old) (suc at) m x within = ap (λ xs. a ∷ xs) (put_at_place old at m x (omega (arith, within)))
@@ -156,7 +162,8 @@ front_step {X = X} after es len zero m x e k =
     let same : m ≡ len = omega arith in
     let long : length (take len es) ≡ len = length-take-le len es (omega arith) in
     let short : take m (take (suc len) es) ≡ take len es = ap (λ i. take i (take (suc len) es)) same ∙ take_take len es in
-    ap (λ t. x ∷ take len (t ++ after)) short ∙ ap (λ t. x ∷ t) (take-append-le len (take len es) after (omega arith) ∙ take_all len (take len es) (omega arith))
+    ap (λ t. x ∷ take len (t ++ after)) short
+    ∙ ap (λ t. x ∷ t) (take-append-le len (take len es) after (omega arith) ∙ take_all len (take len es) (omega arith))
   where
     take_take : (n : ℕ) (xs : List X) → take n (take (suc n) xs) ≡ take n xs
     take_take n xs = grind (arith, common_steps)

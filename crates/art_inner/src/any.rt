@@ -1,5 +1,12 @@
 //! Inner nodes of any kind.
 ghost use Rattle.std.specs.Prelude.{◌≡◌, ◌≢◌, ◌-◌, min, ◌<◌, ◌≤◌, length, Some, All, slice_get, IsTrue, ◌↔◌, ⊤};
+ghost use Rattle.art_inner.specs.AnyTables.{table_children, table_kind};
+ghost use Rattle.art_inner.specs.Inner.{HasPlace, child_at, childless, IsRising, children_between};
+ghost use Rattle.art_inner.specs.InnerChanges.{with_child, with_header, without_child};
+ghost use Rattle.art_inner.specs.Views.{any_kind, any_view, ref_kind, ref_view};
+ghost use Rattle.art_parts.specs.Kinds.{kind_capacity, larger_kind, smaller_kind};
+ghost use Rattle.art_parts.specs.declared.names.NodeType.TheVariants.{Leaf};
+ghost use Rattle.art_parts.specs.declared.names.NodeType.TheVariants as kinds;
 
 use crate::child_table::{AnyTable, ChildTable, KindTable};
 use crate::children::Children;
@@ -75,14 +82,6 @@ pub type InnerRef<'a, const P: usize> = InnerRefOf<
 >;
 
 impl<const P: usize> AnyInner<P> {
-    ghost use Rattle.art_inner.specs.AnyTables.{table_children, table_kind};
-    ghost use Rattle.art_inner.specs.Inner.{HasPlace, child_at, childless};
-    ghost use Rattle.art_inner.specs.InnerChanges.{with_child, with_header, without_child};
-    ghost use Rattle.art_inner.specs.Views.{any_kind, any_view, ref_kind, ref_view};
-    ghost use Rattle.art_parts.specs.Kinds.{kind_capacity, larger_kind, smaller_kind};
-    ghost use Rattle.art_parts.specs.declared.names.NodeType.TheVariants.{Leaf};
-    ghost use Rattle.art_parts.specs.declared.names.NodeType.TheVariants as kinds;
-
     /// Returns a node of this kind with no child.
     pub fn from_header(kind: NodeType, header: Header<P>) -> Self
         requires { kind ≢ Leaf }
@@ -187,11 +186,6 @@ impl<const P: usize> AnyInner<P> {
 }
 
 impl<'a, const P: usize> InnerRef<'a, P> {
-    ghost use Rattle.art_inner.specs.Inner.{IsRising, child_at, children_between};
-    ghost use Rattle.art_inner.specs.Views.{ref_kind, ref_view};
-    ghost use Rattle.art_parts.specs.Kinds.{kind_capacity};
-    ghost use Rattle.art_parts.specs.declared.names.NodeType.TheVariants.{Leaf};
-
     /// Returns the kind of the node.
     #[inline(always)]
     pub fn node_type(&self) -> NodeType

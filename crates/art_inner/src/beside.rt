@@ -3,6 +3,7 @@
 ghost use Rattle.std.specs.Prelude.{◌≡◌, ◌≢◌, ℕ, ◌+◌, ◌<◌, length, Some, None, IsSome, IfSome, IfNone};
 ghost use Rattle.art_inner.specs.Beside.{IsNextTo};
 ghost use Rattle.art_inner.specs.Inner.{child_at};
+ghost use Rattle.art_inner.specs.Views.{ref_view};
 
 use crate::any::InnerRef;
 use crate::child_table::ChildTable;
@@ -10,8 +11,6 @@ use crate::places::Places;
 use art_parts::names::OpaqueNodePtr;
 
 impl<'a, const P: usize> InnerRef<'a, P> {
-    ghost use Rattle.art_inner.specs.Views.{ref_view};
-
     /// Returns a child next to a byte that has none itself, with the child's own byte. It is above or below, and no
     /// other child is between.
     #[inline(always)]

@@ -1,5 +1,13 @@
 //! Tables of the children of inner nodes.
 ghost use Rattle.std.specs.Prelude.{◌≡◌, ℕ, ◌<◌, ◌≤◌, [], length, None};
+ghost use Rattle.art_parts.specs.Headers.{Prefix};
+ghost use Rattle.art_inner.specs.Inner.{IsSize, Children, HasPlace, IsRising, child_at, put_child, remove_child};
+ghost use Rattle.art_inner.specs.Beside.{IsNextTo};
+ghost use Rattle.art_inner.specs.InnerRenamed.{children_renamed};
+ghost use Rattle.art_inner.specs.NewNames.{new_name};
+ghost use Rattle.art_inner.specs.AnyTables.{table_children, table_kind};
+ghost use Rattle.art_parts.specs.Kinds.{kind_capacity, larger_kind, smaller_kind};
+ghost use Rattle.art_parts.specs.declared.names.NodeType.{NodeType};
 
 use crate::children::Children;
 use crate::direct::Direct;
@@ -11,8 +19,6 @@ use art_parts::names::{NodeType, OpaqueNodePtr};
 /// The header of an inner node. By this trait a node has the header's type for a parameter, and not a number: then a
 /// method of any trait can take it.
 pub trait NodeHeader {
-    ghost use Rattle.art_parts.specs.Headers.{Prefix};
-
     /// The prefix of the node.
     ghost prefix_of: { Self → Prefix };
 
@@ -21,8 +27,6 @@ pub trait NodeHeader {
 }
 
 impl<const P: usize> NodeHeader for Header<P> {
-    ghost use Rattle.art_inner.specs.Inner.{IsSize};
-
     ghost prefix_of = { λ header. header };
 
     ghost Fits = { IsSize P };
@@ -30,11 +34,6 @@ impl<const P: usize> NodeHeader for Header<P> {
 
 /// Names under rising bytes.
 pub trait ChildTable: Drop {
-    ghost use Rattle.art_inner.specs.Beside.{IsNextTo};
-    ghost use Rattle.art_inner.specs.Inner.{Children, HasPlace, IsRising, child_at, put_child, remove_child};
-    ghost use Rattle.art_inner.specs.InnerRenamed.{children_renamed};
-    ghost use Rattle.art_inner.specs.NewNames.{new_name};
-
     /// The children of the table.
     ghost children_of: { Self → Children };
 
@@ -80,7 +79,8 @@ pub trait ChildTable: Drop {
 
     /// Renames the leaves among the children by a table of slots.
     fn rename_leaves(&mut self, table: &[usize])
-        ensures { children_of self.new ≡ children_renamed (new_name table.now) (children_of self.old) };
+        ensures { children_of self.new
+            ≡ children_renamed (new_name table.now) (children_of self.old) };
 }
 
 /// A table of any kind.
@@ -94,11 +94,6 @@ pub enum AnyTable {
 
 /// The table of an inner node of one kind.
 pub trait KindTable: ChildTable {
-    ghost use Rattle.art_inner.specs.AnyTables.{table_children, table_kind};
-    ghost use Rattle.art_inner.specs.Inner.{child_at};
-    ghost use Rattle.art_parts.specs.Kinds.{kind_capacity, larger_kind, smaller_kind};
-    ghost use Rattle.art_parts.specs.declared.names.NodeType.{NodeType};
-
     const TYPE: NodeType;
 
     ghost TYPE: { NodeType };

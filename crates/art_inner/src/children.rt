@@ -2,6 +2,8 @@
 ghost use Rattle.std.specs.Prelude.{◌≡◌, ◌-◌, ◌<◌, ◌≤◌, length, slice_get, Some, IfSome, All, ⊤};
 ghost use Rattle.std.specs.Iterator.{UpTo, YieldsFirst, YieldsLast, item_count};
 ghost use Rattle.std.specs.Iterator.SizeHint.{IsWithinCount};
+ghost use Rattle.art_inner.specs.Inner.{IsAbove, IsRising, children_between};
+ghost use Rattle.art_inner.specs.Rows.{AreAligned, rows_of};
 
 use crate::direct::Direct;
 use crate::indexed::Indexed;
@@ -48,9 +50,6 @@ impl<'a> Clone for Children<'a> {
 }
 
 impl<'a> Children<'a> {
-    ghost use Rattle.art_inner.specs.Inner.{IsAbove, IsRising, children_between};
-    ghost use Rattle.art_inner.specs.Rows.{AreAligned, rows_of};
-
     pub(crate) fn new(rest: Rows<'a>) -> Self
         requires aligned { AreAligned rest }
         requires rising { IsRising (rows_of rest) }

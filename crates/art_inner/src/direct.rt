@@ -1,5 +1,13 @@
 //! Names with a place for each byte.
-ghost use Rattle.std.specs.Prelude.{◌≡◌, ℕ, ◌<◌, ◌≤◌, [], length, Some, None, refl};
+ghost use Rattle.std.specs.Prelude.{◌≡◌, ℕ, ◌<◌, ◌≤◌, [], length, Some, None, refl, replicate};
+ghost use Rattle.art_inner.specs.Direct.{in_place, direct_at};
+ghost use Rattle.art_inner.specs.declared.direct.PlaceKind.TheVariants as place;
+ghost use Rattle.std.specs.Option.{option_map};
+ghost use Rattle.art_inner.specs.InnerRenamed.{child_renamed};
+ghost use Rattle.art_inner.specs.NewNames.{new_name};
+ghost use Rattle.art_inner.specs.Beside.{IsNextTo};
+ghost use Rattle.art_inner.specs.Inner.{child_at};
+ghost use Rattle.art_parts.specs.declared.names.NodeType.TheVariants as kinds;
 
 use crate::beside::nearest;
 use crate::child_table::{AnyTable, ChildTable, KindTable};
@@ -43,9 +51,6 @@ impl Model for Direct {
 }
 
 impl ChildTable for Direct {
-    ghost use Rattle.art_inner.specs.Beside.{IsNextTo};
-    ghost use Rattle.art_inner.specs.Inner.{child_at};
-
     ghost children_of = { λ t. t };
 
     ghost capacity = { 256 };
@@ -122,8 +127,6 @@ impl Places for Direct {
 }
 
 impl KindTable for Direct {
-    ghost use Rattle.art_parts.specs.declared.names.NodeType.TheVariants as kinds;
-
     const TYPE: NodeType = NodeType::Node256;
 
     ghost TYPE = { kinds.Node256 };
@@ -147,10 +150,6 @@ impl KindTable for Direct {
         AnyTable::Node48(Indexed::of(self.iter()))
     }
 }
-
-ghost use Rattle.art_inner.specs.Direct.{in_place};
-ghost use Rattle.std.specs.Prelude.{replicate};
-ghost use Rattle.art_inner.specs.declared.direct.PlaceKind.TheVariants as place;
 
 fn vacant_slots() -> [usize; 256] {
     [0; 256]
@@ -188,11 +187,6 @@ fn place_of(kind: NodeType) -> PlaceKind
         NodeType::Leaf => PlaceKind::Leaf,
     }
 }
-
-ghost use Rattle.std.specs.Option.{option_map};
-ghost use Rattle.art_inner.specs.Direct.{direct_at};
-ghost use Rattle.art_inner.specs.InnerRenamed.{child_renamed};
-ghost use Rattle.art_inner.specs.NewNames.{new_name};
 
 // Writes for each leaf in a place the slot that a table has for it.
 fn rename_places(places: &[PlaceKind], slots: &mut [usize], table: &[usize])

@@ -1,5 +1,7 @@
 //! Up to 48 names, with a table of the places of bytes.
 ghost use Rattle.std.specs.Prelude.{◌≡◌, ◌≢◌, ℕ, ◌+◌, ◌<◌, ◌≤◌, [], length, Some, None, replicate, slice_index_or, refl};
+ghost use Rattle.art_inner.specs.Indexed.{number_after_move};
+ghost use Rattle.art_parts.specs.declared.names.NodeType.TheVariants as kinds;
 
 use crate::beside::nearest;
 use crate::child_table::{AnyTable, ChildTable, KindTable};
@@ -126,8 +128,6 @@ impl Places for Indexed {
 }
 
 impl KindTable for Indexed {
-    ghost use Rattle.art_parts.specs.declared.names.NodeType.TheVariants as kinds;
-
     const TYPE: NodeType = NodeType::Node48;
 
     ghost TYPE = { kinds.Node48 };
@@ -165,8 +165,6 @@ fn no_places() -> [u8; 256]
 {
     [0; 256]
 }
-
-ghost use Rattle.art_inner.specs.Indexed.{number_after_move};
 
 // Replaces the number of the last place by another one.
 fn renumber(index: &mut [u8], last: u8, to: u8)

@@ -1,5 +1,13 @@
 //! Inner nodes of each kind.
 ghost use Rattle.std.specs.Prelude.{◌≡◌, ◌-◌, ◌<◌, ◌≤◌, min, length, slice_get, Some, All, IsTrue, ◌↔◌, ⊤};
+ghost use Rattle.art_inner.specs.InnerChanges.{with_child, without_child, with_header};
+ghost use Rattle.art_inner.specs.InnerRenamed.{inner_renamed};
+ghost use Rattle.art_inner.specs.NewNames.{new_name};
+ghost use Rattle.art_inner.specs.Inner.{HasPlace, Inner, IsRising, child_at, childless, children_between};
+ghost use Rattle.art_parts.specs.Headers.{Prefix};
+ghost use Rattle.art_inner.specs.Views.{any_kind, any_view};
+ghost use Rattle.art_parts.specs.Kinds.{kind_capacity, larger_kind, smaller_kind};
+ghost use Rattle.art_parts.specs.declared.names.NodeType.{NodeType};
 
 use crate::any::AnyInner;
 use crate::child_table::{ChildTable, KindTable, NodeHeader};
@@ -14,15 +22,6 @@ use std::marker::Model;
 
 /// An inner node of one kind.
 pub trait InnerNode<const P: usize>: FromHeader<Header<P>> {
-    ghost use Rattle.art_inner.specs.InnerChanges.{with_child, without_child};
-    ghost use Rattle.art_inner.specs.InnerRenamed.{inner_renamed};
-    ghost use Rattle.art_inner.specs.NewNames.{new_name};
-    ghost use Rattle.art_inner.specs.Inner.{HasPlace, Inner, IsRising, child_at, childless, children_between};
-    ghost use Rattle.art_parts.specs.Headers.{Prefix};
-    ghost use Rattle.art_inner.specs.Views.{any_kind, any_view};
-    ghost use Rattle.art_parts.specs.Kinds.{kind_capacity, larger_kind, smaller_kind};
-    ghost use Rattle.art_parts.specs.declared.names.NodeType.{NodeType};
-
     const TYPE: NodeType;
 
     ghost TYPE: { NodeType };
@@ -155,7 +154,10 @@ impl<H: NodeHeader, T: KindTable> Model for InnerNodeOf<H, T> {
 
     ghost Value = { Inner };
 
-    ghost view = { λ n. record { prefix = H.prefix_of n.header; children = T.children_of n.table } };
+    ghost view = { λ n. record {
+      prefix = H.prefix_of n.header;
+      children = T.children_of n.table;
+    } };
 
     ghost invariant = { λ _. H.Fits };
 }
@@ -174,8 +176,6 @@ impl<T: KindTable, const P: usize> Clone for InnerNodeOf<Header<P>, T> {
 }
 
 impl<T: KindTable, const P: usize> FromHeader<Header<P>> for InnerNodeOf<Header<P>, T> {
-    ghost use Rattle.art_inner.specs.Inner.{childless};
-
     ghost starts = { λ h n. n ≡ childless h };
 
     fn from_header(header: Header<P>) -> Self {
@@ -184,9 +184,6 @@ impl<T: KindTable, const P: usize> FromHeader<Header<P>> for InnerNodeOf<Header<
 }
 
 impl<T: KindTable, const P: usize> InnerNodeOf<Header<P>, T> {
-    ghost use Rattle.art_inner.specs.InnerChanges.{with_header};
-    ghost use Rattle.art_inner.specs.Inner.{childless};
-
     /// Returns a node with this header and no child.
     pub fn from_header(header: Header<P>) -> Self
         ensures { result ≡ childless header.entry }
@@ -206,9 +203,6 @@ impl<T: KindTable, const P: usize> InnerNodeOf<Header<P>, T> {
 }
 
 impl<const P: usize> InnerNode4<P> {
-    ghost use Rattle.art_inner.specs.InnerChanges.{with_child};
-    ghost use Rattle.art_inner.specs.Inner.{childless};
-
     /// Returns a node with this header and two children. If both bytes are equal, only `last` is kept.
     #[inline(always)]
     pub fn of_two(

@@ -1,15 +1,13 @@
 //! Tables with a place for each byte, and cursors over them.
-ghost use Rattle.std.specs.Prelude.{◌≡◌, ◌+◌, ◌<◌, ◌≤◌, length, [], IfNone};
+ghost use Rattle.std.specs.Prelude.{◌≡◌, ◌+◌, ◌<◌, ◌≤◌, length, [], IfNone, ◌++◌, Option, Some, None, min, max};
 ghost use Rattle.std.specs.List.{cons_option};
-ghost use Rattle.art_inner.specs.Inner.{IsRising, part_of};
+ghost use Rattle.art_inner.specs.Inner.{IsRising, part_of, Children, child_at};
 ghost use Rattle.art_inner.specs.Spans.{IsSpan, part_left};
 
 use art_parts::names::OpaqueNodePtr;
 
 /// A table in which the name under a byte is found by the byte.
 pub(crate) trait Places {
-    ghost use Rattle.art_inner.specs.Inner.{Children, child_at};
-
     /// The children of the table.
     ghost children_of: { Self → Children };
 
@@ -44,8 +42,6 @@ pub(crate) fn next_in<T: Places>(table: &T, span: &mut Span) -> Option<(u8, Opaq
     }
     None
 }
-
-ghost use Rattle.std.specs.Prelude.{◌++◌, Option, Some, None};
 
 pub(crate) fn next_back_in<T: Places>(table: &T, span: &mut Span) -> Option<(u8, OpaqueNodePtr)>
     requires rising { IsRising (T.children_of table.now) }
@@ -82,8 +78,6 @@ pub(crate) fn between_in<T: Places>(table: &T, span: Span, first: u8, last: u8) 
         left: count_in(table, from, to),
     }
 }
-
-ghost use Rattle.std.specs.Prelude.{min, max};
 
 // How many children are under these bytes.
 fn count_in<T: Places>(table: &T, from: usize, to: usize) -> usize

@@ -1,5 +1,6 @@
 //! Inner nodes of the next larger and of the next smaller kind.
 ghost use Rattle.std.specs.Prelude.{◌≡◌, ◌≤◌, length};
+ghost use Rattle.art_parts.specs.Kinds.{kind_capacity};
 
 use crate::child_table::ChildTable;
 use crate::direct::Direct;
@@ -18,8 +19,6 @@ pub trait Grows<const P: usize>: InnerNode<P> {
 
 /// An inner node of a kind above the smallest.
 pub trait Shrinks<const P: usize>: InnerNode<P> {
-    ghost use Rattle.art_parts.specs.Kinds.{kind_capacity};
-
     type Smaller: InnerNode<P>;
 
     /// Returns a node of the next smaller kind with the same children.

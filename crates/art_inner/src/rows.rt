@@ -1,6 +1,8 @@
 //! Names under rising bytes, borrowed: bytes, kinds and slots in slices of their own.
 ghost use Rattle.std.specs.Prelude.{◌≡◌, ◌-◌, ◌<◌, ◌≤◌, [], ◌++◌, length, take, drop, None, IfNone, IfOk, IfErr, IsSome, IsTrue, ◌↔◌, slice_get, slice_index_or, Some};
 ghost use Rattle.std.specs.List.{cons_option};
+ghost use Rattle.art_inner.specs.Inner.{bytes_below, IsRising, child_at, children_between, count_below};
+ghost use Rattle.art_inner.specs.Rows.{AreAligned, rows_of};
 
 use art_parts::names::{NodeType, OpaqueNodePtr};
 
@@ -13,9 +15,6 @@ pub(crate) struct Rows<'a> {
 }
 
 impl<'a> Rows<'a> {
-    ghost use Rattle.art_inner.specs.Inner.{IsRising, child_at, children_between, count_below};
-    ghost use Rattle.art_inner.specs.Rows.{AreAligned, rows_of};
-
     pub(crate) fn len(&self) -> usize
         requires { AreAligned self.now }
         ensures rows { result ≡ length (rows_of self.now) }
@@ -122,8 +121,6 @@ impl<'a> Rows<'a> {
         }
     }
 }
-
-ghost use Rattle.art_inner.specs.Inner.{bytes_below};
 
 // How many of the first bytes are below this one.
 fn bytes_below(bytes: &[u8], byte: usize) -> usize

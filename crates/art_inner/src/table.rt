@@ -1,6 +1,12 @@
 //! At most `N` names under rising bytes.
-ghost use Rattle.std.specs.Prelude.{◌≡◌, ◌+◌, ◌-◌, ◌<◌, ◌≤◌, [], ◌∷◌, ◌++◌, length, take, drop, remove, slice_get, refl};
+ghost use Rattle.std.specs.Prelude.{◌≡◌, ◌+◌, ◌-◌, ◌<◌, ◌≤◌, [], ◌∷◌, ◌++◌, length, take, drop, remove, slice_get, refl, Some, None, IsSome};
 ghost use Rattle.std.specs.Option.{option_map};
+ghost use Rattle.std.specs.List.{prefix_len};
+ghost use Rattle.art_inner.specs.Inner.{child_at, put_child, IsAbove, IsRising, count_below, remove_child};
+ghost use Rattle.art_inner.specs.Rows.{inserted, AreAligned, rows_of};
+ghost use lib.Dec.{eqb};
+ghost use mathlib.Core.Bool.{not};
+ghost use Rattle.art_parts.specs.declared.names.NodeType.TheVariants as kinds;
 
 use crate::child_table::{AnyTable, ChildTable, KindTable};
 use crate::children::Children;
@@ -36,9 +42,6 @@ impl<const N: usize> Model for Table<N> {
 }
 
 impl<const N: usize> Table<N> {
-    ghost use Rattle.art_inner.specs.Inner.{IsAbove, IsRising};
-    ghost use Rattle.art_inner.specs.Rows.{AreAligned, rows_of};
-
     // Appends a name.
     fn push(&mut self, byte: u8, child: OpaqueNodePtr)
         requires room { length self.old < N }
@@ -148,9 +151,6 @@ impl<const N: usize> ChildTable for Table<N> {
 }
 
 impl<const N: usize> Table<N> {
-    ghost use Rattle.std.specs.Prelude.{Some, None, IsSome};
-    ghost use Rattle.art_inner.specs.Inner.{child_at, count_below, put_child, remove_child};
-
     // Inserts a name at its place.
     fn insert(&mut self, at: usize, byte: u8, child: OpaqueNodePtr)
         requires room { length self.old < N }
@@ -211,8 +211,6 @@ impl Table<4> {
 }
 
 impl KindTable for Table<4> {
-    ghost use Rattle.art_parts.specs.declared.names.NodeType.TheVariants as kinds;
-
     const TYPE: NodeType = NodeType::Node4;
 
     ghost TYPE = { kinds.Node4 };
@@ -243,8 +241,6 @@ impl KindTable for Table<4> {
 }
 
 impl KindTable for Table<16> {
-    ghost use Rattle.art_parts.specs.declared.names.NodeType.TheVariants as kinds;
-
     const TYPE: NodeType = NodeType::Node16;
 
     ghost TYPE = { kinds.Node16 };
@@ -273,12 +269,6 @@ impl KindTable for Table<16> {
         AnyTable::Node4(Table::of(self.iter()))
     }
 }
-
-ghost use Rattle.std.specs.List.{prefix_len};
-ghost use Rattle.art_inner.specs.Inner.{child_at, put_child};
-ghost use Rattle.art_inner.specs.Rows.{inserted};
-ghost use lib.Dec.{eqb};
-ghost use mathlib.Core.Bool.{not};
 
 // The name under a byte, by four comparisons.
 #[inline(always)]

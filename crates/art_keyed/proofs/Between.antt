@@ -17,7 +17,8 @@ use Rattle.art_keyed.specs.KeyedPairs.{HaveKeys, OnBound, is_key_from, is_key_up
 use denote.Ref.{Bor}
 
 -- two tests that agree on each element select the same elements
-pub filter_same : {A : Type 0} (P : A → Type 0) (test other : A → Bool) → ((x : A) → P x → test x ≡ other x) → (xs : List A) → Each P xs → filter test xs ≡ filter other xs
+pub filter_same : {A : Type 0} (P : A → Type 0) (test other : A → Bool) → ((x : A) → P x → test x ≡ other x) → (xs : List A) → Each P xs →
+    filter test xs ≡ filter other xs
 filter_same P test other same [] all = refl
 filter_same P test other same (x ∷ xs) all = go (filter_same P test other same xs all.1) (other x) refl
   where
@@ -52,7 +53,8 @@ map_twice bytes Unbounded = refl
 
 module _ {K : Type 0} (is_key : K → Type 0) (bytes : K → List ℕ) where
   -- an element is between two bounds exactly if the bytes of its key are between those of the bounds
-  between_by : {A : Type 0} (key_of : A → K) {order : K → K → Ordering} → KeepsOrder is_key bytes order → (from to : Bound (Bor K)) (low high : Bound (List ℕ)) →
+  between_by : {A : Type 0} (key_of : A → K) {order : K → K → Ordering} → KeepsOrder is_key bytes order →
+      (from to : Bound (Bor K)) (low high : Bound (List ℕ)) →
       low ≡ bound_map (λ b. bytes b.now) from → high ≡ bound_map (λ b. bytes b.now) to →
       OnBound is_key (bound_map (λ b. b.now) from) → OnBound is_key (bound_map (λ b. b.now) to) → (xs : List A) → Each (λ x. is_key (key_of x)) xs →
       between (λ x. bytes (key_of x)) low high xs ≡
@@ -60,10 +62,12 @@ module _ {K : Type 0} (is_key : K → Type 0) (bytes : K → List ℕ) where
   between_by key_of keeps from to low high is_low is_high of_from of_to xs all =
       rw (is_low ∙ map_twice bytes from, is_high ∙ map_twice bytes to)
       (filter_same (λ x. is_key (key_of x)) _ _
-      (λ x of_x. ap₂ (λ a b. a && b) (same_from is_key bytes keeps (bound_map (λ b. b.now) from) (key_of x) of_from of_x) (same_up_to is_key bytes keeps (bound_map (λ b. b.now) to) (key_of x) of_to of_x)) xs all)
+      (λ x of_x. ap₂ (λ a b. a && b) (same_from is_key bytes keeps (bound_map (λ b. b.now) from) (key_of x) of_from of_x)
+      (same_up_to is_key bytes keeps (bound_map (λ b. b.now) to) (key_of x) of_to of_x)) xs all)
 
   -- strings start with another one exactly if the bytes of their keys do
-  below_by : {A : Type 0} (key_of : A → K) (text : K → List ℕ) (key : K) (beginning : List ℕ) → BeginsAs is_key bytes text key beginning → (xs : List A) → Each (λ x. is_key (key_of x)) xs →
+  below_by : {A : Type 0} (key_of : A → K) (text : K → List ℕ) (key : K) (beginning : List ℕ) → BeginsAs is_key bytes text key beginning →
+      (xs : List A) → Each (λ x. is_key (key_of x)) xs →
       below (λ x. bytes (key_of x)) beginning xs ≡ filter (λ x. is_front (text key) (text (key_of x))) xs
   below_by key_of text key beginning begins xs all = filter_same (λ x. is_key (key_of x)) _ _ (λ x of_x. begins (key_of x) of_x) xs all
 
@@ -76,17 +80,20 @@ module _ {K : Type 0} (is_key : K → Type 0) (bytes : K → List ℕ) where
         between (of_key bytes) low high pairs ≡ keys_between order (bound_map (λ b. b.now) from) (bound_map (λ b. b.now) to) pairs
     between_keys = between_by (λ x. x.0)
 
-    pub below_strings : (text : K → List ℕ) (key : K) (beginning : List ℕ) → BeginsAs is_key bytes text key beginning → (pairs : List (K × V)) → HaveKeys is_key pairs →
+    pub below_strings : (text : K → List ℕ) (key : K) (beginning : List ℕ) → BeginsAs is_key bytes text key beginning →
+        (pairs : List (K × V)) → HaveKeys is_key pairs →
         below (of_key bytes) beginning pairs ≡ strings_below text (text key) pairs
     below_strings = below_by (λ x. x.0)
 
     -- the other pairs are those whose strings don't start so
-    pub not_below_strings : (text : K → List ℕ) (key : K) (beginning : List ℕ) → BeginsAs is_key bytes text key beginning → (pairs : List (K × V)) → HaveKeys is_key pairs →
+    pub not_below_strings : (text : K → List ℕ) (key : K) (beginning : List ℕ) → BeginsAs is_key bytes text key beginning →
+        (pairs : List (K × V)) → HaveKeys is_key pairs →
         not_below (of_key bytes) beginning pairs ≡ strings_not_below text (text key) pairs
     not_below_strings text key beginning begins pairs all = filter_same (λ x. is_key x.0) _ _ (λ x of_x. ap not (begins x.0 of_x)) pairs all
 
     -- the first pair whose string starts so is the first one whose key does
-    pub without_string : (text : K → List ℕ) (key : K) (beginning : List ℕ) → BeginsAs is_key bytes text key beginning → (pairs : List (K × V)) → HaveKeys is_key pairs →
+    pub without_string : (text : K → List ℕ) (key : K) (beginning : List ℕ) → BeginsAs is_key bytes text key beginning →
+        (pairs : List (K × V)) → HaveKeys is_key pairs →
         without_below (of_key bytes) beginning 1 pairs ≡ without_below (of_key text) (text key) 1 pairs
     without_string text key beginning begins [] all = refl
     without_string text key beginning begins (x ∷ pairs) all =
@@ -130,12 +137,15 @@ front_of_joined (c ∷ a) (z ∷ x) y f g = go (front_of_joined a x y) (eqb c z)
         rw (e, eq-eqb z c (sym same)) (ih (tail c z a x same f) (tail z c x a (sym same) g))
     go ih false e = rw e refl
 
-module _ {A B : Type 0} (is_first : A → Type 0) (first : A → List ℕ) (is_second : B → Type 0) (second : B → List ℕ) (apart : HasNoPrefixes is_first first) (key : A) (of_key' : is_first key) where
+module _ {A B : Type 0} (is_first : A → Type 0) (first : A → List ℕ) (is_second : B → Type 0) (second : B → List ℕ)
+    (apart : HasNoPrefixes is_first first) (key : A) (of_key' : is_first key) where
   -- the bytes of a first key are a prefix of those of the keys that have it, and of no others
   begins_first : (both : A × B) → AreKeys is_first is_second both → is_front (first key) (first both.0 ++ second both.1) ≡ are_same (first key) (first both.0)
-  begins_first both of_both = front_of_joined (first key) (first both.0) (second both.1) (apart key both.0 of_key' of_both.0) (apart both.0 key of_both.0 of_key')
+  begins_first both of_both =
+      front_of_joined (first key) (first both.0) (second both.1) (apart key both.0 of_key' of_both.0) (apart both.0 key of_both.0 of_key')
 
-  pub below_first_in_set : (keys : List (A × B)) → Each (AreKeys is_first is_second) keys → below (joined_bytes first second) (first key) keys ≡ set_with_first first (first key) keys
+  pub below_first_in_set : (keys : List (A × B)) → Each (AreKeys is_first is_second) keys →
+      below (joined_bytes first second) (first key) keys ≡ set_with_first first (first key) keys
   below_first_in_set keys all = filter_same (AreKeys is_first is_second) _ _ begins_first keys all
 
   module _ {V : Type 0} where
@@ -159,7 +169,8 @@ pub two_keys : {A B : Type 0} (count : ℕ) (is_first : A → Type 0) (first : A
 two_keys count is_first first is_second second [] all = tt
 two_keys count is_first first is_second second (key ∷ keys) all = (all.0.0, two_keys count is_first first is_second second keys all.1)
 
-pub of_two_keys : {A B V : Type 0} (count : ℕ) (is_first : A → Type 0) (first : A → List ℕ) (is_second : B → Type 0) (second : B → List ℕ) (pairs : List ((A × B) × V)) →
+pub of_two_keys : {A B V : Type 0} (count : ℕ) (is_first : A → Type 0) (first : A → List ℕ) (is_second : B → Type 0) (second : B → List ℕ)
+    (pairs : List ((A × B) × V)) →
     HaveKeys (AreKeysOf count is_first first is_second second) pairs → HaveKeys (AreKeys is_first is_second) pairs
 of_two_keys count is_first first is_second second [] all = tt
 of_two_keys count is_first first is_second second (pair ∷ pairs) all = (all.0.0, of_two_keys count is_first first is_second second pairs all.1)

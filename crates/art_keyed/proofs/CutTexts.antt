@@ -32,7 +32,8 @@ but_the_last (x ∷ xs) z e = but_last x xs z e
 
 module _ {A : Type 0} (bytes : A → List ℕ) (end : ℕ) (q : List ℕ) where
   -- of two texts that are prefixes of a query the first one is shorter
-  less : (x last : A) → Precedes (bytes x) (bytes last) → IsEndedBy end (bytes x) → IsEndedBy end (bytes last) → IsFront (text_of bytes x) q → IsFront (text_of bytes last) q →
+  less : (x last : A) → Precedes (bytes x) (bytes last) → IsEndedBy end (bytes x) → IsEndedBy end (bytes last) →
+      IsFront (text_of bytes x) q → IsFront (text_of bytes last) q →
       length (text_of bytes x) < length (text_of bytes last)
   less x last before of_x of_last f g = go (cases_lt (length (text_of bytes x)) (length (text_of bytes last)))
     where
@@ -42,11 +43,13 @@ module _ {A : Type 0} (bytes : A → List ℕ) (end : ℕ) (q : List ℕ) where
       text_last : text_of bytes last ≡ of_last.text
       text_last = ap without_last of_last.is ∙ ended_text of_last.text end
 
-      go : (length (text_of bytes x) < length (text_of bytes last)) ⊎ (length (text_of bytes last) ≤ length (text_of bytes x)) → length (text_of bytes x) < length (text_of bytes last)
+      go : (length (text_of bytes x) < length (text_of bytes last)) ⊎ (length (text_of bytes last) ≤ length (text_of bytes x)) →
+          length (text_of bytes x) < length (text_of bytes last)
       go (inl l) = l
       go (inr o) =
           absurd (fronts_first end (bytes x) (bytes last) of_x.text of_last.text of_x.is of_last.is of_x.above
-          (subst (λ z. IsFront z of_x.text) text_last (subst (λ z. IsFront (text_of bytes last) z) text_x (front_of_fronts (text_of bytes last) (text_of bytes x) q g f o))) before)
+          (subst (λ z. IsFront z of_x.text) text_last
+          (subst (λ z. IsFront (text_of bytes last) z) text_x (front_of_fronts (text_of bytes last) (text_of bytes x) q g f o))) before)
 
   module _ (xs : List A) (rise : IsMap bytes xs) (ended : AreEnded bytes end xs) (last : A) (e : last_of (texts_in_front bytes q xs) ≡ Some last) where
     split : texts_in_front bytes q xs ≡ without_last (texts_in_front bytes q xs) ++ last ∷ []
@@ -60,7 +63,8 @@ module _ {A : Type 0} (bytes : A → List ℕ) (end : ℕ) (q : List ℕ) where
 
     -- the last text is a prefix of the query
     pub last_in_front : IsFront (text_of bytes last) q
-    last_in_front = front_from (text_of bytes last) q (Each-right (λ x. is_front (text_of bytes x) q ≡ true) (without_last (texts_in_front bytes q xs)) (last ∷ []) passes).0
+    last_in_front = front_from (text_of bytes last) q
+        (Each-right (λ x. is_front (text_of bytes x) q ≡ true) (without_last (texts_in_front bytes q xs)) (last ∷ []) passes).0
 
     pub last_ended : IsEndedBy end (bytes last)
     last_ended = (Each-right (λ x. IsEndedBy end (bytes x)) (without_last (texts_in_front bytes q xs)) (last ∷ []) marks).0
@@ -70,9 +74,12 @@ module _ {A : Type 0} (bytes : A → List ℕ) (end : ℕ) (q : List ℕ) where
     others =
         let up = Pairwise-before (λ x y. Precedes (bytes x) (bytes y)) (without_last (texts_in_front bytes q xs)) [] last
         (subst (IsMap bytes) split (Pairwise-filter (λ x y. Precedes (bytes x) (bytes y)) (λ x. is_front (text_of bytes x) q) xs rise)) in
-        Each-both (λ x. Precedes (bytes x) (bytes last)) (λ x. IsEndedBy end (bytes x) × (is_front (text_of bytes x) q ≡ true)) (λ x. (length (text_of bytes x) < length (text_of bytes last)) × IsFront (text_of bytes x) q)
-        (λ x before (of_x, f). let front = front_from (text_of bytes x) q f in (less x last before of_x last_ended front last_in_front, front)) (without_last (texts_in_front bytes q xs)) up
-        (Each-both (λ x. IsEndedBy end (bytes x)) (λ x. is_front (text_of bytes x) q ≡ true) (λ x. IsEndedBy end (bytes x) × (is_front (text_of bytes x) q ≡ true)) (λ x i f. (i, f)) (without_last (texts_in_front bytes q xs))
+        Each-both (λ x. Precedes (bytes x) (bytes last)) (λ x. IsEndedBy end (bytes x) × (is_front (text_of bytes x) q ≡ true))
+        (λ x. (length (text_of bytes x) < length (text_of bytes last)) × IsFront (text_of bytes x) q)
+        (λ x before (of_x, f). let front = front_from (text_of bytes x) q f in
+        (less x last before of_x last_ended front last_in_front, front)) (without_last (texts_in_front bytes q xs)) up
+        (Each-both (λ x. IsEndedBy end (bytes x)) (λ x. is_front (text_of bytes x) q ≡ true)
+        (λ x. IsEndedBy end (bytes x) × (is_front (text_of bytes x) q ≡ true)) (λ x i f. (i, f)) (without_last (texts_in_front bytes q xs))
         (Each-left (λ x. IsEndedBy end (bytes x)) (without_last (texts_in_front bytes q xs)) (last ∷ []) marks)
         (Each-left (λ x. is_front (text_of bytes x) q ≡ true) (without_last (texts_in_front bytes q xs)) (last ∷ []) passes))
 
@@ -80,7 +87,9 @@ module _ {A : Type 0} (bytes : A → List ℕ) (end : ℕ) (q : List ℕ) where
     pub only : length (text_of bytes last) ≡ 0 → texts_in_front bytes q xs ≡ last ∷ []
     only none =
         split ∙ ap (λ ys. ys ++ last ∷ [])
-        (none_left (without_last (texts_in_front bytes q xs)) (Each-weaker (λ x. (length (text_of bytes x) < length (text_of bytes last)) × IsFront (text_of bytes x) q) (λ x. ⊥) (λ x (l, f). omega arith) (without_last (texts_in_front bytes q xs)) others))
+        (none_left (without_last (texts_in_front bytes q xs))
+        (Each-weaker (λ x. (length (text_of bytes x) < length (text_of bytes last)) × IsFront (text_of bytes x) q) (λ x. ⊥)
+        (λ x (l, f). omega arith) (without_last (texts_in_front bytes q xs)) others))
 
     -- the others are the prefixes of the query cut to one byte less than the last text has
     pub cut : (n : ℕ) → length (text_of bytes last) ≡ n + 1 → texts_in_front bytes q xs ≡ texts_in_front bytes (take n q) xs ++ last ∷ []
@@ -88,16 +97,21 @@ module _ {A : Type 0} (bytes : A → List ℕ) (end : ℕ) (q : List ℕ) where
         let test : A → Bool = λ x. is_front (text_of bytes x) (take n q) in
         let within = front_short (text_of bytes last) q last_in_front in
         let count = length-take n q in
-        let off : is_front (text_of bytes last) (take n q) ≡ false = not_front (text_of bytes last) (take n q) (λ f. let s = front_short (text_of bytes last) (take n q) f in omega arith) in
+        let off : is_front (text_of bytes last) (take n q) ≡ false =
+        not_front (text_of bytes last) (take n q) (λ f. let s = front_short (text_of bytes last) (take n q) f in omega arith) in
         let all =
-        Each-weaker (λ x. (length (text_of bytes x) < length (text_of bytes last)) × IsFront (text_of bytes x) q) (λ x. is_front (text_of bytes x) (take n q) ≡ true)
-        (λ x (l, f). true_front (text_of bytes x) (take n q) (front_of_fronts (text_of bytes x) (take n q) q f (cut_front n q) (omega arith))) (without_last (texts_in_front bytes q xs)) others in
+        Each-weaker (λ x. (length (text_of bytes x) < length (text_of bytes last)) × IsFront (text_of bytes x) q)
+        (λ x. is_front (text_of bytes x) (take n q) ≡ true)
+        (λ x (l, f). true_front (text_of bytes x) (take n q)
+        (front_of_fronts (text_of bytes x) (take n q) q f (cut_front n q) (omega arith)))
+        (without_last (texts_in_front bytes q xs)) others in
         let same : texts_in_front bytes (take n q) xs ≡ without_last (texts_in_front bytes q xs) =
         sym (filter_filter (λ x. is_front (text_of bytes x) (take n q)) (λ x. is_front (text_of bytes x) q)
         (λ x f. true_front (text_of bytes x) q (front_trans (text_of bytes x) (take n q) q (front_from (text_of bytes x) (take n q) f) (cut_front n q))) xs)
         ∙ ap (filter (λ x. is_front (text_of bytes x) (take n q))) split
         ∙ filter-append (λ x. is_front (text_of bytes x) (take n q)) (without_last (texts_in_front bytes q xs)) (last ∷ [])
-        ∙ ap₂ (λ ys zs. ys ++ zs) (filter_all (λ x. is_front (text_of bytes x) (take n q)) (without_last (texts_in_front bytes q xs)) all) (filter_none (λ x. is_front (text_of bytes x) (take n q)) (last ∷ []) (off, tt))
+        ∙ ap₂ (λ ys zs. ys ++ zs) (filter_all (λ x. is_front (text_of bytes x) (take n q)) (without_last (texts_in_front bytes q xs)) all)
+        (filter_none (λ x. is_front (text_of bytes x) (take n q)) (last ∷ []) (off, tt))
         ∙ append-nil (without_last (texts_in_front bytes q xs)) in
         split ∙ ap (λ ys. ys ++ last ∷ []) (sym same)
 
@@ -131,7 +145,8 @@ module _ {A : Type 0} (bytes : A → List ℕ) (end : ℕ) (q : List ℕ) where
   get_longer : (xs : List A) → IsMap bytes xs → Each InFront xs → GetLonger xs
   get_longer [] rise known = tt
   get_longer (x ∷ xs) rise known = (
-    Each-both (λ y. Precedes (bytes x) (bytes y)) InFront (λ y. length (text_of bytes x) < length (text_of bytes y)) (λ y before of_y. less x y before known.0.0 of_y.0 known.0.1 of_y.1) xs rise.0 known.1,
+    Each-both (λ y. Precedes (bytes x) (bytes y)) InFront (λ y. length (text_of bytes x) < length (text_of bytes y))
+        (λ y before of_y. less x y before known.0.0 of_y.0 known.0.1 of_y.1) xs rise.0 known.1,
     get_longer xs rise.1 known.1,
   )
 
@@ -142,7 +157,8 @@ module _ {A : Type 0} (bytes : A → List ℕ) (end : ℕ) (q : List ℕ) where
   first_longer (y ∷ ys) up n x e = go (first_longer ys up.1 n x) (long n y) refl e
     where
       all_long : (m : ℕ) → m ≤ length (text_of bytes y) + 1 → filter (long m) ys ≡ ys
-      all_long m few = filter_all (long m) ys (Each-weaker (λ z. length (text_of bytes y) < length (text_of bytes z)) (λ z. long m z ≡ true) (λ z l. le-leb m (length (text_of bytes z)) (omega arith)) ys up.0)
+      all_long m few = filter_all (long m) ys (Each-weaker (λ z. length (text_of bytes y) < length (text_of bytes z)) (λ z. long m z ≡ true)
+          (λ z l. le-leb m (length (text_of bytes z)) (omega arith)) ys up.0)
 
       go : (first_of (filter (long n) ys) ≡ Some x → filter (long n) ys ≡ x ∷ filter (long (length (text_of bytes x) + 1)) ys) → (b : Bool) → long n y ≡ b →
           first_of (cond b (y ∷ filter (long n) ys) (filter (long n) ys)) ≡ Some x →
@@ -150,22 +166,28 @@ module _ {A : Type 0} (bytes : A → List ℕ) (end : ℕ) (q : List ℕ) where
       go ih true is f =
           let same : y ≡ x = cc in
           let enough = leb-true n (length (text_of bytes y)) is in
-          ap (λ zs. y ∷ zs) (all_long n (omega arith) ∙ sym (all_long (length (text_of bytes y) + 1) (omega arith)) ∙ sym (rw (lt-leb (length (text_of bytes y) + 1) (length (text_of bytes y)) (omega arith)) refl))
+          ap (λ zs. y ∷ zs) (all_long n (omega arith) ∙ sym (all_long (length (text_of bytes y) + 1) (omega arith))
+          ∙ sym (rw (lt-leb (length (text_of bytes y) + 1) (length (text_of bytes y)) (omega arith)) refl))
           ∙ ap (λ z. z ∷ filter (long (length (text_of bytes z) + 1)) (y ∷ ys)) same
       go ih false is f =
-          let more = first_has (λ z. length (text_of bytes y) < length (text_of bytes z)) (filter (long n) ys) x (Each-filter (λ z. length (text_of bytes y) < length (text_of bytes z)) (long n) ys up.0) f in
+          let more = first_has (λ z. length (text_of bytes y) < length (text_of bytes z)) (filter (long n) ys) x
+          (Each-filter (λ z. length (text_of bytes y) < length (text_of bytes z)) (long n) ys up.0) f in
           ih f ∙ ap (λ zs. x ∷ zs) (sym (rw (lt-leb (length (text_of bytes x) + 1) (length (text_of bytes y)) (omega arith)) refl))
 
   module _ (xs : List A) (rise : IsMap bytes xs) (ended : AreEnded bytes end xs) where
     known_front : Each InFront (texts_in_front bytes q xs)
     known_front =
-        Each-both (λ x. IsEndedBy end (bytes x)) (λ x. is_front (text_of bytes x) q ≡ true) InFront (λ x i f. (i, front_from (text_of bytes x) q f)) (texts_in_front bytes q xs)
+        Each-both (λ x. IsEndedBy end (bytes x)) (λ x. is_front (text_of bytes x) q ≡ true) InFront
+        (λ x i f. (i, front_from (text_of bytes x) q f)) (texts_in_front bytes q xs)
         (Each-filter (λ x. IsEndedBy end (bytes x)) (λ x. is_front (text_of bytes x) q) xs ended) (filter_passes (λ x. is_front (text_of bytes x) q) xs)
 
     front_longer : GetLonger (texts_in_front bytes q xs)
-    front_longer = get_longer (texts_in_front bytes q xs) (Pairwise-filter (λ x y. Precedes (bytes x) (bytes y)) (λ x. is_front (text_of bytes x) q) xs rise) known_front
+    front_longer =
+        get_longer (texts_in_front bytes q xs) (Pairwise-filter (λ x y. Precedes (bytes x) (bytes y))
+        (λ x. is_front (text_of bytes x) q) xs rise) known_front
 
-    pub first_and_longer : (n : ℕ) (x : A) → first_of (texts_from bytes q n xs) ≡ Some x → texts_from bytes q n xs ≡ x ∷ texts_from bytes q (length (text_of bytes x) + 1) xs
+    pub first_and_longer : (n : ℕ) (x : A) → first_of (texts_from bytes q n xs) ≡ Some x →
+        texts_from bytes q n xs ≡ x ∷ texts_from bytes q (length (text_of bytes x) + 1) xs
     first_and_longer n x e = first_longer (texts_in_front bytes q xs) front_longer n x e
 
     -- the first key is a text and an end byte, so it has one byte more
@@ -182,7 +204,9 @@ module _ {A : Type 0} (bytes : A → List ℕ) (end : ℕ) (q : List ℕ) where
       all_short n short =
           ap (filter (long n)) (split xs rise ended last e)
           ∙ filter_append_none (without_last (texts_in_front bytes q xs)) last
-          (Each-weaker (λ x. (length (text_of bytes x) < length (text_of bytes last)) × IsFront (text_of bytes x) q) (λ x. long n x ≡ false) (λ x (l, f). lt-leb n (length (text_of bytes x)) (omega arith)) (without_last (texts_in_front bytes q xs)) (others xs rise ended last e))
+          (Each-weaker (λ x. (length (text_of bytes x) < length (text_of bytes last)) × IsFront (text_of bytes x) q) (λ x. long n x ≡ false)
+          (λ x (l, f). lt-leb n (length (text_of bytes x)) (omega arith)) (without_last (texts_in_front bytes q xs))
+          (others xs rise ended last e))
           (lt-leb n (length (text_of bytes last)) short)
         where
           filter_append_none : (ys : List A) (z : A) → Each (λ y. long n y ≡ false) ys → long n z ≡ false → filter (long n) (ys ++ z ∷ []) ≡ []
@@ -223,7 +247,8 @@ module _ {K V : Type 0} (bytes : K → List ℕ) (q : List ℕ) (n : ℕ) (pairs
 
   module _ (rise : IsMap (of_key bytes) pairs) (ended : AreEnded (of_key bytes) 0 pairs) (x : K × V) where
     -- the shortest match is returned, and the longer ones are left
-    pub first_came : Some x ≡ first_of (texts_from (of_key bytes) q n pairs) → (m : ℕ) → m ≡ length (bytes x.0) → matches_left bytes (Some q) n pairs ≡ x ∷ matches_left bytes (Some q) m pairs
+    pub first_came : Some x ≡ first_of (texts_from (of_key bytes) q n pairs) → (m : ℕ) → m ≡ length (bytes x.0) →
+        matches_left bytes (Some q) n pairs ≡ x ∷ matches_left bytes (Some q) m pairs
     first_came found m is =
         first_and_longer (of_key bytes) 0 q pairs rise ended n x (sym found)
         ∙ ap (λ k. x ∷ texts_from (of_key bytes) q k pairs) (sym (is ∙ first_len (of_key bytes) 0 q pairs rise ended n x (sym found)))
@@ -237,14 +262,16 @@ module _ {K V : Type 0} (bytes : K → List ℕ) (q : List ℕ) (n : ℕ) (pairs
       too_short short = let l = len in all_short (of_key bytes) 0 q pairs rise ended x (sym found) n (omega arith)
 
       -- the longest match is returned, and the shorter ones are left
-      pub last_came : n < length (bytes x.0) → (left : Option (List ℕ)) → (length (bytes x.0) ≤ 1 → left ≡ None) → (1 < length (bytes x.0) → left ≡ Some (take (length (bytes x.0) - 2) q)) →
+      pub last_came : n < length (bytes x.0) → (left : Option (List ℕ)) → (length (bytes x.0) ≤ 1 → left ≡ None) →
+          (1 < length (bytes x.0) → left ≡ Some (take (length (bytes x.0) - 2) q)) →
           matches_left bytes (Some q) n pairs ≡ matches_left bytes left n pairs ++ x ∷ []
       last_came enough left empty longer = go (cases_lt 1 (length (bytes x.0)))
         where
           go : (1 < length (bytes x.0)) ⊎ (length (bytes x.0) ≤ 1) → matches_left bytes (Some q) n pairs ≡ matches_left bytes left n pairs ++ x ∷ []
           go (inr o) =
               let l = len in
-              only_from (of_key bytes) 0 q pairs rise ended x (sym found) n (omega arith) (omega arith) ∙ ap (λ o. matches_left bytes o n pairs ++ x ∷ []) (sym (empty o))
+              only_from (of_key bytes) 0 q pairs rise ended x (sym found) n (omega arith) (omega arith)
+              ∙ ap (λ o. matches_left bytes o n pairs ++ x ∷ []) (sym (empty o))
           go (inl o) =
               let l = len in
               cut_from (of_key bytes) 0 q pairs rise ended x (sym found) n (omega arith) (length (bytes x.0) - 2) (omega arith)

@@ -51,14 +51,16 @@ module _ {K : Type 0} (V : Type 0) (is_key : K → Type 0) (bytes : K → List �
   pub never_in_conflict : HasNoPrefixes is_key bytes → IsNeverInConflict V is_key bytes
   never_in_conflict = none_in_conflict (λ x. x.0)
 
-  pub key_never_in_conflict : HasNoPrefixes is_key bytes → (key : K) (keys : List K) → is_key key → Each is_key keys → is_conflict bytes (bytes key) keys ≡ false
+  pub key_never_in_conflict : HasNoPrefixes is_key bytes → (key : K) (keys : List K) → is_key key → Each is_key keys →
+      is_conflict bytes (bytes key) keys ≡ false
   key_never_in_conflict = none_in_conflict (λ key. key)
 
   -- so an insertion fails only if an allocation fails
   pub refusal_told : HasNoPrefixes is_key bytes → (key : K) (value : V) (pairs : List (K × V)) → is_key key → HaveKeys is_key pairs →
       (error : MapInsertError K V) → IsRefusalOf bytes key value pairs error → (refused : PairRefused K V) → IsHandedBack error refused →
       ((refused.key ≡ key) × (refused.value ≡ value)) × (has_key (of_key bytes) (bytes key) pairs ≡ false)
-  refusal_told law key value pairs of_key' all (Conflict k v error) told refused back = absurd (true≢false (sym told.3 ∙ never_in_conflict law key pairs of_key' all))
+  refusal_told law key value pairs of_key' all (Conflict k v error) told refused back =
+      absurd (true≢false (sym told.3 ∙ never_in_conflict law key pairs of_key' all))
   refusal_told law key value pairs of_key' all (Memory k v) told refused back = ((back.0 ∙ told.0, back.1 ∙ told.1), told.2)
 
   -- and the key is not stored
@@ -71,7 +73,8 @@ module _ {K : Type 0} (V : Type 0) (is_key : K → Type 0) (bytes : K → List �
 
   pub put_keeps : (key : K) (value : V) (pairs : List (K × V)) → is_key key → HaveKeys is_key pairs → HaveKeys is_key (put (of_key bytes) (key, value) pairs)
   put_keeps key value pairs of_key' all =
-      Each-add (of_key bytes) (λ x. is_key x.0) (stored_for (of_key bytes) (key, value) pairs) _ (stored (first_of (with_key (of_key bytes) (bytes key) pairs)) refl)
+      Each-add (of_key bytes) (λ x. is_key x.0) (stored_for (of_key bytes) (key, value) pairs) _
+      (stored (first_of (with_key (of_key bytes) (bytes key) pairs)) refl)
       (Each-filter (λ x. is_key x.0) _ pairs all)
     where
       kept : Option (K × V) → K × V
@@ -110,7 +113,8 @@ module _ {K : Type 0} (V : Type 0) (is_key : K → Type 0) (bytes : K → List �
 
   -- ---- the order
 
-  pub rises : {order : K → K → Ordering} → KeepsOrder is_key bytes order → (pairs : List (K × V)) → HaveKeys is_key pairs → IsMap (of_key bytes) pairs → RiseBy order pairs
+  pub rises : {order : K → K → Ordering} → KeepsOrder is_key bytes order → (pairs : List (K × V)) → HaveKeys is_key pairs →
+      IsMap (of_key bytes) pairs → RiseBy order pairs
   rises keeps [] all sorted = tt
   rises {order} keeps (x ∷ pairs) all sorted = (each pairs all.1 sorted.0, rises keeps pairs all.1 sorted.1)
     where
@@ -149,8 +153,10 @@ module _ {K : Type 0} (V : Type 0) (is_key : K → Type 0) (bytes : K → List �
       each (y ∷ others) of_others h = (sym (keeps x y all.0 of_others.0) ∙ before_less _ h.0.0, each others of_others.1 h.1)
 
 -- of two pairs that were not inserted, one has a key that is not stored
-pub one_is_new : {K V L W : Type 0} (is_key : K → Type 0) (bytes : K → List ℕ) (is_other : L → Type 0) (other_bytes : L → List ℕ) → HasNoPrefixes is_key bytes → HasNoPrefixes is_other other_bytes →
-    (pair : K × V) (pairs : List (K × V)) (other : L × W) (others : List (L × W)) → is_key pair.0 → HaveKeys is_key pairs → is_other other.0 → HaveKeys is_other others →
+pub one_is_new : {K V L W : Type 0} (is_key : K → Type 0) (bytes : K → List ℕ) (is_other : L → Type 0) (other_bytes : L → List ℕ) →
+    HasNoPrefixes is_key bytes → HasNoPrefixes is_other other_bytes →
+    (pair : K × V) (pairs : List (K × V)) (other : L × W) (others : List (L × W)) → is_key pair.0 → HaveKeys is_key pairs →
+    is_other other.0 → HaveKeys is_other others →
     (error : BothInsertError K V L W) → IsRefusalOfBoth bytes other_bytes pair pairs other others error → IsOneNew bytes pair.0 pairs other_bytes other.0 others
 one_is_new {K} {V} {L} {W} is_key bytes is_other other_bytes law other_law pair pairs other others of_key' all of_other all_others (First error back) told =
     inl (refused_is_new V is_key bytes law pair.0 pair.1 pairs of_key' all error told.0)

@@ -21,15 +21,18 @@ use Rattle.art_keyed.specs.KeyedValues.{CountsPut, CountsRemoved, KeepsOtherKeys
 
 module _ {K V : Type 0} (bytes : K → List ℕ) where
   -- an insertion adds a pair, or none if one was replaced
-  pub put_counted : (key : K) (value : V) (before after : List (K × V)) → IsMap (of_key bytes) before → (replaced : Option (K × V)) → replaced ≡ put_reply (of_key bytes) (key, value) before →
+  pub put_counted : (key : K) (value : V) (before after : List (K × V)) → IsMap (of_key bytes) before → (replaced : Option (K × V)) →
+      replaced ≡ put_reply (of_key bytes) (key, value) before →
       after ≡ put (of_key bytes) (key, value) before → CountsPut replaced before after
   put_counted key value before after rising None is put_is = ap length put_is ∙ one_more bytes (key, value) before rising (sym is)
   put_counted key value before after rising (Some x) is put_is = ap length put_is ∙ as_many bytes (key, value) before rising x (sym is)
 
   -- a removal removes a pair, or none if none has the key
-  pub removal_counted : (key : List ℕ) (before after : List (K × V)) → IsMap (of_key bytes) before → (removed : Option (K × V)) → removed ≡ remove_reply (of_key bytes) key before →
+  pub removal_counted : (key : List ℕ) (before after : List (K × V)) → IsMap (of_key bytes) before → (removed : Option (K × V)) →
+      removed ≡ remove_reply (of_key bytes) key before →
       after ≡ remove_key (of_key bytes) key before → CountsRemoved removed before after
-  removal_counted key before after rising removed is left = go removed (ap length (removal_tells (of_key bytes) key before rising ∙ ap (λ o. cons_option o []) (sym is)))
+  removal_counted key before after rising removed is left =
+      go removed (ap length (removal_tells (of_key bytes) key before rising ∙ ap (λ o. cons_option o []) (sym is)))
     where
       counts : length (remove_key (of_key bytes) key before) + length (with_key (of_key bytes) key before) ≡ length before
       counts = removal_counts (of_key bytes) key before
@@ -53,7 +56,8 @@ module _ {K V : Type 0} (bytes : K → List ℕ) where
 
   module _ (is_key : K → Type 0) (law : AreInjective is_key bytes) where
     -- what holds for the bytes of other keys holds for the keys
-    pub other_keys_kept : (key : K) (before after : List (K × V)) → is_key key → ((other : List ℕ) → other ≢ bytes key → value_at bytes other after ≡ value_at bytes other before) →
+    pub other_keys_kept : (key : K) (before after : List (K × V)) → is_key key →
+        ((other : List ℕ) → other ≢ bytes key → value_at bytes other after ≡ value_at bytes other before) →
         KeepsOtherKeys is_key bytes key before after
     other_keys_kept key before after of_key' others other of_other off = others (bytes other) (λ same. off (law other key of_other of_key' same))
 
@@ -66,10 +70,12 @@ module _ {K V : Type 0} (bytes : K → List ℕ) where
       pub len : CountsRemoved removed before after
 
     -- the same for the pairs that a contract sees
-    pub seen_as : {removed : Option (K × V)} {before seen after : List (K × V)} → before ≡ seen → TellsRemoved removed before after → TellsRemoved removed seen after
+    pub seen_as : {removed : Option (K × V)} {before seen after : List (K × V)} → before ≡ seen → TellsRemoved removed before after →
+        TellsRemoved removed seen after
     seen_as {removed} {after = after} same told = subst (λ xs. TellsRemoved removed xs after) same told
 
-    removed_pair : (x : K × V) (before after : List (K × V)) → IsMap (of_key bytes) before → is_key x.0 → remove_reply (of_key bytes) (bytes x.0) before ≡ Some x →
+    removed_pair : (x : K × V) (before after : List (K × V)) → IsMap (of_key bytes) before → is_key x.0 →
+        remove_reply (of_key bytes) (bytes x.0) before ≡ Some x →
         after ≡ remove_key (of_key bytes) (bytes x.0) before → TellsRemoved (Some x) before after
     removed_pair x before after rising of_x reply left = record {
       key = of_x;
@@ -83,7 +89,8 @@ module _ {K V : Type 0} (bytes : K → List ℕ) where
     removed_none before after same = record { key = tt; stored = tt; gone = tt; other_keys = tt; len = ap length same }
 
     -- the first pair
-    pub first_told : (removed : Option (K × V)) (before after : List (K × V)) → IsMap (of_key bytes) before → HaveKeys is_key before → removed ≡ first_of before →
+    pub first_told : (removed : Option (K × V)) (before after : List (K × V)) → IsMap (of_key bytes) before → HaveKeys is_key before →
+        removed ≡ first_of before →
         after ≡ without_first before → TellsRemoved removed before after
     first_told removed [] after rising keys is left = subst (λ o. TellsRemoved o [] after) (sym is) (removed_none [] after left)
     first_told removed (x ∷ xs) after rising keys is left =
@@ -93,7 +100,8 @@ module _ {K V : Type 0} (bytes : K → List ℕ) where
     -- the first of the pairs with a prefix
     pub below_told : (prefix : List ℕ) (removed : Option (K × V)) (before after : List (K × V)) → IsMap (of_key bytes) before → HaveKeys is_key before →
         removed ≡ first_of (below (of_key bytes) prefix before) → after ≡ without_below (of_key bytes) prefix 1 before → TellsRemoved removed before after
-    below_told prefix removed before after rising keys is left = subst (λ o. TellsRemoved o before after) (sym is) (go (first_of (below (of_key bytes) prefix before)) refl)
+    below_told prefix removed before after rising keys is left =
+        subst (λ o. TellsRemoved o before after) (sym is) (go (first_of (below (of_key bytes) prefix before)) refl)
       where
         go : (o : Option (K × V)) → first_of (below (of_key bytes) prefix before) ≡ o → TellsRemoved o before after
         go None e = removed_none before after (left ∙ nothing_out (of_key bytes) prefix before (sym e))
@@ -109,7 +117,8 @@ module _ {K V : Type 0} (bytes : K → List ℕ) where
         go : (o : Option (K × V)) → last_of before ≡ o → TellsRemoved o before after
         go None e = let none = none_last before e in removed_none before after (left ∙ ap without_last none ∙ sym none)
         go (Some x) e =
-            removed_pair x before after rising (last_each (λ y. is_key y.0) before x keys e) (last_reply before x rising e) (left ∙ sym (last_is_removed_by_key (of_key bytes) x before rising e))
+            removed_pair x before after rising (last_each (λ y. is_key y.0) before x keys e) (last_reply before x rising e)
+            (left ∙ sym (last_is_removed_by_key (of_key bytes) x before rising e))
 
 module _ {K V : Type 0} (bytes : K → List ℕ) (is_key : K → Type 0) (law : AreInjective is_key bytes) (key : K) (of_key' : is_key key) where
   -- an insertion, a write and a removal keep the values of the other keys

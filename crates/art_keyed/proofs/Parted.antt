@@ -21,7 +21,8 @@ each_part P test [] passed failed = tt
 each_part P test (x ∷ xs) passed failed = go (test x) (each_part P test xs) passed failed
   where
     go : (b : Bool) → (Each P (filter test xs) → Each P (filter (λ x. not (test x)) xs) → Each P xs) →
-        Each P (cond b (x ∷ filter test xs) (filter test xs)) → Each P (cond (not b) (x ∷ filter (λ y. not (test y)) xs) (filter (λ y. not (test y)) xs)) → Each P (x ∷ xs)
+        Each P (cond b (x ∷ filter test xs) (filter test xs)) →
+        Each P (cond (not b) (x ∷ filter (λ y. not (test y)) xs) (filter (λ y. not (test y)) xs)) → Each P (x ∷ xs)
     go true ih of_yes of_no = (of_yes.0, ih of_yes.1 of_no)
     go false ih of_yes of_no = (of_no.0, ih of_yes of_no.1)
 
@@ -40,7 +41,8 @@ module _ {A : Type 0} (Known : A → Type 0) (bytes : A → List ℕ) where
   pub others_keep : (from to : Bound (List ℕ)) (xs : List A) → Each Known xs → Each Known (not_between bytes from to xs)
   others_keep from to xs all = Each-filter Known _ xs all
 
-  module _ (key : List ℕ) (before after moved : List A) (x : A) (parts : keys_from bytes key before ≡ moved ++ x ∷ keys_from bytes key after) (all : Each Known before) where
+  module _ (key : List ℕ) (before after moved : List A) (x : A)
+      (parts : keys_from bytes key before ≡ moved ++ x ∷ keys_from bytes key after) (all : Each Known before) where
     known : Each Known (moved ++ x ∷ keys_from bytes key after)
     known = subst (Each Known) parts (from_keeps key before all)
 
@@ -52,7 +54,8 @@ module _ {A : Type 0} (Known : A → Type 0) (bytes : A → List ℕ) where
 
 module _ {K : Type 0} (is_key : K → Type 0) (bytes : K → List ℕ) where
   -- an element is not between two bounds exactly if the bytes of its key are not between those of the bounds
-  not_between_by : {A : Type 0} (key_of : A → K) {order : K → K → Ordering} → KeepsOrder is_key bytes order → (from to : Bound (Bor K)) (low high : Bound (List ℕ)) →
+  not_between_by : {A : Type 0} (key_of : A → K) {order : K → K → Ordering} → KeepsOrder is_key bytes order →
+      (from to : Bound (Bor K)) (low high : Bound (List ℕ)) →
       low ≡ bound_map (λ b. bytes b.now) from → high ≡ bound_map (λ b. bytes b.now) to →
       OnBound is_key (bound_map (λ b. b.now) from) → OnBound is_key (bound_map (λ b. b.now) to) → (xs : List A) → Each (λ x. is_key (key_of x)) xs →
       not_between (λ x. bytes (key_of x)) low high xs ≡

@@ -16,7 +16,8 @@ module _ {F A : Type 0} (asks : F → A → Bool → F → Type 0) (Known : A �
       go false is known = rw is known
 
 -- the same of pairs by their keys, where values may change
-pub pairs_keep : {F K V : Type 0} (g : Mut F (Bor K × (MutBor V × Unit {0})) (Bool × (MutBor V × Unit {0}))) (is_key : K → Type 0) (f : F) (before kept : List (K × V)) (left : F) →
+pub pairs_keep : {F K V : Type 0} (g : Mut F (Bor K × (MutBor V × Unit {0})) (Bool × (MutBor V × Unit {0}))) (is_key : K → Type 0) (f : F)
+    (before kept : List (K × V)) (left : F) →
     RetainsPairs g f before kept left → Each (λ x. is_key x.0) before → Each (λ x. is_key x.0) kept
 pairs_keep g is_key f [] kept left retains all = rw retains.0 tt
 pairs_keep g is_key f (x ∷ xs) kept left (b, value, next, rest, asked, retains, is) all = go b is (pairs_keep g is_key next xs rest left retains all.1)
@@ -26,7 +27,8 @@ pairs_keep g is_key f (x ∷ xs) kept left (b, value, next, rest, asked, retains
     go false is known = rw is known
 
 -- and of pairs with the same keys
-pub keys_keep : {K V : Type 0} (is_key : K → Type 0) (before after : List (K × V)) → keys_of after ≡ keys_of before → Each (λ x. is_key x.0) before → Each (λ x. is_key x.0) after
+pub keys_keep : {K V : Type 0} (is_key : K → Type 0) (before after : List (K × V)) → keys_of after ≡ keys_of before →
+    Each (λ x. is_key x.0) before → Each (λ x. is_key x.0) after
 keys_keep is_key before [] same all = tt
 keys_keep is_key [] (y ∷ ys) same all = absurd cc
 keys_keep is_key (x ∷ xs) (y ∷ ys) same all =

@@ -29,7 +29,8 @@ greater_other a b greater =
 equal_same : (a b : List ℕ) → slice_cmp nat_cmp a b ≡ Equal → are_same b a ≡ true
 equal_same a b equal = ap (λ k. are_same k a) (sym (exact_bytes a b equal)) ∙ front_same a
 
-module _ {A B : Type 0} (is_first : A → Type 0) (first : A → List ℕ) {by_first : A → A → Ordering} (keeps : KeepsOrder is_first first by_first) (by_second : B → B → Ordering) (key : A)
+module _ {A B : Type 0} (is_first : A → Type 0) (first : A → List ℕ) {by_first : A → A → Ordering}
+    (keeps : KeepsOrder is_first first by_first) (by_second : B → B → Ordering) (key : A)
     (of_key' : is_first key) (from to : B) where
   abbrev in_range : A × B → Bool
   in_range both = not (is_lt (pair_cmp by_first by_second both (key, from))) && is_lt (pair_cmp by_first by_second both (key, to))
@@ -41,11 +42,14 @@ module _ {A B : Type 0} (is_first : A → Type 0) (first : A → List ℕ) {by_f
   seconds both of_both = go (by_first both.0 key) (keeps both.0 key of_both of_key')
     where
       go : (o : Ordering) → slice_cmp nat_cmp (first both.0) (first key) ≡ o →
-          (not (is_lt (ordering_then o (by_second both.1 from))) && is_lt (ordering_then o (by_second both.1 to))) ≡ (are_same (first key) (first both.0) && second_in_range both)
+          (not (is_lt (ordering_then o (by_second both.1 from))) && is_lt (ordering_then o (by_second both.1 to)))
+          ≡ (are_same (first key) (first both.0) && second_in_range both)
       go Less e = rw (less_other (first both.0) (first key) e) refl
       go Equal e = rw (equal_same (first both.0) (first key) e) refl
       go Greater e = rw (greater_other (first both.0) (first key) e) refl
 
-  pub range_seconds : {V : Type 0} (Known : A × B → Type 0) → ((both : A × B) → Known both → is_first both.0) → (pairs : List ((A × B) × V)) → HaveKeys Known pairs →
-      keys_between (pair_cmp by_first by_second) (Included (key, from)) (Excluded (key, to)) pairs ≡ pairs_with_both first (first key) by_second (Included from) (Excluded to) pairs
+  pub range_seconds : {V : Type 0} (Known : A × B → Type 0) → ((both : A × B) → Known both → is_first both.0) →
+      (pairs : List ((A × B) × V)) → HaveKeys Known pairs →
+      keys_between (pair_cmp by_first by_second) (Included (key, from)) (Excluded (key, to)) pairs
+      ≡ pairs_with_both first (first key) by_second (Included from) (Excluded to) pairs
   range_seconds Known own pairs all = filter_same (λ pair. Known pair.0) _ _ (λ pair known. seconds pair.0 (own pair.0 known)) pairs all

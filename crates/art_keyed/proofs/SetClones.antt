@@ -17,7 +17,8 @@ cloned_keys_keep is_key is_clone kept (x ∷ keys) [] are all = absurd are
 cloned_keys_keep is_key is_clone kept (x ∷ keys) (y ∷ copies) are all =
     (kept x y are.0 all.0, cloned_keys_keep is_key is_clone kept keys copies are.1 all.1)
 
-zip_last : {K : Type 0} (is_clone : K → K → Type 0) (came : List (Bor K)) (copies : List K) (x : Bor K) (y : K) → AllZip is_clone (map (λ key. key.now) came) copies → is_clone x.now y →
+zip_last : {K : Type 0} (is_clone : K → K → Type 0) (came : List (Bor K)) (copies : List K) (x : Bor K) (y : K) →
+    AllZip is_clone (map (λ key. key.now) came) copies → is_clone x.now y →
     AllZip is_clone (map (λ key. key.now) (came ++ x ∷ [])) (copies ++ y ∷ [])
 zip_last is_clone [] [] x y are one = (one, tt)
 zip_last is_clone [] (z ∷ copies) x y are one = absurd are

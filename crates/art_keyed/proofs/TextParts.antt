@@ -21,7 +21,9 @@ module _ {V : Type 0} (text : List ℕ) (zero : ¬ HasNoZero text) (pairs : List
   none_start = filter_none _ pairs (Each-weaker (λ x. HasNoZero x.0) (λ x. is_front text x.0 ≡ false) (λ x none. no_start text x.0 zero none) pairs known)
 
   pub all_stay : strings_not_below (λ string. string) text pairs ≡ pairs
-  all_stay = filter_all _ pairs (Each-weaker (λ x. HasNoZero x.0) (λ x. not (is_front text x.0) ≡ true) (λ x none. ap not (no_start text x.0 zero none)) pairs known)
+  all_stay =
+      filter_all _ pairs (Each-weaker (λ x. HasNoZero x.0) (λ x. not (is_front text x.0) ≡ true)
+      (λ x none. ap not (no_start text x.0 zero none)) pairs known)
 
 -- no key is at a bound and before it
 pub none_between : {A : Type 0} (bytes : A → List ℕ) (bound : List ℕ) (xs : List A) → between bytes (Included bound) (Excluded bound) xs ≡ []

@@ -14,7 +14,8 @@ module _ {R K V : Type 0} (bytes : K → List ℕ) (order : K → K → Ordering
   abbrev pub ExtractsKeys : TreeExtractRangeOf R (List (K × V)) → Option (K × V) → TreeExtractRangeOf R (List (K × V)) → Type 0
   ExtractsKeys s taken t =
       (t.map.ghost_name ≡ s.map.ghost_name) × (t.range ≡ s.range) ×
-      (has_bounds s.range → ExtractsFirst (of_key bytes) (λ x. is_key_from order (start s.range) x.0 && is_key_up_to order (end s.range) x.0) s.map.now taken t.map.now)
+      (has_bounds s.range → ExtractsFirst (of_key bytes)
+      (λ x. is_key_from order (start s.range) x.0 && is_key_up_to order (end s.range) x.0) s.map.now taken t.map.now)
 
 module _ {K V : Type 0} (bytes text : K → List ℕ) where
   -- the first pair whose string starts with that of the key was removed and returned

@@ -5,6 +5,11 @@ ghost use Rattle.std.specs.Fn.{FnOnceReturnsAt};
 ghost use Rattle.std.specs.Option.{UnwrapsOrElse, option_copied_mut, option_map, unwrap_or};
 ghost use Rattle.art_map.specs.MapAnswers.{value_at};
 ghost use Rattle.art_map.specs.MapItems.{deref_pair, keys_of, values_of};
+ghost use Rattle.art_keyed.specs.KeyedRefusals.{IsHandedBack};
+ghost use Rattle.art_model.specs.Pairs.{IsMap, first_of, has_key, last_of, of_key, put, put_reply, remove_key, remove_reply, with_key, without_first, without_last};
+ghost use Rattle.art_keyed.specs.KeyedPairs.{HaveKeys};
+ghost use Rattle.art_keyed.specs.KeyedLends.{lends_put, lends_value};
+ghost use Rattle.art_keyed.specs.KeyedValues.{CountsPut, CountsRemoved, KeepsOtherKeys, value_of};
 
 use art_keys::laws::NoPrefixesBytes;
 use art_map::map::{
@@ -57,8 +62,6 @@ impl<K: Drop, V: Drop> From<PairRefused<K, V>> for AllocError {
 /// Returns the pair of an error of a `ByteMap`. If the keys are of a type that has no conflicts, what failed is always
 /// an allocation.
 impl<K: NoPrefixesBytes, V> From<MapInsertError<K, V>> for PairRefused<K, V> {
-    ghost use Rattle.art_keyed.specs.KeyedRefusals.{IsHandedBack};
-
     ghost from_gives = { IsHandedBack };
 
     fn from(error: MapInsertError<K, V>) -> Self {
@@ -92,11 +95,6 @@ impl<K: NoPrefixesBytes, V, const P: usize> Model for TreeMap<K, V, P> {
 }
 
 impl<K: NoPrefixesBytes + Drop, V: Drop, const P: usize> TreeMap<K, V, P> {
-    ghost use Rattle.art_model.specs.Pairs.{IsMap, first_of, has_key, last_of, of_key, put, put_reply, remove_key, remove_reply, with_key, without_first, without_last};
-    ghost use Rattle.art_keyed.specs.KeyedPairs.{HaveKeys};
-    ghost use Rattle.art_keyed.specs.KeyedLends.{lends_put, lends_value};
-    ghost use Rattle.art_keyed.specs.KeyedValues.{CountsPut, CountsRemoved, KeepsOtherKeys, value_of};
-
     /// Returns an empty map. It allocates nothing.
     pub fn new(alloc: Global) -> Self
         ensures { result ≡ [] }
@@ -397,8 +395,6 @@ impl<K: NoPrefixesBytes + Drop, V: Drop, const P: usize> IntoIterator for TreeMa
 /// Returns the value of a key, which must be stored: a precondition, which is not checked at run time.
 impl<'b, K: NoPrefixesBytes + Drop, V: Drop, const P: usize> Index<&'b K> for TreeMap<K, V, P> {
     type Output = V;
-
-    ghost use Rattle.art_map.specs.MapAnswers.{value_at};
 
     ghost can_index = { λ map key. IsSome (value_at K.bytes (K.bytes key.now) map) };
 

@@ -14,7 +14,9 @@ pub record IsWriting (text : List ℕ) (at : ℕ) (before : List ℕ) (end : ℕ
   pub is_end : end + length (unescape rest) ≡ at + length text
 
 -- one more byte is written
-pub writes_byte : {text : List ℕ} {at : ℕ} {before : List ℕ} {end : ℕ} {buffer rest : List ℕ} {byte : ℕ} {others : List ℕ} → IsWriting text at before end buffer rest → unescape rest ≡ byte ∷ unescape others → end < length buffer → IsWriting text at before (end + 1) (set buffer end byte) others
+pub writes_byte : {text : List ℕ} {at : ℕ} {before : List ℕ} {end : ℕ} {buffer rest : List ℕ} {byte : ℕ} {others : List ℕ} →
+    IsWriting text at before end buffer rest → unescape rest ≡ byte ∷ unescape others → end < length buffer →
+    IsWriting text at before (end + 1) (set buffer end byte) others
 writes_byte {text} {at} {before} {end} {buffer} {rest} {byte} {others} so is room = record {
   whole = ap (λ xs. xs ++ unescape others) (take_more_set buffer end byte room)
       ∙ append_assoc (take end buffer) (byte ∷ []) (unescape others)

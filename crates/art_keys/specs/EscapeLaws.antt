@@ -33,7 +33,12 @@ escape_order (suc zero ∷ a) (zero ∷ b) = refl
 escape_order (suc zero ∷ a) (suc zero ∷ b) = escape_order a b
 escape_order (suc zero ∷ a) (suc (suc n) ∷ b) = rw (lt-ltb 1 (suc (suc n)) (omega arith)) refl
 escape_order (suc (suc m) ∷ a) (zero ∷ b) =
-    rw (le-ltb (suc (suc m)) 0 (omega arith), ne_eqb (suc (suc m)) 0 (λ e. omega arith), le-ltb (suc (suc m)) 1 (omega arith), ne_eqb (suc (suc m)) 1 (λ e. omega arith)) refl
+    rw (
+      le-ltb (suc (suc m)) 0 (omega arith),
+      ne_eqb (suc (suc m)) 0 (λ e. omega arith),
+      le-ltb (suc (suc m)) 1 (omega arith),
+      ne_eqb (suc (suc m)) 1 (λ e. omega arith),
+    ) refl
 escape_order (suc (suc m) ∷ a) (suc zero ∷ b) = rw (le-ltb (suc (suc m)) 1 (omega arith), ne_eqb (suc (suc m)) 1 (λ e. omega arith)) refl
 escape_order (suc (suc m) ∷ a) (suc (suc n) ∷ b) = rw (escape_order a b) refl
 

@@ -18,9 +18,11 @@ same_bytes : (a b : List ℕ) → IsTrue (eq_by_cmp (slice_cmp nat_cmp) a b) →
 same_bytes a b told = exact_bytes a b (told_equal (slice_cmp nat_cmp a b) told)
 
 -- equal strings have the same bytes, and so the same hash
-pub strings_hash : (bytes : List ℕ → List ℕ) (a b : List ℕ) → IsTrue (eq_by_cmp (slice_cmp nat_cmp) a b) → fed.slice fed.u8 (bytes a) ≡ fed.slice fed.u8 (bytes b)
+pub strings_hash : (bytes : List ℕ → List ℕ) (a b : List ℕ) → IsTrue (eq_by_cmp (slice_cmp nat_cmp) a b) →
+    fed.slice fed.u8 (bytes a) ≡ fed.slice fed.u8 (bytes b)
 strings_hash bytes a b told = ap (λ key. fed.slice fed.u8 (bytes key)) (same_bytes a b told)
 
 -- keys with equal bytes have the same hash
-pub bytes_hash : {K : Type 0} (bytes : K → List ℕ) (a b : K) → IsTrue (eq_by_cmp (on bytes (slice_cmp nat_cmp)) a b) → fed.slice fed.u8 (bytes a) ≡ fed.slice fed.u8 (bytes b)
+pub bytes_hash : {K : Type 0} (bytes : K → List ℕ) (a b : K) → IsTrue (eq_by_cmp (on bytes (slice_cmp nat_cmp)) a b) →
+    fed.slice fed.u8 (bytes a) ≡ fed.slice fed.u8 (bytes b)
 bytes_hash bytes a b told = ap (λ key. fed.slice fed.u8 key) (same_bytes (bytes a) (bytes b) told)

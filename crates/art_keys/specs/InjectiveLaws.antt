@@ -25,7 +25,9 @@ pub numbers_injective : (count : ℕ) → AreInjective (HasBytes count) (bytes_h
 numbers_injective count = back_injective (HasBytes count) (bytes_high_first count) number_of (λ bytes. count) (numbers_come_back count)
 
 pub signed_injective : (count : ℕ) → AreInjective (HasSignedBytes count) (signed_bytes count)
-signed_injective count = back_injective (HasSignedBytes count) (signed_bytes count) (λ bytes. lowered count (number_of bytes)) (λ bytes. count) (signed_come_back count)
+signed_injective count =
+    back_injective (HasSignedBytes count) (signed_bytes count) (λ bytes. lowered count (number_of bytes)) (λ bytes. count)
+    (signed_come_back count)
 
 pub ended_injective : AreInjective HasNoZero ended
 ended_injective = back_injective HasNoZero ended without_end ended_length ended_comes_back
@@ -38,5 +40,6 @@ module _ {A B : Type 0} (is_first : A → Type 0) (first : A → List ℕ) (is_s
   pub joins_injective : ComesBack is_first first first_of first_length → ComesBack is_second second second_of second_length →
       AreInjective (AreKeys is_first is_second) (joined_bytes first second)
   joins_injective back_first back_second =
-      back_injective (AreKeys is_first is_second) (joined_bytes first second) (parted first_of first_length second_of) (joined_length first_length second_length)
+      back_injective (AreKeys is_first is_second) (joined_bytes first second) (parted first_of first_length second_of)
+      (joined_length first_length second_length)
       (joins_come_back is_first first is_second second first_of first_length second_of second_length back_first back_second)

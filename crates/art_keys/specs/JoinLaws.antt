@@ -41,20 +41,25 @@ parts_cmp (z ∷ x) [] b d f g = let e : [] ≡ z ∷ x = g (z ∷ x, refl) in a
 parts_cmp (z ∷ x) (w ∷ y) b d f g = go (parts_cmp x y b d) (cases_order z w)
   where
     go : ((IsFront x y → x ≡ y) → (IsFront y x → y ≡ x) → slice_cmp nat_cmp (x ++ b) (y ++ d) ≡ ordering_then (slice_cmp nat_cmp x y) (slice_cmp nat_cmp b d)) →
-        (z ≡ w) ⊎ ((z < w) ⊎ (w < z)) → slice_cmp nat_cmp ((z ∷ x) ++ b) ((w ∷ y) ++ d) ≡ ordering_then (slice_cmp nat_cmp (z ∷ x) (w ∷ y)) (slice_cmp nat_cmp b d)
+        (z ≡ w) ⊎ ((z < w) ⊎ (w < z)) → slice_cmp nat_cmp ((z ∷ x) ++ b) ((w ∷ y) ++ d)
+        ≡ ordering_then (slice_cmp nat_cmp (z ∷ x) (w ∷ y)) (slice_cmp nat_cmp b d)
     go ih (inl same) =
         rw (le-ltb z w (omega arith), eq-eqb z w same)
-        (ih (λ h. tail_same z x y (rw (sym same) at (f (rw (sym same) (longer z x y h))))) (λ h. tail_same z y x (rw (sym same) at (g (rw (sym same) (longer z y x h))))))
+        (ih (λ h. tail_same z x y (rw (sym same) at (f (rw (sym same) (longer z x y h)))))
+        (λ h. tail_same z y x (rw (sym same) at (g (rw (sym same) (longer z y x h))))))
     go ih (inr (inl h)) = rw (lt-ltb z w h) refl
     go ih (inr (inr h)) = rw (le-ltb z w (omega arith), ne_eqb z w (λ e. omega arith)) refl
 
 module _ {A B : Type 0} (is_first : A → Type 0) (first : A → List ℕ) (is_second : B → Type 0) (second : B → List ℕ) where
   pub joins_no_prefixes : HasNoPrefixes is_first first → HasNoPrefixes is_second second → HasNoPrefixes (AreKeys is_first is_second) (joined_bytes first second)
   joins_no_prefixes apart_first apart_second x y of_x of_y front =
-      let (same, rest) = parts_front (first x.0) (first y.0) (second x.1) (second y.1) (apart_first x.0 y.0 of_x.0 of_y.0) (apart_first y.0 x.0 of_y.0 of_x.0) front in
+      let (same, rest) =
+      parts_front (first x.0) (first y.0) (second x.1) (second y.1) (apart_first x.0 y.0 of_x.0 of_y.0)
+      (apart_first y.0 x.0 of_y.0 of_x.0) front in
       ap₂ (λ s t. s ++ t) same (apart_second x.1 y.1 of_x.1 of_y.1 rest)
 
-  pub joins_keep_order : {by_first : A → A → Ordering} {by_second : B → B → Ordering} → HasNoPrefixes is_first first → KeepsOrder is_first first by_first → KeepsOrder is_second second by_second →
+  pub joins_keep_order : {by_first : A → A → Ordering} {by_second : B → B → Ordering} → HasNoPrefixes is_first first →
+      KeepsOrder is_first first by_first → KeepsOrder is_second second by_second →
       KeepsOrder (AreKeys is_first is_second) (joined_bytes first second) (pair_cmp by_first by_second)
   joins_keep_order apart_first keeps_first keeps_second x y of_x of_y =
       parts_cmp (first x.0) (first y.0) (second x.1) (second y.1) (apart_first x.0 y.0 of_x.0 of_y.0) (apart_first y.0 x.0 of_y.0 of_x.0)
@@ -63,7 +68,8 @@ module _ {A B : Type 0} (is_first : A → Type 0) (first : A → List ℕ) (is_s
   module _ (first_of : List ℕ → A) (first_length : List ℕ → ℕ) (second_of : List ℕ → B) (second_length : List ℕ → ℕ)
       (back_first : ComesBack is_first first first_of first_length) (back_second : ComesBack is_second second second_of second_length) where
     -- two keys are recovered, each from its own bytes
-    pub joins_come_back : ComesBack (AreKeys is_first is_second) (joined_bytes first second) (parted first_of first_length second_of) (joined_length first_length second_length)
+    pub joins_come_back : ComesBack (AreKeys is_first is_second) (joined_bytes first second) (parted first_of first_length second_of)
+        (joined_length first_length second_length)
     joins_come_back pair of_pair = (keys, λ rest. lengths rest)
       where
         long : first_length (joined_bytes first second pair) ≡ length (first pair.0)
@@ -71,7 +77,13 @@ module _ {A B : Type 0} (is_first : A → Type 0) (first : A → List ℕ) (is_s
 
         keys : parted first_of first_length second_of (joined_bytes first second pair) ≡ pair
         keys =
-            rw (long, take-append_seam (first pair.0) (second pair.1), drop-append_seam (first pair.0) (second pair.1), (back_first pair.0 of_pair.0).0, (back_second pair.1 of_pair.1).0) refl
+            rw (
+              long,
+              take-append_seam (first pair.0) (second pair.1),
+              drop-append_seam (first pair.0) (second pair.1),
+              (back_first pair.0 of_pair.0).0,
+              (back_second pair.1 of_pair.1).0,
+            ) refl
 
         lengths : (rest : List ℕ) → joined_length first_length second_length (joined_bytes first second pair ++ rest) ≡ length (joined_bytes first second pair)
         lengths rest =
@@ -84,5 +96,6 @@ module _ {A B : Type 0} (is_first : A → Type 0) (first : A → List ℕ) (is_s
             (sym (length-append (first pair.0) (second pair.1)))
 
     -- the same for two keys that have so many bytes together
-    pub arrays_come_back : (count : ℕ) → ComesBack (AreKeysOf count is_first first is_second second) (joined_bytes first second) (parted first_of first_length second_of) (joined_length first_length second_length)
+    pub arrays_come_back : (count : ℕ) → ComesBack (AreKeysOf count is_first first is_second second) (joined_bytes first second)
+        (parted first_of first_length second_of) (joined_length first_length second_length)
     arrays_come_back count pair of_pair = joins_come_back pair of_pair.0

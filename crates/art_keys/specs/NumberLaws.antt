@@ -62,7 +62,12 @@ more_cmp a b r s p small_r small_s = go (cases_order a b)
     go (inr (inl h)) = let l = less a b r s h small_r in rw (lt-ltb a b h, lt-ltb (a * p + r) (b * p + s) l) refl
     go (inr (inr h)) =
         let l = less b a s r h small_s in
-        rw (le-ltb a b (omega arith), ne_eqb a b (λ e. omega arith), le-ltb (a * p + r) (b * p + s) (omega arith), ne_eqb (a * p + r) (b * p + s) (λ e. omega arith)) refl
+        rw (
+          le-ltb a b (omega arith),
+          ne_eqb a b (λ e. omega arith),
+          le-ltb (a * p + r) (b * p + s) (omega arith),
+          ne_eqb (a * p + r) (b * p + s) (λ e. omega arith),
+        ) refl
 
 bytes_cmp : (count n m : ℕ) → slice_cmp nat_cmp (bytes_high_first count n) (bytes_high_first count m) ≡ nat_cmp (n % 256 ^ count) (m % 256 ^ count)
 bytes_cmp zero n m = rw (nat.pow-zero 256, nat.mod-one n, nat.mod-one m) refl
@@ -71,7 +76,8 @@ bytes_cmp (suc k) n m =
     (more_cmp (byte_at k n) (byte_at k m) (n % 256 ^ k) (m % 256 ^ k) (256 ^ k) (nat.mod-lt n (all_pos k)) (nat.mod-lt m (all_pos k)))
 
 pub numbers_keep_order : (count : ℕ) → KeepsOrder (HasBytes count) (bytes_high_first count) nat_cmp
-numbers_keep_order count a b of_a of_b = bytes_cmp count a b ∙ ap (λ x. nat_cmp x (b % 256 ^ count)) (nat.mod-eq_of_lt of_a) ∙ ap (λ x. nat_cmp a x) (nat.mod-eq_of_lt of_b)
+numbers_keep_order count a b of_a of_b =
+    bytes_cmp count a b ∙ ap (λ x. nat_cmp x (b % 256 ^ count)) (nat.mod-eq_of_lt of_a) ∙ ap (λ x. nat_cmp a x) (nat.mod-eq_of_lt of_b)
 
 pub numbers_no_prefixes : (count : ℕ) → HasNoPrefixes (HasBytes count) (bytes_high_first count)
 numbers_no_prefixes count a b of_a of_b front = fixed_no_prefixes count _ _ (length-bytes count a) (length-bytes count b) front
@@ -104,14 +110,26 @@ turned : (c n m : ℕ) → n < c → m < c → nat_cmp (c - suc n) (c - suc m) �
 turned c n m of_n of_m = go (cases_order n m)
   where
     go : (n ≡ m) ⊎ ((n < m) ⊎ (m < n)) → nat_cmp (c - suc n) (c - suc m) ≡ nat_cmp m n
-    go (inl e) = rw (le-ltb (c - suc n) (c - suc m) (omega arith), le-ltb m n (omega arith), eq-eqb (c - suc n) (c - suc m) (omega arith), eq-eqb m n (sym e)) refl
+    go (inl e) =
+        rw (
+          le-ltb (c - suc n) (c - suc m) (omega arith),
+          le-ltb m n (omega arith),
+          eq-eqb (c - suc n) (c - suc m) (omega arith),
+          eq-eqb m n (sym e),
+        ) refl
     go (inr (inl h)) =
-        rw (le-ltb (c - suc n) (c - suc m) (omega arith), le-ltb m n (omega arith), ne_eqb (c - suc n) (c - suc m) (λ e. omega arith), ne_eqb m n (λ e. omega arith)) refl
+        rw (
+          le-ltb (c - suc n) (c - suc m) (omega arith),
+          le-ltb m n (omega arith),
+          ne_eqb (c - suc n) (c - suc m) (λ e. omega arith),
+          ne_eqb m n (λ e. omega arith),
+        ) refl
     go (inr (inr h)) = rw (lt-ltb (c - suc n) (c - suc m) (omega arith), lt-ltb m n h) refl
 
 lifted_cmp : (count : ℕ) (a b : ℤ) → HasSignedBytes count a → HasSignedBytes count b → nat_cmp (lifted count a) (lifted count b) ≡ int_cmp a b
 lifted_cmp count (pos n) (pos m) of_a of_b = shift_cmp (half count) n m ∙ two_tests n m
-lifted_cmp count (pos n) (negsuc m) of_a of_b = rw (le-ltb (half count + n) (half count - suc m) (omega arith), ne_eqb (half count + n) (half count - suc m) (λ e. omega arith)) refl
+lifted_cmp count (pos n) (negsuc m) of_a of_b =
+    rw (le-ltb (half count + n) (half count - suc m) (omega arith), ne_eqb (half count + n) (half count - suc m) (λ e. omega arith)) refl
 lifted_cmp count (negsuc n) (pos m) of_a of_b = rw (lt-ltb (half count - suc n) (half count + m) (omega arith)) refl
 lifted_cmp count (negsuc n) (negsuc m) of_a of_b = turned (half count) n m of_a of_b ∙ two_tests m n
 

@@ -1,13 +1,13 @@
 //! `Display` and `Debug` of number keys: both write the number in decimal digits.
 
+ghost use Rattle.std.specs.Prelude.{Some};
+ghost use Rattle.std.specs.Fmt.{decimal, styled_decimal, signed_decimal, styled_signed_decimal};
+
 use super::signed::Signed;
 use super::unsigned::Unsigned;
 use std::fmt;
 
 impl fmt::Display for Unsigned<1> {
-    ghost use Rattle.std.specs.Prelude.{Some};
-    ghost use Rattle.std.specs.Fmt.{decimal, styled_decimal};
-
     ghost output = { λ n. Some (decimal n) };
 
     ghost styled_output = { λ n spec. Some (styled_decimal spec n) };
@@ -18,9 +18,6 @@ impl fmt::Display for Unsigned<1> {
 }
 
 impl fmt::Display for Unsigned<2> {
-    ghost use Rattle.std.specs.Prelude.{Some};
-    ghost use Rattle.std.specs.Fmt.{decimal, styled_decimal};
-
     ghost output = { λ n. Some (decimal n) };
 
     ghost styled_output = { λ n spec. Some (styled_decimal spec n) };
@@ -31,9 +28,6 @@ impl fmt::Display for Unsigned<2> {
 }
 
 impl fmt::Display for Unsigned<4> {
-    ghost use Rattle.std.specs.Prelude.{Some};
-    ghost use Rattle.std.specs.Fmt.{decimal, styled_decimal};
-
     ghost output = { λ n. Some (decimal n) };
 
     ghost styled_output = { λ n spec. Some (styled_decimal spec n) };
@@ -44,9 +38,6 @@ impl fmt::Display for Unsigned<4> {
 }
 
 impl fmt::Display for Unsigned<8> {
-    ghost use Rattle.std.specs.Prelude.{Some};
-    ghost use Rattle.std.specs.Fmt.{decimal, styled_decimal};
-
     ghost output = { λ n. Some (decimal n) };
 
     ghost styled_output = { λ n spec. Some (styled_decimal spec n) };
@@ -57,9 +48,6 @@ impl fmt::Display for Unsigned<8> {
 }
 
 impl fmt::Display for Unsigned<16> {
-    ghost use Rattle.std.specs.Prelude.{Some};
-    ghost use Rattle.std.specs.Fmt.{decimal, styled_decimal};
-
     ghost output = { λ n. Some (decimal n) };
 
     ghost styled_output = { λ n spec. Some (styled_decimal spec n) };
@@ -70,9 +58,6 @@ impl fmt::Display for Unsigned<16> {
 }
 
 impl fmt::Display for Signed<1> {
-    ghost use Rattle.std.specs.Prelude.{Some};
-    ghost use Rattle.std.specs.Fmt.{signed_decimal, styled_signed_decimal};
-
     ghost output = { λ n. Some (signed_decimal n) };
 
     ghost styled_output = { λ n spec. Some (styled_signed_decimal spec n) };
@@ -83,9 +68,6 @@ impl fmt::Display for Signed<1> {
 }
 
 impl fmt::Display for Signed<2> {
-    ghost use Rattle.std.specs.Prelude.{Some};
-    ghost use Rattle.std.specs.Fmt.{signed_decimal, styled_signed_decimal};
-
     ghost output = { λ n. Some (signed_decimal n) };
 
     ghost styled_output = { λ n spec. Some (styled_signed_decimal spec n) };
@@ -96,9 +78,6 @@ impl fmt::Display for Signed<2> {
 }
 
 impl fmt::Display for Signed<4> {
-    ghost use Rattle.std.specs.Prelude.{Some};
-    ghost use Rattle.std.specs.Fmt.{signed_decimal, styled_signed_decimal};
-
     ghost output = { λ n. Some (signed_decimal n) };
 
     ghost styled_output = { λ n spec. Some (styled_signed_decimal spec n) };
@@ -109,9 +88,6 @@ impl fmt::Display for Signed<4> {
 }
 
 impl fmt::Display for Signed<8> {
-    ghost use Rattle.std.specs.Prelude.{Some};
-    ghost use Rattle.std.specs.Fmt.{signed_decimal, styled_signed_decimal};
-
     ghost output = { λ n. Some (signed_decimal n) };
 
     ghost styled_output = { λ n spec. Some (styled_signed_decimal spec n) };
@@ -122,9 +98,6 @@ impl fmt::Display for Signed<8> {
 }
 
 impl fmt::Display for Signed<16> {
-    ghost use Rattle.std.specs.Prelude.{Some};
-    ghost use Rattle.std.specs.Fmt.{signed_decimal, styled_signed_decimal};
-
     ghost output = { λ n. Some (signed_decimal n) };
 
     ghost styled_output = { λ n spec. Some (styled_signed_decimal spec n) };
@@ -135,9 +108,6 @@ impl fmt::Display for Signed<16> {
 }
 
 impl fmt::Debug for Unsigned<1> {
-    ghost use Rattle.std.specs.Prelude.{Some};
-    ghost use Rattle.std.specs.Fmt.{decimal};
-
     ghost debug_output = { λ n. Some (decimal n) };
 
     fn fmt<W: fmt::Write>(&self, f: &mut fmt::Formatter<W>) -> fmt::Result {
@@ -146,9 +116,6 @@ impl fmt::Debug for Unsigned<1> {
 }
 
 impl fmt::Debug for Unsigned<2> {
-    ghost use Rattle.std.specs.Prelude.{Some};
-    ghost use Rattle.std.specs.Fmt.{decimal};
-
     ghost debug_output = { λ n. Some (decimal n) };
 
     fn fmt<W: fmt::Write>(&self, f: &mut fmt::Formatter<W>) -> fmt::Result {
@@ -157,9 +124,6 @@ impl fmt::Debug for Unsigned<2> {
 }
 
 impl fmt::Debug for Unsigned<4> {
-    ghost use Rattle.std.specs.Prelude.{Some};
-    ghost use Rattle.std.specs.Fmt.{decimal};
-
     ghost debug_output = { λ n. Some (decimal n) };
 
     fn fmt<W: fmt::Write>(&self, f: &mut fmt::Formatter<W>) -> fmt::Result {
@@ -168,9 +132,6 @@ impl fmt::Debug for Unsigned<4> {
 }
 
 impl fmt::Debug for Unsigned<8> {
-    ghost use Rattle.std.specs.Prelude.{Some};
-    ghost use Rattle.std.specs.Fmt.{decimal};
-
     ghost debug_output = { λ n. Some (decimal n) };
 
     fn fmt<W: fmt::Write>(&self, f: &mut fmt::Formatter<W>) -> fmt::Result {
@@ -179,9 +140,6 @@ impl fmt::Debug for Unsigned<8> {
 }
 
 impl fmt::Debug for Unsigned<16> {
-    ghost use Rattle.std.specs.Prelude.{Some};
-    ghost use Rattle.std.specs.Fmt.{decimal};
-
     ghost debug_output = { λ n. Some (decimal n) };
 
     fn fmt<W: fmt::Write>(&self, f: &mut fmt::Formatter<W>) -> fmt::Result {
@@ -190,9 +148,6 @@ impl fmt::Debug for Unsigned<16> {
 }
 
 impl fmt::Debug for Signed<1> {
-    ghost use Rattle.std.specs.Prelude.{Some};
-    ghost use Rattle.std.specs.Fmt.{signed_decimal};
-
     ghost debug_output = { λ n. Some (signed_decimal n) };
 
     fn fmt<W: fmt::Write>(&self, f: &mut fmt::Formatter<W>) -> fmt::Result {
@@ -201,9 +156,6 @@ impl fmt::Debug for Signed<1> {
 }
 
 impl fmt::Debug for Signed<2> {
-    ghost use Rattle.std.specs.Prelude.{Some};
-    ghost use Rattle.std.specs.Fmt.{signed_decimal};
-
     ghost debug_output = { λ n. Some (signed_decimal n) };
 
     fn fmt<W: fmt::Write>(&self, f: &mut fmt::Formatter<W>) -> fmt::Result {
@@ -212,9 +164,6 @@ impl fmt::Debug for Signed<2> {
 }
 
 impl fmt::Debug for Signed<4> {
-    ghost use Rattle.std.specs.Prelude.{Some};
-    ghost use Rattle.std.specs.Fmt.{signed_decimal};
-
     ghost debug_output = { λ n. Some (signed_decimal n) };
 
     fn fmt<W: fmt::Write>(&self, f: &mut fmt::Formatter<W>) -> fmt::Result {
@@ -223,9 +172,6 @@ impl fmt::Debug for Signed<4> {
 }
 
 impl fmt::Debug for Signed<8> {
-    ghost use Rattle.std.specs.Prelude.{Some};
-    ghost use Rattle.std.specs.Fmt.{signed_decimal};
-
     ghost debug_output = { λ n. Some (signed_decimal n) };
 
     fn fmt<W: fmt::Write>(&self, f: &mut fmt::Formatter<W>) -> fmt::Result {
@@ -234,9 +180,6 @@ impl fmt::Debug for Signed<8> {
 }
 
 impl fmt::Debug for Signed<16> {
-    ghost use Rattle.std.specs.Prelude.{Some};
-    ghost use Rattle.std.specs.Fmt.{signed_decimal};
-
     ghost debug_output = { λ n. Some (signed_decimal n) };
 
     fn fmt<W: fmt::Write>(&self, f: &mut fmt::Formatter<W>) -> fmt::Result {

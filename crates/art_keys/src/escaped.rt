@@ -1,9 +1,16 @@
 //! Strings of any bytes, escaped so that no key is a prefix of another one. The keys are in the order of the strings.
-ghost use Rattle.std.specs.Prelude.{◌≡◌, ℕ, List, ◌<◌, ◌≤◌, ◌++◌, [], ◌∷◌, length, IfOk, IfSome, MatchOption, OnOk};
+ghost use Rattle.std.specs.Prelude.{◌≡◌, ℕ, List, ◌<◌, ◌≤◌, ◌++◌, [], ◌∷◌, length, IfOk, IfSome, MatchOption, OnOk, ⊤};
 ghost use Rattle.std.specs.Bool.{OnFalse, OnTrue};
 ghost use Rattle.std.specs.Cmp.Lexicographic.{slice_cmp};
-ghost use Rattle.std.specs.Ordering.{nat_cmp};
-ghost use Rattle.art_keys.specs.Escapes.{IsPlain, escape, escape_byte, unescape};
+ghost use Rattle.std.specs.Ordering.{nat_cmp, eq_by_cmp, as_partial_cmp};
+ghost use Rattle.art_keys.specs.Escapes.{IsPlain, escape, escape_byte, unescape, escape_inside};
+ghost use Rattle.art_keys.specs.EscapeLaws.{escape_no_prefixes, escape_keeps_order, escape_is, escape_keeps_fronts, inside_no_zero, escape_comes_back};
+ghost use Rattle.art_keys.specs.InjectiveLaws.{escape_injective};
+ghost use Rattle.art_keys.specs.Ended.{ended_length};
+ghost use Rattle.std.proofs.Common.{ap, rules};
+ghost use Rattle.std.specs.Cmp.Rules.{comparing};
+ghost use Rattle.std.specs.Hash as fed;
+ghost use Rattle.art_keys.specs.HashLaws.{strings_hash};
 
 use super::laws::{CloneBytes, DecodeBytes, NoPrefixesBytes, OrderedBytes, StringBytes, compare};
 use super::terminated::{write_text, zero_at};
@@ -191,8 +198,6 @@ fn push_escaped(bytes: &mut Vec<u8>, byte: u8) -> Result<(), AllocError>
 }
 
 impl AsBytes for Escaped {
-    ghost use Rattle.art_keys.specs.Escapes.{escape};
-
     ghost bytes = { escape };
 
     fn as_bytes(&self) -> &[u8] {
@@ -201,10 +206,6 @@ impl AsBytes for Escaped {
 }
 
 impl NoPrefixesBytes for Escaped {
-    ghost use Rattle.std.specs.Prelude.{⊤};
-    ghost use Rattle.art_keys.specs.EscapeLaws.{escape_no_prefixes};
-    ghost use Rattle.art_keys.specs.InjectiveLaws.{escape_injective};
-
     ghost is_key = { λ text. ⊤ };
 
     fn as_key(&self) {}
@@ -215,19 +216,12 @@ impl NoPrefixesBytes for Escaped {
 }
 
 impl OrderedBytes for Escaped {
-    ghost use Rattle.std.specs.Cmp.Lexicographic.{slice_cmp};
-    ghost use Rattle.std.specs.Ordering.{nat_cmp};
-    ghost use Rattle.art_keys.specs.EscapeLaws.{escape_keeps_order};
-
     ghost order = { slice_cmp nat_cmp };
 
     ghost keeps_order = { escape_keeps_order };
 }
 
 impl StringBytes for Escaped {
-    ghost use Rattle.art_keys.specs.Escapes.{escape_inside};
-    ghost use Rattle.art_keys.specs.EscapeLaws.{escape_is, escape_keeps_fronts, inside_no_zero};
-
     ghost text = { λ text. text };
 
     ghost inside = { escape_inside };
@@ -245,10 +239,6 @@ impl StringBytes for Escaped {
 }
 
 impl DecodeBytes for Escaped {
-    ghost use Rattle.art_keys.specs.Ended.{ended_length};
-    ghost use Rattle.art_keys.specs.Escapes.{unescape};
-    ghost use Rattle.art_keys.specs.EscapeLaws.{escape_comes_back};
-
     ghost key_of = { unescape };
 
     ghost length_of = { ended_length };
@@ -279,20 +269,12 @@ impl Clone for Escaped {
 }
 
 impl CloneBytes for Escaped {
-    ghost use Rattle.std.proofs.Common.{ap};
-    ghost use Rattle.art_keys.specs.Escapes.{escape};
-
     ghost keeps_bytes = { λ x y e. ap escape e };
 
     ghost keeps_key = { λ x y e of_x. of_x };
 }
 
 impl PartialEq for Escaped {
-    ghost use Rattle.std.proofs.Common.{rules};
-    ghost use Rattle.std.specs.Cmp.Rules.{comparing};
-    ghost use Rattle.std.specs.Cmp.Lexicographic.{slice_cmp};
-    ghost use Rattle.std.specs.Ordering.{eq_by_cmp, nat_cmp};
-
     ghost eq = { eq_by_cmp (slice_cmp nat_cmp) };
 
     ghost laws = { Prim.search (comparing, rules) };
@@ -303,18 +285,10 @@ impl PartialEq for Escaped {
 }
 
 impl Eq for Escaped {
-    ghost use Rattle.std.proofs.Common.{rules};
-    ghost use Rattle.std.specs.Cmp.Rules.{comparing};
-
     ghost laws = { Prim.search (comparing, rules) };
 }
 
 impl PartialOrd for Escaped {
-    ghost use Rattle.std.proofs.Common.{rules};
-    ghost use Rattle.std.specs.Cmp.Rules.{comparing};
-    ghost use Rattle.std.specs.Cmp.Lexicographic.{slice_cmp};
-    ghost use Rattle.std.specs.Ordering.{as_partial_cmp, nat_cmp};
-
     ghost partial_cmp = { as_partial_cmp (slice_cmp nat_cmp) };
 
     ghost laws = { Prim.search (comparing, rules) };
@@ -326,11 +300,6 @@ impl PartialOrd for Escaped {
 
 /// The lexicographic order of the strings.
 impl Ord for Escaped {
-    ghost use Rattle.std.proofs.Common.{rules};
-    ghost use Rattle.std.specs.Cmp.Rules.{comparing};
-    ghost use Rattle.std.specs.Cmp.Lexicographic.{slice_cmp};
-    ghost use Rattle.std.specs.Ordering.{nat_cmp};
-
     ghost cmp = { slice_cmp nat_cmp };
 
     ghost total = { Prim.search (comparing, rules) };
@@ -345,10 +314,6 @@ impl Ord for Escaped {
 }
 
 impl Hash for Escaped {
-    ghost use Rattle.std.specs.Hash as fed;
-    ghost use Rattle.art_keys.specs.Escapes.{escape};
-    ghost use Rattle.art_keys.specs.HashLaws.{strings_hash};
-
     ghost hash_input = { λ key. fed.slice fed.u8 (escape key) };
 
     ghost respects_eq = { strings_hash escape };

@@ -1,13 +1,15 @@
 //! Arrays of bytes as keys: all keys of a type have one length.
-ghost use Rattle.std.specs.Prelude.{◌≡◌, length};
+ghost use Rattle.std.specs.Prelude.{◌≡◌, length, ⊤};
+ghost use Rattle.art_keys.specs.FixedLaws.{fixed_no_prefixes, fixed_keeps_bytes, fixed_keeps_key, fixed_comes_back};
+ghost use Rattle.art_keys.specs.InjectiveLaws.{fixed_injective};
+ghost use Rattle.std.specs.Cmp.Lexicographic.{slice_cmp};
+ghost use Rattle.std.specs.Ordering.{nat_cmp};
+ghost use Rattle.std.proofs.Common.{refl};
 
 use super::laws::{CloneBytes, DecodeBytes, FixedBytes, NoPrefixesBytes, OrderedBytes};
 use std::alloc::{AllocError, Global};
 
 impl<const N: usize> NoPrefixesBytes for [u8; N] {
-    ghost use Rattle.art_keys.specs.FixedLaws.{fixed_no_prefixes};
-    ghost use Rattle.art_keys.specs.InjectiveLaws.{fixed_injective};
-
     ghost is_key = { λ bytes. length bytes ≡ N };
 
     fn as_key(&self) {}
@@ -18,27 +20,18 @@ impl<const N: usize> NoPrefixesBytes for [u8; N] {
 }
 
 impl<const N: usize> OrderedBytes for [u8; N] {
-    ghost use Rattle.std.specs.Cmp.Lexicographic.{slice_cmp};
-    ghost use Rattle.std.specs.Ordering.{nat_cmp};
-    ghost use Rattle.std.proofs.Common.{refl};
-
     ghost order = { slice_cmp nat_cmp };
 
     ghost keeps_order = { λ a b of_a of_b. refl };
 }
 
 impl<const N: usize> CloneBytes for [u8; N] {
-    ghost use Rattle.art_keys.specs.FixedLaws.{fixed_keeps_bytes, fixed_keeps_key};
-
     ghost keeps_bytes = { fixed_keeps_bytes N };
 
     ghost keeps_key = { fixed_keeps_key N };
 }
 
 impl<const N: usize> DecodeBytes for [u8; N] {
-    ghost use Rattle.std.specs.Prelude.{⊤};
-    ghost use Rattle.art_keys.specs.FixedLaws.{fixed_comes_back};
-
     ghost key_of = { λ bytes. bytes };
 
     ghost length_of = { λ bytes. N };

@@ -1,6 +1,14 @@
 //! Two keys joined into one.
 ghost use Rattle.std.specs.Prelude.{◌≡◌, IfOk, IsOk};
-ghost use Rattle.art_keys.specs.Joins.{AreKeys, joined_bytes, pair_cmp};
+ghost use Rattle.art_keys.specs.Joins.{AreKeys, joined_bytes, pair_cmp, joined_length, parted};
+ghost use Rattle.art_keys.specs.JoinLaws.{joins_no_prefixes, joins_keep_order, joins_come_back};
+ghost use Rattle.art_keys.specs.InjectiveLaws.{joins_injective};
+ghost use Rattle.std.proofs.Common.{ap, subst, sym, rules};
+ghost use Rattle.std.specs.Cmp.Rules.{comparing};
+ghost use Rattle.std.specs.Cmp.Lexicographic.{slice_cmp};
+ghost use Rattle.std.specs.Ordering.{eq_by_cmp, nat_cmp, on, as_partial_cmp};
+ghost use Rattle.std.specs.Hash as fed;
+ghost use Rattle.art_keys.specs.HashLaws.{bytes_hash};
 
 use super::laws::{CloneBytes, DecodeBytes, NoPrefixesBytes, OrderedBytes};
 use art_nodes::node::AsBytes;
@@ -89,8 +97,6 @@ impl<A: DecodeBytes, B: DecodeBytes> fmt::Debug for Joined<A, B> {
 }
 
 impl<A: DecodeBytes, B: DecodeBytes> AsBytes for Joined<A, B> {
-    ghost use Rattle.art_keys.specs.Joins.{joined_bytes};
-
     ghost bytes = { joined_bytes A.bytes B.bytes };
 
     fn as_bytes(&self) -> &[u8] {
@@ -99,26 +105,20 @@ impl<A: DecodeBytes, B: DecodeBytes> AsBytes for Joined<A, B> {
 }
 
 impl<A: DecodeBytes, B: DecodeBytes> NoPrefixesBytes for Joined<A, B> {
-    ghost use Rattle.art_keys.specs.Joins.{AreKeys};
-    ghost use Rattle.art_keys.specs.JoinLaws.{joins_no_prefixes};
-    ghost use Rattle.art_keys.specs.InjectiveLaws.{joins_injective};
-
     ghost is_key = { AreKeys A.is_key B.is_key };
 
     fn as_key(&self) {
         let _ = &self.bytes;
     }
 
-    ghost no_prefixes = { joins_no_prefixes A.is_key A.bytes B.is_key B.bytes A.no_prefixes B.no_prefixes };
+    ghost no_prefixes = { joins_no_prefixes A.is_key A.bytes B.is_key B.bytes A.no_prefixes
+        B.no_prefixes };
 
     ghost injective = { joins_injective A.is_key A.bytes B.is_key B.bytes
         A.key_of A.length_of B.key_of B.length_of A.comes_back B.comes_back };
 }
 
 impl<A: DecodeBytes + OrderedBytes, B: DecodeBytes + OrderedBytes> OrderedBytes for Joined<A, B> {
-    ghost use Rattle.art_keys.specs.Joins.{pair_cmp};
-    ghost use Rattle.art_keys.specs.JoinLaws.{joins_keep_order};
-
     ghost order = { pair_cmp A.order B.order };
 
     ghost keeps_order = { joins_keep_order A.is_key A.bytes B.is_key B.bytes
@@ -126,9 +126,6 @@ impl<A: DecodeBytes + OrderedBytes, B: DecodeBytes + OrderedBytes> OrderedBytes 
 }
 
 impl<A: DecodeBytes, B: DecodeBytes> DecodeBytes for Joined<A, B> {
-    ghost use Rattle.art_keys.specs.Joins.{joined_length, parted};
-    ghost use Rattle.art_keys.specs.JoinLaws.{joins_come_back};
-
     ghost key_of = { parted A.key_of A.length_of B.key_of };
 
     ghost length_of = { joined_length A.length_of B.length_of };
@@ -163,9 +160,6 @@ impl<A: DecodeBytes, B: DecodeBytes> Clone for Joined<A, B> {
 }
 
 impl<A: DecodeBytes, B: DecodeBytes> CloneBytes for Joined<A, B> {
-    ghost use Rattle.std.proofs.Common.{ap, subst, sym};
-    ghost use Rattle.art_keys.specs.Joins.{AreKeys, joined_bytes};
-
     ghost keeps_bytes = { λ key copy is. ap (joined_bytes A.bytes B.bytes) is };
 
     ghost keeps_key = { λ key copy is of_key.
@@ -173,12 +167,6 @@ impl<A: DecodeBytes, B: DecodeBytes> CloneBytes for Joined<A, B> {
 }
 
 impl<A: DecodeBytes, B: DecodeBytes> PartialEq for Joined<A, B> {
-    ghost use Rattle.std.proofs.Common.{rules};
-    ghost use Rattle.std.specs.Cmp.Rules.{comparing};
-    ghost use Rattle.std.specs.Cmp.Lexicographic.{slice_cmp};
-    ghost use Rattle.art_keys.specs.Joins.{joined_bytes};
-    ghost use Rattle.std.specs.Ordering.{eq_by_cmp, nat_cmp, on};
-
     ghost eq = { eq_by_cmp (on (joined_bytes A.bytes B.bytes) (slice_cmp nat_cmp)) };
 
     ghost laws = { Prim.search (comparing, rules) };
@@ -189,19 +177,10 @@ impl<A: DecodeBytes, B: DecodeBytes> PartialEq for Joined<A, B> {
 }
 
 impl<A: DecodeBytes, B: DecodeBytes> Eq for Joined<A, B> {
-    ghost use Rattle.std.proofs.Common.{rules};
-    ghost use Rattle.std.specs.Cmp.Rules.{comparing};
-
     ghost laws = { Prim.search (comparing, rules) };
 }
 
 impl<A: DecodeBytes, B: DecodeBytes> PartialOrd for Joined<A, B> {
-    ghost use Rattle.std.proofs.Common.{rules};
-    ghost use Rattle.std.specs.Cmp.Rules.{comparing};
-    ghost use Rattle.std.specs.Cmp.Lexicographic.{slice_cmp};
-    ghost use Rattle.art_keys.specs.Joins.{joined_bytes};
-    ghost use Rattle.std.specs.Ordering.{as_partial_cmp, nat_cmp, on};
-
     ghost partial_cmp = { as_partial_cmp (on (joined_bytes A.bytes B.bytes) (slice_cmp nat_cmp)) };
 
     ghost laws = { Prim.search (comparing, rules) };
@@ -213,12 +192,6 @@ impl<A: DecodeBytes, B: DecodeBytes> PartialOrd for Joined<A, B> {
 
 /// The order of the bytes: that of the first keys, and then that of the second ones.
 impl<A: DecodeBytes, B: DecodeBytes> Ord for Joined<A, B> {
-    ghost use Rattle.std.proofs.Common.{rules};
-    ghost use Rattle.std.specs.Cmp.Rules.{comparing};
-    ghost use Rattle.std.specs.Cmp.Lexicographic.{slice_cmp};
-    ghost use Rattle.art_keys.specs.Joins.{joined_bytes};
-    ghost use Rattle.std.specs.Ordering.{nat_cmp, on};
-
     ghost cmp = { on (joined_bytes A.bytes B.bytes) (slice_cmp nat_cmp) };
 
     ghost total = { Prim.search (comparing, rules) };
@@ -233,10 +206,6 @@ impl<A: DecodeBytes, B: DecodeBytes> Ord for Joined<A, B> {
 }
 
 impl<A: DecodeBytes, B: DecodeBytes> Hash for Joined<A, B> {
-    ghost use Rattle.std.specs.Hash as fed;
-    ghost use Rattle.art_keys.specs.Joins.{joined_bytes};
-    ghost use Rattle.art_keys.specs.HashLaws.{bytes_hash};
-
     ghost hash_input = { λ key. fed.slice fed.u8 (joined_bytes A.bytes B.bytes key) };
 
     ghost respects_eq = { bytes_hash (joined_bytes A.bytes B.bytes) };

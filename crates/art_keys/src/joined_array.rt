@@ -1,5 +1,14 @@
 //! Two keys of fixed lengths joined into one, in an array.
-ghost use Rattle.std.specs.Prelude.{◌≡◌, ◌+◌, ◌++◌, length};
+ghost use Rattle.std.specs.Prelude.{◌≡◌, ◌+◌, ◌++◌, length, ⊤};
+ghost use Rattle.art_keys.specs.Joins.{joined_bytes, AreKeysOf, pair_cmp, joined_length, parted};
+ghost use Rattle.art_keys.specs.JoinLaws.{joins_no_prefixes, joins_keep_order, arrays_come_back};
+ghost use Rattle.art_keys.specs.InjectiveLaws.{joins_injective};
+ghost use Rattle.std.proofs.Common.{ap, subst, sym, rules};
+ghost use Rattle.std.specs.Cmp.Rules.{comparing};
+ghost use Rattle.std.specs.Cmp.Lexicographic.{slice_cmp};
+ghost use Rattle.std.specs.Ordering.{eq_by_cmp, nat_cmp, on, as_partial_cmp};
+ghost use Rattle.std.specs.Hash as fed;
+ghost use Rattle.art_keys.specs.HashLaws.{bytes_hash};
 
 use super::fixed::all_of;
 use super::laws::{CloneBytes, DecodeBytes, FixedBytes, NoPrefixesBytes, OrderedBytes};
@@ -35,7 +44,10 @@ impl<A: FixedBytes, B: FixedBytes, const N: usize> Model for JoinedArray<A, B, N
 
     ghost use Rattle.std.proofs.Common.{sym};
 
-    ghost inverse = { λ pair. record { bytes = joined_bytes A.bytes B.bytes pair; of = record {} } };
+    ghost inverse = { λ pair. record {
+      bytes = joined_bytes A.bytes B.bytes pair;
+      of = record {};
+    } };
 
     ghost inverse_ok = { λ j h i. record { bytes = sym h.is i; of = j.of } };
 }
@@ -87,8 +99,6 @@ impl<A: FixedBytes, B: FixedBytes, const N: usize> fmt::Debug for JoinedArray<A,
 }
 
 impl<A: FixedBytes, B: FixedBytes, const N: usize> AsBytes for JoinedArray<A, B, N> {
-    ghost use Rattle.art_keys.specs.Joins.{joined_bytes};
-
     ghost bytes = { joined_bytes A.bytes B.bytes };
 
     fn as_bytes(&self) -> &[u8] {
@@ -97,10 +107,6 @@ impl<A: FixedBytes, B: FixedBytes, const N: usize> AsBytes for JoinedArray<A, B,
 }
 
 impl<A: FixedBytes, B: FixedBytes, const N: usize> NoPrefixesBytes for JoinedArray<A, B, N> {
-    ghost use Rattle.art_keys.specs.Joins.{AreKeysOf};
-    ghost use Rattle.art_keys.specs.JoinLaws.{joins_no_prefixes};
-    ghost use Rattle.art_keys.specs.InjectiveLaws.{joins_injective};
-
     ghost is_key = { AreKeysOf N A.is_key A.bytes B.is_key B.bytes };
 
     fn as_key(&self) {
@@ -111,14 +117,12 @@ impl<A: FixedBytes, B: FixedBytes, const N: usize> NoPrefixesBytes for JoinedArr
         A.no_prefixes B.no_prefixes x y of_x.0 of_y.0 };
 
     ghost injective = { λ x y of_x of_y same. joins_injective A.is_key A.bytes B.is_key B.bytes
-        A.key_of A.length_of B.key_of B.length_of A.comes_back B.comes_back x y of_x.0 of_y.0 same };
+        A.key_of A.length_of B.key_of B.length_of A.comes_back B.comes_back x y of_x.0
+        of_y.0 same };
 }
 
 impl<A: FixedBytes + OrderedBytes, B: FixedBytes + OrderedBytes, const N: usize> OrderedBytes
     for JoinedArray<A, B, N> {
-    ghost use Rattle.art_keys.specs.Joins.{pair_cmp};
-    ghost use Rattle.art_keys.specs.JoinLaws.{joins_keep_order};
-
     ghost order = { pair_cmp A.order B.order };
 
     ghost keeps_order = { λ x y of_x of_y. joins_keep_order A.is_key A.bytes B.is_key B.bytes
@@ -126,10 +130,6 @@ impl<A: FixedBytes + OrderedBytes, B: FixedBytes + OrderedBytes, const N: usize>
 }
 
 impl<A: FixedBytes, B: FixedBytes, const N: usize> DecodeBytes for JoinedArray<A, B, N> {
-    ghost use Rattle.std.specs.Prelude.{⊤};
-    ghost use Rattle.art_keys.specs.Joins.{joined_length, parted};
-    ghost use Rattle.art_keys.specs.JoinLaws.{arrays_come_back};
-
     ghost key_of = { parted A.key_of A.length_of B.key_of };
 
     ghost length_of = { joined_length A.length_of B.length_of };
@@ -165,8 +165,6 @@ impl<A: FixedBytes, B: FixedBytes, const N: usize> FixedBytes for JoinedArray<A,
 impl<A: FixedBytes, B: FixedBytes, const N: usize> Copy for JoinedArray<A, B, N> {}
 
 impl<A: FixedBytes, B: FixedBytes, const N: usize> Clone for JoinedArray<A, B, N> {
-    ghost use Rattle.std.specs.Prelude.{⊤};
-
     ghost is_clone = { λ key copy. copy ≡ key };
 
     ghost is_infallible = { λ key. ⊤ };
@@ -177,9 +175,6 @@ impl<A: FixedBytes, B: FixedBytes, const N: usize> Clone for JoinedArray<A, B, N
 }
 
 impl<A: FixedBytes, B: FixedBytes, const N: usize> CloneBytes for JoinedArray<A, B, N> {
-    ghost use Rattle.std.proofs.Common.{ap, subst, sym};
-    ghost use Rattle.art_keys.specs.Joins.{AreKeysOf, joined_bytes};
-
     ghost keeps_bytes = { λ key copy is. ap (joined_bytes A.bytes B.bytes) is };
 
     ghost keeps_key = { λ key copy is of_key.
@@ -187,12 +182,6 @@ impl<A: FixedBytes, B: FixedBytes, const N: usize> CloneBytes for JoinedArray<A,
 }
 
 impl<A: FixedBytes, B: FixedBytes, const N: usize> PartialEq for JoinedArray<A, B, N> {
-    ghost use Rattle.std.proofs.Common.{rules};
-    ghost use Rattle.std.specs.Cmp.Rules.{comparing};
-    ghost use Rattle.std.specs.Cmp.Lexicographic.{slice_cmp};
-    ghost use Rattle.art_keys.specs.Joins.{joined_bytes};
-    ghost use Rattle.std.specs.Ordering.{eq_by_cmp, nat_cmp, on};
-
     ghost eq = { eq_by_cmp (on (joined_bytes A.bytes B.bytes) (slice_cmp nat_cmp)) };
 
     ghost laws = { Prim.search (comparing, rules) };
@@ -203,19 +192,10 @@ impl<A: FixedBytes, B: FixedBytes, const N: usize> PartialEq for JoinedArray<A, 
 }
 
 impl<A: FixedBytes, B: FixedBytes, const N: usize> Eq for JoinedArray<A, B, N> {
-    ghost use Rattle.std.proofs.Common.{rules};
-    ghost use Rattle.std.specs.Cmp.Rules.{comparing};
-
     ghost laws = { Prim.search (comparing, rules) };
 }
 
 impl<A: FixedBytes, B: FixedBytes, const N: usize> PartialOrd for JoinedArray<A, B, N> {
-    ghost use Rattle.std.proofs.Common.{rules};
-    ghost use Rattle.std.specs.Cmp.Rules.{comparing};
-    ghost use Rattle.std.specs.Cmp.Lexicographic.{slice_cmp};
-    ghost use Rattle.art_keys.specs.Joins.{joined_bytes};
-    ghost use Rattle.std.specs.Ordering.{as_partial_cmp, nat_cmp, on};
-
     ghost partial_cmp = { as_partial_cmp (on (joined_bytes A.bytes B.bytes) (slice_cmp nat_cmp)) };
 
     ghost laws = { Prim.search (comparing, rules) };
@@ -227,12 +207,6 @@ impl<A: FixedBytes, B: FixedBytes, const N: usize> PartialOrd for JoinedArray<A,
 
 /// The order of the bytes: that of the first keys, and then that of the second ones.
 impl<A: FixedBytes, B: FixedBytes, const N: usize> Ord for JoinedArray<A, B, N> {
-    ghost use Rattle.std.proofs.Common.{rules};
-    ghost use Rattle.std.specs.Cmp.Rules.{comparing};
-    ghost use Rattle.std.specs.Cmp.Lexicographic.{slice_cmp};
-    ghost use Rattle.art_keys.specs.Joins.{joined_bytes};
-    ghost use Rattle.std.specs.Ordering.{nat_cmp, on};
-
     ghost cmp = { on (joined_bytes A.bytes B.bytes) (slice_cmp nat_cmp) };
 
     ghost total = { Prim.search (comparing, rules) };
@@ -247,10 +221,6 @@ impl<A: FixedBytes, B: FixedBytes, const N: usize> Ord for JoinedArray<A, B, N> 
 }
 
 impl<A: FixedBytes, B: FixedBytes, const N: usize> Hash for JoinedArray<A, B, N> {
-    ghost use Rattle.std.specs.Hash as fed;
-    ghost use Rattle.art_keys.specs.Joins.{joined_bytes};
-    ghost use Rattle.art_keys.specs.HashLaws.{bytes_hash};
-
     ghost hash_input = { λ key. fed.slice fed.u8 (joined_bytes A.bytes B.bytes key) };
 
     ghost respects_eq = { bytes_hash (joined_bytes A.bytes B.bytes) };

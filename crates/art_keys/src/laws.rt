@@ -1,8 +1,9 @@
 //! The laws of key types, which are proved for each type.
-ghost use Rattle.std.specs.Prelude.{◌≡◌, IfOk, IsOk};
+ghost use Rattle.std.specs.Prelude.{◌≡◌, IfOk, IsOk, List, ℕ};
 ghost use Rattle.art_keys.specs.Decoded.{BeginsWithKey, ComesBack, HaveLength, IsOfKey};
 ghost use Rattle.art_keys.specs.Prefixes.{AreInjective, BeginsAs, HasNoPrefixes, IsInside, IsKept, KeepsFronts, KeepsOrder};
 ghost use Rattle.art_model.specs.Clones.{KeepBytes};
+ghost use Rattle.std.specs.declared.cmp.Ordering.{Ordering};
 
 mod encodings;
 
@@ -32,8 +33,6 @@ pub trait NoPrefixesBytes: AsBytes {
 
 /// Keys whose bytes are in the order of the type.
 pub trait OrderedBytes: NoPrefixesBytes {
-    ghost use Rattle.std.specs.declared.cmp.Ordering.{Ordering};
-
     /// The order of the type.
     ghost order: { Self → Self → Ordering };
 
@@ -52,8 +51,6 @@ pub trait CloneBytes: NoPrefixesBytes + Clone {
 
 /// Keys that are recovered from their bytes.
 pub trait DecodeBytes: NoPrefixesBytes {
-    ghost use Rattle.std.specs.Prelude.{List, ℕ};
-
     /// The key with these bytes.
     ghost key_of: { List ℕ → Self };
 
@@ -81,8 +78,6 @@ pub trait DecodeBytes: NoPrefixesBytes {
 /// Keys that all have the same length, and are recovered from their bytes without an allocation: numbers, arrays of
 /// bytes, and two such keys joined into one.
 pub trait FixedBytes: DecodeBytes + Copy {
-    ghost use Rattle.std.specs.Prelude.{ℕ};
-
     /// The length of each key.
     ghost byte_count: { ℕ };
 
@@ -98,8 +93,6 @@ pub trait FixedBytes: DecodeBytes + Copy {
 /// Keys that represent strings of bytes. The bytes of a key are those of its string, which have no zero, and then a
 /// zero.
 pub trait StringBytes: OrderedBytes {
-    ghost use Rattle.std.specs.Prelude.{List, ℕ};
-
     /// The string that a key represents.
     ghost text: { Self → List ℕ };
 

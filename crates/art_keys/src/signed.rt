@@ -1,7 +1,12 @@
 //! Signed numbers as keys, in numerical order.
-ghost use Rattle.std.specs.Prelude.{◌≡◌, ℤ};
-ghost use Rattle.std.specs.Ordering.{int_cmp};
+ghost use Rattle.std.specs.Prelude.{◌≡◌, ℤ, ⊤};
+ghost use Rattle.std.specs.Ordering.{int_cmp, eq_by_cmp, as_partial_cmp};
 ghost use Rattle.art_keys.specs.Numbers.{HasSignedBytes, lifted, lowered, number_of, signed_bytes};
+ghost use Rattle.art_keys.specs.NumberLaws.{signed_no_prefixes, signed_keep_order, signed_come_back, signed_have_length};
+ghost use Rattle.art_keys.specs.InjectiveLaws.{signed_injective};
+ghost use Rattle.std.proofs.Common.{ap, subst, sym, rules};
+ghost use Rattle.std.specs.Cmp.Rules.{comparing, hashing};
+ghost use Rattle.std.specs.Hash as fed;
 
 use super::fixed::all_of;
 use super::laws::{CloneBytes, DecodeBytes, FixedBytes, NoPrefixesBytes, OrderedBytes, compare};
@@ -210,8 +215,6 @@ fn lower(lifted: u128) -> i128
 }
 
 impl<const N: usize> AsBytes for Signed<N> {
-    ghost use Rattle.art_keys.specs.Numbers.{signed_bytes};
-
     ghost bytes = { signed_bytes N };
 
     fn as_bytes(&self) -> &[u8] {
@@ -220,10 +223,6 @@ impl<const N: usize> AsBytes for Signed<N> {
 }
 
 impl<const N: usize> NoPrefixesBytes for Signed<N> {
-    ghost use Rattle.art_keys.specs.Numbers.{HasSignedBytes};
-    ghost use Rattle.art_keys.specs.NumberLaws.{signed_no_prefixes};
-    ghost use Rattle.art_keys.specs.InjectiveLaws.{signed_injective};
-
     ghost is_key = { HasSignedBytes N };
 
     fn as_key(&self) {
@@ -236,19 +235,12 @@ impl<const N: usize> NoPrefixesBytes for Signed<N> {
 }
 
 impl<const N: usize> OrderedBytes for Signed<N> {
-    ghost use Rattle.std.specs.Ordering.{int_cmp};
-    ghost use Rattle.art_keys.specs.NumberLaws.{signed_keep_order};
-
     ghost order = { int_cmp };
 
     ghost keeps_order = { signed_keep_order N };
 }
 
 impl<const N: usize> DecodeBytes for Signed<N> {
-    ghost use Rattle.std.specs.Prelude.{⊤};
-    ghost use Rattle.art_keys.specs.Numbers.{lowered, number_of};
-    ghost use Rattle.art_keys.specs.NumberLaws.{signed_come_back};
-
     ghost key_of = { λ bytes. lowered N (number_of bytes) };
 
     ghost length_of = { λ bytes. N };
@@ -267,8 +259,6 @@ impl<const N: usize> DecodeBytes for Signed<N> {
 }
 
 impl<const N: usize> FixedBytes for Signed<N> {
-    ghost use Rattle.art_keys.specs.NumberLaws.{signed_have_length};
-
     ghost byte_count = { N };
 
     fn from_fixed_bytes(bytes: &[u8]) -> Self {
@@ -281,20 +271,12 @@ impl<const N: usize> FixedBytes for Signed<N> {
 }
 
 impl<const N: usize> CloneBytes for Signed<N> {
-    ghost use Rattle.std.proofs.Common.{ap, subst, sym};
-    ghost use Rattle.art_keys.specs.Numbers.{signed_bytes};
-    ghost use Rattle.art_keys.specs.Numbers.{HasSignedBytes};
-
     ghost keeps_bytes = { λ key copy is. ap (signed_bytes N) is };
 
     ghost keeps_key = { λ key copy is of_key. subst (HasSignedBytes N) (sym is) of_key };
 }
 
 impl<const N: usize> PartialEq for Signed<N> {
-    ghost use Rattle.std.proofs.Common.{rules};
-    ghost use Rattle.std.specs.Cmp.Rules.{comparing};
-    ghost use Rattle.std.specs.Ordering.{eq_by_cmp, int_cmp};
-
     ghost eq = { eq_by_cmp int_cmp };
 
     ghost laws = { Prim.search (comparing, rules) };
@@ -305,17 +287,10 @@ impl<const N: usize> PartialEq for Signed<N> {
 }
 
 impl<const N: usize> Eq for Signed<N> {
-    ghost use Rattle.std.proofs.Common.{rules};
-    ghost use Rattle.std.specs.Cmp.Rules.{comparing};
-
     ghost laws = { Prim.search (comparing, rules) };
 }
 
 impl<const N: usize> PartialOrd for Signed<N> {
-    ghost use Rattle.std.proofs.Common.{rules};
-    ghost use Rattle.std.specs.Cmp.Rules.{comparing};
-    ghost use Rattle.std.specs.Ordering.{as_partial_cmp, int_cmp};
-
     ghost partial_cmp = { as_partial_cmp int_cmp };
 
     ghost laws = { Prim.search (comparing, rules) };
@@ -327,10 +302,6 @@ impl<const N: usize> PartialOrd for Signed<N> {
 
 /// The numerical order.
 impl<const N: usize> Ord for Signed<N> {
-    ghost use Rattle.std.proofs.Common.{rules};
-    ghost use Rattle.std.specs.Cmp.Rules.{comparing};
-    ghost use Rattle.std.specs.Ordering.{int_cmp};
-
     ghost cmp = { int_cmp };
 
     ghost total = { Prim.search (comparing, rules) };
@@ -345,11 +316,6 @@ impl<const N: usize> Ord for Signed<N> {
 }
 
 impl<const N: usize> Hash for Signed<N> {
-    ghost use Rattle.std.proofs.Common.{rules};
-    ghost use Rattle.std.specs.Cmp.Rules.{hashing};
-    ghost use Rattle.std.specs.Hash as fed;
-    ghost use Rattle.art_keys.specs.Numbers.{signed_bytes};
-
     ghost hash_input = { λ key. fed.slice fed.u8 (signed_bytes N key) };
 
     ghost respects_eq = { Prim.search (hashing, rules) };

@@ -1,9 +1,17 @@
 //! Strings of bytes without a zero, each ended by a zero.
-ghost use Rattle.std.specs.Prelude.{◌≡◌, ◌≤◌, ◌↔◌, length, IfOk, IfErr, IfSome, IsSome, OnOk, string_bytes};
+ghost use Rattle.std.specs.Prelude.{◌≡◌, ◌≤◌, ◌↔◌, length, IfOk, IfErr, IfSome, IsSome, OnOk, string_bytes, Some};
 ghost use Rattle.std.specs.Bool.{OnFalse, OnTrue};
 ghost use Rattle.std.specs.Fmt.{WritesOnOk};
 ghost use Rattle.std.specs.Str.Lossy.{utf8_lossy};
-ghost use Rattle.art_keys.specs.Ended.{HasNoZero, IsEndRefusal, zero_at};
+ghost use Rattle.art_keys.specs.Ended.{HasNoZero, IsEndRefusal, zero_at, ended, ended_length, without_end};
+ghost use Rattle.art_keys.specs.EndedLaws.{ended_no_prefixes, ended_keeps_order, ended_comes_back};
+ghost use Rattle.art_keys.specs.InjectiveLaws.{ended_injective};
+ghost use Rattle.std.specs.Cmp.Lexicographic.{slice_cmp};
+ghost use Rattle.std.specs.Ordering.{nat_cmp, eq_by_cmp, as_partial_cmp};
+ghost use Rattle.std.proofs.Common.{refl, ap, subst, sym, rules};
+ghost use Rattle.std.specs.Cmp.Rules.{comparing};
+ghost use Rattle.std.specs.Hash as fed;
+ghost use Rattle.art_keys.specs.HashLaws.{strings_hash};
 
 use super::laws::{CloneBytes, DecodeBytes, NoPrefixesBytes, OrderedBytes, StringBytes, compare};
 use art_nodes::node::AsBytes;
@@ -121,9 +129,6 @@ impl fmt::Debug for Terminated {
 
 /// Writes the string as UTF-8 text, with U+FFFD for each invalid sequence.
 impl fmt::Display for Terminated {
-    ghost use Rattle.std.specs.Prelude.{Some};
-    ghost use Rattle.std.specs.Str.Lossy.{utf8_lossy};
-
     ghost output = { λ text. Some (utf8_lossy text) };
 
     fn fmt<W: fmt::Write>(&self, f: &mut fmt::Formatter<W>) -> fmt::Result {
@@ -167,8 +172,6 @@ pub(crate) fn zero_at(bytes: &[u8]) -> usize
 }
 
 impl AsBytes for Terminated {
-    ghost use Rattle.art_keys.specs.Ended.{ended};
-
     ghost bytes = { ended };
 
     fn as_bytes(&self) -> &[u8] {
@@ -177,9 +180,6 @@ impl AsBytes for Terminated {
 }
 
 impl NoPrefixesBytes for Terminated {
-    ghost use Rattle.art_keys.specs.EndedLaws.{ended_no_prefixes};
-    ghost use Rattle.art_keys.specs.InjectiveLaws.{ended_injective};
-
     ghost is_key = { HasNoZero };
 
     fn as_key(&self) {
@@ -192,18 +192,12 @@ impl NoPrefixesBytes for Terminated {
 }
 
 impl OrderedBytes for Terminated {
-    ghost use Rattle.std.specs.Cmp.Lexicographic.{slice_cmp};
-    ghost use Rattle.std.specs.Ordering.{nat_cmp};
-    ghost use Rattle.art_keys.specs.EndedLaws.{ended_keeps_order};
-
     ghost order = { slice_cmp nat_cmp };
 
     ghost keeps_order = { ended_keeps_order };
 }
 
 impl StringBytes for Terminated {
-    ghost use Rattle.std.proofs.Common.{refl};
-
     ghost text = { λ text. text };
 
     ghost inside = { λ text. text };
@@ -218,9 +212,6 @@ impl StringBytes for Terminated {
 }
 
 impl DecodeBytes for Terminated {
-    ghost use Rattle.art_keys.specs.Ended.{ended_length, without_end};
-    ghost use Rattle.art_keys.specs.EndedLaws.{ended_comes_back};
-
     ghost key_of = { without_end };
 
     ghost length_of = { ended_length };
@@ -251,20 +242,12 @@ impl Clone for Terminated {
 }
 
 impl CloneBytes for Terminated {
-    ghost use Rattle.std.proofs.Common.{ap, subst, sym};
-    ghost use Rattle.art_keys.specs.Ended.{HasNoZero, ended};
-
     ghost keeps_bytes = { λ x y e. ap ended e };
 
     ghost keeps_key = { λ x y e of_x. subst HasNoZero (sym e) of_x };
 }
 
 impl PartialEq for Terminated {
-    ghost use Rattle.std.proofs.Common.{rules};
-    ghost use Rattle.std.specs.Cmp.Rules.{comparing};
-    ghost use Rattle.std.specs.Cmp.Lexicographic.{slice_cmp};
-    ghost use Rattle.std.specs.Ordering.{eq_by_cmp, nat_cmp};
-
     ghost eq = { eq_by_cmp (slice_cmp nat_cmp) };
 
     ghost laws = { Prim.search (comparing, rules) };
@@ -275,18 +258,10 @@ impl PartialEq for Terminated {
 }
 
 impl Eq for Terminated {
-    ghost use Rattle.std.proofs.Common.{rules};
-    ghost use Rattle.std.specs.Cmp.Rules.{comparing};
-
     ghost laws = { Prim.search (comparing, rules) };
 }
 
 impl PartialOrd for Terminated {
-    ghost use Rattle.std.proofs.Common.{rules};
-    ghost use Rattle.std.specs.Cmp.Rules.{comparing};
-    ghost use Rattle.std.specs.Cmp.Lexicographic.{slice_cmp};
-    ghost use Rattle.std.specs.Ordering.{as_partial_cmp, nat_cmp};
-
     ghost partial_cmp = { as_partial_cmp (slice_cmp nat_cmp) };
 
     ghost laws = { Prim.search (comparing, rules) };
@@ -298,11 +273,6 @@ impl PartialOrd for Terminated {
 
 /// The lexicographic order of the bytes before the end.
 impl Ord for Terminated {
-    ghost use Rattle.std.proofs.Common.{rules};
-    ghost use Rattle.std.specs.Cmp.Rules.{comparing};
-    ghost use Rattle.std.specs.Cmp.Lexicographic.{slice_cmp};
-    ghost use Rattle.std.specs.Ordering.{nat_cmp};
-
     ghost cmp = { slice_cmp nat_cmp };
 
     ghost total = { Prim.search (comparing, rules) };
@@ -317,10 +287,6 @@ impl Ord for Terminated {
 }
 
 impl Hash for Terminated {
-    ghost use Rattle.std.specs.Hash as fed;
-    ghost use Rattle.art_keys.specs.Ended.{ended};
-    ghost use Rattle.art_keys.specs.HashLaws.{strings_hash};
-
     ghost hash_input = { λ text. fed.slice fed.u8 (ended text) };
 
     ghost respects_eq = { strings_hash ended };

@@ -1,8 +1,13 @@
 //! Unsigned numbers as keys, in numerical order.
-ghost use Rattle.std.specs.Prelude.{◌≡◌, ℕ};
+ghost use Rattle.std.specs.Prelude.{◌≡◌, ℕ, ⊤};
 ghost use Rattle.std.specs.Int.{bytes_high_first};
-ghost use Rattle.std.specs.Ordering.{nat_cmp};
+ghost use Rattle.std.specs.Ordering.{nat_cmp, eq_by_cmp, as_partial_cmp};
 ghost use Rattle.art_keys.specs.Numbers.{HasBytes, number_of};
+ghost use Rattle.art_keys.specs.NumberLaws.{numbers_no_prefixes, numbers_keep_order, numbers_come_back, numbers_have_length};
+ghost use Rattle.art_keys.specs.InjectiveLaws.{numbers_injective};
+ghost use Rattle.std.proofs.Common.{ap, subst, sym, rules};
+ghost use Rattle.std.specs.Cmp.Rules.{comparing, hashing};
+ghost use Rattle.std.specs.Hash as fed;
 
 use super::fixed::all_of;
 use super::laws::{CloneBytes, DecodeBytes, FixedBytes, NoPrefixesBytes, OrderedBytes, compare};
@@ -187,8 +192,6 @@ impl Unsigned<16> {
 }
 
 impl<const N: usize> AsBytes for Unsigned<N> {
-    ghost use Rattle.std.specs.Int.{bytes_high_first};
-
     ghost bytes = { bytes_high_first N };
 
     fn as_bytes(&self) -> &[u8] {
@@ -197,10 +200,6 @@ impl<const N: usize> AsBytes for Unsigned<N> {
 }
 
 impl<const N: usize> NoPrefixesBytes for Unsigned<N> {
-    ghost use Rattle.art_keys.specs.Numbers.{HasBytes};
-    ghost use Rattle.art_keys.specs.NumberLaws.{numbers_no_prefixes};
-    ghost use Rattle.art_keys.specs.InjectiveLaws.{numbers_injective};
-
     ghost is_key = { HasBytes N };
 
     fn as_key(&self) {
@@ -213,19 +212,12 @@ impl<const N: usize> NoPrefixesBytes for Unsigned<N> {
 }
 
 impl<const N: usize> OrderedBytes for Unsigned<N> {
-    ghost use Rattle.std.specs.Ordering.{nat_cmp};
-    ghost use Rattle.art_keys.specs.NumberLaws.{numbers_keep_order};
-
     ghost order = { nat_cmp };
 
     ghost keeps_order = { numbers_keep_order N };
 }
 
 impl<const N: usize> DecodeBytes for Unsigned<N> {
-    ghost use Rattle.std.specs.Prelude.{⊤};
-    ghost use Rattle.art_keys.specs.Numbers.{number_of};
-    ghost use Rattle.art_keys.specs.NumberLaws.{numbers_come_back};
-
     ghost key_of = { number_of };
 
     ghost length_of = { λ bytes. N };
@@ -244,8 +236,6 @@ impl<const N: usize> DecodeBytes for Unsigned<N> {
 }
 
 impl<const N: usize> FixedBytes for Unsigned<N> {
-    ghost use Rattle.art_keys.specs.NumberLaws.{numbers_have_length};
-
     ghost byte_count = { N };
 
     fn from_fixed_bytes(bytes: &[u8]) -> Self {
@@ -258,20 +248,12 @@ impl<const N: usize> FixedBytes for Unsigned<N> {
 }
 
 impl<const N: usize> CloneBytes for Unsigned<N> {
-    ghost use Rattle.std.proofs.Common.{ap, subst, sym};
-    ghost use Rattle.std.specs.Int.{bytes_high_first};
-    ghost use Rattle.art_keys.specs.Numbers.{HasBytes};
-
     ghost keeps_bytes = { λ key copy is. ap (bytes_high_first N) is };
 
     ghost keeps_key = { λ key copy is of_key. subst (HasBytes N) (sym is) of_key };
 }
 
 impl<const N: usize> PartialEq for Unsigned<N> {
-    ghost use Rattle.std.proofs.Common.{rules};
-    ghost use Rattle.std.specs.Cmp.Rules.{comparing};
-    ghost use Rattle.std.specs.Ordering.{eq_by_cmp, nat_cmp};
-
     ghost eq = { eq_by_cmp nat_cmp };
 
     ghost laws = { Prim.search (comparing, rules) };
@@ -282,17 +264,10 @@ impl<const N: usize> PartialEq for Unsigned<N> {
 }
 
 impl<const N: usize> Eq for Unsigned<N> {
-    ghost use Rattle.std.proofs.Common.{rules};
-    ghost use Rattle.std.specs.Cmp.Rules.{comparing};
-
     ghost laws = { Prim.search (comparing, rules) };
 }
 
 impl<const N: usize> PartialOrd for Unsigned<N> {
-    ghost use Rattle.std.proofs.Common.{rules};
-    ghost use Rattle.std.specs.Cmp.Rules.{comparing};
-    ghost use Rattle.std.specs.Ordering.{as_partial_cmp, nat_cmp};
-
     ghost partial_cmp = { as_partial_cmp nat_cmp };
 
     ghost laws = { Prim.search (comparing, rules) };
@@ -304,10 +279,6 @@ impl<const N: usize> PartialOrd for Unsigned<N> {
 
 /// The numerical order.
 impl<const N: usize> Ord for Unsigned<N> {
-    ghost use Rattle.std.proofs.Common.{rules};
-    ghost use Rattle.std.specs.Cmp.Rules.{comparing};
-    ghost use Rattle.std.specs.Ordering.{nat_cmp};
-
     ghost cmp = { nat_cmp };
 
     ghost total = { Prim.search (comparing, rules) };
@@ -322,11 +293,6 @@ impl<const N: usize> Ord for Unsigned<N> {
 }
 
 impl<const N: usize> Hash for Unsigned<N> {
-    ghost use Rattle.std.proofs.Common.{rules};
-    ghost use Rattle.std.specs.Cmp.Rules.{hashing};
-    ghost use Rattle.std.specs.Hash as fed;
-    ghost use Rattle.std.specs.Int.{bytes_high_first};
-
     ghost hash_input = { λ key. fed.slice fed.u8 (bytes_high_first N key) };
 
     ghost respects_eq = { Prim.search (hashing, rules) };

@@ -27,15 +27,19 @@ module _ {K V : Type 0} (bytes : K → List ℕ) where
   -- under a removed key nothing is found
   pub value_gone : (key : List ℕ) (pairs : List (K × V)) → value_at bytes key (remove_key (of_key bytes) key pairs) ≡ None
   value_gone key pairs =
-      ap (λ xs. option_map (λ x. x.1) (first_of xs)) (removed_is_gone (of_key bytes) key key pairs ∙ ap (λ b. cond b [] (with_key (of_key bytes) key pairs)) (front_same key))
+      ap (λ xs. option_map (λ x. x.1) (first_of xs))
+      (removed_is_gone (of_key bytes) key key pairs ∙ ap (λ b. cond b [] (with_key (of_key bytes) key pairs)) (front_same key))
 
   -- and under every other key, what was found before
-  pub value_left : (other key : List ℕ) (pairs : List (K × V)) → are_same other key ≡ false → value_at bytes other (remove_key (of_key bytes) key pairs) ≡ value_at bytes other pairs
+  pub value_left : (other key : List ℕ) (pairs : List (K × V)) → are_same other key ≡ false →
+      value_at bytes other (remove_key (of_key bytes) key pairs) ≡ value_at bytes other pairs
   value_left other key pairs apart =
-      ap (λ xs. option_map (λ x. x.1) (first_of xs)) (removed_is_gone (of_key bytes) other key pairs ∙ ap (λ b. cond b [] (with_key (of_key bytes) other pairs)) apart)
+      ap (λ xs. option_map (λ x. x.1) (first_of xs))
+      (removed_is_gone (of_key bytes) other key pairs ∙ ap (λ b. cond b [] (with_key (of_key bytes) other pairs)) apart)
 
   -- a value that was written under a key is found there, if one was found before
-  pub value_written : (key : List ℕ) (value : V) (pairs : List (K × V)) → value_at bytes key (with_value_at bytes key value pairs) ≡ option_map (λ _. value) (value_at bytes key pairs)
+  pub value_written : (key : List ℕ) (value : V) (pairs : List (K × V)) →
+      value_at bytes key (with_value_at bytes key value pairs) ≡ option_map (λ _. value) (value_at bytes key pairs)
   value_written key value [] = refl
   value_written key value (x ∷ xs) = go (value_written key value xs) (are_same key (bytes x.0)) refl
     where
@@ -45,11 +49,14 @@ module _ {K V : Type 0} (bytes : K → List ℕ) where
       go ih false e = rw e (rw e ih)
 
   -- and under every other key, what was found before
-  pub value_unwritten : (other key : List ℕ) (value : V) (pairs : List (K × V)) → are_same other key ≡ false → value_at bytes other (with_value_at bytes key value pairs) ≡ value_at bytes other pairs
+  pub value_unwritten : (other key : List ℕ) (value : V) (pairs : List (K × V)) → are_same other key ≡ false →
+      value_at bytes other (with_value_at bytes key value pairs) ≡ value_at bytes other pairs
   value_unwritten other key value [] apart = refl
-  value_unwritten other key value (x ∷ xs) apart = go (value_unwritten other key value xs apart) (are_same key (bytes x.0)) (are_same other (bytes x.0)) refl refl
+  value_unwritten other key value (x ∷ xs) apart =
+      go (value_unwritten other key value xs apart) (are_same key (bytes x.0)) (are_same other (bytes x.0)) refl refl
     where
-      go : value_at bytes other (with_value_at bytes key value xs) ≡ value_at bytes other xs → (b d : Bool) → are_same key (bytes x.0) ≡ b → are_same other (bytes x.0) ≡ d →
+      go : value_at bytes other (with_value_at bytes key value xs) ≡ value_at bytes other xs → (b d : Bool) → are_same key (bytes x.0) ≡ b →
+          are_same other (bytes x.0) ≡ d →
           value_at bytes other (with_value_at bytes key value (x ∷ xs)) ≡ value_at bytes other (x ∷ xs)
       go ih true true e f = absurd (false≢true (sym apart ∙ ap (are_same other) (sym (same_equal key (bytes x.0) e)) ∙ f))
       go ih true false e f = rw (e, f) ih

@@ -54,14 +54,16 @@ module _ {K V : Type 0} (s : Nodes K V) (p : LeafPtr) (node : LeafNode K V) (w :
   links_stay k = elim (leaf_or k) [
     | inl (q, e) ↦ subst (λ (z : OpaqueNodePtr). links_at t z ≡ links_at s z) (sym e) (elim (same_leaf q p) [
       | inl here ↦ subst (λ z. links_at t (leaf_name z) ≡ links_at s (leaf_name z)) (sym here)
-          (links_leaf t p (Some (with_value w node)) (leaf_changed_at s.leaves p (with_value w) ∙ ap (option_map (with_value w)) there) ∙ sym (links_leaf s p (Some node) there))
+          (links_leaf t p (Some (with_value w node)) (leaf_changed_at s.leaves p (with_value w) ∙ ap (option_map (with_value w)) there)
+          ∙ sym (links_leaf s p (Some node) there))
       | inr off ↦ links_leaf t q (get s.leaves q) (leaf_changed_elsewhere s.leaves p q (with_value w) off)
     ])
     | inr off ↦ links_inner t k off ∙ sym (links_inner s k off)
   ]
 
   -- and so are the pairs of leaves with other names
-  pairs_stay : (names : List OpaqueNodePtr) (before after : Option OpaqueNodePtr) → AreLinked (links_at s) before names after → Each (λ k. leaf_name p ≢ k) names →
+  pairs_stay : (names : List OpaqueNodePtr) (before after : Option OpaqueNodePtr) → AreLinked (links_at s) before names after →
+      Each (λ k. leaf_name p ≢ k) names →
       named_pairs t names ≡ named_pairs s names
   pairs_stay [] before after linked off = refl
   pairs_stay (n ∷ ns) before after linked off = elim (leaf_or n) [
@@ -73,7 +75,8 @@ module _ {K V : Type 0} (s : Nodes K V) (p : LeafPtr) (node : LeafNode K V) (w :
 
 module _ {K V : Type 0} (bytes : K → List ℕ) (P : ℕ) where
   -- one value of a map is replaced
-  written_inside : (l r : List (K × V)) (x : K × V) (w : V) → IsMap (of_key bytes) (l ++ x ∷ r) → with_value_at bytes (bytes x.0) w (l ++ x ∷ r) ≡ l ++ (x.0, w) ∷ r
+  written_inside : (l r : List (K × V)) (x : K × V) (w : V) → IsMap (of_key bytes) (l ++ x ∷ r) →
+      with_value_at bytes (bytes x.0) w (l ++ x ∷ r) ≡ l ++ (x.0, w) ∷ r
   written_inside l r x w rising =
       let here : with_value_at bytes (bytes x.0) w (x ∷ []) ≡ (x.0, w) ∷ [] = rw (front_same (bytes x.0)) refl in
       ap (with_value_at bytes (bytes x.0) w) (sym (append_assoc l (x ∷ []) r))
@@ -125,7 +128,8 @@ module _ {K V : Type 0} (bytes : K → List ℕ) (key : List ℕ) (w : V) where
         go ih false true e f = rw (e, f) ih
         go ih false false e f = rw (e, f) (ap (λ ys. x ∷ ys) ih)
 
-module _ {K V F : Type 0} (bytes : K → List ℕ) (P : ℕ) (calls : F → K × V → F → V → Type 0) (root : Option OpaqueNodePtr) (len : ℕ) (began : F) (first before : List (K × V)) where
+module _ {K V F : Type 0} (bytes : K → List ℕ) (P : ℕ) (calls : F → K × V → F → V → Type 0) (root : Option OpaqueNodePtr) (len : ℕ)
+    (began : F) (first before : List (K × V)) where
   -- f was called on some of the pairs that pass a test, and the others of them are left
   pub record ChangedThose (test : List ℕ → Bool) (f : F) (left now : List (K × V)) : Type 0 where
     pub seen : List (K × V)
@@ -181,7 +185,8 @@ module _ {K V F : Type 0} (bytes : K → List ℕ) (P : ℕ) (calls : F → K ×
             let done_is = far.now_is ∙ ap (λ ns. far.done ++ named_pairs s ns) gone ∙ append-nil far.done in
             (rw (seen_is, done_is) far.changed, far.others)
 
-    module _ {rest : Option (LeafPtr × LeafPtr)} {p : LeafPtr} (top : Some (leaf_name p) ≡ first_of now.names) (after : IsIteratorOf s rest (without_first now.names))
+    module _ {rest : Option (LeafPtr × LeafPtr)} {p : LeafPtr} (top : Some (leaf_name p) ≡ first_of now.names)
+        (after : IsIteratorOf s rest (without_first now.names))
         (node : LeafNode K V) (w : V) (there : get s.leaves p ≡ Some node) where
       abbrev u : Nodes K V
       u = with_leaf_value s p w
@@ -193,9 +198,11 @@ module _ {K V F : Type 0} (bytes : K → List ℕ) (P : ℕ) (calls : F → K ×
       parts = first_left s now.names p (pair_of node) top (ap (option_map pair_of) there)
 
       kept : named_pairs u rest_names ≡ named_pairs s rest_names
-      kept = pairs_stay s p node w there rest_names after.segment.before after.segment.after after.segment.linked (apart_first now.names top now.is.segment.distinct)
+      kept = pairs_stay s p node w there rest_names after.segment.before after.segment.after after.segment.linked
+          (apart_first now.names top now.is.segment.distinct)
         where
-          apart_first : (names : List OpaqueNodePtr) → Some (leaf_name p) ≡ first_of names → AreDistinct names → Each (λ k. leaf_name p ≢ k) (without_first names)
+          apart_first : (names : List OpaqueNodePtr) → Some (leaf_name p) ≡ first_of names → AreDistinct names →
+              Each (λ k. leaf_name p ≢ k) (without_first names)
           apart_first [] e distinct = absurd cc
           apart_first (n ∷ ns) e distinct = let same : n ≡ leaf_name p = cc in subst (λ z. Each (λ k. z ≢ k) ns) same distinct.0
 
@@ -223,7 +230,8 @@ module _ {K V F : Type 0} (bytes : K → List ℕ) (P : ℕ) (calls : F → K ×
         -- of the pairs that pass a test, one has another value
         pub those_after : filter (λ x. test (bytes x.0)) (pairs_at u root) ≡ far.done ++ (node.key, w) ∷ named_pairs u rest_names
         those_after =
-            ap (filter (λ x. test (bytes x.0))) view ∙ those_written bytes (bytes node.key) w test (pairs_at s root) ∙ ap (with_value_at bytes (bytes node.key) w) those_parts
+            ap (filter (λ x. test (bytes x.0))) view ∙ those_written bytes (bytes node.key) w test (pairs_at s root)
+            ∙ ap (with_value_at bytes (bytes node.key) w) those_parts
             ∙ written_inside bytes P far.done (named_pairs s rest_names) (pair_of node) w rising ∙ ap (λ xs. far.done ++ (node.key, w) ∷ xs) (sym kept)
 
         -- and the others are unchanged
@@ -306,7 +314,9 @@ module _ {C K V : Type 0} (calls : C → K × V → C → V → Type 0) where
       (value, inside next, rest, one f x next value called, changes_inside other inside one next xs rest left h, is)
 
   -- what each call keeps true of a closure's state, all calls keep true
-  pub changes_hold : (Good : C → Type 0) → ((f : C) (x : K × V) (next : C) (w : V) → calls f x next w → Good f → Good next) → (f : C) (before after : List (K × V)) (left : C) →
+  pub changes_hold : (Good : C → Type 0) → ((f : C) (x : K × V) (next : C) (w : V) → calls f x next w → Good f → Good next) →
+      (f : C) (before after : List (K × V)) (left : C) →
       ChangesBy calls f before after left → Good f → Good left
   changes_hold Good one f [] after left h good = subst Good h.1 good
-  changes_hold Good one f (x ∷ xs) after left (value, next, rest, called, h, is) good = changes_hold Good one next xs rest left h (one f x next value called good)
+  changes_hold Good one f (x ∷ xs) after left (value, next, rest, called, h, is) good =
+      changes_hold Good one next xs rest left h (one f x next value called good)

@@ -20,7 +20,8 @@ use Rattle.art_model.proofs.leaves.Renamed.{HasRow, canonical_renamed, first_nam
 use Rattle.art_map.specs.MapPairs.{HoldsPairs}
 use Rattle.art_map.proofs.Puts.{HasTreeAt, at_some}
 
-module _ {K V : Type 0} {bytes : K × V → List ℕ} {P : ℕ} {s : Nodes K V} {root : OpaqueNodePtr} {len : ℕ} {pairs : List (K × V)} (has : HasTreeAt bytes P s root len pairs) where
+module _ {K V : Type 0} {bytes : K × V → List ℕ} {P : ℕ} {s : Nodes K V} {root : OpaqueNodePtr} {len : ℕ} {pairs : List (K × V)}
+    (has : HasTreeAt bytes P s root len pairs) where
   -- the leaves of the tree are a row
   leaf_row : HasRow s None (leaf_names has.layout)
   leaf_row = row_of s None (leaf_names has.layout) has.by.linked
@@ -38,7 +39,9 @@ module _ {K V : Type 0} {bytes : K × V → List ℕ} {P : ℕ} {s : Nodes K V} 
       renamed_holds : (rename : LeafPtr → LeafPtr) → AreRenamed rename leaf_row.row s t → HoldsPairs bytes P t (Some root) len pairs
       renamed_holds rename are = record {
         tree = Some (renamed (child_renamed rename) has.layout);
-        canonical = subst (λ name. IsCanonicalTree bytes P t name pairs (renamed (child_renamed rename) has.layout)) (inner_stays rename root.kind root.slot inner)
+        canonical =
+            subst (λ name. IsCanonicalTree bytes P t name pairs (renamed (child_renamed rename) has.layout))
+            (inner_stays rename root.kind root.slot inner)
             (canonical_renamed are has.by leaf_row.names_are);
         no_other = none_beside are has.by leaf_row.names_are has.no_other;
         len_is = has.len_is;
@@ -46,13 +49,16 @@ module _ {K V : Type 0} {bytes : K × V → List ℕ} {P : ℕ} {s : Nodes K V} 
 
       -- so the pairs are held, whether the leaves were sorted or an allocation failed
       sorted_holds : {E : Type 0} (result : Result (Unit {0}) E) →
-          ((row : List LeafPtr) → IsRow s.leaves None row → first_of row ≡ Some first → OnOk result ((rename : LeafPtr → LeafPtr) × AreRenamed rename row s t)) →
+          ((row : List LeafPtr) → IsRow s.leaves None row → first_of row ≡ Some first →
+          OnOk result ((rename : LeafPtr → LeafPtr) × AreRenamed rename row s t)) →
           OnErr result (t ≡ s) → HoldsPairs bytes P t (Some root) len pairs
       sorted_holds (Ok done) sorted refused = let (rename, are) = sorted leaf_row.row leaf_row.is_row first_is in renamed_holds rename are
       sorted_holds (Err error) sorted refused =
-          subst (λ z. HoldsPairs bytes P z (Some root) len pairs) (sym refused) (record { tree = Some has.layout; canonical = has.by; no_other = has.no_other; len_is = has.len_is })
+          subst (λ z. HoldsPairs bytes P z (Some root) len pairs) (sym refused)
+          (record { tree = Some has.layout; canonical = has.by; no_other = has.no_other; len_is = has.len_is })
 
-module _ {K V : Type 0} {bytes : K × V → List ℕ} {P : ℕ} {s : Nodes K V} {root : Option OpaqueNodePtr} {name : OpaqueNodePtr} {len : ℕ} {pairs : List (K × V)} {first : LeafPtr}
+module _ {K V : Type 0} {bytes : K × V → List ℕ} {P : ℕ} {s : Nodes K V} {root : Option OpaqueNodePtr} {name : OpaqueNodePtr} {len : ℕ}
+    {pairs : List (K × V)} {first : LeafPtr}
     (root_is : root ≡ Some name) (holds : HoldsPairs bytes P s root len pairs)
     (is_first : (layout : Tree OpaqueNodePtr (K × V)) → IsFullTree s name layout → HasFirstLeaf layout (leaf_name first)) where
   -- the leaves below a root can be sorted

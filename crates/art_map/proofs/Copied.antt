@@ -89,7 +89,8 @@ module _ {N A : Type 0} (IsClone : A → A → Type 0) where
 module _ {K V : Type 0} (is_key_clone : K → K → Type 0) (is_value_clone : V → V → Type 0) where
   -- the same for one leaf
   leaf_copy : (node copy : Option (LeafNode K V)) → IsCopyThere is_key_clone is_value_clone node copy →
-      IsNodeCopy (IsPairClone is_key_clone is_value_clone) (option_map (tree_node Leaf) (option_map held_leaf node)) (option_map (tree_node Leaf) (option_map held_leaf copy))
+      IsNodeCopy (IsPairClone is_key_clone is_value_clone) (option_map (tree_node Leaf) (option_map held_leaf node))
+      (option_map (tree_node Leaf) (option_map held_leaf copy))
   leaf_copy None copy is = rw is refl
   leaf_copy (Some node) None is = absurd is
   leaf_copy (Some node) (Some copy) is = (_, (is.key, is.value), refl)
@@ -100,13 +101,15 @@ module _ {K V : Type 0} (is_key_clone : K → K → Type 0) (is_value_clone : V 
   leaf_links (Some node) None is = absurd is
   leaf_links (Some node) (Some copy) is = rw (is.previous, is.next) refl
 
-  leaf_free : (node copy : Option (LeafNode K V)) → IsCopyThere is_key_clone is_value_clone node copy → option_map held_leaf node ≡ None → option_map held_leaf copy ≡ None
+  leaf_free : (node copy : Option (LeafNode K V)) → IsCopyThere is_key_clone is_value_clone node copy → option_map held_leaf node ≡ None →
+      option_map held_leaf copy ≡ None
   leaf_free None copy is none = rw is refl
   leaf_free (Some node) copy is none = absurd cc
 
   -- an inner node is its own copy
   same_copy : (kind : NodeType) (node copy : Option Inner) → copy ≡ node →
-      IsNodeCopy (IsPairClone is_key_clone is_value_clone) (option_map (tree_node kind) (option_map held_inner node)) (option_map (tree_node kind) (option_map held_inner copy))
+      IsNodeCopy (IsPairClone is_key_clone is_value_clone) (option_map (tree_node kind) (option_map held_inner node))
+      (option_map (tree_node kind) (option_map held_inner copy))
   same_copy kind None copy is = rw is refl
   same_copy kind (Some node) copy is = rw is refl
 
@@ -122,7 +125,8 @@ module _ {K V : Type 0} (is_key_clone : K → K → Type 0) (is_value_clone : V 
     same_held kind slot = ap (option_map held_inner) (same_inner kind slot)
 
     copy_in : (kind : NodeType) (slot : ℕ) →
-        IsNodeCopy (IsPairClone is_key_clone is_value_clone) (option_map (tree_node kind) (content_in s kind slot)) (option_map (tree_node kind) (content_in t kind slot))
+        IsNodeCopy (IsPairClone is_key_clone is_value_clone) (option_map (tree_node kind) (content_in s kind slot))
+        (option_map (tree_node kind) (content_in t kind slot))
     copy_in Leaf slot = leaf_copy _ _ (leaves (record { slot = slot }))
     copy_in Node4 slot = same_copy Node4 _ _ (same_inner Node4 slot)
     copy_in Node16 slot = same_copy Node16 _ _ (same_inner Node16 slot)
@@ -153,7 +157,8 @@ module _ {K V : Type 0} (is_key_clone : K → K → Type 0) (is_value_clone : V 
       copies_held {root} {len} {pairs} is = go root is.tree is.canonical is.no_other
         where
           go : (root : Option OpaqueNodePtr) (tree : Option (Tree OpaqueNodePtr (K × V))) → IsRootOf (of_key bytes) P s root pairs tree →
-              ((name : OpaqueNodePtr) → (IsIn name (names_in tree) → ⊥) → content_at s name ≡ None) → HoldsClones bytes P pairs is_key_clone is_value_clone t root len
+              ((name : OpaqueNodePtr) → (IsIn name (names_in tree) → ⊥) → content_at s name ≡ None) →
+              HoldsClones bytes P pairs is_key_clone is_value_clone t root len
           go None None none other = (
             [],
             subst (λ xs. AreClones is_key_clone is_value_clone xs []) (sym none) tt,
@@ -164,7 +169,8 @@ module _ {K V : Type 0} (is_key_clone : K → K → Type 0) (is_value_clone : V 
           go (Some name) (Some layout) by other =
               let laid = laid_out by in
               let (copy, of) = held_copy (IsPairClone is_key_clone is_value_clone) (node_at s) (node_at t) (λ n. copy_in n.kind n.slot) layout laid.holds in
-              let are : AreClones is_key_clone is_value_clone pairs (pairs_of copy) = subst (λ xs. AreClones is_key_clone is_value_clone xs (pairs_of copy)) laid.pairs_are
+              let are : AreClones is_key_clone is_value_clone pairs (pairs_of copy) =
+              subst (λ xs. AreClones is_key_clone is_value_clone xs (pairs_of copy)) laid.pairs_are
               (copied_pairs (IsPairClone is_key_clone is_value_clone) layout copy of.same) in (
                 pairs_of copy,
                 are,
@@ -172,11 +178,13 @@ module _ {K V : Type 0} (is_key_clone : K → K → Type 0) (is_value_clone : V 
                   tree = Some copy;
                   canonical = canonical_from (record {
                     named = of.named ∙ laid.named;
-                    radix = copied_radix (IsPairClone is_key_clone is_value_clone) (of_key bytes) P (λ x y clone. keep x.0 y.0 clone.0) layout copy [] of.same laid.radix;
+                    radix = copied_radix (IsPairClone is_key_clone is_value_clone) (of_key bytes) P
+                        (λ x y clone. keep x.0 y.0 clone.0) layout copy [] of.same laid.radix;
                     pairs_are = refl;
                     holds = of.holds;
                     distinct = subst AreDistinct (sym of.names) laid.distinct;
-                    linked = subst (λ names. AreLinked (links_at t) None names None) (sym of.leaves) (subst (λ links. AreLinked links None (leaf_names layout) None) (sym same_links) laid.linked);
+                    linked = subst (λ names. AreLinked (links_at t) None names None) (sym of.leaves)
+                        (subst (λ links. AreLinked links None (leaf_names layout) None) (sym same_links) laid.linked);
                   });
                   no_other = λ n out. free_in n.kind n.slot (other n (λ was. out (subst (IsIn n) (sym of.names) was)));
                   len_is = is.len_is ∙ length_all_zip (IsPairClone is_key_clone is_value_clone) _ _ are;

@@ -44,10 +44,17 @@ module _ {K V : Type 0} where
     where
       go : (ks : List OpaqueNodePtr) → Each (λ k. n ≢ k) ks → Each (IsLeafIn m) ks → Each (IsLeafIn (map.remove m (as_leaf n))) ks
       go [] o h = tt
-      go (k ∷ ks) o is =
-          ((is.0.0, ap is_some (gone_elsewhere leaf_cmp_total leaf_cmp-IsAntisymmetric m (as_leaf n) (as_leaf k) (λ e. o.0 (same_name n k h.0.0 is.0.0 (sym e)))) ∙ is.0.1), go ks o.1 is.1)
+      go (k ∷ ks) o is = (
+        (
+          is.0.0,
+          ap is_some (gone_elsewhere leaf_cmp_total leaf_cmp-IsAntisymmetric m (as_leaf n) (as_leaf k)
+              (λ e. o.0 (same_name n k h.0.0 is.0.0 (sym e)))) ∙ is.0.1,
+        ),
+        go ks o.1 is.1,
+      )
 
-no_inner : {K V : Type 0} (kind : NodeType) (o : Option Inner) (x : K × V) → option_map (tree_node {K = K} {V = V} kind) (option_map held_inner o) ≡ Some (leaf_node x) → ⊥
+no_inner : {K V : Type 0} (kind : NodeType) (o : Option Inner) (x : K × V) →
+    option_map (tree_node {K = K} {V = V} kind) (option_map held_inner o) ≡ Some (leaf_node x) → ⊥
 no_inner kind None x e = absurd cc
 no_inner kind (Some n) x e = absurd cc
 
@@ -74,7 +81,8 @@ module _ {K V : Type 0} (s : Nodes K V) where
     leaves_held_below (child b t cs) h = Each-append (IsLeafIn s.leaves) (leaf_names t) (leaf_names_below cs) (leaves_held t h.0) (leaves_held_below cs h.1)
 
 -- the store has at least as many leaves as there are pairs
-pub enough : {K V : Type 0} {bytes : K × V → List ℕ} {P : ℕ} {s : Nodes K V} {root : OpaqueNodePtr} {pairs : List (K × V)} {layout : Tree OpaqueNodePtr (K × V)} →
+pub enough : {K V : Type 0} {bytes : K × V → List ℕ} {P : ℕ} {s : Nodes K V} {root : OpaqueNodePtr} {pairs : List (K × V)}
+    {layout : Tree OpaqueNodePtr (K × V)} →
     IsCanonicalTree bytes P s root pairs layout → length pairs ≤ map.len s.leaves
 enough {s = s} {layout = layout} by =
     let many = enough_leaves (leaf_names layout) s.leaves (taken_distinct takes_leaves layout by.stands.0.distinct) (leaves_held s layout by.stands.0.holds) in

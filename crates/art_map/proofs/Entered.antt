@@ -49,26 +49,40 @@ uncovered s (MismatchPrefix m p) off e = false≢true e
 
 module _ {K V : Type 0} (bytes : K → List ℕ) (P : ℕ) {s : Nodes K V} {key : List ℕ} {point : InsertPoint} where
   -- where a point names the leaf of the key, the tree has it
-  pub leaf_of_point : {root : Option OpaqueNodePtr} {p : LeafPtr} → IsPointIn (of_key bytes) P s key point → point.insert_kind ≡ Exact p → root ≡ Some point.root →
+  pub leaf_of_point : {root : Option OpaqueNodePtr} {p : LeafPtr} → IsPointIn (of_key bytes) P s key point → point.insert_kind ≡ Exact p →
+      root ≡ Some point.root →
       NamesLeafOf bytes P s root key p
   leaf_of_point {root} {p} answers exact e =
       let (pairs, layout, by, at) = answers in
       let l = own_leaf answers exact by in
-      record { name = point.root; pairs = pairs; layout = layout; pair = pair_of l.at.shown; root_is = e; by = by; has = record { path = l.at.path; whole = l.at.whole }; key_is = l.same }
+      record {
+        name = point.root;
+        pairs = pairs;
+        layout = layout;
+        pair = pair_of l.at.shown;
+        root_is = e;
+        by = by;
+        has = record { path = l.at.path; whole = l.at.whole };
+        key_is = l.same;
+      }
 
   -- where a point names no leaf of the key, the key is not stored
-  pub unstored : {pairs : List (K × V)} {layout : _} → IsCanonicalTree (of_key bytes) P s point.root pairs layout → AnswersTo (of_key bytes) P layout key point →
+  pub unstored : {pairs : List (K × V)} {layout : _} → IsCanonicalTree (of_key bytes) P s point.root pairs layout →
+      AnswersTo (of_key bytes) P layout key point →
       ((p : LeafPtr) → point.insert_kind ≡ Exact p → ⊥) → has_key (of_key bytes) key pairs ≡ false
   unstored by at off = refused_new (tree_stays {mid = record s { promise = no_promise }} (refl, refl) by) at (uncovered s point.insert_kind off)
 
   -- so it is not stored if the store stands for a list of pairs
-  pub point_new : {root : Option OpaqueNodePtr} → root ≡ Some point.root → IsPointIn (of_key bytes) P s key point → ((p : LeafPtr) → point.insert_kind ≡ Exact p → ⊥) →
+  pub point_new : {root : Option OpaqueNodePtr} → root ≡ Some point.root → IsPointIn (of_key bytes) P s key point →
+      ((p : LeafPtr) → point.insert_kind ≡ Exact p → ⊥) →
       has_key (of_key bytes) key (pairs_at s root) ≡ false
   point_new {root} e (pairs, layout, by, at) off =
-      subst (λ xs. has_key (of_key bytes) key xs ≡ false) (sym (ap (pairs_at s) e ∙ view_is (of_key bytes) P s (Some point.root) (Some layout) by)) (unstored by at off)
+      subst (λ xs. has_key (of_key bytes) key xs ≡ false)
+      (sym (ap (pairs_at s) e ∙ view_is (of_key bytes) P s (Some point.root) (Some layout) by)) (unstored by at off)
 
 -- a stored key does not conflict
-pub stored_free : {K V : Type 0} (bytes : K → List ℕ) (key : List ℕ) (pairs : List (K × V)) → IsMap (of_key bytes) pairs → has_key (of_key bytes) key pairs ≡ true →
+pub stored_free : {K V : Type 0} (bytes : K → List ℕ) (key : List ℕ) (pairs : List (K × V)) → IsMap (of_key bytes) pairs →
+    has_key (of_key bytes) key pairs ≡ true →
     is_conflict (of_key bytes) key pairs ≡ false
 stored_free bytes key pairs rising stored = go (is_conflict (of_key bytes) key pairs) refl
   where
@@ -77,26 +91,33 @@ stored_free bytes key pairs rising stored = go (is_conflict (of_key bytes) key p
     go true e = absurd (false≢true (sym (conflict_new (of_key bytes) key pairs rising e) ∙ stored))
 
 -- a key whose position is no leaf is not stored
-pub position_new : {K V : Type 0} (bytes : K → List ℕ) (P : ℕ) {s : Nodes K V} {root : Option OpaqueNodePtr} {len : ℕ} (key : List ℕ) → HoldsPairs (of_key bytes) P s root len (pairs_at s root) →
-    (place : Position) → IsPositionOf bytes P s root key place → ((leaf : LeafPtr) → place ≡ positions.Leaf leaf → ⊥) → has_key (of_key bytes) key (pairs_at s root) ≡ false
+pub position_new : {K V : Type 0} (bytes : K → List ℕ) (P : ℕ) {s : Nodes K V} {root : Option OpaqueNodePtr} {len : ℕ} (key : List ℕ) →
+    HoldsPairs (of_key bytes) P s root len (pairs_at s root) →
+    (place : Position) → IsPositionOf bytes P s root key place → ((leaf : LeafPtr) → place ≡ positions.Leaf leaf → ⊥) →
+    has_key (of_key bytes) key (pairs_at s root) ≡ false
 position_new bytes P key is (positions.Leaf leaf) at off = absurd (off leaf refl)
 position_new bytes P key is (positions.Point point) (root_is, point_in, exact, free) off = point_new bytes P root_is point_in exact
 position_new bytes P {s} key is positions.Bare at off = ap (has_key (of_key bytes) key) (no_pairs (of_key bytes) P s at is)
-position_new bytes P {s} {root} key is (positions.Refused error) (any, related) off = conflict_new (of_key bytes) key (pairs_at s root) (map_held (of_key bytes) P s is) related
+position_new bytes P {s} {root} key is (positions.Refused error) (any, related) off =
+    conflict_new (of_key bytes) key (pairs_at s root) (map_held (of_key bytes) P s is) related
 
 -- a key without a value is not stored
-pub none_stored : {K V : Type 0} (bytes : K → List ℕ) (key : List ℕ) (pairs : List (K × V)) → value_at bytes key pairs ≡ None → has_key (of_key bytes) key pairs ≡ false
+pub none_stored : {K V : Type 0} (bytes : K → List ℕ) (key : List ℕ) (pairs : List (K × V)) → value_at bytes key pairs ≡ None →
+    has_key (of_key bytes) key pairs ≡ false
 none_stored bytes key pairs e =
     any_is_first (λ x. are_same key (bytes x.0)) pairs ∙ sym (is_some-map (λ x. x.1) (first_of (with_key (of_key bytes) key pairs))) ∙ ap is_some e
 
 -- and neither is a rejected key
-pub none_refused : {K V : Type 0} (bytes : K → List ℕ) (key : K) (value : V) (pairs : List (K × V)) → IsMap (of_key bytes) pairs → (error : MapInsertError K V) →
+pub none_refused : {K V : Type 0} (bytes : K → List ℕ) (key : K) (value : V) (pairs : List (K × V)) → IsMap (of_key bytes) pairs →
+    (error : MapInsertError K V) →
     IsRefusalOf bytes key value pairs error → has_key (of_key bytes) (bytes key) pairs ≡ false
-none_refused bytes key value pairs rising (errors.Conflict k v error) (same_key, same_value, spelled, related) = conflict_new (of_key bytes) (bytes key) pairs rising related
+none_refused bytes key value pairs rising (errors.Conflict k v error) (same_key, same_value, spelled, related) =
+    conflict_new (of_key bytes) (bytes key) pairs rising related
 none_refused bytes key value pairs rising (errors.Memory k v) (same_key, same_value, none) = none
 
 -- the value that exists, or the one that was made
-pub unwraps : {V : Type 0} (IsMade : V → Type 0) (o : Option V) (value lent : V) → (o ≡ None → IsMade value) → lent ≡ unwrap_or o value → UnwrapsOrElse o IsMade lent
+pub unwraps : {V : Type 0} (IsMade : V → Type 0) (o : Option V) (value lent : V) → (o ≡ None → IsMade value) → lent ≡ unwrap_or o value →
+    UnwrapsOrElse o IsMade lent
 unwraps IsMade None value lent made e = subst IsMade (sym e) (made refl)
 unwraps IsMade (Some x) value lent made e = e
 
@@ -123,7 +144,8 @@ module _ {K V : Type 0} (bytes : K → List ℕ) (new : K × V) (pairs : List (K
       go (Some x) e = absurd (false≢true (sym none ∙ has_is_stored (of_key bytes) new pairs ∙ ap is_some e))
 
 -- the leaf that an insertion returns is that of the key
-pub leaf_of_result : {K V : Type 0} (bytes : K → List ℕ) (P : ℕ) {t : Nodes K V} {point : InsertPoint} (new : K × V) (after : List (K × V)) (done : InsertResult K V) →
+pub leaf_of_result : {K V : Type 0} (bytes : K → List ℕ) (P : ℕ) {t : Nodes K V} {point : InsertPoint} (new : K × V) (after : List (K × V))
+    (done : InsertResult K V) →
     IsCanonical (of_key bytes) P t (Some done.new_root) after →
     ForTree (of_key bytes) P t done.new_root (λ pairs layout. HasInserted layout point (stored_for (of_key bytes) new pairs) done) →
     NamesLeafOf bytes P t (Some done.new_root) (bytes new.0) done.leaf_node_ptr
@@ -142,16 +164,21 @@ leaf_of_result bytes P new after done (layout, by) told =
 
 module _ {K V : Type 0} (bytes : K → List ℕ) (P : ℕ) (pairs : List (K × V)) (t : Nodes K V) (root : Option OpaqueNodePtr) (len : ℕ) (key : K) (value : V) where
   -- the pairs read off the store are held, whatever the result
-  pub enters_holds : (result : Result LeafPtr (MapInsertError K V)) → HasEntered bytes P pairs key value result t root len → HoldsPairs (of_key bytes) P t root len (pairs_at t root)
+  pub enters_holds : (result : Result LeafPtr (MapInsertError K V)) → HasEntered bytes P pairs key value result t root len →
+      HoldsPairs (of_key bytes) P t root len (pairs_at t root)
   enters_holds (Ok leaf) h = holds (of_key bytes) P t h.0
   enters_holds (Err error) h = holds (of_key bytes) P t h.0
 
 -- the same if the value was made
-pub made_holds : {K V : Type 0} (bytes : K → List ℕ) (P : ℕ) (pairs : List (K × V)) (t : Nodes K V) (root : Option OpaqueNodePtr) (len : ℕ) (key : K) (IsMade : V → Type 0)
-    (result : Result LeafPtr (MapInsertError K V)) → HasMade bytes P pairs key IsMade result t root len → HoldsPairs (of_key bytes) P t root len (pairs_at t root)
+pub made_holds : {K V : Type 0} (bytes : K → List ℕ) (P : ℕ) (pairs : List (K × V)) (t : Nodes K V) (root : Option OpaqueNodePtr) (len : ℕ)
+    (key : K) (IsMade : V → Type 0)
+    (result : Result LeafPtr (MapInsertError K V)) → HasMade bytes P pairs key IsMade result t root len →
+    HoldsPairs (of_key bytes) P t root len (pairs_at t root)
 made_holds bytes P pairs t root len key IsMade result (value, made, entered) = enters_holds bytes P pairs t root len key value result entered
 
-pub tried_holds : {K V E : Type 0} (bytes : K → List ℕ) (P : ℕ) (pairs : List (K × V)) (t : Nodes K V) (root : Option OpaqueNodePtr) (len : ℕ) (key : K) (IsMade : Result V E → Type 0)
-    (result : Result LeafPtr (MapMakeError K V E)) → HasTried bytes P pairs key IsMade result t root len → HoldsPairs (of_key bytes) P t root len (pairs_at t root)
+pub tried_holds : {K V E : Type 0} (bytes : K → List ℕ) (P : ℕ) (pairs : List (K × V)) (t : Nodes K V) (root : Option OpaqueNodePtr)
+    (len : ℕ) (key : K) (IsMade : Result V E → Type 0)
+    (result : Result LeafPtr (MapMakeError K V E)) → HasTried bytes P pairs key IsMade result t root len →
+    HoldsPairs (of_key bytes) P t root len (pairs_at t root)
 tried_holds bytes P pairs t root len key IsMade (Ok leaf) (value, made, entered) = holds (of_key bytes) P t entered.0
 tried_holds bytes P pairs t root len key IsMade (Err error) h = holds (of_key bytes) P t h.0

@@ -4,7 +4,8 @@ use Rattle.art_model.specs.Pairs.{of_key, put}
 use Rattle.art_map.specs.MapCalls.{put_all}
 use Rattle.art_map.specs.SetKeys.{add_all, add_key}
 
-pub put_last : {K V : Type 0} (bytes : K → List ℕ) (x : K × V) (xs pairs : List (K × V)) → put_all bytes (xs ++ x ∷ []) pairs ≡ put (of_key bytes) x (put_all bytes xs pairs)
+pub put_last : {K V : Type 0} (bytes : K → List ℕ) (x : K × V) (xs pairs : List (K × V)) →
+    put_all bytes (xs ++ x ∷ []) pairs ≡ put (of_key bytes) x (put_all bytes xs pairs)
 put_last bytes x [] pairs = refl
 put_last bytes x (y ∷ ys) pairs = put_last bytes x ys (put (of_key bytes) y pairs)
 

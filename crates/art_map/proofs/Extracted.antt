@@ -21,7 +21,8 @@ use denote.Ref.{Bor}
 
 module _ {A : Type 0} (bytes : A → List ℕ) (test : List ℕ → Bool) where
   -- a removal of the first pair whose key passes
-  pub extracts : (before after : List A) (taken : Option A) → IsMap bytes before → taken ≡ first_of (passing bytes test before) → after ≡ without bytes taken before →
+  pub extracts : (before after : List A) (taken : Option A) → IsMap bytes before → taken ≡ first_of (passing bytes test before) →
+      after ≡ without bytes taken before →
       ExtractsFirst bytes (λ x. test (bytes x)) before taken after
   extracts before after None rising first left =
       let none = first_none (passing bytes test before) (sym first) in
@@ -32,7 +33,8 @@ module _ {A : Type 0} (bytes : A → List ℕ) (test : List ℕ → Bool) where
 
 -- the same of the first pair with a prefix
 pub extracts_below : {A : Type 0} (bytes : A → List ℕ) (prefix : List ℕ) (before after : List A) (taken : Option A) → IsMap bytes before →
-    taken ≡ first_of (below bytes prefix before) → after ≡ without_below bytes prefix 1 before → ExtractsFirst bytes (λ x. is_front prefix (bytes x)) before taken after
+    taken ≡ first_of (below bytes prefix before) → after ≡ without_below bytes prefix 1 before →
+    ExtractsFirst bytes (λ x. is_front prefix (bytes x)) before taken after
 extracts_below bytes prefix before after None rising first left =
     extracts bytes (is_front prefix) before after None rising first (left ∙ nothing_out bytes prefix before first)
 extracts_below bytes prefix before after (Some x) rising first left =
@@ -85,7 +87,8 @@ bound_twice Unbounded = refl
 
 -- the bytes of a bound of a range
 pub bound_read : (bound : Bound (Bor (Bor (List ℕ)))) (read given : Bound (Bor (List ℕ))) →
-    bound_map (λ k. k.now) read ≡ bound_map (λ k. k.now.now) bound → bound_map (λ k. k.now) bound ≡ given → bound_map (λ k. k.now) read ≡ bound_map (λ k. k.now) given
+    bound_map (λ k. k.now) read ≡ bound_map (λ k. k.now.now) bound → bound_map (λ k. k.now) bound ≡ given →
+    bound_map (λ k. k.now) read ≡ bound_map (λ k. k.now) given
 bound_read bound read given is of_range = is ∙ bound_twice bound ∙ ap (bound_map (λ k. k.now)) of_range
 
 module _ {K V : Type 0} (bytes : K → List ℕ) where
@@ -94,7 +97,8 @@ module _ {K V : Type 0} (bytes : K → List ℕ) where
     IsWithin s = (bound_map (λ b. b.now) s.from ≡ low) × (bound_map (λ b. b.now) s.to ≡ high)
 
     -- an iterator over a range removes all pairs of it
-    pub range_all : (s : ExtractRangeOf (List (K × V))) → IsWithin s → ExtractsAll (of_key bytes) (λ x. is_between low high (bytes x.0)) (ExtractsBetween bytes) (λ q. q.map.now) s.map.now s
+    pub range_all : (s : ExtractRangeOf (List (K × V))) → IsWithin s →
+        ExtractsAll (of_key bytes) (λ x. is_between low high (bytes x.0)) (ExtractsBetween bytes) (λ q. q.map.now) s.map.now s
     range_all = extracts_all (of_key bytes) (λ x. is_between low high (bytes x.0)) IsWithin (ExtractsBetween bytes) (λ q. q.map.now)
         (λ s taken t within step. (
           (ap (bound_map (λ b. b.now)) step.1 ∙ within.0, ap (bound_map (λ b. b.now)) step.2 ∙ within.1),
@@ -107,7 +111,8 @@ module _ {K V : Type 0} (bytes : K → List ℕ) where
     HasPrefix s = s.prefix.now ≡ prefix
 
     -- an iterator over a prefix removes all pairs with it
-    pub prefix_all : (s : ExtractPrefixOf (List (K × V))) → HasPrefix s → ExtractsAll (of_key bytes) (λ x. is_front prefix (bytes x.0)) (ExtractsBelow bytes) (λ q. q.map.now) s.map.now s
+    pub prefix_all : (s : ExtractPrefixOf (List (K × V))) → HasPrefix s →
+        ExtractsAll (of_key bytes) (λ x. is_front prefix (bytes x.0)) (ExtractsBelow bytes) (λ q. q.map.now) s.map.now s
     prefix_all = extracts_all (of_key bytes) (λ x. is_front prefix (bytes x.0)) HasPrefix (ExtractsBelow bytes) (λ q. q.map.now)
         (λ s taken t has step.
         (ap (λ p. p.now) step.1 ∙ has, subst (λ p. ExtractsFirst (of_key bytes) (λ x. is_front p (bytes x.0)) s.map.now taken t.map.now) has step.2))

@@ -38,7 +38,8 @@ module _ {A : Type 0} (bytes : A → List ℕ) (test : List ℕ → Bool) where
   first_out [] x rising e = absurd cc
   first_out (y ∷ ys) x rising e = go (λ later. first_out ys x rising.1 later) (test (bytes y)) refl e
     where
-      go : (first_of (passing ys) ≡ Some x → IsFirstOut ys x) → (b : Bool) → test (bytes y) ≡ b → first_of (cond b (y ∷ passing ys) (passing ys)) ≡ Some x → IsFirstOut (y ∷ ys) x
+      go : (first_of (passing ys) ≡ Some x → IsFirstOut ys x) → (b : Bool) → test (bytes y) ≡ b →
+          first_of (cond b (y ∷ passing ys) (passing ys)) ≡ Some x → IsFirstOut (y ∷ ys) x
       go ih true is f =
           let same : y ≡ x = cc in
           let gone : remove_key bytes (bytes y) (y ∷ ys) ≡ ys = first_is_removed_by_key bytes y ys rising in

@@ -42,9 +42,11 @@ module _ {K V : Type 0} (s : Nodes K V) where
   named_append : (xs ys : List OpaqueNodePtr) → named_pairs (xs ++ ys) ≡ named_pairs xs ++ named_pairs ys
   named_append [] ys = refl
   named_append (x ∷ xs) ys =
-      ap (λ z. one_pair (map.get s.leaves (as_leaf x)) ++ z) (named_append xs ys) ∙ sym (append_assoc (one_pair (map.get s.leaves (as_leaf x))) (named_pairs xs) (named_pairs ys))
+      ap (λ z. one_pair (map.get s.leaves (as_leaf x)) ++ z) (named_append xs ys)
+      ∙ sym (append_assoc (one_pair (map.get s.leaves (as_leaf x))) (named_pairs xs) (named_pairs ys))
 
-  pub from_there : (p : LeafPtr) (node : LeafNode K V) (n : ℕ) → map.get s.leaves p ≡ Some node → pairs_from s (suc n) (Some p) ≡ pair_of node ∷ pairs_from s n node.next
+  pub from_there : (p : LeafPtr) (node : LeafNode K V) (n : ℕ) → map.get s.leaves p ≡ Some node →
+      pairs_from s (suc n) (Some p) ≡ pair_of node ∷ pairs_from s n node.next
   unfolding pairs_from
   from_there p node n there = ap (λ o. let r : List (K × V) = elim o [ None ↦ [] | Some other ↦ pair_of other ∷ pairs_from s n other.next ] in r) there
 
@@ -58,7 +60,9 @@ module _ {K V : Type 0} (s : Nodes K V) where
     chained (n ∷ ns) before after o None linked e = absurd cc
     chained (n ∷ ns) before after o (Some p) linked e =
         let same : leaf_name p ≡ n = cc in
-        let (node, there, previous, next) = linked_leaf (map.get s.leaves p) _ (subst (λ k. links_at s k ≡ Some (record { previous = before; next = first_or ns after })) (sym same) linked.0) in
+        let (node, there, previous, next) =
+        linked_leaf (map.get s.leaves p) _ (subst (λ k. links_at s k ≡ Some (record { previous = before; next = first_or ns after }))
+        (sym same) linked.0) in
         let at : as_leaf n ≡ p = ap as_leaf (sym same) in
         from_there p node (length ns) there ∙ ap (λ xs. pair_of node ∷ xs) (chained ns (Some n) after after node.next linked.1 next)
         ∙ sym (ap (λ o. one_pair o ++ named_pairs ns) (ap (map.get s.leaves) at ∙ there))
@@ -68,11 +72,14 @@ module _ {K V : Type 0} (s : Nodes K V) where
   first_first (x ∷ xs) n e = sym e
 
   -- so an iterator has the pairs of its names left
-  pub left_are : (walk : Option (LeafPtr × LeafPtr)) (names : List OpaqueNodePtr) (len : ℕ) → IsIteratorOf s walk names → len ≡ length names → pairs_left s walk len ≡ named_pairs names
+  pub left_are : (walk : Option (LeafPtr × LeafPtr)) (names : List OpaqueNodePtr) (len : ℕ) → IsIteratorOf s walk names →
+      len ≡ length names → pairs_left s walk len ≡ named_pairs names
   left_are None names len is counted =
-      ap (λ n. pairs_from s n None) counted ∙ chained names is.segment.before is.segment.after None None is.segment.linked (ap (λ ns. first_or ns None) (sym is.ends))
+      ap (λ n. pairs_from s n None) counted ∙ chained names is.segment.before is.segment.after None None is.segment.linked
+      (ap (λ ns. first_or ns None) (sym is.ends))
   left_are (Some (a, b)) names len is counted =
-      ap (λ n. pairs_from s n (Some a)) counted ∙ chained names is.segment.before is.segment.after None (Some a) is.segment.linked (first_first names (leaf_name a) is.ends.0)
+      ap (λ n. pairs_from s n (Some a)) counted
+      ∙ chained names is.segment.before is.segment.after None (Some a) is.segment.linked (first_first names (leaf_name a) is.ends.0)
 
   mutual
     unfolding pairs_from
@@ -84,7 +91,9 @@ module _ {K V : Type 0} (s : Nodes K V) where
     chained_len (n ∷ ns) before after o None linked e = absurd cc
     chained_len (n ∷ ns) before after o (Some p) linked e =
         let same : leaf_name p ≡ n = cc in
-        let (node, there, previous, next) = linked_leaf (map.get s.leaves p) _ (subst (λ k. links_at s k ≡ Some (record { previous = before; next = first_or ns after })) (sym same) linked.0) in
+        let (node, there, previous, next) =
+        linked_leaf (map.get s.leaves p) _ (subst (λ k. links_at s k ≡ Some (record { previous = before; next = first_or ns after }))
+        (sym same) linked.0) in
         ap length (from_there p node (length ns) there) ∙ ap suc (chained_len ns (Some n) after after node.next linked.1 next)
 
   -- an iterator has as many pairs left as its length says
@@ -94,28 +103,33 @@ module _ {K V : Type 0} (s : Nodes K V) where
       (ap (λ ns. first_or ns None) (sym w.is.ends)) ∙ sym w.len_is
   left_len (Some (a, b)) len w =
       ap (λ n. length (pairs_from s n (Some a))) w.len_is
-      ∙ chained_len w.names w.is.segment.before w.is.segment.after None (Some a) w.is.segment.linked (first_first w.names (leaf_name a) w.is.ends.0) ∙ sym w.len_is
+      ∙ chained_len w.names w.is.segment.before w.is.segment.after None (Some a) w.is.segment.linked
+      (first_first w.names (leaf_name a) w.is.ends.0) ∙ sym w.len_is
 
   mutual
     leaves_named : (t : Tree OpaqueNodePtr (K × V)) → Holds (node_at s) t → named_pairs (leaf_names t) ≡ pairs_of t
     leaves_named (leaf n x) h =
-        let is_leaf : leaf_name (as_leaf n) ≡ n = ap (λ kind. let r : OpaqueNodePtr = record { kind = kind; slot = n.slot } in r) (sym (leaf_used s n.kind n.slot x h).0) in
+        let is_leaf : leaf_name (as_leaf n) ≡ n =
+        ap (λ kind. let r : OpaqueNodePtr = record { kind = kind; slot = n.slot } in r) (sym (leaf_used s n.kind n.slot x h).0) in
         let (node, there, pair) = leaf_there s (as_leaf n) x (ap (node_at s) is_leaf ∙ h) in
         rw there (ap (λ y. y ∷ []) pair)
     leaves_named (inner n h cs) holds = leaves_named_below cs holds.1
 
     leaves_named_below : (cs : Subtrees OpaqueNodePtr (K × V)) → HoldsBelow (node_at s) cs → named_pairs (leaf_names_below cs) ≡ pairs_below cs
     leaves_named_below no_child h = refl
-    leaves_named_below (child b t cs) h = named_append (leaf_names t) (leaf_names_below cs) ∙ ap₂ (λ xs ys. xs ++ ys) (leaves_named t h.0) (leaves_named_below cs h.1)
+    leaves_named_below (child b t cs) h =
+        named_append (leaf_names t) (leaf_names_below cs) ∙ ap₂ (λ xs ys. xs ++ ys) (leaves_named t h.0) (leaves_named_below cs h.1)
 
   -- the first of the names gives the first of the pairs
-  pub first_left : (names : List OpaqueNodePtr) (p : LeafPtr) (pair : K × V) → Some (leaf_name p) ≡ first_of names → option_map pair_of (map.get s.leaves p) ≡ Some pair →
+  pub first_left : (names : List OpaqueNodePtr) (p : LeafPtr) (pair : K × V) → Some (leaf_name p) ≡ first_of names →
+      option_map pair_of (map.get s.leaves p) ≡ Some pair →
       named_pairs names ≡ pair ∷ named_pairs (without_first names)
   first_left [] p pair e read = absurd cc
   first_left (n ∷ ns) p pair e read = let same : n ≡ leaf_name p = cc in rw same (ap (λ xs. xs ++ named_pairs ns) (read_pair (map.get s.leaves p) pair read))
 
   -- and the last of them the last one
-  pub last_left : (names : List OpaqueNodePtr) (p : LeafPtr) (pair : K × V) → Some (leaf_name p) ≡ last_of names → option_map pair_of (map.get s.leaves p) ≡ Some pair →
+  pub last_left : (names : List OpaqueNodePtr) (p : LeafPtr) (pair : K × V) → Some (leaf_name p) ≡ last_of names →
+      option_map pair_of (map.get s.leaves p) ≡ Some pair →
       named_pairs names ≡ named_pairs (without_last names) ++ pair ∷ []
   last_left [] p pair e read = absurd cc
   last_left (n ∷ ns) p pair e read =
@@ -151,7 +165,8 @@ module _ {K V : Type 0} {s : Nodes K V} {walk left : Option (LeafPtr × LeafPtr)
       (left_are s walk [] len (subst (IsIteratorOf s walk) none w.is) empty, left_are s left [] len (subst (IsIteratorOf s left) gone after) empty)
 
   module _ (after : (names : List OpaqueNodePtr) → IsIteratorOf s walk names → IsIteratorOf s left (without_first names)) where
-    pub first_ended : ((names : List OpaqueNodePtr) → IsIteratorOf s walk names → None ≡ first_of names) → (pairs_left s walk len ≡ []) × (pairs_left s left len ≡ [])
+    pub first_ended : ((names : List OpaqueNodePtr) → IsIteratorOf s walk names → None ≡ first_of names) →
+        (pairs_left s walk len ≡ []) × (pairs_left s left len ≡ [])
     first_ended e = ended without_first refl (after w.names w.is) (none_first w.names (e w.names w.is))
 
     pub first_step : {p : LeafPtr} {pair : K × V} → ((names : List OpaqueNodePtr) → IsIteratorOf s walk names → Some (leaf_name p) ≡ first_of names) →
@@ -162,14 +177,16 @@ module _ {K V : Type 0} {s : Nodes K V} {walk left : Option (LeafPtr × LeafPtr)
         left_are s walk w.names len w.is counted ∙ first_left s w.names p pair (e w.names w.is) read
         ∙ ap (λ xs. pair ∷ xs) (sym (left_are s left (without_first w.names) (len - 1) (after w.names w.is) (omega arith)))
 
-    unfoldable pub first_walk : {p : LeafPtr} → ((names : List OpaqueNodePtr) → IsIteratorOf s walk names → Some (leaf_name p) ≡ first_of names) → IsWalk s left (len - 1)
+    unfoldable pub first_walk : {p : LeafPtr} →
+        ((names : List OpaqueNodePtr) → IsIteratorOf s walk names → Some (leaf_name p) ≡ first_of names) → IsWalk s left (len - 1)
     first_walk {p} e =
         let less = less_first w.names (leaf_name p) (e w.names w.is) in
         let counted = w.len_is in
         record { names = without_first w.names; is = after w.names w.is; len_is = omega arith }
 
   module _ (after : (names : List OpaqueNodePtr) → IsIteratorOf s walk names → IsIteratorOf s left (without_last names)) where
-    pub last_ended : ((names : List OpaqueNodePtr) → IsIteratorOf s walk names → None ≡ last_of names) → (pairs_left s walk len ≡ []) × (pairs_left s left len ≡ [])
+    pub last_ended : ((names : List OpaqueNodePtr) → IsIteratorOf s walk names → None ≡ last_of names) →
+        (pairs_left s walk len ≡ []) × (pairs_left s left len ≡ [])
     last_ended e = ended without_last refl (after w.names w.is) (none_last w.names (e w.names w.is))
 
     -- and the iterator is over no more leaves
@@ -207,9 +224,11 @@ module _ {K V : Type 0} {bytes : K × V → List ℕ} {P : ℕ} {s : Nodes K V} 
   pub whole_len : length (leaf_names layout) ≡ length pairs
   whole_len = length-leaf_names layout ∙ ap length (tree_radix by).1
 
-  pub whole_pairs : {p q : LeafPtr} {len : ℕ} → HasFirstLeaf layout (leaf_name p) → HasLastLeaf layout (leaf_name q) → len ≡ length pairs → pairs_left s (Some (p, q)) len ≡ pairs
+  pub whole_pairs : {p q : LeafPtr} {len : ℕ} → HasFirstLeaf layout (leaf_name p) → HasLastLeaf layout (leaf_name q) → len ≡ length pairs →
+      pairs_left s (Some (p, q)) len ≡ pairs
   whole_pairs {p} {q} {len} first last counted =
-      left_are s (Some (p, q)) (leaf_names layout) len (whole_walk first last) (counted ∙ sym whole_len) ∙ leaves_named s layout by.stands.0.holds ∙ (tree_radix by).1
+      left_are s (Some (p, q)) (leaf_names layout) len (whole_walk first last) (counted ∙ sym whole_len)
+      ∙ leaves_named s layout by.stands.0.holds ∙ (tree_radix by).1
 
 -- without a root there are no pairs, and an empty iterator has none left
 pub none_left : {K V : Type 0} (s : Nodes K V) → pairs_left s None 0 ≡ []

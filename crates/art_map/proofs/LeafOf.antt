@@ -52,7 +52,8 @@ module _ {K V : Type 0} (s : Nodes K V) (p : LeafPtr) (whole : Tree OpaqueNodePt
       | inr found ↦ inr found
     ]
 
-    sought_below : (n : OpaqueNodePtr) (h : NodeHeader) (l cs : Subtrees OpaqueNodePtr (K × V)) (above : List (Frame OpaqueNodePtr (K × V))) → HoldsBelow (node_at s) cs →
+    sought_below : (n : OpaqueNodePtr) (h : NodeHeader) (l cs : Subtrees OpaqueNodePtr (K × V))
+        (above : List (Frame OpaqueNodePtr (K × V))) → HoldsBelow (node_at s) cs →
         plug above (inner n h (join l cs)) ≡ whole → IsLeafOr (names_below cs)
     sought_below n h l no_child above holds e = inl (λ i. i)
     sought_below n h l (child b t cs) above holds e =
@@ -66,7 +67,8 @@ module _ {K V : Type 0} (s : Nodes K V) (p : LeafPtr) (whole : Tree OpaqueNodePt
 
 module _ {K V : Type 0} (bytes : K → List ℕ) (P : ℕ) {s : Nodes K V} {p : LeafPtr} {node : LeafNode K V} (there : get s.leaves p ≡ Some node) where
   -- so it is the leaf of its key
-  pub leaf_of_map : {root : Option OpaqueNodePtr} {len : ℕ} {pairs : List (K × V)} → HoldsPairs (of_key bytes) P s root len pairs → NamesLeafOf bytes P s root (bytes node.key) p
+  pub leaf_of_map : {root : Option OpaqueNodePtr} {len : ℕ} {pairs : List (K × V)} → HoldsPairs (of_key bytes) P s root len pairs →
+      NamesLeafOf bytes P s root (bytes node.key) p
   leaf_of_map {root} {len} {pairs} is = go root is.tree is.canonical is.no_other
     where
       in_use : content_at s (leaf_name p) ≡ None → ⊥
@@ -83,5 +85,14 @@ module _ {K V : Type 0} (bytes : K → List ℕ) (P : ℕ) {s : Nodes K V} {p : 
             let (found, here, its) = leaf_found (of_key bytes) P by has in
             let same : Some node ≡ Some found = sym there ∙ here in
             let own : node ≡ found = cc in
-            record { name = name; pairs = pairs; layout = layout; pair = x; root_is = refl; by = by; has = has; key_is = ap (λ z. bytes z.0) (sym its) ∙ ap (λ z. bytes z.key) (sym own) }
+            record {
+              name = name;
+              pairs = pairs;
+              layout = layout;
+              pair = x;
+              root_is = refl;
+              by = by;
+              has = has;
+              key_is = ap (λ z. bytes z.0) (sym its) ∙ ap (λ z. bytes z.key) (sym own);
+            }
       ]

@@ -39,12 +39,14 @@ module _ {K V : Type 0} (bytes : K → List ℕ) where
     pub begins : Moving before []
     begins = record { kept = refl; parts = refl; rises = Pairwise-filter (λ x y. Precedes (bytes x.0) (bytes y.0)) (λ x. test (bytes x.0)) before }
 
-    module _ {now moved : List (K × V)} (so_far : Moving now moved) (rising : IsMap (of_key bytes) now) (x : K × V) (first : Some x ≡ first_of (passing (of_key bytes) test now)) where
+    module _ {now moved : List (K × V)} (so_far : Moving now moved) (rising : IsMap (of_key bytes) now) (x : K × V)
+        (first : Some x ≡ first_of (passing (of_key bytes) test now)) where
       abbrev left : List (K × V)
       left = without (of_key bytes) (Some x) now
 
       -- the next pair is removed
-      pub next_out : (passing (of_key bytes) test before ≡ moved ++ x ∷ passing (of_key bytes) test left) × (failing (of_key bytes) test left ≡ failing (of_key bytes) test before)
+      pub next_out : (passing (of_key bytes) test before ≡ moved ++ x ∷ passing (of_key bytes) test left) ×
+          (failing (of_key bytes) test left ≡ failing (of_key bytes) test before)
       next_out =
           let out = first_out (of_key bytes) test now x rising (sym first) in
           (so_far.parts ∙ ap (λ zs. moved ++ zs) out.passes, out.fails ∙ so_far.kept)
@@ -53,7 +55,8 @@ module _ {K V : Type 0} (bytes : K → List ℕ) where
       pub goes_on : Moving left (put (of_key bytes) x moved)
       goes_on =
           let out = first_out (of_key bytes) test now x rising (sym first) in
-          let rise : IsMap (of_key bytes) (moved ++ x ∷ passing (of_key bytes) test left) = subst (λ zs. IsMap (of_key bytes) (moved ++ zs)) out.passes (so_far.rises rising) in
+          let rise : IsMap (of_key bytes) (moved ++ x ∷ passing (of_key bytes) test left) =
+          subst (λ zs. IsMap (of_key bytes) (moved ++ zs)) out.passes (so_far.rises rising) in
           let is = put_end x moved (Pairwise-before _ moved (passing (of_key bytes) test left) x rise) in
           let joins : moved ++ x ∷ passing (of_key bytes) test left ≡ put (of_key bytes) x moved ++ passing (of_key bytes) test left =
           sym (append_assoc moved (x ∷ []) (passing (of_key bytes) test left)) ∙ ap (λ ys. ys ++ passing (of_key bytes) test left) (sym is) in
@@ -113,5 +116,6 @@ first_and_others [] x e = absurd cc
 first_and_others (y ∷ ys) x e = let same : x ≡ y = cc in ap (λ z. z ∷ ys) (sym same)
 
 -- what a removal returned was the first pair
-pub removed_first : {A E : Type 0} {r : Result (Option A) E} {o : Option A} (xs : List A) → r ≡ Ok o → IfOk r (λ removed. removed ≡ first_of xs) → o ≡ first_of xs
+pub removed_first : {A E : Type 0} {r : Result (Option A) E} {o : Option A} (xs : List A) → r ≡ Ok o →
+    IfOk r (λ removed. removed ≡ first_of xs) → o ≡ first_of xs
 removed_first xs e h = rw e at h

@@ -41,8 +41,11 @@ module _ {K V : Type 0} (s t : Nodes K V) (p : LeafPtr) (leaves : t.leaves ≡ m
     same_chain (n ∷ ns) before after o None linked e off = absurd cc
     same_chain (n ∷ ns) before after o (Some q) linked e off =
         let same : leaf_name q ≡ n = cc in
-        let (node, there, previous, next) = linked_leaf (map.get s.leaves q) _ (subst (λ k. links_at s k ≡ Some (record { previous = before; next = first_or ns after })) (sym same) linked.0) in
-        let stays : map.get t.leaves q ≡ Some node = ap (λ m. map.get m q) leaves ∙ leaf_gone_elsewhere s.leaves p q (λ f. off (inl (sym same ∙ ap leaf_name f))) ∙ there in
+        let (node, there, previous, next) =
+        linked_leaf (map.get s.leaves q) _ (subst (λ k. links_at s k ≡ Some (record { previous = before; next = first_or ns after }))
+        (sym same) linked.0) in
+        let stays : map.get t.leaves q ≡ Some node =
+        ap (λ m. map.get m q) leaves ∙ leaf_gone_elsewhere s.leaves p q (λ f. off (inl (sym same ∙ ap leaf_name f))) ∙ there in
         from_there t q node (length ns) stays ∙ ap (λ xs. pair_of node ∷ xs) (same_chain ns (Some n) after after node.next linked.1 next (λ i. off (inr i)))
         ∙ sym (from_there s q node (length ns) there)
 
@@ -57,7 +60,8 @@ module _ {K V : Type 0} (s t : Nodes K V) (p : LeafPtr) (leaves : t.leaves ≡ m
     }
 
   -- with the same pairs
-  same_left : (walk : Option (LeafPtr × LeafPtr)) (len : ℕ) (w : IsWalk s walk len) → (IsIn (leaf_name p) w.names → ⊥) → pairs_left t walk len ≡ pairs_left s walk len
+  same_left : (walk : Option (LeafPtr × LeafPtr)) (len : ℕ) (w : IsWalk s walk len) → (IsIn (leaf_name p) w.names → ⊥) →
+      pairs_left t walk len ≡ pairs_left s walk len
   same_left None len w off =
       ap (λ n. pairs_from t n None) w.len_is
       ∙ same_chain w.names w.is.segment.before w.is.segment.after None None w.is.segment.linked (ap (λ ns. first_or ns None) (sym w.is.ends)) off
@@ -79,7 +83,8 @@ module _ {K V : Type 0} (s t : Nodes K V) (p : LeafPtr) (leaves : t.leaves ≡ m
       unfolding first_walk
       first_out =
           first_step w after {p = p} {pair = pair_of node} first (ap (option_map pair_of) there)
-          ∙ ap (λ xs. pair_of node ∷ xs) (sym (same_left left (len - 1) (first_walk w after {p = p} first) (off_first w.names (leaf_name p) w.is.segment.distinct (first w.names w.is))))
+          ∙ ap (λ xs. pair_of node ∷ xs) (sym (same_left left (len - 1) (first_walk w after {p = p} first)
+          (off_first w.names (leaf_name p) w.is.segment.distinct (first w.names w.is))))
 
     module _ (after : (names : List OpaqueNodePtr) → IsIteratorOf s walk names → IsIteratorOf s left (without_last names))
         (last : (names : List OpaqueNodePtr) → IsIteratorOf s walk names → Some (leaf_name p) ≡ last_of names) where
@@ -92,4 +97,6 @@ module _ {K V : Type 0} (s t : Nodes K V) (p : LeafPtr) (leaves : t.leaves ≡ m
       unfolding last_walk
       last_out =
           last_step w after {p = p} last {pair = pair_of node} (ap (option_map pair_of) there)
-          ∙ ap (λ xs. xs ++ pair_of node ∷ []) (sym (same_left left (len - 1) (last_walk w after {p = p} last) (off_last w.names (leaf_name p) w.is.segment.distinct (last w.names w.is))))
+          ∙ ap (λ xs. xs ++ pair_of node ∷ []) (sym
+          (same_left left (len - 1) (last_walk w after {p = p} last)
+          (off_last w.names (leaf_name p) w.is.segment.distinct (last w.names w.is))))

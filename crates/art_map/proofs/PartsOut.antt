@@ -45,7 +45,8 @@ module _ {A : Type 0} (bytes : A → List ℕ) (prefix : List ℕ) where
   first_below [] x rising e = absurd cc
   first_below (y ∷ ys) x rising e = go (λ later. first_below ys x rising.1 later) (is_front prefix (bytes y)) refl e
     where
-      go : (first_of (below bytes prefix ys) ≡ Some x → (remove_reply bytes (bytes x) ys ≡ Some x) × (remove_key bytes (bytes x) ys ≡ without_below bytes prefix 1 ys)) →
+      go : (first_of (below bytes prefix ys) ≡ Some x →
+          (remove_reply bytes (bytes x) ys ≡ Some x) × (remove_key bytes (bytes x) ys ≡ without_below bytes prefix 1 ys)) →
           (b : Bool) → is_front prefix (bytes y) ≡ b → first_of (cond b (y ∷ below bytes prefix ys) (below bytes prefix ys)) ≡ Some x →
           (remove_reply bytes (bytes x) (y ∷ ys) ≡ Some x) × (remove_key bytes (bytes x) (y ∷ ys) ≡ cond b ys (y ∷ without_below bytes prefix 1 ys))
       go ih true is f =
@@ -80,21 +81,24 @@ module _ {A : Type 0} (bytes : A → List ℕ) (prefix : List ℕ) where
   both_counted (y ∷ ys) = go (both_counted ys) (is_front prefix (bytes y))
     where
       go : length (not_below bytes prefix ys) + length (below bytes prefix ys) ≡ length ys → (b : Bool) →
-          length (cond (not b) (y ∷ not_below bytes prefix ys) (not_below bytes prefix ys)) + length (cond b (y ∷ below bytes prefix ys) (below bytes prefix ys)) ≡ suc (length ys)
+          length (cond (not b) (y ∷ not_below bytes prefix ys) (not_below bytes prefix ys)) + length
+          (cond b (y ∷ below bytes prefix ys) (below bytes prefix ys)) ≡ suc (length ys)
       go ih true = omega arith
       go ih false = omega arith
 
 -- ---- all of them are removed at once
 
 -- without a root there are no pairs
-pub none_held : {K V : Type 0} (bytes : K × V → List ℕ) (P : ℕ) {s : Nodes K V} {root : Option OpaqueNodePtr} {len : ℕ} {pairs : List (K × V)} → root ≡ None → HoldsPairs bytes P s root len pairs → pairs ≡ []
+pub none_held : {K V : Type 0} (bytes : K × V → List ℕ) (P : ℕ) {s : Nodes K V} {root : Option OpaqueNodePtr} {len : ℕ}
+    {pairs : List (K × V)} → root ≡ None → HoldsPairs bytes P s root len pairs → pairs ≡ []
 none_held {K} {V} bytes P {s} {root} {len} {pairs} none is = go is.tree (subst (λ r. IsRootOf bytes P s r pairs is.tree) none is.canonical)
   where
     go : (tree : Option (Tree OpaqueNodePtr (K × V))) → IsRootOf bytes P s None pairs tree → pairs ≡ []
     go None h = h
     go (Some layout) h = absurd h
 
-module _ {K V : Type 0} (bytes : K × V → List ℕ) (P : ℕ) {s : Nodes K V} {name : OpaqueNodePtr} {len : ℕ} {pairs : List (K × V)} (has : HasTreeAt bytes P s name len pairs)
+module _ {K V : Type 0} (bytes : K × V → List ℕ) (P : ℕ) {s : Nodes K V} {name : OpaqueNodePtr} {len : ℕ} {pairs : List (K × V)}
+    (has : HasTreeAt bytes P s name len pairs)
     (prefix : List ℕ) where
   -- if no key starts with the prefix
   pub none_begins : below bytes prefix (pairs_of has.layout) ≡ [] → (not_below bytes prefix pairs ≡ pairs) × (0 ≡ length (below bytes prefix pairs))
@@ -102,7 +106,8 @@ module _ {K V : Type 0} (bytes : K × V → List ℕ) (P : ℕ) {s : Nodes K V} 
       let nothing : below bytes prefix pairs ≡ [] = ap (below bytes prefix) (sym (tree_radix has.by).1) ∙ none in
       (none_below bytes prefix pairs nothing, ap length (sym nothing))
 
-  module _ {point : SubtreeDeletePoint} (at : HasPrefixBelow bytes prefix has.layout point) {removed : ℕ} (counted : (node : LeadsToNode has.layout point) → removed ≡ length (pairs_of node.node)) where
+  module _ {point : SubtreeDeletePoint} (at : HasPrefixBelow bytes prefix has.layout point) {removed : ℕ}
+      (counted : (node : LeadsToNode has.layout point) → removed ≡ length (pairs_of node.node)) where
     pub removed_is : removed ≡ length (below bytes prefix pairs)
     removed_is = counted at.at ∙ ap length (at.gone ∙ ap (below bytes prefix) (tree_radix has.by).1)
 
@@ -110,7 +115,8 @@ module _ {K V : Type 0} (bytes : K × V → List ℕ) (P : ℕ) {s : Nodes K V} 
     removed_few = let all = both_counted bytes prefix pairs in let own = removed_is in let long = has.len_is in omega arith
 
     pub others_hold : {t : Nodes K V} {root : Option OpaqueNodePtr} → ((node : LeadsToNode has.layout point) → IsCanonical bytes P t root (pairs_beside node)) →
-        ForRoot bytes P t root (λ after new. ChangesInPlace bytes s t (Some has.layout) new) → HoldsPairs bytes P t root (len - removed) (not_below bytes prefix pairs)
+        ForRoot bytes P t root (λ after new. ChangesInPlace bytes s t (Some has.layout) new) →
+        HoldsPairs bytes P t root (len - removed) (not_below bytes prefix pairs)
     others_hold {t} {root} canonical kept =
         let (tree, root_of) = with_tree bytes P t root (not_below bytes prefix pairs)
         (subst (IsCanonical bytes P t root) (at.left ∙ ap (not_below bytes prefix) (tree_radix has.by).1) (canonical at.at)) in

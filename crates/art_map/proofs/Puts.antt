@@ -40,10 +40,12 @@ module _ {K V : Type 0} (bytes : K × V → List ℕ) (P : ℕ) where
     pub len_is : len ≡ length pairs
 
   -- the same for a root that exists
-  pub at_root : {s : Nodes K V} {name : OpaqueNodePtr} {len : ℕ} {pairs : List (K × V)} → HoldsPairs bytes P s (Some name) len pairs → HasTreeAt s name len pairs
+  pub at_root : {s : Nodes K V} {name : OpaqueNodePtr} {len : ℕ} {pairs : List (K × V)} → HoldsPairs bytes P s (Some name) len pairs →
+      HasTreeAt s name len pairs
   at_root {s} {name} {len} {pairs} is = go is.tree is.canonical is.no_other
     where
-      go : (tree : Option (Tree OpaqueNodePtr (K × V))) → IsRootOf bytes P s (Some name) pairs tree → ((k : OpaqueNodePtr) → (IsIn k (names_in tree) → ⊥) → content_at s k ≡ None) →
+      go : (tree : Option (Tree OpaqueNodePtr (K × V))) → IsRootOf bytes P s (Some name) pairs tree →
+          ((k : OpaqueNodePtr) → (IsIn k (names_in tree) → ⊥) → content_at s k ≡ None) →
           HasTreeAt s name len pairs
       go None h other = absurd h
       go (Some layout) h other = record { layout = layout; by = h; no_other = other; len_is = is.len_is }
@@ -54,17 +56,26 @@ module _ {K V : Type 0} (bytes : K × V → List ℕ) (P : ℕ) where
 
     -- the same nodes stand for the same pairs
     pub stays : {root : Option OpaqueNodePtr} {len : ℕ} {pairs : List (K × V)} → HoldsPairs bytes P s root len pairs → HoldsPairs bytes P t root len pairs
-    stays {root} {len} {pairs} is = record { tree = is.tree; canonical = go root is.tree is.canonical; no_other = λ name out. same_held name ∙ is.no_other name out; len_is = is.len_is }
+    stays {root} {len} {pairs} is =
+        record {
+          tree = is.tree;
+          canonical = go root is.tree is.canonical;
+          no_other = λ name out. same_held name ∙ is.no_other name out;
+          len_is = is.len_is;
+        }
       where
-        go : (root : Option OpaqueNodePtr) (tree : Option (Tree OpaqueNodePtr (K × V))) → IsRootOf bytes P s root pairs tree → IsRootOf bytes P t root pairs tree
+        go : (root : Option OpaqueNodePtr) (tree : Option (Tree OpaqueNodePtr (K × V))) → IsRootOf bytes P s root pairs tree →
+            IsRootOf bytes P t root pairs tree
         go None None h = h
         go None (Some l) h = absurd h
         go (Some r) None h = absurd h
         go (Some r) (Some l) h = tree_stays (same_leaves, same_inners) h
 
   -- what a change of the tree leaves
-  pub left_holds : {s t : Nodes K V} {name root : OpaqueNodePtr} {len more : ℕ} {pairs left : List (K × V)} (has : HasTreeAt s name len pairs) → IsCanonical bytes P t (Some root) left →
-      ((others : List (K × V)) (tree : Tree OpaqueNodePtr (K × V)) → IsCanonicalTree bytes P t root others tree → ChangesInPlace bytes s t (Some has.layout) (Some tree)) → more ≡ length left →
+  pub left_holds : {s t : Nodes K V} {name root : OpaqueNodePtr} {len more : ℕ} {pairs left : List (K × V)}
+      (has : HasTreeAt s name len pairs) → IsCanonical bytes P t (Some root) left →
+      ((others : List (K × V)) (tree : Tree OpaqueNodePtr (K × V)) → IsCanonicalTree bytes P t root others tree →
+      ChangesInPlace bytes s t (Some has.layout) (Some tree)) → more ≡ length left →
       HoldsPairs bytes P t (Some root) more left
   left_holds {left = left} has is kept counted = record {
     tree = Some is.0;
@@ -74,17 +85,20 @@ module _ {K V : Type 0} (bytes : K × V → List ℕ) (P : ℕ) where
   }
 
   -- nothing is left of a freed tree
-  pub emptied : {s t : Nodes K V} {name : OpaqueNodePtr} {len : ℕ} {pairs : List (K × V)} (has : HasTreeAt s name len pairs) → KeepsOthers s t (names_of has.layout) [] → HoldsPairs bytes P t None 0 []
+  pub emptied : {s t : Nodes K V} {name : OpaqueNodePtr} {len : ℕ} {pairs : List (K × V)} (has : HasTreeAt s name len pairs) →
+      KeepsOthers s t (names_of has.layout) [] → HoldsPairs bytes P t None 0 []
   emptied has freed = record { tree = None; canonical = refl; no_other = none_other freed has.no_other; len_is = refl }
 
 module _ {K V : Type 0} {bytes : K × V → List ℕ} {P : ℕ} where
   -- the same for a root that is known to exist
-  pub at_some : {s : Nodes K V} {root : Option OpaqueNodePtr} {name : OpaqueNodePtr} {len : ℕ} {pairs : List (K × V)} → root ≡ Some name → HoldsPairs bytes P s root len pairs →
+  pub at_some : {s : Nodes K V} {root : Option OpaqueNodePtr} {name : OpaqueNodePtr} {len : ℕ} {pairs : List (K × V)} → root ≡ Some name →
+      HoldsPairs bytes P s root len pairs →
       HasTreeAt bytes P s name len pairs
   at_some {s} {len = len} {pairs = pairs} e is = at_root bytes P (subst (λ r. HoldsPairs bytes P s r len pairs) e is)
 
   -- the name of an existing root is canonical
-  pub canonical_root : {s : Nodes K V} {root : Option OpaqueNodePtr} {name : OpaqueNodePtr} {len : ℕ} {pairs : List (K × V)} → root ≡ Some name → HoldsPairs bytes P s root len pairs →
+  pub canonical_root : {s : Nodes K V} {root : Option OpaqueNodePtr} {name : OpaqueNodePtr} {len : ℕ} {pairs : List (K × V)} →
+      root ≡ Some name → HoldsPairs bytes P s root len pairs →
       IsCanonicalRoot bytes P s name
   canonical_root {pairs = pairs} e is = let has = at_some e is in (pairs, has.layout, has.by)
 
@@ -123,7 +137,8 @@ module _ {K V : Type 0} (bytes : K → List ℕ) (new : K × V) (pairs : List (K
   -- and these are at most all
   pub fewer_related : length Related ≤ length pairs
   fewer_related =
-      let whole = length-filter_both (λ x. not (are_related (bytes new.0) (bytes x.0))) (λ x. are_related (bytes new.0) (bytes x.0)) (λ x. double (are_related (bytes new.0) (bytes x.0))) pairs in
+      let whole = length-filter_both (λ x. not (are_related (bytes new.0) (bytes x.0))) (λ x. are_related (bytes new.0) (bytes x.0))
+      (λ x. double (are_related (bytes new.0) (bytes x.0))) pairs in
       omega arith
     where
       double : (b : Bool) → b ≡ not (not b)
@@ -139,7 +154,8 @@ module _ {K V : Type 0} (bytes : K → List ℕ) (new : K × V) (pairs : List (K
       count reply = elim reply.0 [ None ↦ reply.1 | Some x ↦ 1 ]
 
       told : gone_count done ≡ count (overwrite_reply (of_key bytes) new pairs)
-      told = ap₂ (λ (o : Option (LeafNode K V)) (n : ℕ). let r : ℕ = elim o [ None ↦ n | Some x ↦ 1 ] in r) existing removed ∙ alike (overwrite_reply (of_key bytes) new pairs)
+      told = ap₂ (λ (o : Option (LeafNode K V)) (n : ℕ). let r : ℕ = elim o [ None ↦ n | Some x ↦ 1 ] in r) existing removed
+          ∙ alike (overwrite_reply (of_key bytes) new pairs)
         where
           alike : (reply : Option (K × V) × ℕ) → (let r : ℕ = elim (option_map unlinked_leaf reply.0) [ None ↦ reply.1 | Some x ↦ 1 ] in r) ≡ count reply
           alike (None, n) = refl
@@ -153,11 +169,13 @@ module _ {K V : Type 0} (bytes : K → List ℕ) (new : K × V) (pairs : List (K
 
       stored : (o : Option (K × V)) → put_reply (of_key bytes) new pairs ≡ o → has_key (of_key bytes) (bytes new.0) pairs ≡ true → count (o, 0) ≡ length Related
       stored None e has =
-          absurd (true≢false (sym has ∙ has_is_stored (of_key bytes) new pairs ∙ sym (is_some-map (λ old. (new.0, old.1)) (first_of (with_key (of_key bytes) (bytes new.0) pairs))) ∙ ap is_some e))
+          absurd (true≢false (sym has ∙ has_is_stored (of_key bytes) new pairs
+          ∙ sym (is_some-map (λ old. (new.0, old.1)) (first_of (with_key (of_key bytes) (bytes new.0) pairs))) ∙ ap is_some e))
       stored (Some x) e has =
           let more = over_counts in
           let many = as_many bytes new pairs rising x e in
-          let same : length (overwrite (of_key bytes) new pairs) ≡ length (put (of_key bytes) new pairs) = ap length (overwrite_of_key_is_put bytes new pairs has).0 in
+          let same : length (overwrite (of_key bytes) new pairs) ≡ length (put (of_key bytes) new pairs) =
+          ap length (overwrite_of_key_is_put bytes new pairs has).0 in
           omega arith
 
       go : (b : Bool) → has_key (of_key bytes) (bytes new.0) pairs ≡ b → gone_count done ≡ length Related
@@ -181,7 +199,9 @@ pub record CountsOver {K V : Type 0} (bytes : K → List ℕ) (new : K × V) (pa
 
 module _ {K V : Type 0} (bytes : K → List ℕ) (P : ℕ) {s : Nodes K V} {name : OpaqueNodePtr} {len : ℕ} {pairs : List (K × V)} (new : K × V)
     (has : HasTreeAt (of_key bytes) P s name len pairs) where
-  module _ {existing : Option (LeafNode K V)} (told : ForTree (of_key bytes) P s name (λ pairs layout. existing ≡ option_map unlinked_leaf (put_reply (of_key bytes) new pairs))) where
+  module _ {existing : Option (LeafNode K V)}
+      (told : ForTree (of_key bytes) P s name (λ pairs layout. existing
+      ≡ option_map unlinked_leaf (put_reply (of_key bytes) new pairs))) where
     -- if no leaf is returned, there is one pair more than the length said
     pub pair_more : existing ≡ None → (put_reply (of_key bytes) new pairs ≡ None) × (length (put (of_key bytes) new pairs) ≡ len + 1)
     pair_more none =
@@ -189,21 +209,26 @@ module _ {K V : Type 0} (bytes : K → List ℕ) (P : ℕ) {s : Nodes K V} {name
         (reply, one_more bytes new pairs has.by.is_map reply ∙ ap (λ n. n + 1) (sym has.len_is))
 
     -- and if one is, there are as many
-    pub same_many : {node : LeafNode K V} → existing ≡ Some node → (put_reply (of_key bytes) new pairs ≡ Some (pair_of node)) × (length (put (of_key bytes) new pairs) ≡ len)
+    pub same_many : {node : LeafNode K V} → existing ≡ Some node →
+        (put_reply (of_key bytes) new pairs ≡ Some (pair_of node)) × (length (put (of_key bytes) new pairs) ≡ len)
     same_many {node} some =
         let reply = some_back (put_reply (of_key bytes) new pairs) node (sym (told pairs has.layout has.by) ∙ some) in
         (reply, as_many bytes new pairs has.by.is_map (pair_of node) reply ∙ sym has.len_is)
 
   -- if the search from the root found a point for the key, there is no conflict
-  pub accepted : {root : OpaqueNodePtr} {key : List ℕ} → name ≡ root → key ≡ bytes new.0 → ForTree (of_key bytes) P s root (λ pairs layout. is_conflict (of_key bytes) key pairs ≡ false) →
+  pub accepted : {root : OpaqueNodePtr} {key : List ℕ} → name ≡ root → key ≡ bytes new.0 →
+      ForTree (of_key bytes) P s root (λ pairs layout. is_conflict (of_key bytes) key pairs ≡ false) →
       is_conflict (of_key bytes) (bytes new.0) pairs ≡ false
   accepted e same free =
-      subst (λ key. is_conflict (of_key bytes) key pairs ≡ false) same (free pairs has.layout (subst (λ n. IsCanonicalTree (of_key bytes) P s n pairs has.layout) e has.by))
+      subst (λ key. is_conflict (of_key bytes) key pairs ≡ false) same
+      (free pairs has.layout (subst (λ n. IsCanonicalTree (of_key bytes) P s n pairs has.layout) e has.by))
 
   -- what an overwrite reports of the replaced pairs
   pub over_counted : (done : PrefixInsertResult K V) →
-      ForTree (of_key bytes) P s name (λ pairs layout. done.insert_result.existing_leaf ≡ option_map unlinked_leaf (overwrite_reply (of_key bytes) new pairs).0) →
-      ForTree (of_key bytes) P s name (λ pairs layout. done.leafs_removed ≡ (overwrite_reply (of_key bytes) new pairs).1) → CountsOver bytes new pairs (gone_count done) len
+      ForTree (of_key bytes) P s name (λ pairs layout. done.insert_result.existing_leaf
+      ≡ option_map unlinked_leaf (overwrite_reply (of_key bytes) new pairs).0) →
+      ForTree (of_key bytes) P s name (λ pairs layout. done.leafs_removed ≡ (overwrite_reply (of_key bytes) new pairs).1) →
+      CountsOver bytes new pairs (gone_count done) len
   over_counted done existing removed =
       let told = told_gone bytes new pairs has.by.is_map done (existing pairs has.layout has.by) (removed pairs has.layout has.by) in
       let fewer = fewer_related bytes new pairs has.by.is_map in
@@ -217,7 +242,8 @@ module _ {K V : Type 0} (bytes : K → List ℕ) (P : ℕ) {s t : Nodes K V} whe
       HoldsPairs (of_key bytes) P t (Some (leaf_name n)) 1 ((k, v) ∷ [])
   planted {len} {pairs} {n} {k} {v} is at = go is.tree is.canonical is.no_other
     where
-      go : (tree : Option (Tree OpaqueNodePtr (K × V))) → IsRootOf (of_key bytes) P s None pairs tree → ((name : OpaqueNodePtr) → (IsIn name (names_in tree) → ⊥) → content_at s name ≡ None) →
+      go : (tree : Option (Tree OpaqueNodePtr (K × V))) → IsRootOf (of_key bytes) P s None pairs tree →
+          ((name : OpaqueNodePtr) → (IsIn name (names_in tree) → ⊥) → content_at s name ≡ None) →
           HoldsPairs (of_key bytes) P t (Some (leaf_name n)) 1 ((k, v) ∷ [])
       go (Some l) none other = absurd none
       go None none other = record {

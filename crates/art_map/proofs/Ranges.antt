@@ -31,7 +31,8 @@ module _ {K V : Type 0} (s : Nodes K V) (last : LeafPtr) where
   unfolding leaves_to
   to_last p n e = rw e refl
 
-  to_next : (p : LeafPtr) (n : ℕ) (node : LeafNode K V) → eqb p.slot last.slot ≡ false → map.get s.leaves p ≡ Some node → leaves_to s last (suc n) (Some p) ≡ suc (leaves_to s last n node.next)
+  to_next : (p : LeafPtr) (n : ℕ) (node : LeafNode K V) → eqb p.slot last.slot ≡ false → map.get s.leaves p ≡ Some node →
+      leaves_to s last (suc n) (Some p) ≡ suc (leaves_to s last n node.next)
   unfolding leaves_to
   to_next p n node e there = rw (e, there) refl
 
@@ -41,7 +42,8 @@ module _ {K V : Type 0} (s : Nodes K V) (last : LeafPtr) where
   names_leaf (Some p) n e = (p, refl, cc)
 
   -- a list of linked leaves is counted up to its last one
-  counts : (names : List OpaqueNodePtr) (before after : Option OpaqueNodePtr) (p : LeafPtr) (n : ℕ) → AreLinked (links_at s) before names after → AreDistinct names →
+  counts : (names : List OpaqueNodePtr) (before after : Option OpaqueNodePtr) (p : LeafPtr) (n : ℕ) →
+      AreLinked (links_at s) before names after → AreDistinct names →
       first_of names ≡ Some (leaf_name p) → last_of names ≡ Some (leaf_name last) → length names ≤ n → leaves_to s last n (Some p) ≡ length names
   counts [] before after p n linked distinct first end few = absurd cc
   counts (x ∷ xs) before after p zero linked distinct first end few = absurd (omega arith)
@@ -54,18 +56,23 @@ module _ {K V : Type 0} (s : Nodes K V) (last : LeafPtr) where
       ne_eqb p.slot last.slot (λ e.
       each_in (λ k. x ≡ k → ⊥) (leaf_name last) (y ∷ ys) distinct.0 (last_of_in (y ∷ ys) (leaf_name last) end)
       (is ∙ ap (λ z. leaf_name (let r : LeafPtr = record { slot = z } in r)) e)) in
-      let (node, there, previous, next) = linked_leaf (map.get s.leaves p) _ (subst (λ k. links_at s k ≡ Some (record { previous = before; next = Some y })) is linked.0) in
+      let (node, there, previous, next) =
+      linked_leaf (map.get s.leaves p) _ (subst (λ k. links_at s k ≡ Some (record { previous = before; next = Some y })) is linked.0) in
       let (q, next_is, named) = names_leaf node.next y next in
-      to_next p n node other there ∙ ap suc (ap (leaves_to s last n) next_is ∙ counts (y ∷ ys) (Some x) after q n linked.1 distinct.1 (ap Some (sym named)) end (omega arith))
+      to_next p n node other there ∙ ap suc (ap (leaves_to s last n) next_is
+      ∙ counts (y ∷ ys) (Some x) after q n linked.1 distinct.1 (ap Some (sym named)) end (omega arith))
 
 module _ {K V : Type 0} (s : Nodes K V) where
   -- so the leaves of an iterator are counted
-  pub walk_counted : (walk : Option (LeafPtr × LeafPtr)) (names : List OpaqueNodePtr) (n : ℕ) → IsIteratorOf s walk names → length names ≤ n → walk_len s walk n ≡ length names
+  pub walk_counted : (walk : Option (LeafPtr × LeafPtr)) (names : List OpaqueNodePtr) (n : ℕ) → IsIteratorOf s walk names →
+      length names ≤ n → walk_len s walk n ≡ length names
   walk_counted None names n is few = ap length (sym is.ends)
-  walk_counted (Some ends) names n is few = counts s ends.1 names is.segment.before is.segment.after ends.0 n is.segment.linked is.segment.distinct is.ends.0 is.ends.1 few
+  walk_counted (Some ends) names n is few =
+      counts s ends.1 names is.segment.before is.segment.after ends.0 n is.segment.linked is.segment.distinct is.ends.0 is.ends.1 few
 
   -- and it has the pairs of their names
-  pub between_are : (walk : Option (LeafPtr × LeafPtr)) (names : List OpaqueNodePtr) (n : ℕ) → IsIteratorOf s walk names → length names ≤ n → pairs_between s walk n ≡ named_pairs s names
+  pub between_are : (walk : Option (LeafPtr × LeafPtr)) (names : List OpaqueNodePtr) (n : ℕ) → IsIteratorOf s walk names →
+      length names ≤ n → pairs_between s walk n ≡ named_pairs s names
   between_are walk names n is few = left_are s walk names (walk_len s walk n) is (walk_counted walk names n is few)
 
   -- at most as many as the bound says
@@ -81,8 +88,10 @@ module _ {K V : Type 0} {s : Nodes K V} {walk left : Option (LeafPtr × LeafPtr)
   none_taken : (without : List OpaqueNodePtr → List OpaqueNodePtr) → without [] ≡ [] → IsIteratorOf s left (without w.names) → w.names ≡ [] →
       (pairs_between s walk n ≡ []) × (pairs_between s left n ≡ [])
   none_taken without nothing after none =
-      let gone : without w.names ≡ [] = ap without none ∙ nothing in
-      (between_are s walk [] n (subst (IsIteratorOf s walk) none w.is) (omega arith), between_are s left [] n (subst (IsIteratorOf s left) gone after) (omega arith))
+      let gone : without w.names ≡ [] = ap without none ∙ nothing in (
+        between_are s walk [] n (subst (IsIteratorOf s walk) none w.is) (omega arith),
+        between_are s left [] n (subst (IsIteratorOf s left) gone after) (omega arith),
+      )
 
   stays_empty : (without : List OpaqueNodePtr → List OpaqueNodePtr) → without [] ≡ [] → IsIteratorOf s left (without w.names) → w.names ≡ [] → IsRange s left n
   stays_empty without nothing after none =
@@ -90,7 +99,8 @@ module _ {K V : Type 0} {s : Nodes K V} {walk left : Option (LeafPtr × LeafPtr)
       record { names = []; is = subst (IsIteratorOf s left) gone after; few = omega arith }
 
   module _ (after : (names : List OpaqueNodePtr) → IsIteratorOf s walk names → IsIteratorOf s left (without_first names)) where
-    pub no_first : ((names : List OpaqueNodePtr) → IsIteratorOf s walk names → None ≡ first_of names) → (pairs_between s walk n ≡ []) × (pairs_between s left n ≡ [])
+    pub no_first : ((names : List OpaqueNodePtr) → IsIteratorOf s walk names → None ≡ first_of names) →
+        (pairs_between s walk n ≡ []) × (pairs_between s left n ≡ [])
     no_first e = none_taken without_first refl (after w.names w.is) (none_first w.names (e w.names w.is))
 
     pub no_first_left : ((names : List OpaqueNodePtr) → IsIteratorOf s walk names → None ≡ first_of names) → IsRange s left n
@@ -114,7 +124,8 @@ module _ {K V : Type 0} {s : Nodes K V} {walk left : Option (LeafPtr × LeafPtr)
           ∙ ap (λ xs. pair ∷ xs) (sym (between_are s left (without_first w.names) (n - 1) (after w.names w.is) (omega arith)))
 
   module _ (after : (names : List OpaqueNodePtr) → IsIteratorOf s walk names → IsIteratorOf s left (without_last names)) where
-    pub no_last : ((names : List OpaqueNodePtr) → IsIteratorOf s walk names → None ≡ last_of names) → (pairs_between s walk n ≡ []) × (pairs_between s left n ≡ [])
+    pub no_last : ((names : List OpaqueNodePtr) → IsIteratorOf s walk names → None ≡ last_of names) →
+        (pairs_between s walk n ≡ []) × (pairs_between s left n ≡ [])
     no_last e = none_taken without_last refl (after w.names w.is) (none_last w.names (e w.names w.is))
 
     pub no_last_left : ((names : List OpaqueNodePtr) → IsIteratorOf s walk names → None ≡ last_of names) → IsRange s left n
@@ -157,11 +168,16 @@ module _ {K V : Type 0} {s : Nodes K V} {walk : Option (LeafPtr × LeafPtr)} {n 
   full_walk : IsRange s walk n → length (pairs_between s walk n) ≡ n → IsWalk s walk n
   full_walk w full =
       let counted = walk_counted s walk w.names n w.is w.few in
-      record { names = w.names; is = w.is; len_is = sym full ∙ left_len s walk (walk_len s walk n) (record { names = w.names; is = w.is; len_is = counted }) ∙ counted }
+      record {
+        names = w.names;
+        is = w.is;
+        len_is = sym full ∙ left_len s walk (walk_len s walk n) (record { names = w.names; is = w.is; len_is = counted }) ∙ counted;
+      }
 
 module _ {K V : Type 0} {s : Nodes K V} {walk left : Option (LeafPtr × LeafPtr)} {n m : ℕ} (w : IsWalk s walk n) (range : IsRange s left m) where
   -- and it is one after a pair is returned
-  pub first_counted : (pair : Option (Bor K × Bor V)) → TakesFirst (pairs_between s walk n) pair (pairs_between s left m) → CountsDown n pair m → IsWalk s left m
+  pub first_counted : (pair : Option (Bor K × Bor V)) → TakesFirst (pairs_between s walk n) pair (pairs_between s left m) →
+      CountsDown n pair m → IsWalk s left m
   first_counted None (none, over) counts = let full = walk_full w in let before = ap length none in let after = ap length over in full_walk range (omega arith)
   first_counted (Some x) takes counts = let full = walk_full w in let lens = ap length takes in full_walk range (omega arith)
 
@@ -181,7 +197,8 @@ module _ {K V : Type 0} (s : Nodes K V) where
   mutual
     entries_read : (t : Tree OpaqueNodePtr (K × V)) → Holds (node_at s) t → Each Reads (entries_of t)
     entries_read (leaf n x) h =
-        let is_leaf : leaf_name (as_leaf n) ≡ n = ap (λ kind. let r : OpaqueNodePtr = record { kind = kind; slot = n.slot } in r) (sym (leaf_used s n.kind n.slot x h).0) in
+        let is_leaf : leaf_name (as_leaf n) ≡ n =
+        ap (λ kind. let r : OpaqueNodePtr = record { kind = kind; slot = n.slot } in r) (sym (leaf_used s n.kind n.slot x h).0) in
         let (node, there, pair) = leaf_there s (as_leaf n) x (ap (node_at s) is_leaf ∙ h) in
         (rw there (ap (λ y. y ∷ []) pair), tt)
     entries_read (inner n h cs) holds = entries_read_below cs holds.1
@@ -198,7 +215,8 @@ module _ {K V : Type 0} (s : Nodes K V) where
     those_named (e ∷ es) h = go (those_named es h.1) (test e.0)
       where
         go : named_pairs s (each (λ e. e.1) (filter (λ e. test e.0) es)) ≡ filter test (each (λ e. e.0) es) → (t : Bool) →
-            named_pairs s (each (λ e. e.1) (cond t (e ∷ filter (λ e. test e.0) es) (filter (λ e. test e.0) es))) ≡ cond t (e.0 ∷ filter test (each (λ e. e.0) es)) (filter test (each (λ e. e.0) es))
+            named_pairs s (each (λ e. e.1) (cond t (e ∷ filter (λ e. test e.0) es) (filter (λ e. test e.0) es)))
+            ≡ cond t (e.0 ∷ filter test (each (λ e. e.0) es)) (filter test (each (λ e. e.0) es))
         go ih true = rw h.0 (ap (λ xs. e.0 ∷ xs) ih)
         go ih false = ih
 
@@ -212,7 +230,8 @@ module _ {K V : Type 0} (s : Nodes K V) where
         go ih false = omega arith
 
 module _ {K V : Type 0} {bytes : K × V → List ℕ} {P : ℕ} {s : Nodes K V} {root : OpaqueNodePtr} {pairs : List (K × V)} {layout : Tree OpaqueNodePtr (K × V)}
-    (by : IsCanonicalTree bytes P s root pairs layout) (test : K × V → Bool) {walk : Option (LeafPtr × LeafPtr)} (is : IsIteratorOf s walk (leaves_where test layout)) where
+    (by : IsCanonicalTree bytes P s root pairs layout) (test : K × V → Bool) {walk : Option (LeafPtr × LeafPtr)}
+    (is : IsIteratorOf s walk (leaves_where test layout)) where
   entries_are : each (λ e. e.0) (entries_of layout) ≡ pairs
   entries_are = pairs_of-leaves layout ∙ (tree_radix by).1
 
@@ -243,7 +262,8 @@ module _ {K V : Type 0} {bytes : K × V → List ℕ} {P : ℕ} {s : Nodes K V} 
   pub no_first_pair : None ≡ first_of (leaves_where test layout) → None ≡ first_of (filter test pairs)
   no_first_pair e = sym (ap first_of (sym those_are ∙ ap (named_pairs s) (none_first (leaves_where test layout) e)))
 
-  pub first_pair : {p : LeafPtr} {pair : K × V} → Some (leaf_name p) ≡ first_of (leaves_where test layout) → option_map pair_of (map.get s.leaves p) ≡ Some pair →
+  pub first_pair : {p : LeafPtr} {pair : K × V} → Some (leaf_name p) ≡ first_of (leaves_where test layout) →
+      option_map pair_of (map.get s.leaves p) ≡ Some pair →
       Some pair ≡ first_of (filter test pairs)
   first_pair {p} {pair} e read = sym (ap first_of (sym those_are ∙ first_left s (leaves_where test layout) p pair e read))
 
@@ -253,7 +273,8 @@ module _ {K V : Type 0} {bytes : K × V → List ℕ} {P : ℕ} {s : Nodes K V} 
   pub last_pair : {p : LeafPtr} {pair : K × V} → Some (leaf_name p) ≡ last_of (leaves_where test layout) → option_map pair_of (map.get s.leaves p) ≡ Some pair →
       Some pair ≡ last_of (filter test pairs)
   last_pair {p} {pair} e read =
-      sym (ap last_of (sym those_are ∙ last_left s (leaves_where test layout) p pair e read) ∙ last_pushed (named_pairs s (without_last (leaves_where test layout))) pair)
+      sym (ap last_of (sym those_are ∙ last_left s (leaves_where test layout) p pair e read)
+      ∙ last_pushed (named_pairs s (without_last (leaves_where test layout))) pair)
     where
       last_pushed : (xs : List (K × V)) (x : K × V) → last_of (xs ++ x ∷ []) ≡ Some x
       last_pushed [] x = refl

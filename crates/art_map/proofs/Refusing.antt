@@ -38,7 +38,8 @@ use denote.Ref.{Bor}
 pub same_some : {A : Type 0} {x y : A} → Some x ≡ Some y → x ≡ y
 same_some e = cc
 
-module _ {F K V : Type 0} (g : Mut F (Bor K × (MutBor V × Unit {0})) (Bool × (MutBor V × Unit {0}))) (bytes : K → List ℕ) (P : ℕ) (last : Option (K × V)) (f : F) where
+module _ {F K V : Type 0} (g : Mut F (Bor K × (MutBor V × Unit {0})) (Bool × (MutBor V × Unit {0}))) (bytes : K → List ℕ) (P : ℕ)
+    (last : Option (K × V)) (f : F) where
   -- whether a key is after the last one
   abbrev test : List ℕ → Bool
   test key = is_between (after_pair (of_key bytes) last) Unbounded key
@@ -53,22 +54,26 @@ module _ {F K V : Type 0} (g : Mut F (Bor K × (MutBor V × Unit {0})) (Bool × 
 
   module _ {before : List (K × V)} {root : OpaqueNodePtr} {len : ℕ} {first : List (K × V)} (is : first ≡ pairs_after (of_key bytes) last before) where
     -- f returned true for each pair
-    pub all_kept : {left : F} {t : Nodes K V} → HasChanged bytes P keeps f first before left t (Some root) len → FindsRefused g bytes P last f before None left t root len
+    pub all_kept : {left : F} {t : Nodes K V} → HasChanged bytes P keeps f first before left t (Some root) len →
+        FindsRefused g bytes P last f before None left t root len
     all_kept {left} {t} changed =
         let (those, others) = changed.those test is in
         (changed.holds, (record { keys = changed.keys; others = others; sorted = map_held (of_key bytes) P t changed.holds }, those))
 
-    module _ {next left : F} {s t : Nodes K V} {walk rest : Option (LeafPtr × LeafPtr)} {p : LeafPtr} (now : Changing bytes P keeps (Some root) len f first before next s walk)
+    module _ {next left : F} {s t : Nodes K V} {walk rest : Option (LeafPtr × LeafPtr)} {p : LeafPtr}
+        (now : Changing bytes P keeps (Some root) len f first before next s walk)
         (top : Some (leaf_name p) ≡ first_of now.names) (after : IsIteratorOf s rest (without_first now.names)) where
       -- f returned false for the pair of the next leaf
       pub refused_at : {r : Bool} → CallsOnLeaf g p next s r left t → r ≡ false →
-          (x : K × V) × HoldsPairs (of_key bytes) P t (Some root) len (pairs_at t (Some root)) × CallsUpTo g bytes last f before (Some x) left (pairs_at t (Some root)) ×
+          (x : K × V) × HoldsPairs (of_key bytes) P t (Some root) len (pairs_at t (Some root)) ×
+          CallsUpTo g bytes last f before (Some x) left (pairs_at t (Some root)) ×
           (node : LeafNode K V) × (get t.leaves p ≡ Some node) × (pair_of node ≡ x)
       refused_at (node, w, there, called, written) refuses =
           let far = now.so_far test is in
           let u = with_leaf_value s p w in
           let held = held_after bytes P keeps (Some root) len f first before now top after node w there in
-          subst (λ z. (x : K × V) × HoldsPairs (of_key bytes) P z (Some root) len (pairs_at z (Some root)) × CallsUpTo g bytes last f before (Some x) left (pairs_at z (Some root)) ×
+          subst (λ z. (x : K × V) × HoldsPairs (of_key bytes) P z (Some root) len (pairs_at z (Some root)) ×
+          CallsUpTo g bytes last f before (Some x) left (pairs_at z (Some root)) ×
           (leaf : LeafNode K V) × (get z.leaves p ≡ Some leaf) × (pair_of leaf ≡ x)) (sym written) (
             (node.key, w),
             held,
@@ -95,7 +100,8 @@ module _ {F K V : Type 0} (g : Mut F (Bor K × (MutBor V × Unit {0})) (Bool × 
             refl,
           )
 
-  module _ {before : List (K × V)} {t : Nodes K V} {root : OpaqueNodePtr} {len : ℕ} {left : F} {x : K × V} (held : HoldsPairs (of_key bytes) P t (Some root) len (pairs_at t (Some root)))
+  module _ {before : List (K × V)} {t : Nodes K V} {root : OpaqueNodePtr} {len : ℕ} {left : F} {x : K × V}
+      (held : HoldsPairs (of_key bytes) P t (Some root) len (pairs_at t (Some root)))
       (up_to : CallsUpTo g bytes last f before (Some x) left (pairs_at t (Some root))) where
     -- the removal of its key returns it
     replied : (all : List (K × V)) → all ≡ pairs_at t (Some root) → remove_reply (of_key bytes) (bytes x.0) all ≡ Some x
@@ -105,7 +111,8 @@ module _ {F K V : Type 0} (g : Mut F (Bor K × (MutBor V × Unit {0})) (Bool × 
         ap (remove_reply (of_key bytes) (bytes x.0)) (same ∙ is) ∙ stored_once (of_key bytes) l r x (subst (IsMap (of_key bytes)) is up_to.0.sorted)
 
     -- so its point is found
-    pub finds : (result : Option DeletePoint) → ForTree (of_key bytes) P t root (λ all tree. IsDeletePoint tree (remove_reply (of_key bytes) (bytes x.0) all) result) →
+    pub finds : (result : Option DeletePoint) →
+        ForTree (of_key bytes) P t root (λ all tree. IsDeletePoint tree (remove_reply (of_key bytes) (bytes x.0) all) result) →
         IfSome result (IsDeletePointIn (of_key bytes) P t root) → FindsRefused g bytes P last f before result left t root len
     finds None point applies =
         let has = at_root (of_key bytes) P held in
@@ -122,9 +129,11 @@ module _ {F K V : Type 0} (g : Mut F (Bor K × (MutBor V × Unit {0})) (Bool × 
   module _ (before : List (K × V)) (left : F) (t : Nodes K V) (root : Option OpaqueNodePtr) (len : ℕ) where
     -- the pair was removed
     pub refused_taken : {x : K × V} {changed : List (K × V)} → CallsUpTo g bytes last f before (Some x) left changed → (y : K × V) →
-        HasTaken bytes P (Some x) (remove_key (of_key bytes) (bytes x.0) changed) (Some y) t root len → HasTakenRefused g bytes P last f before (Some y) left t root len
+        HasTaken bytes P (Some x) (remove_key (of_key bytes) (bytes x.0) changed) (Some y) t root len →
+        HasTakenRefused g bytes P last f before (Some y) left t root len
     refused_taken {x} {changed} up_to y h =
-        subst (λ z. HasTakenRefused g bytes P last f before (Some z) left t root len) (sym (same_some h.1)) (remove_key (of_key bytes) (bytes x.0) changed, h.0, (changed, up_to, refl))
+        subst (λ z. HasTakenRefused g bytes P last f before (Some z) left t root len) (sym (same_some h.1))
+        (remove_key (of_key bytes) (bytes x.0) changed, h.0, (changed, up_to, refl))
 
     module _ (result : Option (K × V)) (h : HasTakenRefused g bytes P last f before result left t root len) where
       pub refused_holds : HoldsPairs (of_key bytes) P t root len (pairs_at t root)
@@ -133,4 +142,5 @@ module _ {F K V : Type 0} (g : Mut F (Bor K × (MutBor V × Unit {0})) (Bool × 
       -- in terms of the pairs read off the store
       pub refused_told : {pairs : List (K × V)} → before ≡ pairs → TakesRefused g bytes last f pairs result left (pairs_at t root)
       refused_told same =
-          subst (λ after. TakesRefused g bytes last f _ result left after) (sym (view_of (of_key bytes) P t h.1)) (subst (λ xs. TakesRefused g bytes last f xs result left h.0) same h.2)
+          subst (λ after. TakesRefused g bytes last f _ result left after) (sym (view_of (of_key bytes) P t h.1))
+          (subst (λ xs. TakesRefused g bytes last f xs result left h.0) same h.2)

@@ -23,13 +23,15 @@ placed_same s t same (IntoExisting p) = ap (λ inners. placed_for (record s { in
 placed_same s t same (MismatchPrefix m p) = refl
 
 -- a search that found a conflict
-pub unreserved : {K V : Type 0} (bytes : K → List ℕ) (key : List ℕ) (pairs : List (K × V)) → IsMap (of_key bytes) pairs → is_conflict (of_key bytes) key pairs ≡ true → (error : InsertSearchError) →
+pub unreserved : {K V : Type 0} (bytes : K → List ℕ) (key : List ℕ) (pairs : List (K × V)) → IsMap (of_key bytes) pairs →
+    is_conflict (of_key bytes) key pairs ≡ true → (error : InsertSearchError) →
     IsRefusedFor key error → IsUnreserved bytes key pairs error
 unreserved bytes key pairs rising related (Prefix error) spelled = (spelled, related)
 unreserved bytes key pairs rising related (Memory error) any = conflict_new (of_key bytes) key pairs rising related
 
 -- the pairs that are seen of a store with the same nodes
-pub seen_after : {K V : Type 0} (bytes : K × V → List ℕ) (P : ℕ) (s t : Nodes K V) {root : Option OpaqueNodePtr} {len : ℕ} {seen : List (K × V)} → t.leaves ≡ s.leaves → t.inners ≡ s.inners →
+pub seen_after : {K V : Type 0} (bytes : K × V → List ℕ) (P : ℕ) (s t : Nodes K V) {root : Option OpaqueNodePtr} {len : ℕ}
+    {seen : List (K × V)} → t.leaves ≡ s.leaves → t.inners ≡ s.inners →
     HoldsPairs bytes P s root len (pairs_at s root) → pairs_at s root ≡ seen → HoldsPairs bytes P t root len (pairs_at t root) × (pairs_at t root ≡ seen)
 seen_after bytes P s t leaves inners is view =
     let held = stays bytes P s t leaves inners is in

@@ -47,15 +47,18 @@ module _ {K V : Type 0} (bytes : K → List ℕ) where
 
 module _ {K V : Type 0} (bytes : K → List ℕ) (P : ℕ) (pairs : List (K × V)) (t : Nodes K V) (root : Option OpaqueNodePtr) (len : ℕ) where
   module _ (key : K) (value : V) where
-    pub put_holds : (result : Result (Option (K × V)) (MapInsertError K V)) → HasPut bytes P pairs key value result t root len → HoldsPairs (of_key bytes) P t root len (pairs_at t root)
+    pub put_holds : (result : Result (Option (K × V)) (MapInsertError K V)) → HasPut bytes P pairs key value result t root len →
+        HoldsPairs (of_key bytes) P t root len (pairs_at t root)
     put_holds (Ok replaced) h = holds (of_key bytes) P t h.0
     put_holds (Err error) h = holds (of_key bytes) P t h.0
 
-    pub tells_put : {before : List (K × V)} → pairs ≡ before → (result : Result (Option (K × V)) (MapInsertError K V)) → HasPut bytes P pairs key value result t root len →
+    pub tells_put : {before : List (K × V)} → pairs ≡ before → (result : Result (Option (K × V)) (MapInsertError K V)) →
+        HasPut bytes P pairs key value result t root len →
         TellsPut bytes key value before (pairs_at t root) result
     tells_put same result h = subst (λ xs. TellsPut bytes key value xs (pairs_at t root) result) same (go result h)
       where
-        go : (result : Result (Option (K × V)) (MapInsertError K V)) → HasPut bytes P pairs key value result t root len → TellsPut bytes key value pairs (pairs_at t root) result
+        go : (result : Result (Option (K × V)) (MapInsertError K V)) → HasPut bytes P pairs key value result t root len →
+            TellsPut bytes key value pairs (pairs_at t root) result
         go (Ok replaced) h =
             let put_is = view_of (of_key bytes) P t h.0 in
             record {
@@ -79,19 +82,23 @@ module _ {K V : Type 0} (bytes : K → List ℕ) (P : ℕ) (pairs : List (K × V
           kept = view_of (of_key bytes) P t h.0;
         }
 
-    pub replaced_holds : (result : Result (Option (K × V)) (MapInsertError K V)) → HasReplaced bytes P pairs key value result t root len → HoldsPairs (of_key bytes) P t root len (pairs_at t root)
+    pub replaced_holds : (result : Result (Option (K × V)) (MapInsertError K V)) → HasReplaced bytes P pairs key value result t root len →
+        HoldsPairs (of_key bytes) P t root len (pairs_at t root)
     replaced_holds (Ok replaced) h = holds (of_key bytes) P t h.0
     replaced_holds (Err error) h = holds (of_key bytes) P t h.0
 
-    pub tells_replaced : {before : List (K × V)} → pairs ≡ before → (result : Result (Option (K × V)) (MapInsertError K V)) → HasReplaced bytes P pairs key value result t root len →
+    pub tells_replaced : {before : List (K × V)} → pairs ≡ before → (result : Result (Option (K × V)) (MapInsertError K V)) →
+        HasReplaced bytes P pairs key value result t root len →
         TellsReplaced bytes key value before (pairs_at t root) result
     tells_replaced same result h = subst (λ xs. TellsReplaced bytes key value xs (pairs_at t root) result) same (go result h)
       where
-        go : (result : Result (Option (K × V)) (MapInsertError K V)) → HasReplaced bytes P pairs key value result t root len → TellsReplaced bytes key value pairs (pairs_at t root) result
+        go : (result : Result (Option (K × V)) (MapInsertError K V)) → HasReplaced bytes P pairs key value result t root len →
+            TellsReplaced bytes key value pairs (pairs_at t root) result
         go (Ok replaced) h = record { pairs = view_of (of_key bytes) P t h.0; replaced = h.1; accepted = h.2; refused = tt; kept = tt }
         go (Err error) h = record { pairs = tt; replaced = tt; accepted = tt; refused = h.1; kept = view_of (of_key bytes) P t h.0 }
 
-    pub over_holds : (result : Result ℕ (Refused K V)) → HasPutOver bytes P pairs key value result t root len → HoldsPairs (of_key bytes) P t root len (pairs_at t root)
+    pub over_holds : (result : Result ℕ (Refused K V)) → HasPutOver bytes P pairs key value result t root len →
+        HoldsPairs (of_key bytes) P t root len (pairs_at t root)
     over_holds (Ok gone) h = holds (of_key bytes) P t h.0
     over_holds (Err refused) h = holds (of_key bytes) P t h.0
 
@@ -109,10 +116,16 @@ module _ {K V : Type 0} (bytes : K → List ℕ) (P : ℕ) (pairs : List (K × V
     below_holds = holds (of_key bytes) P t h.0
 
     -- what a caller knows after the pairs with a prefix are removed
-    pub tells_below : {before : List (K × V)} → pairs ≡ before → (pairs_at t root ≡ not_below (of_key bytes) prefix before) × (removed ≡ length (below (of_key bytes) prefix before))
-    tells_below same = (view_of (of_key bytes) P t h.0 ∙ ap (not_below (of_key bytes) prefix) same, h.1 ∙ ap (λ xs. length (below (of_key bytes) prefix xs)) same)
+    pub tells_below : {before : List (K × V)} → pairs ≡ before →
+        (pairs_at t root ≡ not_below (of_key bytes) prefix before) × (removed ≡ length (below (of_key bytes) prefix before))
+    tells_below same = (
+      view_of (of_key bytes) P t h.0 ∙ ap (not_below (of_key bytes) prefix) same,
+      h.1
+          ∙ ap (λ xs. length (below (of_key bytes) prefix xs)) same,
+    )
 
-  module _ (pair : List (K × V) → Option (K × V)) (left : List (K × V) → List (K × V)) (taken : Option (K × V)) (h : HasTaken bytes P (pair pairs) (left pairs) taken t root len) where
+  module _ (pair : List (K × V) → Option (K × V)) (left : List (K × V) → List (K × V)) (taken : Option (K × V))
+      (h : HasTaken bytes P (pair pairs) (left pairs) taken t root len) where
     pub taken_holds : HoldsPairs (of_key bytes) P t root len (pairs_at t root)
     taken_holds = holds (of_key bytes) P t h.0
 

@@ -13,8 +13,10 @@ one_stays true x rest = refl
 one_stays false x rest = refl
 
 module _ {F A : Type 0} (asks : F → A → Bool → F → Type 0) (Known : List A → List A → F → Type 0)
-    (one : (seen kept : List A) (f : F) (x : A) (b : Bool) (left : F) → Known seen kept f → asks f x b left → Known (seen ++ x ∷ []) (kept ++ cond b (x ∷ []) []) left) where
-  goes_on : (seen so_far : List A) (f : F) (items kept : List A) (left : F) → Known seen so_far f → Retains asks f items kept left → Known (seen ++ items) (so_far ++ kept) left
+    (one : (seen kept : List A) (f : F) (x : A) (b : Bool) (left : F) → Known seen kept f → asks f x b left →
+    Known (seen ++ x ∷ []) (kept ++ cond b (x ∷ []) []) left) where
+  goes_on : (seen so_far : List A) (f : F) (items kept : List A) (left : F) → Known seen so_far f → Retains asks f items kept left →
+      Known (seen ++ items) (so_far ++ kept) left
   goes_on seen so_far f [] kept left known (none, same) = rw (none, ← same, append-nil seen, append-nil so_far) known
   goes_on seen so_far f (x ∷ xs) kept left known (b, next, rest, asked, h, is) =
       let all = goes_on (seen ++ x ∷ []) (so_far ++ cond b (x ∷ []) []) next xs rest left (one seen so_far f x b next known asked) h in
@@ -39,7 +41,8 @@ module _ {F K V : Type 0} (g : Mut F (Bor K × (MutBor V × Unit {0})) (Bool × 
   retained_pairs_known = pairs_go_on [] []
 
 module _ {F K V : Type 0} (calls : F → K × V → F → V → Type 0) (Known : List (K × V) → List (K × V) → F → Type 0)
-    (one : (seen done : List (K × V)) (f : F) (x : K × V) (left : F) (w : V) → Known seen done f → calls f x left w → Known (seen ++ x ∷ []) (done ++ (x.0, w) ∷ []) left) where
+    (one : (seen done : List (K × V)) (f : F) (x : K × V) (left : F) (w : V) → Known seen done f → calls f x left w →
+    Known (seen ++ x ∷ []) (done ++ (x.0, w) ∷ []) left) where
   changes_go_on : (seen so_far : List (K × V)) (f : F) (pairs after : List (K × V)) (left : F) → Known seen so_far f → ChangesBy calls f pairs after left →
       Known (seen ++ pairs) (so_far ++ after) left
   changes_go_on seen so_far f [] after left known (none, same) = rw (none, ← same, append-nil seen, append-nil so_far) known

@@ -91,7 +91,8 @@ module _ {K V : Type 0} (bytes : K → List ℕ) (last : Option (K × V)) where
       (subst (λ k. is_after B last (k, y.1) ≡ true) (sym key) late.0, late_alike xs ys late.1 others)
 
   -- if only values of the late ones differ, the early ones are followed by the late ones
-  parted : (l r changed : List (K × V)) → Each (λ z. is_after B last z ≡ false) l → Each (λ z. is_after B last z ≡ true) r → keys_of changed ≡ keys_of (l ++ r) →
+  parted : (l r changed : List (K × V)) → Each (λ z. is_after B last z ≡ false) l → Each (λ z. is_after B last z ≡ true) r →
+      keys_of changed ≡ keys_of (l ++ r) →
       pairs_up_to B last changed ≡ l → changed ≡ l ++ pairs_after B last changed
   parted [] r changed early late same others = sym (filter_all (is_after B last) changed (late_alike r changed late same))
   parted (z ∷ l) r [] early late same others = absurd cc
@@ -134,7 +135,16 @@ module _ {F K V : Type 0} (g : Mut F (Bor K × (MutBor V × Unit {0})) (Bool × 
       pub retains : RetainsPairs g began seen kept f
 
     pub begins : Retaining began before None
-    begins = record { seen = []; kept = []; rest = before; before_is = refl; pairs_are = refl; early = tt; late = none_early (of_key bytes) before; retains = (refl, refl) }
+    begins = record {
+      seen = [];
+      kept = [];
+      rest = before;
+      before_is = refl;
+      pairs_are = refl;
+      early = tt;
+      late = none_early (of_key bytes) before;
+      retains = (refl, refl);
+    }
 
     module _ {f : F} {pairs : List (K × V)} {last : Option (K × V)} (now : Retaining f pairs last) where
       rest_is : pairs_after (of_key bytes) last pairs ≡ now.rest
@@ -195,7 +205,9 @@ module _ {F K V : Type 0} (g : Mut F (Bor K × (MutBor V × Unit {0})) (Bool × 
           pairs_are = removed;
           early = early_ones (of_key bytes) (now.kept ++ stops.done) stops.rest x risen;
           late = late_ones (of_key bytes) (now.kept ++ stops.done) stops.rest x risen;
-          retains = subst (λ zs. RetainsPairs g began ((now.seen ++ stops.seen) ++ (x.0, stops.value) ∷ []) zs left) (append-nil (now.kept ++ stops.done)) asked;
+          retains =
+              subst (λ zs. RetainsPairs g began ((now.seen ++ stops.seen) ++ (x.0, stops.value) ∷ []) zs left)
+              (append-nil (now.kept ++ stops.done)) asked;
         }
 
         -- and fewer are left
@@ -219,7 +231,8 @@ module _ {C K V : Type 0} (g : Mut C (Bor K × (MutBor V × Unit {0})) (Bool × 
   -- which keys stay, where the other closure is called on them
   pub keys_retained : {F : Type 0} (other : Mut F (Bor K × Unit {0}) Bool) (inside : C → F) →
       ((s : C) (x : K × V) (b : Bool) (t : C) (w : V) → CalledOnPair g s x b t w → CalledAt other (inside s) x.0 b (inside t)) →
-      (s : C) (before kept : List (K × V)) (t : C) → RetainsPairs g s before kept t → Retains (CalledAt other) (inside s) (keys_of before) (keys_of kept) (inside t)
+      (s : C) (before kept : List (K × V)) (t : C) → RetainsPairs g s before kept t →
+      Retains (CalledAt other) (inside s) (keys_of before) (keys_of kept) (inside t)
   keys_retained other inside one s [] kept t h = (ap keys_of h.0, ap inside h.1)
   keys_retained other inside one s (x ∷ xs) kept t (b, value, next, rest, asked, h, is) =
       (b, inside next, keys_of rest, one s x b next value asked, keys_retained other inside one next xs rest t h, ap keys_of is ∙ go b)

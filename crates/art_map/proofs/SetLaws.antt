@@ -73,7 +73,8 @@ pub keys_shortest : {K V : Type 0} (bytes : K → List ℕ) (query : List ℕ) (
     first_of (texts_from bytes query at_least (keys_of pairs)) ≡ option_map (λ x. x.0) (first_of (texts_from (of_key bytes) query at_least pairs))
 keys_shortest {K} bytes query at_least pairs =
     let is_long : K → Bool = λ k. leb at_least (length (text_of bytes k)) in
-    ap (λ ks. first_of (filter is_long ks)) (keys_where (λ k. is_front (text_of bytes k) query) pairs) ∙ ap first_of (keys_where is_long (texts_in_front (of_key bytes) query pairs))
+    ap (λ ks. first_of (filter is_long ks)) (keys_where (λ k. is_front (text_of bytes k) query) pairs)
+    ∙ ap first_of (keys_where is_long (texts_in_front (of_key bytes) query pairs))
     ∙ keys_first (texts_from (of_key bytes) query at_least pairs)
 
 pub flipped : (b d : Bool) → b ≡ not d → d ≡ not b
@@ -133,8 +134,10 @@ module _ {K V : Type 0} (bytes : K → List ℕ) where
       go ih false e = rw e (ap (λ ks. x.0 ∷ ks) ih)
 
   -- a key replaces an equal one
-  pub keys_replaced : (key : K) (value : V) (pairs : List (K × V)) → keys_of (replace_key (of_key bytes) (key, value) pairs) ≡ replace_key bytes key (keys_of pairs)
-  keys_replaced key value pairs = keys_added (key, value) (remove_key (of_key bytes) (bytes key) pairs) ∙ ap (add_in_order bytes key) (keys_removed (bytes key) pairs)
+  pub keys_replaced : (key : K) (value : V) (pairs : List (K × V)) →
+      keys_of (replace_key (of_key bytes) (key, value) pairs) ≡ replace_key bytes key (keys_of pairs)
+  keys_replaced key value pairs =
+      keys_added (key, value) (remove_key (of_key bytes) (bytes key) pairs) ∙ ap (add_in_order bytes key) (keys_removed (bytes key) pairs)
 
   keys_written : (key : List ℕ) (value : V) (pairs : List (K × V)) → keys_of (with_value_at bytes key value pairs) ≡ keys_of pairs
   keys_written key value [] = refl
@@ -166,7 +169,8 @@ module _ {K V : Type 0} (bytes : K → List ℕ) where
     pub keys_put : IsMap (of_key bytes) pairs → keys_of (put (of_key bytes) (key, value) pairs) ≡ add_key bytes key (keys_of pairs)
     keys_put rising = go (first_of (with_key (of_key bytes) (bytes key) pairs)) refl
       where
-        go : (o : Option (K × V)) → first_of (with_key (of_key bytes) (bytes key) pairs) ≡ o → keys_of (put (of_key bytes) (key, value) pairs) ≡ add_key bytes key (keys_of pairs)
+        go : (o : Option (K × V)) → first_of (with_key (of_key bytes) (bytes key) pairs) ≡ o →
+            keys_of (put (of_key bytes) (key, value) pairs) ≡ add_key bytes key (keys_of pairs)
         go None none =
             let off : has_key bytes (bytes key) (keys_of pairs) ≡ false = has_found ∙ ap is_some none in
             ap keys_of (put-new (of_key bytes) (key, value) pairs none) ∙ keys_added (key, value) (remove_key (of_key bytes) (bytes key) pairs)
@@ -174,7 +178,8 @@ module _ {K V : Type 0} (bytes : K → List ℕ) where
         go (Some x) some =
             let on : has_key bytes (bytes key) (keys_of pairs) ≡ true = has_found ∙ ap is_some some in
             let stored : has_key (of_key bytes) (bytes key) pairs ≡ true = sym (keys_have (bytes key) pairs) ∙ on in
-            sym (ap keys_of (new_written bytes key pairs rising value value)) ∙ keys_written (bytes key) value (put_new bytes (key, value) pairs) ∙ (rw (stored, on) refl)
+            sym (ap keys_of (new_written bytes key pairs rising value value))
+            ∙ keys_written (bytes key) value (put_new bytes (key, value) pairs) ∙ (rw (stored, on) refl)
 
     -- it returns a pair exactly where the key is stored
     pub reply_has : is_some (put_reply (of_key bytes) (key, value) pairs) ≡ has_key bytes (bytes key) (keys_of pairs)
@@ -191,4 +196,17 @@ key_refused bytes key pairs (Conflict k v e) is = (is.0, is.2, keys_conflict byt
 key_refused bytes key pairs (Memory k v) is = (is.0, keys_have bytes (bytes key) pairs ∙ is.2)
 
 -- what is asked of the keys, by the pairs
-pub ruleset set_laws = (keys_len, keys_first, keys_last, without_first_keys, without_last_keys, no_values, keys_have, keys_conflict, removed_keys, keys_below, keys_between, keys_with)
+pub ruleset set_laws = (
+  keys_len,
+  keys_first,
+  keys_last,
+  without_first_keys,
+  without_last_keys,
+  no_values,
+  keys_have,
+  keys_conflict,
+  removed_keys,
+  keys_below,
+  keys_between,
+  keys_with,
+)

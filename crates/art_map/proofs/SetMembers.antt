@@ -60,7 +60,8 @@ module _ {K : Type 0} (bytes : K → List ℕ) (key : List ℕ) where
       goes true rest left is ih = ih ∙ ap (λ b. rest && b) (sym (is refl)) ∙ and-false rest ∙ is refl
       goes false rest left is ih = ih
 
-      by_test : (b : Bool) → test x ≡ b → has (filter test xs) ≡ (has xs && passes) → has (cond b (x ∷ filter test xs) (filter test xs)) ≡ ((here x || has xs) && passes)
+      by_test : (b : Bool) → test x ≡ b → has (filter test xs) ≡ (has xs && passes) →
+          has (cond b (x ∷ filter test xs) (filter test xs)) ≡ ((here x || has xs) && passes)
       by_test true e ih = stays (here x) (has xs) (has (filter test xs)) (λ same. sym e ∙ law x same) ih
       by_test false e ih = goes (here x) (has xs) (has (filter test xs)) (λ same. sym e ∙ law x same) ih
 
@@ -103,9 +104,13 @@ module _ {K : Type 0} (bytes : K → List ℕ) (key : List ℕ) where
   rising x xs is = Each-weaker (λ y. Precedes (bytes x) (bytes y)) (λ y. is_before (bytes x) (bytes y) ≡ true) (λ y h. h.0) xs is.0
 
   -- a key before the first is before all
-  before_all : (front : List ℕ) (x : K) (xs : List K) → is_before front (bytes x) ≡ true → IsMap bytes (x ∷ xs) → Each (λ y. is_before front (bytes y) ≡ true) (x ∷ xs)
-  before_all front x xs h is =
-      (h, Each-weaker (λ y. is_before (bytes x) (bytes y) ≡ true) (λ y. is_before front (bytes y) ≡ true) (λ y k. order_is_transitive front (bytes x) (bytes y) h k) xs (rising x xs is))
+  before_all : (front : List ℕ) (x : K) (xs : List K) → is_before front (bytes x) ≡ true → IsMap bytes (x ∷ xs) →
+      Each (λ y. is_before front (bytes y) ≡ true) (x ∷ xs)
+  before_all front x xs h is = (
+    h,
+    Each-weaker (λ y. is_before (bytes x) (bytes y) ≡ true) (λ y. is_before front (bytes y) ≡ true)
+        (λ y k. order_is_transitive front (bytes x) (bytes y) h k) xs (rising x xs is),
+  )
 
   -- the first of two comes before the second, or the second before the first
   less_before : (x y : K) → byte_order bytes x y ≡ Less → is_before (bytes x) (bytes y) ≡ true
@@ -117,7 +122,8 @@ module _ {K : Type 0} (bytes : K → List ℕ) (key : List ℕ) where
   abbrev just_one : Bool → Bool → Bool
   just_one a b = cond a (not b) b
 
-  parted_step : (x : K) (xs : List K) (on : List K → List K) → IsMap bytes (x ∷ xs) → ((ys : List K) → IsMap bytes ys → has (on ys) ≡ just_one (has xs) (has ys)) →
+  parted_step : (x : K) (xs : List K) (on : List K → List K) → IsMap bytes (x ∷ xs) →
+      ((ys : List K) → IsMap bytes ys → has (on ys) ≡ just_one (has xs) (has ys)) →
       (ys : List K) → IsMap bytes ys → has (merge_step (byte_order bytes) false x xs on ys) ≡ just_one (here x || has xs) (has ys)
   parted_step x xs on is ih [] others = only-first (here x || has xs)
   parted_step x xs on is ih (y ∷ ys) others = by (byte_order bytes x y) refl (parted_step x xs on is ih ys others.1)
@@ -126,7 +132,8 @@ module _ {K : Type 0} (bytes : K → List ℕ) (key : List ℕ) where
       first true both rest none same = ap not (sym (none refl))
       first false both rest none same = same
 
-      neither : (s both : Bool) → (s ≡ true → (has xs ≡ false) × (has ys ≡ false)) → both ≡ just_one (has xs) (has ys) → both ≡ just_one (s || has xs) (s || has ys)
+      neither : (s both : Bool) → (s ≡ true → (has xs ≡ false) × (has ys ≡ false)) → both ≡ just_one (has xs) (has ys) →
+          both ≡ just_one (s || has xs) (s || has ys)
       neither true both none same = same ∙ ap₂ just_one (none refl).0 (none refl).1
       neither false both none same = same
 
@@ -137,10 +144,14 @@ module _ {K : Type 0} (bytes : K → List ℕ) (key : List ℕ) where
       by : (o : Ordering) → byte_order bytes x y ≡ o → has (merge_step (byte_order bytes) false x xs on ys) ≡ just_one (here x || has xs) (has ys) →
           has (match_ordering o (x ∷ on (y ∷ ys)) (on ys) (y ∷ merge_step (byte_order bytes) false x xs on ys)) ≡ just_one (here x || has xs) (here y || has ys)
       by Less e rest =
-          first (here x) (has (on (y ∷ ys))) (here y || has ys) (λ same. none_after (bytes x) same (y ∷ ys) (before_all (bytes x) y ys (less_before x y e) others)) (ih (y ∷ ys) others)
+          first (here x) (has (on (y ∷ ys))) (here y || has ys)
+          (λ same. none_after (bytes x) same (y ∷ ys) (before_all (bytes x) y ys (less_before x y e) others)) (ih (y ∷ ys) others)
       by Equal e rest =
           subst (λ b. has (on ys) ≡ just_one (here x || has xs) (b || has ys)) (equal_here x y e)
-          (neither (here x) (has (on ys)) (λ same. (none_after (bytes x) same xs (rising x xs is), none_after (bytes y) (sym (equal_here x y e) ∙ same) ys (rising y ys others)))
+          (neither (here x) (has (on ys)) (λ same. (
+            none_after (bytes x) same xs (rising x xs is),
+            none_after (bytes y) (sym (equal_here x y e) ∙ same) ys (rising y ys others),
+          ))
           (ih ys others.1))
       by Greater e rest =
           second (here y) (has (merge_step (byte_order bytes) false x xs on ys)) (here x || has xs)

@@ -31,7 +31,8 @@ module _ {K V : Type 0} where
   same_keys eq (x ∷ xs) [] = refl
   same_keys eq (x ∷ xs) (y ∷ ys) = λ i. and-true (eq x.0 y.0) i && same_keys eq xs ys i
 
-  pub order_of_keys : (cmp : K → K → Ordering) (xs ys : List (K × V)) → slice_cmp (λ p q. ordering_then (cmp p.0 q.0) Equal) xs ys ≡ slice_cmp cmp (keys_of xs) (keys_of ys)
+  pub order_of_keys : (cmp : K → K → Ordering) (xs ys : List (K × V)) →
+      slice_cmp (λ p q. ordering_then (cmp p.0 q.0) Equal) xs ys ≡ slice_cmp cmp (keys_of xs) (keys_of ys)
   order_of_keys cmp [] [] = refl
   order_of_keys cmp [] (y ∷ ys) = refl
   order_of_keys cmp (x ∷ xs) [] = refl

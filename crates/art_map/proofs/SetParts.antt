@@ -9,7 +9,8 @@ use Rattle.art_map.specs.MapParts.{keys_before, keys_from, not_between}
 use Rattle.art_map.proofs.SetLaws.{keys_between, keys_first, keys_len, keys_where, removed_keys}
 
 module _ {K V : Type 0} (bytes : K → List ℕ) where
-  pub keys_not_between : (from to : Bound (List ℕ)) (pairs : List (K × V)) → not_between bytes from to (keys_of pairs) ≡ keys_of (not_between (of_key bytes) from to pairs)
+  pub keys_not_between : (from to : Bound (List ℕ)) (pairs : List (K × V)) →
+      not_between bytes from to (keys_of pairs) ≡ keys_of (not_between (of_key bytes) from to pairs)
   keys_not_between from to pairs = keys_where (λ k. not (is_between from to (bytes k))) pairs
 
   pub before_keys : (key : List ℕ) (pairs : List (K × V)) → keys_before bytes key (keys_of pairs) ≡ keys_of (keys_before (of_key bytes) key pairs)

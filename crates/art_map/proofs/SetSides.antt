@@ -52,12 +52,14 @@ module _ {K : Type 0} (test : K → Bool) where
 
 module _ {K : Type 0} (test : K → Bool) where
   -- none of those that fail is returned if all pass
-  pub all_pass : (keys : List K) (r : Option (Bor K)) (left : List K) (none : Bool) → ShowsFirst (filter (λ k. not (test k)) keys) r left → is_some r ≡ not none → none ≡ list_all test keys
+  pub all_pass : (keys : List K) (r : Option (Bor K)) (left : List K) (none : Bool) → ShowsFirst (filter (λ k. not (test k)) keys) r left →
+      is_some r ≡ not none → none ≡ list_all test keys
   all_pass keys r left none h is =
       sym (not-not none) ∙ ap not (sym is ∙ some_passes (λ k. not (test k)) keys r left h ∙ any_fails test keys) ∙ not-not (list_all test keys)
 
   -- and none of those that pass if all fail
-  pub none_passes : (keys : List K) (r : Option (Bor K)) (left : List K) (none : Bool) → ShowsFirst (filter test keys) r left → is_some r ≡ not none → none ≡ not (list_any test keys)
+  pub none_passes : (keys : List K) (r : Option (Bor K)) (left : List K) (none : Bool) → ShowsFirst (filter test keys) r left →
+      is_some r ≡ not none → none ≡ not (list_any test keys)
   none_passes keys r left none h is = sym (not-not none) ∙ ap not (sym is ∙ some_passes test keys r left h)
 
 module _ {K : Type 0} (order : K → K → Ordering) (both : Bool) where

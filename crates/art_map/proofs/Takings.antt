@@ -47,7 +47,8 @@ module _ {A : Type 0} (bytes : A → List ℕ) where
       go ih false f = rw f ih
 
   -- the removal of a key of a map removes one pair
-  one_less : (l m r pairs : List A) (x : A) → l ++ m ++ r ≡ pairs → m ≡ x ∷ [] → IsMap bytes pairs → length (remove_key bytes (bytes x) pairs) ≡ length pairs - 1
+  one_less : (l m r pairs : List A) (x : A) → l ++ m ++ r ≡ pairs → m ≡ x ∷ [] → IsMap bytes pairs →
+      length (remove_key bytes (bytes x) pairs) ≡ length pairs - 1
   one_less l m r pairs x e own rising =
       let counts = removal_counts bytes (bytes x) pairs in
       let once = keys_are_once bytes (bytes x) pairs rising in
@@ -69,12 +70,15 @@ module _ {K V : Type 0} (bytes : K → List ℕ) (P : ℕ) {s : Nodes K V} {name
   -- what an applied delete point leaves
   pub taken : {t : Nodes K V} {root : Option OpaqueNodePtr} {len : ℕ} {others : List (K × V)} {x : K × V} {point : DeletePoint} (gone : LeafNode K V) →
       HoldsPairs (of_key bytes) P s (Some name) len others → LeadsTo layout x point →
-      IfSome (get s.leaves point.leaf_node_ptr) (λ node. gone ≡ unlinked_leaf (pair_of node)) → IsCanonical (of_key bytes) P t root (remove_key (of_key bytes) (bytes gone.key) pairs) →
+      IfSome (get s.leaves point.leaf_node_ptr) (λ node. gone ≡ unlinked_leaf (pair_of node)) →
+      IsCanonical (of_key bytes) P t root (remove_key (of_key bytes) (bytes gone.key) pairs) →
       ForRoot (of_key bytes) P t root (λ after new. ChangesInPlace (of_key bytes) s t (Some layout) new) →
       HoldsPairs (of_key bytes) P t root (len - 1) (remove_key (of_key bytes) (bytes x.0) pairs) × (Some (gone.key, gone.value) ≡ Some x)
   taken {t} {root} {len} {others} {x} {point} gone is leads told canonical kept =
       let pair = deleted_pair bytes P gone by leads told in
-      let (tree, root_of) = with_tree (of_key bytes) P t root _ (subst (λ q. IsCanonical (of_key bytes) P t root (remove_key (of_key bytes) (bytes q.0) pairs)) pair canonical) in
+      let (tree, root_of) =
+      with_tree (of_key bytes) P t root _ (subst
+      (λ q. IsCanonical (of_key bytes) P t root (remove_key (of_key bytes) (bytes q.0) pairs)) pair canonical) in
       let (other, counted) = for_tree is in
       let whole : pairs_before leads.path ++ pairs_of (leaf (leaf_name point.leaf_node_ptr) x) ++ pairs_after leads.path ≡ pairs = sym
       (pairs_of-plug leads.path (leaf (leaf_name point.leaf_node_ptr) x)) ∙ ap pairs_of leads.whole ∙ (tree_radix by).1 in (
@@ -93,7 +97,8 @@ module _ {K V : Type 0} (bytes : K → List ℕ) (P : ℕ) {s : Nodes K V} {name
 module _ {A : Type 0} (bytes : A → List ℕ) where
   pub first_goes : (pairs : List A) (x : A) → IsMap bytes pairs → first_of pairs ≡ Some x → remove_key bytes (bytes x) pairs ≡ without_first pairs
   first_goes [] x rising e = absurd cc
-  first_goes (y ∷ rest) x rising e = let same : y ≡ x = cc in subst (λ q. remove_key bytes (bytes q) (y ∷ rest) ≡ rest) same (first_is_removed_by_key bytes y rest rising)
+  first_goes (y ∷ rest) x rising e =
+      let same : y ≡ x = cc in subst (λ q. remove_key bytes (bytes q) (y ∷ rest) ≡ rest) same (first_is_removed_by_key bytes y rest rising)
 
 -- ---- what is read off a leaf
 
@@ -132,7 +137,8 @@ module _ {K V : Type 0} (bytes : K → List ℕ) (P : ℕ) {s : Nodes K V} {name
   found_pair {root} e is sought read view = let has = at_some e is in read (pairs_at s root) has.layout has.by ∙ ap (λ xs. first_of (sought xs)) view
 
 -- a value is found exactly if the key is stored
-pub value_stored : {K V : Type 0} (bytes : K → List ℕ) (key : List ℕ) (pairs : List (K × V)) → is_some (value_at bytes key pairs) ≡ has_key (of_key bytes) key pairs
+pub value_stored : {K V : Type 0} (bytes : K → List ℕ) (key : List ℕ) (pairs : List (K × V)) →
+    is_some (value_at bytes key pairs) ≡ has_key (of_key bytes) key pairs
 value_stored bytes key pairs = is_some-map (λ x. x.1) (first_of (with_key (of_key bytes) key pairs)) ∙ sym (any_is_first (λ x. are_same key (bytes x.0)) pairs)
 
 -- a borrow exists exactly where its item does

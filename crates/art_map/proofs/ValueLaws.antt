@@ -53,16 +53,19 @@ module _ {K V : Type 0} (bytes : K → List ℕ) (value : V) where
       new : K × V
       new = (x.0, value)
 
-      go : (first_of (with_key (of_key bytes) key ys) ≡ Some x → replace_key (of_key bytes) new ys ≡ with_value_at bytes key value ys) → (b : Bool) → are_same key (bytes y.0) ≡ b →
+      go : (first_of (with_key (of_key bytes) key ys) ≡ Some x → replace_key (of_key bytes) new ys ≡ with_value_at bytes key value ys) →
+          (b : Bool) → are_same key (bytes y.0) ≡ b →
           first_of (with_key (of_key bytes) key (y ∷ ys)) ≡ Some x → replace_key (of_key bytes) new (y ∷ ys) ≡ with_value_at bytes key value (y ∷ ys)
       go ih true is found =
           let met : Some y ≡ Some x = rw is at found in
           let same : y ≡ x = cc in
           let after : Each (λ z. Precedes key (bytes z.0)) ys = subst (λ z. Each (λ w. Precedes (bytes z.0) (bytes w.0)) ys) same rising.0 in
-          rw (is, high_kept bytes key value ys after, high_stay bytes key value ys after) (add_in_order_first (of_key bytes) new ys after ∙ ap (λ z. (z.0, value) ∷ ys) (sym same))
+          rw (is, high_kept bytes key value ys after, high_stay bytes key value ys after)
+          (add_in_order_first (of_key bytes) new ys after ∙ ap (λ z. (z.0, value) ∷ ys) (sym same))
       go ih false is found =
           let rest : first_of (with_key (of_key bytes) key ys) ≡ Some x = rw is at found in
-          let below = first_each (λ z. Precedes (bytes y.0) (bytes z.0)) _ x rest (Each-filter (λ z. Precedes (bytes y.0) (bytes z.0)) (λ z. are_same key (bytes z.0)) ys rising.0) in
+          let below = first_each (λ z. Precedes (bytes y.0) (bytes z.0)) _ x rest
+          (Each-filter (λ z. Precedes (bytes y.0) (bytes z.0)) (λ z. are_same key (bytes z.0)) ys rising.0) in
           rw (is, precedes_apart (bytes y.0) key below) (ap (λ zs. y ∷ zs) (ih rest))
 
   -- a new pair gets another value in its place
@@ -75,12 +78,14 @@ module _ {K V : Type 0} (bytes : K → List ℕ) (value : V) where
       stay [] g = refl
       stay (z ∷ zs) g = by_test (stay zs g.1) (are_same (bytes k) (bytes z.0)) refl g.0
         where
-          by_test : with_value_at bytes (bytes k) value zs ≡ zs → (b : Bool) → are_same (bytes k) (bytes z.0) ≡ b → not (are_same (bytes k) (bytes z.0)) ≡ true →
+          by_test : with_value_at bytes (bytes k) value zs ≡ zs → (b : Bool) → are_same (bytes k) (bytes z.0) ≡ b →
+              not (are_same (bytes k) (bytes z.0)) ≡ true →
               with_value_at bytes (bytes k) value (z ∷ zs) ≡ z ∷ zs
           by_test ih true is off = absurd (false≢true (rw is at off))
           by_test ih false is off = rw is (ap (λ ws. z ∷ ws) ih)
 
-      go : with_value_at bytes (bytes k) value (add_in_order (of_key bytes) (k, v) ys) ≡ add_in_order (of_key bytes) (k, value) ys → (first same : Bool) → is_before (bytes k) (bytes y.0) ≡ first →
+      go : with_value_at bytes (bytes k) value (add_in_order (of_key bytes) (k, v) ys) ≡ add_in_order (of_key bytes) (k, value) ys →
+          (first same : Bool) → is_before (bytes k) (bytes y.0) ≡ first →
           are_same (bytes k) (bytes y.0) ≡ same → not (are_same (bytes k) (bytes y.0)) ≡ true →
           with_value_at bytes (bytes k) value (add_in_order (of_key bytes) (k, v) (y ∷ ys)) ≡ add_in_order (of_key bytes) (k, value) (y ∷ ys)
       go ih first true before is off = absurd (false≢true (rw is at off))
@@ -92,7 +97,8 @@ module _ {K V : Type 0} (bytes : K → List ℕ) (key : K) (pairs : List (K × V
   found = first_of (with_key (of_key bytes) (bytes key) pairs)
 
   found_has : (x : K × V) → found ≡ Some x → are_same (bytes key) (bytes x.0) ≡ true
-  found_has x some = first_each (λ y. are_same (bytes key) (bytes y.0) ≡ true) (with_key (of_key bytes) (bytes key) pairs) x some (filter_passes (λ y. are_same (bytes key) (bytes y.0)) pairs)
+  found_has x some = first_each (λ y. are_same (bytes key) (bytes y.0) ≡ true) (with_key (of_key bytes) (bytes key) pairs) x some
+      (filter_passes (λ y. are_same (bytes key) (bytes y.0)) pairs)
 
   -- to put a pair with a new key and then give it another value is to put it with that value
   pub new_written : (first value : V) → with_value_at bytes (bytes key) value (put_new bytes (key, first) pairs) ≡ put (of_key bytes) (key, value) pairs
@@ -100,18 +106,22 @@ module _ {K V : Type 0} (bytes : K → List ℕ) (key : K) (pairs : List (K × V
     where
       go : (o : Option (K × V)) → found ≡ o → with_value_at bytes (bytes key) value (put_new bytes (key, first) pairs) ≡ put (of_key bytes) (key, value) pairs
       go None none =
-          rw (has_is_stored (of_key bytes) (key, first) pairs ∙ ap is_some none) (ap (with_value_at bytes (bytes key) value) (put-new (of_key bytes) (key, first) pairs none)
-          ∙ added_written bytes value key first (remove_key (of_key bytes) (bytes key) pairs) (filter_passes (λ x. not (are_same (bytes key) (bytes x.0))) pairs)
+          rw (has_is_stored (of_key bytes) (key, first) pairs ∙ ap is_some none)
+          (ap (with_value_at bytes (bytes key) value) (put-new (of_key bytes) (key, first) pairs none)
+          ∙ added_written bytes value key first (remove_key (of_key bytes) (bytes key) pairs)
+          (filter_passes (λ x. not (are_same (bytes key) (bytes x.0))) pairs)
           ∙ sym (put-new (of_key bytes) (key, value) pairs none))
       go (Some x) some =
           let same : bytes x.0 ≡ bytes key = same_equal (bytes key) (bytes x.0) (found_has x some) in
           rw (has_is_stored (of_key bytes) (key, first) pairs ∙ ap is_some some) (ap (λ k. with_value_at bytes k value pairs) (sym same)
-          ∙ sym (stored_written bytes value pairs x rising (ap (λ k. first_of (with_key (of_key bytes) k pairs)) same ∙ some)) ∙ sym (put-old (of_key bytes) (key, value) pairs x some))
+          ∙ sym (stored_written bytes value pairs x rising (ap (λ k. first_of (with_key (of_key bytes) k pairs)) same ∙ some))
+          ∙ sym (put-old (of_key bytes) (key, value) pairs x some))
 
   -- its value is the stored one, or else its own
   pub new_value : (value : V) → value_at bytes (bytes key) (put_new bytes (key, value) pairs) ≡ Some (unwrap_or (value_at bytes (bytes key) pairs) value)
   new_value value = go found refl
     where
-      go : (o : Option (K × V)) → found ≡ o → value_at bytes (bytes key) (put_new bytes (key, value) pairs) ≡ Some (unwrap_or (value_at bytes (bytes key) pairs) value)
+      go : (o : Option (K × V)) → found ≡ o → value_at bytes (bytes key) (put_new bytes (key, value) pairs)
+          ≡ Some (unwrap_or (value_at bytes (bytes key) pairs) value)
       go None none = rw (has_is_stored (of_key bytes) (key, value) pairs ∙ ap is_some none, none) (value_here bytes key value pairs)
       go (Some x) some = rw (has_is_stored (of_key bytes) (key, value) pairs ∙ ap is_some some, some) refl

@@ -31,7 +31,8 @@ module _ {N A : Type 0} (at : N → Option (Node N A)) where
     pairs_are (inner n h cs) zero holds enough = absurd (omega arith)
     pairs_are (inner n h cs) (suc steps) holds enough = rw holds.0 (pairs_below_are cs steps holds.1 (omega arith))
 
-    pairs_below_are : (cs : Subtrees N A) (steps : ℕ) → HoldsBelow at cs → height_below cs ≤ steps → all_below (pairs_within at steps) (slots_of cs) ≡ pairs_below cs
+    pairs_below_are : (cs : Subtrees N A) (steps : ℕ) → HoldsBelow at cs → height_below cs ≤ steps →
+        all_below (pairs_within at steps) (slots_of cs) ≡ pairs_below cs
     pairs_below_are no_child steps h enough = refl
     pairs_below_are (child b t cs) steps h enough = ap₂ (λ xs ys. xs ++ ys) (pairs_are t steps h.0 (omega arith)) (pairs_below_are cs steps h.1 (omega arith))
 
@@ -40,7 +41,8 @@ module _ {K V : Type 0} (bytes : K × V → List ℕ) (P : ℕ) (s : Nodes K V) 
     unfolding pairs_at
 
     -- the pairs of a root
-    pub view_is : (root : Option OpaqueNodePtr) (tree : Option (Tree OpaqueNodePtr (K × V))) {pairs : List (K × V)} → IsRootOf bytes P s root pairs tree → pairs_at s root ≡ pairs
+    pub view_is : (root : Option OpaqueNodePtr) (tree : Option (Tree OpaqueNodePtr (K × V))) {pairs : List (K × V)} →
+        IsRootOf bytes P s root pairs tree → pairs_at s root ≡ pairs
     view_is None None is = sym is
     view_is None (Some t) is = absurd is
     view_is (Some root) None is = absurd is
@@ -50,7 +52,8 @@ module _ {K V : Type 0} (bytes : K × V → List ℕ) (P : ℕ) (s : Nodes K V) 
         ∙ (tree_radix by).1
 
   -- the tree of a canonical root
-  pub with_tree : (root : Option OpaqueNodePtr) (pairs : List (K × V)) → IsCanonical bytes P s root pairs → (tree : Option (Tree OpaqueNodePtr (K × V))) × IsRootOf bytes P s root pairs tree
+  pub with_tree : (root : Option OpaqueNodePtr) (pairs : List (K × V)) → IsCanonical bytes P s root pairs →
+      (tree : Option (Tree OpaqueNodePtr (K × V))) × IsRootOf bytes P s root pairs tree
   with_tree None pairs is = (None, is)
   with_tree (Some root) pairs is = (Some is.0, is.1)
 
@@ -65,18 +68,21 @@ module _ {K V : Type 0} (bytes : K × V → List ℕ) (P : ℕ) (s : Nodes K V) 
       go (Some root) (Some t) by = by.is_map
 
   -- so what a contract sees of them is one
-  pub view_sorted : {root : Option OpaqueNodePtr} {len : ℕ} {seen : List (K × V)} → HoldsPairs bytes P s root len (pairs_at s root) → pairs_at s root ≡ seen → IsMap bytes seen
+  pub view_sorted : {root : Option OpaqueNodePtr} {len : ℕ} {seen : List (K × V)} → HoldsPairs bytes P s root len (pairs_at s root) →
+      pairs_at s root ≡ seen → IsMap bytes seen
   view_sorted is view_is = subst (IsMap bytes) view_is (map_held is)
 
   -- a store that holds pairs holds those read off it
-  pub holds : {root : Option OpaqueNodePtr} {len : ℕ} {pairs : List (K × V)} → HoldsPairs bytes P s root len pairs → HoldsPairs bytes P s root len (pairs_at s root)
+  pub holds : {root : Option OpaqueNodePtr} {len : ℕ} {pairs : List (K × V)} → HoldsPairs bytes P s root len pairs →
+      HoldsPairs bytes P s root len (pairs_at s root)
   holds {root} {len} {pairs} is = subst (HoldsPairs bytes P s root len) (sym (view_is root is.tree is.canonical)) is
 
   pub view_of : {root : Option OpaqueNodePtr} {len : ℕ} {pairs : List (K × V)} → HoldsPairs bytes P s root len pairs → pairs_at s root ≡ pairs
   view_of {root} is = view_is root is.tree is.canonical
 
 -- the store has no names but the new tree's, if it had none but the old one's
-pub none_other : {K V : Type 0} {s t : Nodes K V} {old new : List OpaqueNodePtr} → KeepsOthers s t old new → ((name : OpaqueNodePtr) → (IsIn name old → ⊥) → content_at s name ≡ None) →
+pub none_other : {K V : Type 0} {s t : Nodes K V} {old new : List OpaqueNodePtr} → KeepsOthers s t old new →
+    ((name : OpaqueNodePtr) → (IsIn name old → ⊥) → content_at s name ≡ None) →
     (name : OpaqueNodePtr) → (IsIn name new → ⊥) → content_at t name ≡ None
 none_other {K} {V} {s} {t} {old} {new} keeps none name out = go (content_at t name) refl
   where
@@ -89,15 +95,21 @@ none_other {K} {V} {s} {t} {old} {new} keeps none name out = go (content_at t na
 -- an empty store holds nothing
 module _ {K V : Type 0} (s : Nodes K V) (leaves : s.leaves ≡ map.empty) (inners : s.inners ≡ map.empty) where
   free_in : (kind : NodeType) (slot : ℕ) → content_in s kind slot ≡ None
-  free_in Leaf slot = ap (λ m. option_map held_leaf (map.get m (record { slot = slot }))) leaves ∙ ap (option_map held_leaf) (map.get-empty leaf_cmp (record { slot = slot }))
+  free_in Leaf slot =
+      ap (λ m. option_map held_leaf (map.get m (record { slot = slot }))) leaves
+      ∙ ap (option_map held_leaf) (map.get-empty leaf_cmp (record { slot = slot }))
   free_in Node4 slot =
-      ap (λ m. option_map held_inner (map.get m (record { kind = Node4; slot = slot }))) inners ∙ ap (option_map held_inner) (map.get-empty inner_cmp (record { kind = Node4; slot = slot }))
+      ap (λ m. option_map held_inner (map.get m (record { kind = Node4; slot = slot }))) inners
+      ∙ ap (option_map held_inner) (map.get-empty inner_cmp (record { kind = Node4; slot = slot }))
   free_in Node16 slot =
-      ap (λ m. option_map held_inner (map.get m (record { kind = Node16; slot = slot }))) inners ∙ ap (option_map held_inner) (map.get-empty inner_cmp (record { kind = Node16; slot = slot }))
+      ap (λ m. option_map held_inner (map.get m (record { kind = Node16; slot = slot }))) inners
+      ∙ ap (option_map held_inner) (map.get-empty inner_cmp (record { kind = Node16; slot = slot }))
   free_in Node48 slot =
-      ap (λ m. option_map held_inner (map.get m (record { kind = Node48; slot = slot }))) inners ∙ ap (option_map held_inner) (map.get-empty inner_cmp (record { kind = Node48; slot = slot }))
+      ap (λ m. option_map held_inner (map.get m (record { kind = Node48; slot = slot }))) inners
+      ∙ ap (option_map held_inner) (map.get-empty inner_cmp (record { kind = Node48; slot = slot }))
   free_in Node256 slot =
-      ap (λ m. option_map held_inner (map.get m (record { kind = Node256; slot = slot }))) inners ∙ ap (option_map held_inner) (map.get-empty inner_cmp (record { kind = Node256; slot = slot }))
+      ap (λ m. option_map held_inner (map.get m (record { kind = Node256; slot = slot }))) inners
+      ∙ ap (option_map held_inner) (map.get-empty inner_cmp (record { kind = Node256; slot = slot }))
 
   pub none_held : (name : OpaqueNodePtr) → content_at s name ≡ None
   none_held name = free_in name.kind name.slot

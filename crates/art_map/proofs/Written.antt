@@ -40,7 +40,8 @@ use Rattle.art_map.proofs.Views.{none_other, view_is}
 -- a list with one item replaced is as long
 same_length : {A : Type 0} (before after : List A) (x y : A) → length (before ++ (x ∷ []) ++ after) ≡ length (before ++ (y ∷ []) ++ after)
 same_length before after x y =
-    length-append (before ++ x ∷ []) after ∙ ap (λ n. n + length after) (length-append before (x ∷ []) ∙ sym (length-append before (y ∷ []))) ∙ sym (length-append (before ++ y ∷ []) after)
+    length-append (before ++ x ∷ []) after ∙ ap (λ n. n + length after)
+    (length-append before (x ∷ []) ∙ sym (length-append before (y ∷ []))) ∙ sym (length-append (before ++ y ∷ []) after)
 
 -- equal options have equal items
 pub one_value : {A : Type 0} {x y : A} → Some x ≡ Some y → x ≡ y
@@ -64,7 +65,8 @@ module _ {K V : Type 0} (bytes : K → List ℕ) (P : ℕ) {s : Nodes K V} {p : 
         key_is = same_equal key (bytes x.0) (has_the_key bytes key any (pairs_at s root) x only);
       }
 
-module _ {K V : Type 0} (bytes : K → List ℕ) (P : ℕ) {s : Nodes K V} {p : LeafPtr} {root : Option OpaqueNodePtr} (key : List ℕ) (n : NamesLeafOf bytes P s root key p) where
+module _ {K V : Type 0} (bytes : K → List ℕ) (P : ℕ) {s : Nodes K V} {p : LeafPtr} {root : Option OpaqueNodePtr} (key : List ℕ)
+    (n : NamesLeafOf bytes P s root key p) where
   -- the leaf is in the store
   node : LeafNode K V
   node = (leaf_found (of_key bytes) P n.by n.has).0
@@ -101,14 +103,16 @@ module _ {K V : Type 0} (bytes : K → List ℕ) (P : ℕ) {s : Nodes K V} {p : 
   its_pair =
       let found = with_key-hole (of_key bytes) P n.has.path hole.0 (bytes node.key) (leaf (leaf_name p) (pair_of node)) hole.1.path hole.1.front in
       ap (with_key (of_key bytes) key) (sym old.pairs_are)
-      ∙ ap (λ k. with_key (of_key bytes) k (pairs_of (plug n.has.path (leaf (leaf_name p) (pair_of node))))) (sym own) ∙ found ∙ rw (front_same (bytes node.key)) refl
+      ∙ ap (λ k. with_key (of_key bytes) k (pairs_of (plug n.has.path (leaf (leaf_name p) (pair_of node))))) (sym own) ∙ found
+      ∙ rw (front_same (bytes node.key)) refl
 
   pub is_stored : has_key (of_key bytes) key (pairs_at s root) ≡ true
   is_stored = ap (has_key (of_key bytes) key) pairs_are ∙ any_is_first (λ x. are_same key (bytes x.0)) n.pairs ∙ ap (λ xs. is_some (first_of xs)) its_pair
 
   -- the value of the leaf is that of the key
   pub value_read : {before : List (K × V)} → pairs_at s root ≡ before → option_map (λ node. node.value) (get s.leaves p) ≡ value_at bytes key before
-  value_read view = ap (option_map (λ node. node.value)) there ∙ ap (λ xs. option_map (λ x. x.1) (first_of xs)) (sym its_pair) ∙ ap (value_at bytes key) (sym pairs_are ∙ view)
+  value_read view = ap (option_map (λ node. node.value)) there ∙ ap (λ xs. option_map (λ x. x.1) (first_of xs)) (sym its_pair)
+      ∙ ap (value_at bytes key) (sym pairs_are ∙ view)
 
   -- the leaf gets another value, and nothing else changes
   pub value_written : {len : ℕ} → HoldsPairs (of_key bytes) P s root len (pairs_at s root) → (w : V) →
@@ -118,10 +122,12 @@ module _ {K V : Type 0} (bytes : K → List ℕ) (P : ℕ) {s : Nodes K V} {p : 
       let (no_other, counted) = for_tree bytes P n.by at_name in
       let into : IntoLeaf (of_key bytes) P s (with_leaf_value s p w) n.has.path hole.0 p node (node.key, w) =
       record { hole = hole.1; here = there; write = with_value w; written = refl; leaves = refl; inners = refl } in
-      let local : IsLocal (of_key bytes) (bytes node.key) (with_value_at bytes key w) = subst (λ k. IsLocal (of_key bytes) k (with_value_at bytes key w)) (sym own) (written_between bytes key w) in
+      let local : IsLocal (of_key bytes) (bytes node.key) (with_value_at bytes key w) =
+      subst (λ k. IsLocal (of_key bytes) k (with_value_at bytes key w)) (sym own) (written_between bytes key w) in
       let its_own : with_value_at bytes key w (pair_of node ∷ []) ≡ (node.key, w) ∷ [] = rw (ap (are_same key) own, front_same key) refl in
       let tree = plug n.has.path (leaf (leaf_name p) (node.key, w)) in
-      let kept = subst (λ z. ChangesInPlace (of_key bytes) s (with_leaf_value s p w) (Some z) (Some tree)) whole (leaf_kept old into (with_value_at bytes key w) local its_own) in
+      let kept = subst (λ z. ChangesInPlace (of_key bytes) s (with_leaf_value s p w) (Some z) (Some tree)) whole
+      (leaf_kept old into (with_value_at bytes key w) local its_own) in
       rw (pairs_are, n.root_is) (record {
         tree = Some tree;
         canonical = canonical_from (leaf_changed old into (with_value_at bytes key w) local its_own);
@@ -130,18 +136,28 @@ module _ {K V : Type 0} (bytes : K → List ℕ) (P : ℕ) {s : Nodes K V} {p : 
       })
 
   -- the leaf gets another pair with the key, which replaces the old one
-  pub pair_written : {len : ℕ} {t : Nodes K V} (new : K × V) → bytes new.0 ≡ key → HoldsPairs (of_key bytes) P s root len (pairs_at s root) → t.leaves ≡ change s.leaves p (with_pair new.0 new.1) →
+  pub pair_written : {len : ℕ} {t : Nodes K V} (new : K × V) → bytes new.0 ≡ key →
+      HoldsPairs (of_key bytes) P s root len (pairs_at s root) → t.leaves ≡ change s.leaves p (with_pair new.0 new.1) →
       t.inners ≡ s.inners → HoldsPairs (of_key bytes) P t root len (replace_key (of_key bytes) new (pairs_at s root))
   pair_written {len} {t} new same is leaves inners =
       let at_name = subst (λ r. HoldsPairs (of_key bytes) P s r len (pairs_at s root)) n.root_is is in
       let (no_other, counted) = for_tree bytes P n.by at_name in
       let alike : bytes new.0 ≡ bytes node.key = same ∙ sym own in
       let into : IntoLeaf (of_key bytes) P s t n.has.path hole.0 p node new =
-      record { hole = subst (IsHole (of_key bytes) P n.has.path hole.0 (leaf (leaf_name p) (pair_of node))) (sym alike) hole.1; here = there; write = with_pair new.0 new.1; written = refl; leaves = leaves; inners = inners } in
+      record {
+        hole = subst (IsHole (of_key bytes) P n.has.path hole.0 (leaf (leaf_name p) (pair_of node))) (sym alike) hole.1;
+        here = there;
+        write = with_pair new.0 new.1;
+        written = refl;
+        leaves = leaves;
+        inners = inners;
+      } in
       let F = replace_key (of_key bytes) new in
       let its_own : F (pair_of node ∷ []) ≡ new ∷ [] = rw (ap (are_same (bytes new.0)) (sym alike), front_same (bytes new.0)) refl in
       let tree = plug n.has.path (leaf (leaf_name p) new) in
-      let kept = subst (λ z. ChangesInPlace (of_key bytes) s t (Some z) (Some tree)) whole (leaf_kept old into F (replace_key-between (of_key bytes) new) its_own) in
+      let kept =
+      subst (λ z. ChangesInPlace (of_key bytes) s t (Some z) (Some tree)) whole
+      (leaf_kept old into F (replace_key-between (of_key bytes) new) its_own) in
       let laid = leaf_changed old into F (replace_key-between (of_key bytes) new) its_own in
       let many = ap length (sym old.pairs_are ∙ pairs_of-plug n.has.path (leaf (leaf_name p) (pair_of node))) in
       let still = ap length (sym (pairs_of-plug n.has.path (leaf (leaf_name p) new)) ∙ laid.pairs_are) in

@@ -86,15 +86,20 @@ module _ {F K V : Type 0} (g : Mut F (Bor K × (MutBor V × Unit {0})) (Bool × 
     (before : List (K × V)) where
   -- f returned true for all pairs after this one, or for those up to one for which it returned false
   abbrev pub CallsUpTo : Option (K × V) → F → List (K × V) → Type 0
-  CallsUpTo None left after = AreAlikeUpTo bytes last before after × KeepsEach g f (pairs_after (of_key bytes) last before) (pairs_after (of_key bytes) last after) left
-  CallsUpTo (Some x) left after = AreAlikeUpTo bytes last before after × StopsAt g f (pairs_after (of_key bytes) last before) (pairs_after (of_key bytes) last after) x left
+  CallsUpTo None left after =
+      AreAlikeUpTo bytes last before after × KeepsEach g f (pairs_after (of_key bytes) last before)
+      (pairs_after (of_key bytes) last after) left
+  CallsUpTo (Some x) left after =
+      AreAlikeUpTo bytes last before after × StopsAt g f (pairs_after (of_key bytes) last before)
+      (pairs_after (of_key bytes) last after) x left
 
   -- and that one was removed
   abbrev pub TakesRefused : Option (K × V) → F → List (K × V) → Type 0
   TakesRefused None left after = CallsUpTo None left after
   TakesRefused (Some x) left after = (changed : List (K × V)) × CallsUpTo (Some x) left changed × (after ≡ remove_key (of_key bytes) (bytes x.0) changed)
 
-module _ {F K V : Type 0} (g : Mut F (Bor K × (MutBor V × Unit {0})) (Bool × (MutBor V × Unit {0}))) (bytes : K → List ℕ) (P : ℕ) (last : Option (K × V)) (f : F)
+module _ {F K V : Type 0} (g : Mut F (Bor K × (MutBor V × Unit {0})) (Bool × (MutBor V × Unit {0}))) (bytes : K → List ℕ) (P : ℕ)
+    (last : Option (K × V)) (f : F)
     (before : List (K × V)) where
   -- the same of what a store, a root and a length stand for
   abbrev pub HasTakenRefused : Option (K × V) → F → Nodes K V → Option OpaqueNodePtr → ℕ → Type 0

@@ -15,7 +15,8 @@ use Rattle.art_nodes.proofs.StoreLemmas.{get_leaves_of, leaf_under}
 
 -- leaves in slots with clones
 module _ {K V : Type 0} (is_key_clone : K → K → Type 0) (is_value_clone : V → V → Type 0) where
-  copy_there : (slot copy : Option (LeafNode K V)) → IsSlotClone (IsLeafCopy is_key_clone is_value_clone) slot copy → IsCopyThere is_key_clone is_value_clone slot copy
+  copy_there : (slot copy : Option (LeafNode K V)) → IsSlotClone (IsLeafCopy is_key_clone is_value_clone) slot copy →
+      IsCopyThere is_key_clone is_value_clone slot copy
   copy_there None copy is = is
   copy_there (Some leaf) copy is = is
 

@@ -27,11 +27,13 @@ module _ {P : ℕ} (s : InnerSlabs P) (kind : NodeType) where
   -- the nodes of a kind are those in its slab
   of_kind-entries : of_kind kind (inners_of s) ≡ from_entries (kind_entries kind (slab_of kind s).slots)
   of_kind-entries = same_map inner_cmp_total inner_cmp-IsAntisymmetric _ _ (λ q.
-      get-retain_keys (inners_of s) (λ name. kind_index name.kind == kind_index kind) q (λ x tie. ap (λ name. kind_index name.kind == kind_index kind) (sym (inner_cmp-IsAntisymmetric q x tie)))
+      get-retain_keys (inners_of s) (λ name. kind_index name.kind == kind_index kind) q
+      (λ x tie. ap (λ name. kind_index name.kind == kind_index kind) (sym (inner_cmp-IsAntisymmetric q x tie)))
       ∙ in_slab q (eqb (kind_index q.kind) (kind_index kind)) refl
       ∙ sym (get-from_entries inner_cmp_total _ q ∙ find_kind kind (slab_of kind s).slots q))
     where
-      in_slab : (q : InnerPtr) (b : Bool) → eqb (kind_index q.kind) (kind_index kind) ≡ b → cond b (get (inners_of s) q) None ≡ cond b (slab_get (slab_of kind s) q.slot) None
+      in_slab : (q : InnerPtr) (b : Bool) → eqb (kind_index q.kind) (kind_index kind) ≡ b →
+          cond b (get (inners_of s) q) None ≡ cond b (slab_get (slab_of kind s) q.slot) None
       in_slab q true e = there_of s q kind (same_kind _ _ (eqb-true _ _ e))
       in_slab q false e = refl
 

@@ -25,7 +25,8 @@ first_left (c ∷ cs) b x one first n =
     kept ∙ ap (λ (t : Children). c ∷ t) (none_left c (remove_child cs b) (ap length (sym kept) ∙ one)) ∙ ap (λ (y : Entry). y ∷ []) same
 
 -- the last child stays, under another byte
-last_stays : (c : Entry) (cs : Children) (b : ℕ) (x : Entry) → slice_get (c ∷ cs) (length cs) ≡ Some x → x.0 ≢ b → (front : Children) × (remove_child (c ∷ cs) b ≡ front ++ x ∷ [])
+last_stays : (c : Entry) (cs : Children) (b : ℕ) (x : Entry) → slice_get (c ∷ cs) (length cs) ≡ Some x → x.0 ≢ b →
+    (front : Children) × (remove_child (c ∷ cs) b ≡ front ++ x ∷ [])
 last_stays c [] b x last n =
     let same = same_Some c x last in
     ([], first_kept c [] b (λ e. n (ap (λ (y : Entry). y.0) (sym same) ∙ e)) ∙ ap (λ (y : Entry). y ∷ []) same)
@@ -47,7 +48,8 @@ all_gone (c ∷ cs) b low high =
     remove_child-here c cs b (omega (arith, low 0 c (omega arith), high 0 c (omega arith)))
     ∙ all_gone cs b (λ k d within. low (suc k) d (omega arith)) (λ k d within. high (suc k) d (omega arith))
 
-pub last_left : (cs : Children) (b : ℕ) (x : Entry) → length (remove_child cs b) ≡ 1 → slice_get cs (length cs - 1) ≡ Some x → All (λ c. b ≤ c.0) cs → All (λ c. c.0 ≤ x.0) cs →
+pub last_left : (cs : Children) (b : ℕ) (x : Entry) → length (remove_child cs b) ≡ 1 → slice_get cs (length cs - 1) ≡ Some x →
+    All (λ c. b ≤ c.0) cs → All (λ c. c.0 ≤ x.0) cs →
     remove_child cs b ≡ x ∷ []
 last_left [] b x one last low high = absurd cc
 last_left (c ∷ cs) b x one last low high =

@@ -36,12 +36,14 @@ module _ {N X : Type 0} {R : N → N → Ordering} (same : IsAntisymmetric R) (s
   len-slots order at (None ∷ rest) = len-slots order (at + 1) rest ∙ omega (arith, sum_by-cons (λ o. cond (is_some o) 1 0) None rest)
   len-slots order at (Some x ∷ rest) =
       let later : FinMap R X = from_entries {R = R} (entries_at (at + 1) rest) in
-      let fresh : get later (name_at at) ≡ None = get-from_entries order (entries_at (at + 1) rest) (name_at at) ∙ none_before (name_at at) (at + 1) rest (omega (arith, own at)) in
+      let fresh : get later (name_at at) ≡ None =
+      get-from_entries order (entries_at (at + 1) rest) (name_at at) ∙ none_before (name_at at) (at + 1) rest (omega (arith, own at)) in
       len-insert order later (name_at at) x ∙ ap (λ o. cond (is_some o) (len later) (len later + 1)) fresh
       ∙ omega (arith, len-slots order (at + 1) rest, sum_by-cons (λ o. cond (is_some o) 1 0) (Some x) rest)
 
   -- `pick` is what a slot has under a name
-  module _ (pick : N → Option X → Option X) (none : (q : N) → pick q None ≡ None) (some : (q : N) (x : X) → cond (eq_by_cmp R q (name_at (slot_of q))) (Some x) None ≡ pick q (Some x)) where
+  module _ (pick : N → Option X → Option X) (none : (q : N) → pick q None ≡ None)
+      (some : (q : N) (x : X) → cond (eq_by_cmp R q (name_at (slot_of q))) (Some x) None ≡ pick q (Some x)) where
     found_from : (q : N) (at k : ℕ) (slots : List (Option X)) → slot_of q ≡ at + k → find R q (entries_at at slots) ≡ pick q (get_or slots k None)
     found_from q at k [] e = sym (none q)
     found_from q at zero (None ∷ rest) e = none_before q (at + 1) rest (omega arith) ∙ sym (none q)
@@ -54,7 +56,8 @@ module _ {N X : Type 0} {R : N → N → Ordering} (same : IsAntisymmetric R) (s
     find-slots slots q = found_from q 0 (slot_of q) slots (omega arith)
 
 -- two maps that have the same under each name but one
-module _ {N X : Type 0} {R : N → N → Ordering} (order : IsTotalOrder R) (same : IsAntisymmetric R) (m n : FinMap R X) (p : N) (others : (q : N) → q ≢ p → get n q ≡ get m q) where
+module _ {N X : Type 0} {R : N → N → Ordering} (order : IsTotalOrder R) (same : IsAntisymmetric R) (m n : FinMap R X) (p : N)
+    (others : (q : N) → q ≢ p → get n q ≡ get m q) where
   by_name : (t : FinMap R X) → get n p ≡ get t p → ((q : N) → q ≢ p → get t q ≡ get m q) → n ≡ t
   by_name t at_p rest = same_map order same _ _ (λ q. elim (same_or_not same order q p) [
     | inl e ↦ ap (get n) e ∙ at_p ∙ sym (ap (get t) e)

@@ -64,7 +64,8 @@ module _ {K V : Type 0} (leaves : map.FinMap leaf_cmp (LeafNode K V)) where
   previous_in first (head ∷ row) is name (inl e) =
       (first, inl refl, subst (λ n. IsSomeAnd (map.get leaves n) (λ leaf. leaf.previous ≡ Some first)) e (first_known _ is.0))
     where
-      first_known : (o : Option (LeafNode K V)) → IsSomeAnd o (λ leaf. (leaf.previous ≡ Some first) × (leaf.next ≡ first_of row)) → IsSomeAnd o (λ leaf. leaf.previous ≡ Some first)
+      first_known : (o : Option (LeafNode K V)) → IsSomeAnd o (λ leaf. (leaf.previous ≡ Some first) × (leaf.next ≡ first_of row)) →
+          IsSomeAnd o (λ leaf. leaf.previous ≡ Some first)
       first_known None known = known
       first_known (Some leaf) known = known.0
   previous_in first (head ∷ row) is name (inr i) =
@@ -72,7 +73,8 @@ module _ {K V : Type 0} (leaves : map.FinMap leaf_cmp (LeafNode K V)) where
       (later.0, inr later.1, later.2)
 
   -- in a row no name occurs twice: the leaf before it would occur twice too, up to the first
-  row_apart : (before : Option LeafPtr) (row : List LeafPtr) → IsRow leaves before row → ((beside : LeafPtr) → before ≡ Some beside → IsIn beside row → ⊥) → AreApart row
+  row_apart : (before : Option LeafPtr) (row : List LeafPtr) → IsRow leaves before row →
+      ((beside : LeafPtr) → before ≡ Some beside → IsIn beside row → ⊥) → AreApart row
   row_apart before [] is none = tt
   row_apart before (name ∷ row) is none = (again, row_apart (Some name) row is.1 (λ beside e i. again (subst (λ n. IsIn n row) (sym (same_Some _ _ e)) i)))
     where
@@ -102,7 +104,8 @@ pub record AreMoving {K V : Type 0} (start from to : Slab (LeafNode K V)) (table
   pub moved : AreMoved table row rest start to
 
 -- none has moved yet
-pub none_moved : {K V : Type 0} (start to : Slab (LeafNode K V)) (table : List ℕ) (row : List LeafPtr) (next : Option LeafPtr) → IsRow (leaves_of start.slots) None row → first_of row ≡ next →
+pub none_moved : {K V : Type 0} (start to : Slab (LeafNode K V)) (table : List ℕ) (row : List LeafPtr) (next : Option LeafPtr) →
+    IsRow (leaves_of start.slots) None row → first_of row ≡ next →
     to.slots ≡ [] → AreMoving start start to table row next
 none_moved start to table row next is first empty = record {
   rest = row;
@@ -123,7 +126,8 @@ none_moved start to table row next is first empty = record {
     none_is e = cc
 
 -- all have moved
-pub all_moved : {K V : Type 0} (start from to : Slab (LeafNode K V)) (table : List ℕ) (row : List LeafPtr) → AreMoving start from to table row None → AreMoved table row [] start to
+pub all_moved : {K V : Type 0} (start from to : Slab (LeafNode K V)) (table : List ℕ) (row : List LeafPtr) →
+    AreMoving start from to table row None → AreMoved table row [] start to
 all_moved start from to table row moving = subst (λ rest. AreMoved table row rest start to) (no_rest moving.rest moving.first) moving.moved
   where
     no_rest : (rest : List LeafPtr) → first_of rest ≡ None → rest ≡ []
@@ -151,7 +155,8 @@ module _ {K V : Type 0} (start from left to more : Slab (LeafNode K V)) (table :
   slot_differs other i has e = none_some _ (start_there other i) (sym has ∙ ap (get to) e ∙ vacant)
 
   module _ (rest : List LeafPtr) (before : Option LeafPtr) (rest_is : IsRow (leaves_of start.slots) before (name ∷ rest)) (apart : AreApart (name ∷ rest))
-      (within : (other : LeafPtr) → IsIn other (name ∷ rest) → IsIn other row) (there : (other : LeafPtr) → IsIn other (name ∷ rest) → get from other.slot ≡ get start other.slot)
+      (within : (other : LeafPtr) → IsIn other (name ∷ rest) → IsIn other row)
+      (there : (other : LeafPtr) → IsIn other (name ∷ rest) → get from other.slot ≡ get start other.slot)
       (moved : AreMoved table row (name ∷ rest) start to) where
     abbrev Was : LeafPtr → Type 0
     Was = IsBefore row (name ∷ rest)
@@ -180,7 +185,8 @@ module _ {K V : Type 0} (start from left to more : Slab (LeafNode K V)) (table :
     moved_now : AreMoved table_now row rest start more
     moved_now = record {
       leaves = λ other is_before. elim (now_or_was other is_before) [
-        | inl e ↦ subst (λ n. get more (new_name table_now n).slot ≡ get start n.slot) (sym e) (ap (get more) new_here ∙ put.changed ∙ sym node_is ∙ there name (inl refl))
+        | inl e ↦ subst (λ n. get more (new_name table_now n).slot ≡ get start n.slot) (sym e)
+            (ap (get more) new_here ∙ put.changed ∙ sym node_is ∙ there name (inl refl))
         | inr was ↦ moved_leaf other was
       ];
       distinct = λ one two first second same. by_both one two same (now_or_was one first) (now_or_was two second);
@@ -217,18 +223,22 @@ module _ {K V : Type 0} (start from left to more : Slab (LeafNode K V)) (table :
   pub next_moves : AreMoving start from to table row (Some name) → AreMoving start left more table_now row node.next
   next_moves moving = by_rest moving.rest moving.is_row moving.apart moving.first moving.within moving.there moving.moved
     where
-      by_rest : (rest : List LeafPtr) → IsRow (leaves_of start.slots) moving.before rest → AreApart rest → first_of rest ≡ Some name → ((other : LeafPtr) → IsIn other rest → IsIn other row) →
-          ((other : LeafPtr) → IsIn other rest → get from other.slot ≡ get start other.slot) → AreMoved table row rest start to → AreMoving start left more table_now row node.next
+      by_rest : (rest : List LeafPtr) → IsRow (leaves_of start.slots) moving.before rest → AreApart rest → first_of rest ≡ Some name →
+          ((other : LeafPtr) → IsIn other rest → IsIn other row) →
+          ((other : LeafPtr) → IsIn other rest → get from other.slot ≡ get start other.slot) → AreMoved table row rest start to →
+          AreMoving start left more table_now row node.next
       by_rest [] is apart first within there moved = absurd cc
       by_rest (head ∷ rest) is apart first within there moved =
           let same : head ≡ name = same_Some _ _ first in
-          moves_on rest moving.before (subst (λ n. IsRow (leaves_of start.slots) moving.before (n ∷ rest)) same is) (subst (λ n. AreApart (n ∷ rest)) same apart)
+          moves_on rest moving.before (subst (λ n. IsRow (leaves_of start.slots) moving.before (n ∷ rest)) same is)
+          (subst (λ n. AreApart (n ∷ rest)) same apart)
           (subst (λ n. (other : LeafPtr) → IsIn other (n ∷ rest) → IsIn other row) same within)
           (subst (λ n. (other : LeafPtr) → IsIn other (n ∷ rest) → get from other.slot ≡ get start other.slot) same there)
           (subst (λ n. AreMoved table row (n ∷ rest) start to) same moved)
 
 -- the next leaf is in the store
-pub next_there : {K V : Type 0} (start from to : Slab (LeafNode K V)) (table : List ℕ) (row : List LeafPtr) (name : LeafPtr) → AreMoving start from to table row (Some name) →
+pub next_there : {K V : Type 0} (start from to : Slab (LeafNode K V)) (table : List ℕ) (row : List LeafPtr) (name : LeafPtr) →
+    AreMoving start from to table row (Some name) →
     IsSome (get from name.slot) × IsSome (get start name.slot)
 next_there {K} {V} start from to table row name moving = by_rest moving.rest moving.is_row moving.first moving.there
   where
@@ -238,11 +248,13 @@ next_there {K} {V} start from to table row name moving = by_rest moving.rest mov
     by_rest [] is first there = absurd cc
     by_rest (head ∷ rest) is first there =
         let same : head ≡ name = same_Some _ _ first in
-        let started : IsSome (get start head.slot) = subst IsSome (get_leaves_of start.slots head) (row_there (leaves_of start.slots) moving.before (head ∷ rest) is head (inl refl)) in
+        let started : IsSome (get start head.slot) =
+        subst IsSome (get_leaves_of start.slots head) (row_there (leaves_of start.slots) moving.before (head ∷ rest) is head (inl refl)) in
         subst (λ n. IsSome (get from n.slot) × IsSome (get start n.slot)) same (subst IsSome (sym (there head (inl refl))) started, started)
 
 -- where the leaves of a row have moved, and all nodes name them by their new names, they are renamed
-module _ {K V : Type 0} (table : List ℕ) (row : List LeafPtr) (s t : Nodes K V) (start to new : Slab (LeafNode K V)) (was : leaves_of start.slots ≡ s.leaves) (is : leaves_of new.slots ≡ t.leaves)
+module _ {K V : Type 0} (table : List ℕ) (row : List LeafPtr) (s t : Nodes K V) (start to new : Slab (LeafNode K V))
+    (was : leaves_of start.slots ≡ s.leaves) (is : leaves_of new.slots ≡ t.leaves)
     (moved : AreMoved table row [] start to) (links : (slot : ℕ) → get new slot ≡ option_map (leaf_renamed (new_name table)) (get to slot))
     (children : (name : InnerPtr) → map.get t.inners name ≡ option_map (inner_renamed (new_name table)) (map.get s.inners name)) where
   leaf_was : (name : LeafPtr) → map.get s.leaves name ≡ get start name.slot
@@ -251,7 +263,8 @@ module _ {K V : Type 0} (table : List ℕ) (row : List LeafPtr) (s t : Nodes K V
   leaf_is : (name : LeafPtr) → map.get t.leaves name ≡ get new name.slot
   leaf_is name = leaf_under new.slots t.leaves name is
 
-  came_from : (o : Option (LeafNode K V)) (leaf : LeafNode K V) → option_map (leaf_renamed (new_name table)) o ≡ Some leaf → (there : LeafNode K V) × (o ≡ Some there)
+  came_from : (o : Option (LeafNode K V)) (leaf : LeafNode K V) → option_map (leaf_renamed (new_name table)) o ≡ Some leaf →
+      (there : LeafNode K V) × (o ≡ Some there)
   came_from None leaf has = absurd cc
   came_from (Some there) leaf has = (there, refl)
 

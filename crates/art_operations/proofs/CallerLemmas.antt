@@ -41,13 +41,15 @@ pub use Rattle.art_keys.specs.NumberLaws.{number_back, numbers_come_back, signed
 pub use Rattle.art_keyed.proofs.KeyedLaws.{other_keys_kept, others_by_put, others_by_removal, others_by_write, put_counted, removal_counted}
 
 -- keys whose bytes have one length never conflict
-pub same_length_free : {K V : Type 0} (bytes : K → List ℕ) (n : ℕ) (key : K) (pairs : List (K × V)) → length (bytes key) ≡ n → Each (λ x. length (bytes x.0) ≡ n) pairs →
+pub same_length_free : {K V : Type 0} (bytes : K → List ℕ) (n : ℕ) (key : K) (pairs : List (K × V)) → length (bytes key) ≡ n →
+    Each (λ x. length (bytes x.0) ≡ n) pairs →
     is_conflict (of_key bytes) (bytes key) pairs ≡ false
 same_length_free {K} {V} bytes n =
     never_in_conflict V (λ key. length (bytes key) ≡ n) bytes (λ a b of_a of_b front. fixed_no_prefixes n (bytes a) (bytes b) of_a of_b front)
 
 -- `count` of an iterator over pairs is how many are left
-pub pairs_counted : {K V : Type 0} (pairs : List (K × V)) (count : ℕ) → (items : List (Bor K × Bor V)) × Drains TakesFirst pairs items × (count ≡ length items) → count ≡ length pairs
+pub pairs_counted : {K V : Type 0} (pairs : List (K × V)) (count : ℕ) →
+    (items : List (Bor K × Bor V)) × Drains TakesFirst pairs items × (count ≡ length items) → count ≡ length pairs
 pairs_counted pairs count ran = count_from_yields_List pairs count ran (YieldsList-from_first deref_pair (λ pairs. pairs) pairs refl)
 
 -- strings are the same or not
@@ -68,7 +70,8 @@ module _ {K V : Type 0} (bytes : K → List ℕ) (is_key : K → Type 0) (law : 
   pub known_of_found : (key : K) (value : V) → is_key key → (Known : K → Type 0) (pairs : List (K × V)) →
       HaveKeys is_key pairs → HaveKeys Known pairs → value_of bytes key pairs ≡ Some value → Known key
   known_of_found key value of_key' Known [] keys all is = absurd cc
-  known_of_found key value of_key' Known (x ∷ xs) keys all is = go (known_of_found key value of_key' Known xs keys.1 all.1) (are_same (bytes key) (bytes x.0)) refl
+  known_of_found key value of_key' Known (x ∷ xs) keys all is =
+      go (known_of_found key value of_key' Known xs keys.1 all.1) (are_same (bytes key) (bytes x.0)) refl
     where
       go : (value_of bytes key xs ≡ Some value → Known key) → (b : Bool) → are_same (bytes key) (bytes x.0) ≡ b → Known key
       go rest true e = subst Known (law x.0 key keys.0 of_key' (same_equal (bytes key) (bytes x.0) e)) all.0
@@ -79,19 +82,22 @@ module _ {K V : Type 0} (bytes : K → List ℕ) (is_key : K → Type 0) (law : 
       ((x y : K) → Known x → order x y ≡ Less → Known y) → (pairs : List (K × V)) → HaveKeys is_key pairs → RiseBy order pairs →
       IfSome (first_of pairs) (λ first. Known first.0) → value_of bytes key pairs ≡ Some value → Known key
   known_from_first key value of_key' order Known after [] keys rise first is = absurd cc
-  known_from_first key value of_key' order Known after (x ∷ xs) keys rise first is = known_of_found key value of_key' Known (x ∷ xs) keys (first, all xs rise.0) is
+  known_from_first key value of_key' order Known after (x ∷ xs) keys rise first is =
+      known_of_found key value of_key' Known (x ∷ xs) keys (first, all xs rise.0) is
     where
       all : (ys : List (K × V)) → Each (λ y. order x.0 y.0 ≡ Less) ys → HaveKeys Known ys
       all [] less = tt
       all (y ∷ ys) less = (after x.0 y.0 first less.0, all ys less.1)
 
   -- the first pair is found under its key
-  pub first_found : (pairs : List (K × V)) (first : K × V) → HaveKeys is_key pairs → first_of pairs ≡ Some first → is_key first.0 × (value_of bytes first.0 pairs ≡ Some first.1)
+  pub first_found : (pairs : List (K × V)) (first : K × V) → HaveKeys is_key pairs → first_of pairs ≡ Some first →
+      is_key first.0 × (value_of bytes first.0 pairs ≡ Some first.1)
   first_found [] first keys is = absurd cc
   first_found (x ∷ xs) first keys is = let same : x ≡ first = cc in (subst (λ y. is_key y.0) same keys.0, rw (← same) (rw (front_same (bytes x.0)) refl))
 
   -- after a change at one key, what is known of its value and of the old values of the other keys is known of all values
-  pub known_after_change : (Known : K → Option V → Type 0) (key : K) (old new : List (K × V)) → is_key key → KeepsOtherKeys is_key bytes key old new → Known key (value_of bytes key new) →
+  pub known_after_change : (Known : K → Option V → Type 0) (key : K) (old new : List (K × V)) → is_key key →
+      KeepsOtherKeys is_key bytes key old new → Known key (value_of bytes key new) →
       ((other : K) → is_key other → other ≢ key → Known other (value_of bytes other old)) → (other : K) → is_key other → Known other (value_of bytes other new)
   known_after_change Known key old new of_key' keeps here others other of_other = go (same_or_other (bytes other) (bytes key))
     where

@@ -13,12 +13,14 @@ use Rattle.art_oracle.specs.Build.{pairs_at, leaf_pair, leaf_key, ReadyBelow, co
 
 module _ {A : Type 0} where
   length_joined : (b c : ℕ) (x : A) (group : List A) (others : List (ℕ × List A)) (t : Bool) →
-      length {A = ℕ × List A} (cond t ((b, x ∷ group) ∷ others) ((b, x ∷ []) ∷ (c, group) ∷ others)) ≡ cond t 0 1 + length {A = ℕ × List A} ((c, group) ∷ others)
+      length {A = ℕ × List A} (cond t ((b, x ∷ group) ∷ others) ((b, x ∷ []) ∷ (c, group) ∷ others))
+      ≡ cond t 0 1 + length {A = ℕ × List A} ((c, group) ∷ others)
   length_joined b c x group others true = omega arith
   length_joined b c x group others false = omega arith
 
   -- one more group, unless the byte is that of the first
-  pub length_added : (b c : ℕ) (x y : A) (gs : List (ℕ × List A)) → length (add_to_groups b x (add_to_groups c y gs)) ≡ cond (eqb b c) 0 1 + length (add_to_groups c y gs)
+  pub length_added : (b c : ℕ) (x y : A) (gs : List (ℕ × List A)) →
+      length (add_to_groups b x (add_to_groups c y gs)) ≡ cond (eqb b c) 0 1 + length (add_to_groups c y gs)
   length_added b c x y [] = length_joined b c x (y ∷ []) [] (eqb b c)
   length_added b c x y ((d, group) ∷ others) = by_test (eqb c d)
     where
@@ -32,7 +34,9 @@ module _ {A : Type 0} where
   added_le b x ((c, group) ∷ others) = let l = length_joined b c x group others (eqb b c) in by_test (eqb b c) l
     where
       by_test : (t : Bool) → length {A = ℕ × List A} (cond t ((b, x ∷ group) ∷ others) ((b, x ∷ []) ∷ (c, group) ∷ others)) ≡ cond t 0 1 + length
-          {A = ℕ × List A} ((c, group) ∷ others) → length {A = ℕ × List A} (cond t ((b, x ∷ group) ∷ others) ((b, x ∷ []) ∷ (c, group) ∷ others)) ≤ suc (length {A = ℕ × List A} ((c, group) ∷ others))
+          {A = ℕ × List A} ((c, group) ∷ others) →
+          length {A = ℕ × List A} (cond t ((b, x ∷ group) ∷ others) ((b, x ∷ []) ∷ (c, group) ∷ others)) ≤ suc
+          (length {A = ℕ × List A} ((c, group) ∷ others))
       by_test true l = omega arith
       by_test false l = omega arith
 
@@ -81,16 +85,19 @@ module _ {K V : Type 0} (bytes : K → List ℕ) (store : finite.FinMap leaf_cmp
       let rest = All-tail There p (q ∷ qs) h in
       let (m, f) = there_is (finite.get store q) (rest 0 q (omega arith)) in
       let more = count_changes q qs rest in
-      let added = length_added (get_or (bytes l.key) at 0) (get_or (bytes m.key) at 0) (l.key, l.value) (m.key, m.value) (groups (byte_at (of_key bytes) at) (pairs_at store qs)) in
+      let added = length_added (get_or (bytes l.key) at 0) (get_or (bytes m.key) at 0) (l.key, l.value) (m.key, m.value)
+      (groups (byte_at (of_key bytes) at) (pairs_at store qs)) in
       rw (e, f) (added ∙ ap (λ n. cond (eqb (get_or (bytes l.key) at 0) (get_or (bytes m.key) at 0)) 0 1 + n) (rw f at more) ∙ omega arith)
 
-  rises_from : (p : LeafPtr) (ps : List LeafPtr) → All There (p ∷ ps) → IsSortedAt (byte_at (of_key bytes) at) (pairs_at store (p ∷ ps)) → Rises (leaf_byte p) ps
+  rises_from : (p : LeafPtr) (ps : List LeafPtr) → All There (p ∷ ps) → IsSortedAt (byte_at (of_key bytes) at) (pairs_at store (p ∷ ps)) →
+      Rises (leaf_byte p) ps
   rises_from p [] h s = tt
   rises_from p (q ∷ qs) h s =
       let (l, e) = there_is (finite.get store p) (h 0 p (omega arith)) in
       let rest = All-tail There p (q ∷ qs) h in
       let (m, f) = there_is (finite.get store q) (rest 0 q (omega arith)) in
-      let s' : IsSortedAt (byte_at (of_key bytes) at) ((l.key, l.value) ∷ pairs_at store (q ∷ qs)) = subst (λ o. IsSortedAt (byte_at (of_key bytes) at) (leaf_pair o ++ pairs_at store (q ∷ qs))) e s in
+      let s' : IsSortedAt (byte_at (of_key bytes) at) ((l.key, l.value) ∷ pairs_at store (q ∷ qs)) =
+      subst (λ o. IsSortedAt (byte_at (of_key bytes) at) (leaf_pair o ++ pairs_at store (q ∷ qs))) e s in
       let first : get_or (bytes l.key) at 0 ≤ get_or (bytes m.key) at 0 =
       (subst (λ o. Each (λ y. get_or (bytes l.key) at 0 ≤ byte_at (of_key bytes) at y) (leaf_pair o ++ pairs_at store qs)) f s'.0).0 in
       (rw (e, f) first, rises_from q qs rest s'.1)

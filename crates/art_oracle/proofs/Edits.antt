@@ -51,7 +51,9 @@ module _ {A : Type 0} (bytes : A → List ℕ) (key : List ℕ) where
 
   pub some_same : (xs : List A) (i : ℕ) (x : A) → slice_get xs i ≡ Some x → bytes x ≡ key → has_key bytes key xs ≡ true
   some_same [] i x e f = absurd cc
-  some_same (y ∷ xs) zero x e f = let s : bytes y ≡ key = ap (λ z. bytes z) (let t : y ≡ x = cc in t) ∙ f in let t : are_same key (bytes y) ≡ true = rw s (front_same key) in rw t refl
+  some_same (y ∷ xs) zero x e f =
+      let s : bytes y ≡ key = ap (λ z. bytes z) (let t : y ≡ x = cc in t) ∙ f in
+      let t : are_same key (bytes y) ≡ true = rw s (front_same key) in rw t refl
   some_same (y ∷ xs) (suc i) x e f = rw (some_same xs i x e f) (or-true (are_same key (bytes y)))
 
   no_conflict : (xs : List A) → Each (λ y. (are_related key (bytes y) && not (are_same key (bytes y))) ≡ false) xs → is_conflict bytes key xs ≡ false
@@ -59,9 +61,11 @@ module _ {A : Type 0} (bytes : A → List ℕ) (key : List ℕ) where
   no_conflict (x ∷ xs) h = rw h.0 (no_conflict xs h.1)
 
 -- where the neighbours are known to be before and after
-module _ {A : Type 0} (bytes : A → List ℕ) (key : List ℕ) (xs zs : List A) (low : Each (λ y. Precedes (bytes y) key) xs) (high : Each (λ y. Precedes key (bytes y)) zs) where
+module _ {A : Type 0} (bytes : A → List ℕ) (key : List ℕ) (xs zs : List A) (low : Each (λ y. Precedes (bytes y) key) xs)
+    (high : Each (λ y. Precedes key (bytes y)) zs) where
   others_low : Each (λ y. are_same key (bytes y) ≡ false) xs
-  others_low = Each-weaker (λ y. Precedes (bytes y) key) (λ y. are_same key (bytes y) ≡ false) (λ y h. same_related key (bytes y) (related_sym key (bytes y) ∙ h.1)) xs low
+  others_low = Each-weaker (λ y. Precedes (bytes y) key) (λ y. are_same key (bytes y) ≡ false)
+      (λ y h. same_related key (bytes y) (related_sym key (bytes y) ∙ h.1)) xs low
 
   others_high : Each (λ y. are_same key (bytes y) ≡ false) zs
   others_high = Each-weaker (λ y. Precedes key (bytes y)) (λ y. are_same key (bytes y) ≡ false) (λ y h. same_related key (bytes y) h.1) zs high
@@ -95,13 +99,15 @@ module _ {A : Type 0} (bytes : A → List ℕ) (key : List ℕ) (xs zs : List A)
       let h = subst (λ k. Each (λ y. Precedes k (bytes y)) zs) (sym e) high in
       let same : are_same (bytes new) (bytes x) ≡ true = rw (e, f) (front_same key) in
       let one : replace_key bytes new (x ∷ []) ≡ new ∷ [] = rw same refl in
-      ap (replace_key bytes new) (sym (append_assoc xs (x ∷ []) zs)) ∙ replace_key-between bytes new xs (x ∷ []) zs l h ∙ ap (λ m. (xs ++ m) ++ zs) one ∙ append_assoc xs (new ∷ []) zs
+      ap (replace_key bytes new) (sym (append_assoc xs (x ∷ []) zs)) ∙ replace_key-between bytes new xs (x ∷ []) zs l h
+      ∙ ap (λ m. (xs ++ m) ++ zs) one ∙ append_assoc xs (new ∷ []) zs
 
   pub remove_key-one : (x : A) → bytes x ≡ key → remove_key bytes key (xs ++ x ∷ zs) ≡ xs ++ zs
   remove_key-one x f =
       let same : are_same key (bytes x) ≡ true = rw f (front_same key) in
       let one : remove_key bytes key (x ∷ []) ≡ [] = rw same refl in
-      ap (remove_key bytes key) (sym (append_assoc xs (x ∷ []) zs)) ∙ remove_key-between bytes key xs (x ∷ []) zs low high ∙ ap (λ m. (xs ++ m) ++ zs) one ∙ append_assoc xs [] zs
+      ap (remove_key bytes key) (sym (append_assoc xs (x ∷ []) zs)) ∙ remove_key-between bytes key xs (x ∷ []) zs low high
+      ∙ ap (λ m. (xs ++ m) ++ zs) one ∙ append_assoc xs [] zs
 
 module _ {K V : Type 0} (bytes : K → List ℕ) where
   abbrev Before : K × V → K × V → Type 0
@@ -110,7 +116,8 @@ module _ {K V : Type 0} (bytes : K → List ℕ) where
   map_with : (xs zs : List (K × V)) (new : K × V) (key : List ℕ) → bytes new.0 ≡ key → Each (λ y. Precedes (of_key bytes y) key) xs →
       Each (λ y. Precedes key (of_key bytes y)) zs → IsMap (of_key bytes) (xs ++ zs) → IsMap (of_key bytes) (xs ++ new ∷ zs)
   map_with xs zs new key e low high map =
-      Pairwise-with Before xs zs new (subst (λ k. Each (λ y. Precedes (of_key bytes y) k) xs) (sym e) low) (subst (λ k. Each (λ y. Precedes k (of_key bytes y)) zs) (sym e) high) map
+      Pairwise-with Before xs zs new (subst (λ k. Each (λ y. Precedes (of_key bytes y) k) xs) (sym e) low)
+      (subst (λ k. Each (λ y. Precedes k (of_key bytes y)) zs) (sym e) high) map
 
   module _ (pairs : List (K × V)) (at : ℕ) (key : List ℕ) (map : IsMap (of_key bytes) pairs) where
     -- at the place of the pair with the key
@@ -119,13 +126,16 @@ module _ {K V : Type 0} (bytes : K → List ℕ) where
       split_map = subst (IsMap (of_key bytes)) (split_here pairs at is.pair is.here) map
 
       low_here : Each (λ y. Precedes (of_key bytes y) key) (take at pairs)
-      low_here = subst (λ k. Each (λ y. Precedes (of_key bytes y) k) (take at pairs)) is.same (Pairwise-before Before (take at pairs) (drop (suc at) pairs) is.pair split_map)
+      low_here = subst (λ k. Each (λ y. Precedes (of_key bytes y) k) (take at pairs)) is.same
+          (Pairwise-before Before (take at pairs) (drop (suc at) pairs) is.pair split_map)
 
       high_here : Each (λ y. Precedes key (of_key bytes y)) (drop (suc at) pairs)
-      high_here = subst (λ k. Each (λ y. Precedes k (of_key bytes y)) (drop (suc at) pairs)) is.same (Pairwise-after Before (take at pairs) (drop (suc at) pairs) is.pair split_map)
+      high_here = subst (λ k. Each (λ y. Precedes k (of_key bytes y)) (drop (suc at) pairs)) is.same
+          (Pairwise-after Before (take at pairs) (drop (suc at) pairs) is.pair split_map)
 
       pub with_here : with_key (of_key bytes) key pairs ≡ is.pair ∷ []
-      with_here = ap (with_key (of_key bytes) key) (split_here pairs at is.pair is.here) ∙ with_key-one (of_key bytes) key (take at pairs) (drop (suc at) pairs) low_here high_here is.pair is.same
+      with_here = ap (with_key (of_key bytes) key) (split_here pairs at is.pair is.here)
+          ∙ with_key-one (of_key bytes) key (take at pairs) (drop (suc at) pairs) low_here high_here is.pair is.same
 
       is_first : (new : K × V) → of_key bytes new ≡ key → first_of (with_key (of_key bytes) (bytes new.0) pairs) ≡ Some is.pair
       is_first new e = ap (λ k. first_of (with_key (of_key bytes) k pairs)) e ∙ ap first_of with_here
@@ -142,7 +152,8 @@ module _ {K V : Type 0} (bytes : K → List ℕ) where
 
       pub replaced_map : (new : K × V) → of_key bytes new ≡ key → IsMap (of_key bytes) (slice_set pairs at new)
       replaced_map new e = subst (IsMap (of_key bytes)) (sym (set_split pairs at new (slice_get_within pairs at is.pair is.here)))
-          (map_with (take at pairs) (drop (suc at) pairs) new key e low_here high_here (Pairwise-without Before (take at pairs) (drop (suc at) pairs) is.pair split_map))
+          (map_with (take at pairs) (drop (suc at) pairs) new key e low_here high_here
+          (Pairwise-without Before (take at pairs) (drop (suc at) pairs) is.pair split_map))
 
       pub removed : remove pairs at ≡ remove_key (of_key bytes) key pairs
       removed =
@@ -153,13 +164,15 @@ module _ {K V : Type 0} (bytes : K → List ℕ) where
       removed_map = Pairwise-without Before (take at pairs) (drop (suc at) pairs) is.pair split_map
 
       pub alone_here : is_conflict (of_key bytes) key pairs ≡ false
-      alone_here = ap (is_conflict (of_key bytes) key) (split_here pairs at is.pair is.here) ∙ conflict-one (of_key bytes) key (take at pairs) (drop (suc at) pairs) low_here high_here is.pair is.same
+      alone_here = ap (is_conflict (of_key bytes) key) (split_here pairs at is.pair is.here)
+          ∙ conflict-one (of_key bytes) key (take at pairs) (drop (suc at) pairs) low_here high_here is.pair is.same
 
     -- where the key has no pair, related or not
     module _ (gap : IsGapFor bytes pairs at key) where
       others : Each (λ y. are_same key (of_key bytes y) ≡ false) (take at pairs ++ drop at pairs)
       others = Each-append (λ y. are_same key (of_key bytes y) ≡ false) (take at pairs) (drop at pairs)
-          (Each-weaker (λ y. is_before (of_key bytes y) key ≡ true) (λ y. are_same key (of_key bytes y) ≡ false) (λ y h. rw (later_no_front (of_key bytes y) key h) refl) (take at pairs) gap.low)
+          (Each-weaker (λ y. is_before (of_key bytes y) key ≡ true) (λ y. are_same key (of_key bytes y) ≡ false)
+          (λ y h. rw (later_no_front (of_key bytes y) key h) refl) (take at pairs) gap.low)
           (Each-weaker (λ y. is_before key (of_key bytes y) ≡ true) (λ y. are_same key (of_key bytes y) ≡ false)
           (λ y h. let e = later_no_front key (of_key bytes y) h in rw e (and-false (is_front key (of_key bytes y)))) (drop at pairs) gap.high)
 
@@ -181,7 +194,8 @@ module _ {K V : Type 0} (bytes : K → List ℕ) where
       gap_map = subst (IsMap (of_key bytes)) (sym (take-append-drop at pairs)) map
 
       free_parts : (is_conflict (of_key bytes) key (take at pairs) ≡ false) × (is_conflict (of_key bytes) key (drop at pairs) ≡ false)
-      free_parts = or_parts (is_conflict (of_key bytes) key (take at pairs)) (is_conflict (of_key bytes) key (drop at pairs)) (sym (conflict_split bytes key at pairs) ∙ free)
+      free_parts = or_parts (is_conflict (of_key bytes) key (take at pairs)) (is_conflict (of_key bytes) key (drop at pairs))
+          (sym (conflict_split bytes key at pairs) ∙ free)
 
       low_gap : Each (λ y. Precedes (of_key bytes y) key) (take at pairs)
       low_gap = all_low bytes key (take at pairs) gap.low free_parts.0
@@ -191,7 +205,8 @@ module _ {K V : Type 0} (bytes : K → List ℕ) where
 
       pub inserted : (new : K × V) → of_key bytes new ≡ key → insert pairs at new ≡ put (of_key bytes) new pairs
       inserted new e =
-          sym (replace_key-new (of_key bytes) key (take at pairs) (drop at pairs) low_gap high_gap new e) ∙ ap (replace_key (of_key bytes) new) (take-append-drop at pairs)
+          sym (replace_key-new (of_key bytes) key (take at pairs) (drop at pairs) low_gap high_gap new e)
+          ∙ ap (replace_key (of_key bytes) new) (take-append-drop at pairs)
           ∙ sym (put-new (of_key bytes) new pairs (ap (λ k. first_of (with_key (of_key bytes) k pairs)) e ∙ ap first_of (with_none gap)))
 
       pub inserted_map : (new : K × V) → of_key bytes new ≡ key → IsMap (of_key bytes) (insert pairs at new)
@@ -202,6 +217,7 @@ module _ {K V : Type 0} (bytes : K → List ℕ) where
     alone (Err at) h = tt
     alone (Ok at) h = alone_here pairs at key map h
 
-    pub stored : (r : Result ℕ ℕ) → IfOk r (λ at. IsPairOf bytes pairs at key) → IfErr r (λ at. IsGapFor bytes pairs at key) → is_ok r ≡ has_key (of_key bytes) key pairs
+    pub stored : (r : Result ℕ ℕ) → IfOk r (λ at. IsPairOf bytes pairs at key) → IfErr r (λ at. IsGapFor bytes pairs at key) →
+        is_ok r ≡ has_key (of_key bytes) key pairs
     stored (Ok at) h gap = sym (some_same (of_key bytes) key pairs at h.pair h.here h.same)
     stored (Err at) pair gap = sym (has_none pairs at key map gap)

@@ -40,10 +40,12 @@ put_last [] b n h = refl
 put_last (c ∷ cs) b n h = rw (lt-ltb c.0 b h.0) (ap (λ l. c ∷ l) (put_last cs b n h.1))
 
 module _ {K V : Type 0} where
-  pub pairs_at-append : (store : finite.FinMap leaf_cmp (LeafNode K V)) (ps qs : List LeafPtr) → pairs_at store (ps ++ qs) ≡ pairs_at store ps ++ pairs_at store qs
+  pub pairs_at-append : (store : finite.FinMap leaf_cmp (LeafNode K V)) (ps qs : List LeafPtr) →
+      pairs_at store (ps ++ qs) ≡ pairs_at store ps ++ pairs_at store qs
   pairs_at-append store [] qs = refl
   pairs_at-append store (p ∷ ps) qs =
-      ap (λ l. leaf_pair (finite.get store p) ++ l) (pairs_at-append store ps qs) ∙ sym (append_assoc (leaf_pair (finite.get store p)) (pairs_at store ps) (pairs_at store qs))
+      ap (λ l. leaf_pair (finite.get store p) ++ l) (pairs_at-append store ps qs)
+      ∙ sym (append_assoc (leaf_pair (finite.get store p)) (pairs_at store ps) (pairs_at store qs))
 
 module _ {K V : Type 0} (bytes : K → List ℕ) where
   -- the pairs of a group have the group's byte, and those after it have greater ones
@@ -51,7 +53,8 @@ module _ {K V : Type 0} (bytes : K → List ℕ) where
       Each (λ p. get_or (leaf_key bytes (finite.get store p)) at 0 ≡ byte) ps → Each (λ x. byte_at (of_key bytes) at x ≡ byte) (pairs_at store ps)
   group_bytes store at byte [] h = tt
   group_bytes store at byte (p ∷ ps) h =
-      Each-append (λ x. byte_at (of_key bytes) at x ≡ byte) (leaf_pair (finite.get store p)) (pairs_at store ps) (own (finite.get store p) h.0) (group_bytes store at byte ps h.1)
+      Each-append (λ x. byte_at (of_key bytes) at x ≡ byte) (leaf_pair (finite.get store p)) (pairs_at store ps)
+      (own (finite.get store p) h.0) (group_bytes store at byte ps h.1)
     where
       own : (o : Option (LeafNode K V)) → get_or (leaf_key bytes o) at 0 ≡ byte → Each (λ x. byte_at (of_key bytes) at x ≡ byte) (leaf_pair o)
       own None e = tt
@@ -62,7 +65,8 @@ sorted_right byte [] ys h = h
 sorted_right byte (x ∷ xs) ys h = sorted_right byte xs ys h.1
 
 -- after a group whose byte the next doesn't have, all bytes are greater
-above_group : {A : Type 0} (byte : A → ℕ) (b : ℕ) (x : A) (xs : List A) (y : A) (ys : List A) → IsSortedAt byte ((x ∷ xs) ++ (y ∷ ys)) → byte x ≡ b → byte y ≢ b → Each (λ z. b < byte z) (y ∷ ys)
+above_group : {A : Type 0} (byte : A → ℕ) (b : ℕ) (x : A) (xs : List A) (y : A) (ys : List A) → IsSortedAt byte ((x ∷ xs) ++ (y ∷ ys)) →
+    byte x ≡ b → byte y ≢ b → Each (λ z. b < byte z) (y ∷ ys)
 above_group byte b x xs y ys h e n =
     let l : byte x ≤ byte y = (Each-right (λ z. byte x ≤ byte z) xs (y ∷ ys) h.0).0 in
     let less : b < byte y = omega arith in
@@ -111,10 +115,12 @@ module _ {A : Type 0} (byte : A → ℕ) where
 
   pub count_more : (b : ℕ) (x : A) (xs group others : List A) → group ≡ x ∷ xs → Each (λ z. byte z ≡ b) group → Each (λ z. b < byte z) others →
       length (groups byte (group ++ others)) ≡ suc (length (groups byte others))
-  count_more b x xs group others some own above = rw some (ap length (groups-block byte b x xs others (groups byte others) (rw some at own) refl (groups_apart b others above)))
+  count_more b x xs group others some own above =
+      rw some (ap length (groups-block byte b x xs others (groups byte others) (rw some at own) refl (groups_apart b others above)))
 
 -- a group before the leaves, which has one
-pub record Grouped {K V : Type 0} (bytes : K → List ℕ) (store : finite.FinMap leaf_cmp (LeafNode K V)) (front : List ℕ) (leaves : List LeafPtr) (at byte n : ℕ) : Type 0 where
+pub record Grouped {K V : Type 0} (bytes : K → List ℕ) (store : finite.FinMap leaf_cmp (LeafNode K V)) (front : List ℕ)
+    (leaves : List LeafPtr) (at byte n : ℕ) : Type 0 where
   pub ready : ReadyBelow bytes store front leaves at
   pub group : IsGroup bytes store leaves at byte n
   pub x : K × V
@@ -193,7 +199,8 @@ module _ {K V : Type 0} {bytes : K → List ℕ} {store : finite.FinMap leaf_cmp
   pub count_split : count_groups bytes store leaves at ≡ suc (count_groups bytes store (drop n leaves) at)
   count_split = subst (λ m. count_groups bytes store leaves m ≡ suc (count_groups bytes store (drop n leaves) m)) G.ready.depth_is
       (ap (λ l. length (groups (byte_at (of_key bytes) (length front)) l)) pairs_split ∙
-      count_more (byte_at (of_key bytes) (length front)) byte G.x G.xs (pairs_at store (take n leaves)) (pairs_at store (drop n leaves)) G.some own_bytes others_above)
+      count_more (byte_at (of_key bytes) (length front)) byte G.x G.xs (pairs_at store (take n leaves))
+      (pairs_at store (drop n leaves)) G.some own_bytes others_above)
 
   module _ (from : Inner) (below : AreBelow bytes store leaves at from) where
     -- the node's bytes are below the group's
@@ -201,7 +208,8 @@ module _ {K V : Type 0} {bytes : K → List ℕ} {store : finite.FinMap leaf_cmp
     low = Each-weaker (λ c. Each (λ z. c.0 < byte_at (of_key bytes) at z) (pairs_at store leaves)) (λ c. c.0 < byte)
         (λ c h. first c (subst (Each (λ z. c.0 < byte_at (of_key bytes) at z)) pairs_split h)) from.children below
       where
-        first : (c : ℕ × OpaqueNodePtr) → Each (λ z. c.0 < byte_at (of_key bytes) at z) (pairs_at store (take n leaves) ++ pairs_at store (drop n leaves)) → c.0 < byte
+        first : (c : ℕ × OpaqueNodePtr) → Each (λ z. c.0 < byte_at (of_key bytes) at z)
+            (pairs_at store (take n leaves) ++ pairs_at store (drop n leaves)) → c.0 < byte
         first c h =
             let g : c.0 < byte_at (of_key bytes) at G.x = (rw G.some at h).0 in
             let e : byte_at (of_key bytes) (length front) G.x ≡ byte = (rw G.some at own_bytes).0 in
@@ -210,9 +218,12 @@ module _ {K V : Type 0} {bytes : K → List ℕ} {store : finite.FinMap leaf_cmp
 
     -- with the group's child they are below those of the others
     pub below_others : (name : OpaqueNodePtr) → AreBelow bytes store (drop n leaves) at (record from { children = put_child from.children byte name })
-    below_others name = subst (Each (λ c. Each (λ z. c.0 < byte_at (of_key bytes) at z) (pairs_at store (drop n leaves)))) (sym (put_last from.children byte name low))
+    below_others name =
+        subst (Each (λ c. Each (λ z. c.0 < byte_at (of_key bytes) at z) (pairs_at store (drop n leaves))))
+        (sym (put_last from.children byte name low))
         (Each-append (λ c. Each (λ z. c.0 < byte_at (of_key bytes) at z) (pairs_at store (drop n leaves))) from.children ((byte, name) ∷ [])
-        (Each-weaker (λ c. Each (λ z. c.0 < byte_at (of_key bytes) at z) (pairs_at store leaves)) (λ c. Each (λ z. c.0 < byte_at (of_key bytes) at z) (pairs_at store (drop n leaves)))
+        (Each-weaker (λ c. Each (λ z. c.0 < byte_at (of_key bytes) at z) (pairs_at store leaves))
+        (λ c. Each (λ z. c.0 < byte_at (of_key bytes) at z) (pairs_at store (drop n leaves)))
         (λ c h. Each-right (λ z. c.0 < byte_at (of_key bytes) at z) (pairs_at store (take n leaves)) (pairs_at store (drop n leaves))
         (subst (Each (λ z. c.0 < byte_at (of_key bytes) at z)) pairs_split h)) from.children below)
         (subst (λ m. Each (λ z. byte < byte_at (of_key bytes) m z) (pairs_at store (drop n leaves))) G.ready.depth_is others_above, tt))
@@ -236,7 +247,8 @@ module _ {K V : Type 0} {bytes : K → List ℕ} (P : ℕ) (old mid written new 
       let split : pairs_at old.leaves leaves ≡ pairs_at old.leaves group ++ pairs_at old.leaves others = pairs_split G in
       let others_same : pairs_at written.leaves others ≡ pairs_at old.leaves others = ap (λ m. pairs_at m others) (leaves_written ∙ leaves_mid) in
       let slots : to.children ≡ from.children ++ (b, name) ∷ slots_of cs.children =
-      cs.slots ∙ ap (λ l. l ++ slots_of cs.children) (put_last from.children b name (low G from below)) ∙ append_assoc from.children ((b, name) ∷ []) (slots_of cs.children) in
+      cs.slots ∙ ap (λ l. l ++ slots_of cs.children) (put_last from.children b name (low G from below))
+      ∙ append_assoc from.children ((b, name) ∷ []) (slots_of cs.children) in
       record {
         children = child b t.tree cs.children;
         prefix = cs.prefix;
@@ -246,16 +258,27 @@ module _ {K V : Type 0} {bytes : K → List ℕ} (P : ℕ) (old mid written new 
         count = ap suc (cs.count ∙ ap (λ l. length (groups (byte_at (of_key bytes) (length front)) l)) others_same) ∙
             sym (count_more (byte_at (of_key bytes) (length front)) b G.x G.xs (pairs_at old.leaves group) (pairs_at old.leaves others) G.some own
             above) ∙ ap (λ l. length (groups (byte_at (of_key bytes) (length front)) l)) (sym split);
-        above = λ c h. let k = rw split at h in let g = Each-left (λ z. c < byte_at (of_key bytes) (length front) z) (pairs_at old.leaves group) (pairs_at old.leaves others) k in
+        above = λ c h. let k =
+            rw split at h in let g = Each-left (λ z. c < byte_at (of_key bytes) (length front) z) (pairs_at old.leaves group)
+            (pairs_at old.leaves others) k in
             let first : c < byte_at (of_key bytes) (length front) G.x = (rw G.some at g).0 in
-            let mine : byte_at (of_key bytes) (length front) G.x ≡ b = (rw G.some at own).0 in
-            (omega arith, cs.above c (rw others_same (Each-right (λ z. c < byte_at (of_key bytes) (length front) z) (pairs_at old.leaves group) (pairs_at old.leaves others) k)));
+            let mine : byte_at (of_key bytes) (length front) G.x ≡ b = (rw G.some at own).0 in (
+              omega arith,
+              cs.above c (rw others_same
+                  (Each-right (λ z. c < byte_at (of_key bytes) (length front) z) (pairs_at old.leaves group) (pairs_at old.leaves others) k)),
+            );
         its = ap₂ (λ (p q : List (K × V)). p ++ q) t.its (cs.its ∙ others_same) ∙ sym split;
-        leaves_are = ap₂ (λ (p q : List OpaqueNodePtr). p ++ q) t.leaves_are cs.leaves_are ∙ sym (map-append leaf_name group others) ∙ ap (map leaf_name) (take-append-drop n leaves);
-        holds = (held_still old mid written parent (with_child b name) from inner_kind there kept leaves_written change_is new kept' t.tree t.holds (apart t), cs.holds);
+        leaves_are = ap₂ (λ (p q : List OpaqueNodePtr). p ++ q) t.leaves_are cs.leaves_are ∙ sym (map-append leaf_name group others)
+            ∙ ap (map leaf_name) (take-append-drop n leaves);
+        holds = (
+          held_still old mid written parent
+              (with_child b name) from inner_kind there kept leaves_written change_is new kept' t.tree t.holds (apart t),
+          cs.holds,
+        );
         come = record {
           fresh = Each-append (λ n. content_at old n ≡ None) (inner_names t.tree) (inner_names_below cs.children) t.come.fresh
-              (Each-weaker (λ n. content_at written n ≡ None) (λ n. content_at old n ≡ None) (λ n free. was_free old mid kept n (now_free n free)) (inner_names_below cs.children) cs.come.fresh);
+              (Each-weaker (λ n. content_at written n ≡ None) (λ n. content_at old n ≡ None)
+              (λ n free. was_free old mid kept n (now_free n free)) (inner_names_below cs.children) cs.come.fresh);
           added = λ n used. from_rest n (cs.come.added n used);
           distinct = Pairwise-append ◌≢◌ (inner_names t.tree) (inner_names_below cs.children) t.come.distinct cs.come.distinct
               (Each-weaker (λ n. IsUsed mid n) (λ n. Each (λ k. n ≢ k) (inner_names_below cs.children))
@@ -269,7 +292,8 @@ module _ {K V : Type 0} {bytes : K → List ℕ} (P : ℕ) (old mid written new 
 
       apart : (t : Built bytes P (front ++ b ∷ []) (take n leaves) old mid name) → Each (λ k. k ≢ inner_name parent) (names_of t.tree)
       apart t = names_each (λ k. k ≢ inner_name parent) t.tree
-          (subst (Each (λ k. k ≢ inner_name parent)) (sym t.leaves_are) (each_map leaf_name (λ k. k ≢ inner_name parent) (take n leaves) (no_leaf (take n leaves))))
+          (subst (Each (λ k. k ≢ inner_name parent)) (sym t.leaves_are)
+          (each_map leaf_name (λ k. k ≢ inner_name parent) (take n leaves) (no_leaf (take n leaves))))
           (Each-weaker (λ k. content_at old k ≡ None) (λ k. k ≢ inner_name parent)
           (λ k free e. inner_is_used old parent from inner_kind there (ap (content_at old) (sym e) ∙ free)) (inner_names t.tree) t.come.fresh)
         where
@@ -277,12 +301,16 @@ module _ {K V : Type 0} {bytes : K → List ℕ} (P : ℕ) (old mid written new 
           no_leaf [] = tt
           no_leaf (p ∷ ps) = ((λ e. inner_kind (sym (ap (λ k. k.kind) e))), no_leaf ps)
 
-      from_group : (n : OpaqueNodePtr) → IsUsed old n ⊎ IsIn n (inner_names t.tree) → IsUsed old n ⊎ IsIn n (inner_names t.tree ++ inner_names_below cs.children)
+      from_group : (n : OpaqueNodePtr) → IsUsed old n ⊎ IsIn n (inner_names t.tree) →
+          IsUsed old n ⊎ IsIn n (inner_names t.tree ++ inner_names_below cs.children)
       from_group n (inl used) = inl used
       from_group n (inr h) = inr (in_left n (inner_names t.tree) (inner_names_below cs.children) h)
 
-      from_rest : (n : OpaqueNodePtr) → IsUsed written n ⊎ IsIn n (inner_names_below cs.children) → IsUsed old n ⊎ IsIn n (inner_names t.tree ++ inner_names_below cs.children)
-      from_rest n (inl used) = from_group n (t.come.added n (used_written old mid written parent (with_child b name) from inner_kind there kept leaves_written change_is n used))
+      from_rest : (n : OpaqueNodePtr) → IsUsed written n ⊎ IsIn n (inner_names_below cs.children) →
+          IsUsed old n ⊎ IsIn n (inner_names t.tree ++ inner_names_below cs.children)
+      from_rest n (inl used) =
+          from_group n (t.come.added n (used_written old mid written parent
+          (with_child b name) from inner_kind there kept leaves_written change_is n used))
       from_rest n (inr h) = inr (in_right n (inner_names t.tree) (inner_names_below cs.children) h)
 
 -- no leaves make no children

@@ -37,10 +37,13 @@ module _ {K V : Type 0} where
 
   -- where one inner node alone is written, all other names hold what they held
   pub others_held : (old new : Nodes K V) (p : InnerPtr) → new.leaves ≡ old.leaves →
-      ((q : InnerPtr) → q ≢ p → finite.get new.inners q ≡ finite.get old.inners q) → (name : OpaqueNodePtr) → name ≢ inner_name p → content_at new name ≡ content_at old name
+      ((q : InnerPtr) → q ≢ p → finite.get new.inners q ≡ finite.get old.inners q) → (name : OpaqueNodePtr) → name ≢ inner_name p →
+      content_at new name ≡ content_at old name
   others_held old new p leaves inners name off = elim (leaf_or name) [
     | inl (q, e) ↦ subst (λ z. content_at new z ≡ content_at old z) (sym e) (ap (λ m. option_map held_leaf (finite.get m q)) leaves)
-    | inr kind ↦ held_in_inner new name.kind name.slot kind ∙ ap (option_map held_inner) (inners (as_inner name) (λ e. off (ap inner_name e))) ∙ sym (held_in_inner old name.kind name.slot kind)
+    | inr kind ↦ held_in_inner new name.kind name.slot kind
+        ∙ ap (option_map held_inner) (inners (as_inner name) (λ e. off (ap inner_name e)))
+        ∙ sym (held_in_inner old name.kind name.slot kind)
   ]
 
 -- names are the same or differ

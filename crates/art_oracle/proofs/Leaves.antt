@@ -95,12 +95,14 @@ module _ {K V : Type 0} where
           (pairs_at-same mid new names (Each-weaker (λ p. p ≢ q) (λ p. option_map pair_of (finite.get new p) ≡ option_map pair_of (finite.get mid p))
           (λ p n. ap (option_map pair_of) (leaf_elsewhere mid q p leaf n)) names apart) ∙ so_far.its)
           (ap (λ o. leaf_pair o ++ []) (leaf_here mid q leaf));
-      distinct = Pairwise-append ◌≢◌ names (q ∷ []) so_far.distinct (tt, tt) (Each-weaker (λ p. p ≢ q) (λ p. Each (λ r. p ≢ r) (q ∷ [])) (λ p n. (n, tt)) names apart);
+      distinct = Pairwise-append ◌≢◌ names (q ∷ []) so_far.distinct (tt, tt)
+          (Each-weaker (λ p. p ≢ q) (λ p. Each (λ r. p ≢ r) (q ∷ [])) (λ p n. (n, tt)) names apart);
       fresh = Each-append (λ p. finite.get old p ≡ None) names (q ∷ []) so_far.fresh (was_free (so_far.others q), tt);
       others = λ p. by_name p (same_leaf p q);
     }
       where
-        from_old : (p : LeafPtr) → p ≢ q → IsIn p names ⊎ (finite.get mid p ≡ finite.get old p) → IsIn p (names ++ q ∷ []) ⊎ (finite.get new p ≡ finite.get old p)
+        from_old : (p : LeafPtr) → p ≢ q → IsIn p names ⊎ (finite.get mid p ≡ finite.get old p) →
+            IsIn p (names ++ q ∷ []) ⊎ (finite.get new p ≡ finite.get old p)
         from_old p n (inl i) = inl (in_left p names (q ∷ []) i)
         from_old p n (inr e) = inr (leaf_elsewhere mid q p leaf n ∙ e)
 
@@ -121,7 +123,9 @@ module _ {K V : Type 0} where
 
   linked_there : (m : finite.FinMap leaf_cmp (LeafNode K V)) (p : LeafPtr) (previous next : Option LeafPtr) → IsSome (finite.get m p) →
       links_in (change m p (with_links previous next)) p ≡ Some (record { previous = option_map leaf_name previous; next = option_map leaf_name next })
-  linked_there m p previous next there = ap (λ o. option_and_then links_of (option_map held_leaf o)) (leaf_changed_at m p (with_links previous next)) ∙ go (finite.get m p) there
+  linked_there m p previous next there =
+      ap (λ o. option_and_then links_of (option_map held_leaf o)) (leaf_changed_at m p (with_links previous next))
+      ∙ go (finite.get m p) there
     where
       go : (o : Option (LeafNode K V)) → IsSome o → option_and_then links_of (option_map held_leaf (option_map (with_links previous next) o)) ≡ Some
           (record { previous = option_map leaf_name previous; next = option_map leaf_name next })
@@ -133,12 +137,14 @@ module _ {K V : Type 0} where
   pair_there (Some x) None e h = absurd cc
   pair_there (Some x) (Some y) e h = refl
 
-  relinked_pair : (o : Option (LeafNode K V)) (previous next : Option LeafPtr) → option_map pair_of (option_map (with_links previous next) o) ≡ option_map pair_of o
+  relinked_pair : (o : Option (LeafNode K V)) (previous next : Option LeafPtr) →
+      option_map pair_of (option_map (with_links previous next) o) ≡ option_map pair_of o
   relinked_pair None previous next = refl
   relinked_pair (Some leaf) previous next = refl
 
   -- the next leaf linked
-  module _ (old mid new : Nodes K V) (names : List LeafPtr) (i : ℕ) (previous next : Option LeafPtr) (d : LeafPtr) (within : i < length names) (so_far : IsLinkedTo old mid names i previous)
+  module _ (old mid new : Nodes K V) (names : List LeafPtr) (i : ℕ) (previous next : Option LeafPtr) (d : LeafPtr)
+      (within : i < length names) (so_far : IsLinkedTo old mid names i previous)
       (there : Each (λ p. IsSome (finite.get old.leaves p)) names) (distinct : AreDistinct names) (next_is : next ≡ slice_get names (i + 1))
       (written : new.leaves ≡ change mid.leaves (get_or names i d) (with_links previous next)) where
     abbrev q : LeafPtr
@@ -157,7 +163,8 @@ module _ {K V : Type 0} where
     q_in = subst (IsIn q) (sym split) (in_right q (take i names) (q ∷ drop (suc i) names) (inl refl))
 
     q_there : IsSome (finite.get mid.leaves q)
-    q_there = pair_there (finite.get old.leaves q) (finite.get mid.leaves q) (so_far.keeps.its q) (each_in (λ p. IsSome (finite.get old.leaves p)) q names there q_in)
+    q_there = pair_there (finite.get old.leaves q) (finite.get mid.leaves q) (so_far.keeps.its q)
+        (each_in (λ p. IsSome (finite.get old.leaves p)) q names there q_in)
 
     elsewhere : (p : LeafPtr) → p ≢ q → finite.get new.leaves p ≡ finite.get mid.leaves p
     elsewhere p n = ap (λ m. finite.get m p) written ∙ leaf_changed_elsewhere mid.leaves q p (with_links previous next) n
@@ -169,7 +176,8 @@ module _ {K V : Type 0} where
         (λ p n. ap (λ o. option_and_then links_of (option_map held_leaf o)) (elsewhere p n)) (take i names) front_apart))
         (subst (λ l. AreLinked (links_at mid) None (map leaf_name (take i names)) (first_or (map leaf_name l) None)) (drop-cons names i d within) so_far.linked)
 
-    q_linked : links_at new (leaf_name q) ≡ Some (record { previous = last_or (map leaf_name (take i names)) None; next = first_or (map leaf_name (drop (suc i) names)) None })
+    q_linked : links_at new (leaf_name q) ≡ Some
+        (record { previous = last_or (map leaf_name (take i names)) None; next = first_or (map leaf_name (drop (suc i) names)) None })
     q_linked = ap (λ m. links_in m q) written ∙ linked_there mid.leaves q previous next q_there
         ∙ ap₂ (λ (a b : Option OpaqueNodePtr). Some (record { previous = a; next = b })) so_far.previous_is
         (ap (option_map leaf_name) next_is ∙ ap (λ m. option_map leaf_name (slice_get names m)) (add-one i) ∙ next_name names (suc i))
@@ -178,7 +186,8 @@ module _ {K V : Type 0} where
     linked_more = subst (λ m. IsLinkedTo old new names m (Some q)) (sym (add-one i)) (record {
       previous_is = sym (last_or-push (map leaf_name (take i names)) (leaf_name q) None) ∙ ap (λ l. last_or l None) (sym named);
       linked = subst (λ l. AreLinked (links_at new) None l (first_or (map leaf_name (drop (suc i) names)) None)) (sym named)
-          (linked-append (links_at new) (map leaf_name (take i names)) (leaf_name q ∷ []) None (first_or (map leaf_name (drop (suc i) names)) None) front_linked (q_linked, tt));
+          (linked-append (links_at new) (map leaf_name (take i names)) (leaf_name q ∷ []) None
+          (first_or (map leaf_name (drop (suc i) names)) None) front_linked (q_linked, tt));
       keeps = record { its = λ p. pairs p (same_leaf p q); others = λ p. by_name p (same_leaf p q) };
     })
       where
@@ -192,7 +201,8 @@ module _ {K V : Type 0} where
             relinked_pair (finite.get mid.leaves q) previous next ∙ so_far.keeps.its q ∙ ap (λ r. option_map pair_of (finite.get old.leaves r)) (sym e)
         pairs p (inr n) = ap (option_map pair_of) (elsewhere p n) ∙ so_far.keeps.its p
 
-        from_mid : (p : LeafPtr) → p ≢ q → IsIn p names ⊎ (finite.get mid.leaves p ≡ finite.get old.leaves p) → IsIn p names ⊎ (finite.get new.leaves p ≡ finite.get old.leaves p)
+        from_mid : (p : LeafPtr) → p ≢ q → IsIn p names ⊎ (finite.get mid.leaves p ≡ finite.get old.leaves p) →
+            IsIn p names ⊎ (finite.get new.leaves p ≡ finite.get old.leaves p)
         from_mid p n (inl i) = inl i
         from_mid p n (inr e) = inr (elsewhere p n ∙ e)
 
@@ -204,7 +214,8 @@ module _ {K V : Type 0} where
 module _ {K V : Type 0} (old mid new : finite.FinMap leaf_cmp (LeafNode K V)) (names : List LeafPtr) (pairs : List (K × V)) where
   pub placed_kept : IsPlaced old mid names pairs → KeepsPairs mid new names → IsPlaced old new names pairs
   placed_kept placed keeps = record {
-    there = Each-weaker (λ p. IsSome (finite.get mid p)) (λ p. IsSome (finite.get new p)) (λ p h. pair_there (finite.get mid p) (finite.get new p) (keeps.its p) h) names placed.there;
+    there = Each-weaker (λ p. IsSome (finite.get mid p)) (λ p. IsSome (finite.get new p))
+        (λ p h. pair_there (finite.get mid p) (finite.get new p) (keeps.its p) h) names placed.there;
     its = pairs_at-same mid new names (every names) ∙ placed.its;
     distinct = placed.distinct;
     fresh = placed.fresh;
@@ -215,7 +226,8 @@ module _ {K V : Type 0} (old mid new : finite.FinMap leaf_cmp (LeafNode K V)) (n
       every [] = tt
       every (p ∷ ps) = (keeps.its p, every ps)
 
-      by_mid : (p : LeafPtr) → finite.get new p ≡ finite.get mid p → IsIn p names ⊎ (finite.get mid p ≡ finite.get old p) → IsIn p names ⊎ (finite.get new p ≡ finite.get old p)
+      by_mid : (p : LeafPtr) → finite.get new p ≡ finite.get mid p → IsIn p names ⊎ (finite.get mid p ≡ finite.get old p) →
+          IsIn p names ⊎ (finite.get new p ≡ finite.get old p)
       by_mid p e (inl i) = inl i
       by_mid p e (inr f) = inr (e ∙ f)
 

@@ -26,7 +26,8 @@ between (x ∷ a) b [] h k f = absurd (false≢true f)
 between (x ∷ a) [] (z ∷ c) h k f = absurd (true≢false h)
 between (x ∷ a) (y ∷ b) (z ∷ c) h k f = go (between a b c) (cases_order x y) (cases_order x z)
   where
-    go : (is_before b a ≡ false → is_before c b ≡ false → is_front a c ≡ true → is_front a b ≡ true) → (x ≡ y) ⊎ ((x < y) ⊎ (y < x)) → (x ≡ z) ⊎ ((x < z) ⊎ (z < x)) → is_front (x ∷ a) (y ∷ b) ≡ true
+    go : (is_before b a ≡ false → is_before c b ≡ false → is_front a c ≡ true → is_front a b ≡ true) → (x ≡ y) ⊎ ((x < y) ⊎ (y < x)) →
+        (x ≡ z) ⊎ ((x < z) ⊎ (z < x)) → is_front (x ∷ a) (y ∷ b) ≡ true
     go ih (inl e) (inl g) =
         let h' = rw (le-ltb y x (omega arith), eq-eqb y x (sym e)) at h in
         let k' = rw (le-ltb z y (omega arith), eq-eqb z y (sym g ∙ e)) at k in

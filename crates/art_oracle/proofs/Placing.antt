@@ -59,14 +59,19 @@ module _ {A : Type 0} (bytes : A → List ℕ) where
   none_after x (y ∷ ys) h = (precedes_apart (bytes x) (bytes (last_from y ys)) (last_each (λ z. Precedes (bytes x) (bytes z)) y ys h.0), none_after y ys h.1)
 
   none_before : (x : A) (xs : List A) → IsMap bytes (x ∷ xs) → Each (λ z. is_before (bytes z) (bytes x) ≡ false) (x ∷ xs)
-  none_before x xs h = (self (bytes x), Each-weaker (λ z. Precedes (bytes x) (bytes z)) (λ z. is_before (bytes z) (bytes x) ≡ false) (λ z p. precedes_apart (bytes x) (bytes z) p) xs h.0)
+  none_before x xs h = (
+    self (bytes x),
+    Each-weaker (λ z. Precedes (bytes x) (bytes z)) (λ z. is_before (bytes z) (bytes x) ≡ false)
+        (λ z p. precedes_apart (bytes x) (bytes z) p) xs h.0,
+  )
 
   -- all keys start with what the first and the last have in common
   pub share : (way rf rl : List ℕ) (x : A) (xs : List A) → IsMap bytes (x ∷ xs) → Each (λ z. IsFront way (bytes z)) (x ∷ xs) → bytes x ≡ way ++ rf →
       bytes (last_from x xs) ≡ way ++ rl → Each (λ z. IsFront (way ++ common_front rf rl) (bytes z)) (x ∷ xs)
   share way rf rl x xs map ways e f = go (x ∷ xs) ways (none_before x xs map) (none_after x xs map)
     where
-      one : (z : A) → IsFront way (bytes z) → is_before (bytes z) (bytes x) ≡ false → is_before (bytes (last_from x xs)) (bytes z) ≡ false → IsFront (way ++ common_front rf rl) (bytes z)
+      one : (z : A) → IsFront way (bytes z) → is_before (bytes z) (bytes x) ≡ false → is_before (bytes (last_from x xs)) (bytes z) ≡ false →
+          IsFront (way ++ common_front rf rl) (bytes z)
       one z (rz, w) b a =
           let b' : is_before rz rf ≡ false = sym (before-append way rz rf) ∙ rw (w, e) at b in
           let a' : is_before rl rz ≡ false = sym (before-append way rl rz) ∙ rw (f, w) at a in
@@ -79,8 +84,10 @@ module _ {A : Type 0} (bytes : A → List ℕ) where
       go (z ∷ zs) w b a = (one z w.0 b.0 a.0, go zs w.1 b.1 a.1)
 
   -- the first and the last part after it
-  pub part_ways : (way rf rl : List ℕ) (x y : A) (ys : List A) → IsMap bytes (x ∷ y ∷ ys) → bytes x ≡ way ++ rf → bytes (last_from y ys) ≡ way ++ rl → ArePart rf rl
-  part_ways way rf rl x y ys map e f = unrelated_part rf rl (precedes_rest way rf rl (rw (e, f) at (last_each (λ z. Precedes (bytes x) (bytes z)) y ys map.0))).1
+  pub part_ways : (way rf rl : List ℕ) (x y : A) (ys : List A) → IsMap bytes (x ∷ y ∷ ys) → bytes x ≡ way ++ rf →
+      bytes (last_from y ys) ≡ way ++ rl → ArePart rf rl
+  part_ways way rf rl x y ys map e f =
+      unrelated_part rf rl (precedes_rest way rf rl (rw (e, f) at (last_each (λ z. Precedes (bytes x) (bytes z)) y ys map.0))).1
 
 -- elements whose first and last have different bytes make two groups
 module _ {A : Type 0} (byte : A → ℕ) where
@@ -141,10 +148,12 @@ module _ {K V : Type 0} (bytes : K → List ℕ) (store : finite.FinMap leaf_cmp
   leaves_go_on front [] h e = All-nil _
   leaves_go_on front (q ∷ qs) h e =
       let (x, one, key) = pair_there (finite.get store q) (h 0 q (omega arith)) in
-      let e' : Each (λ z. GoesOn front (bytes z.0)) (x ∷ pairs_at store qs) = subst (λ l. Each (λ z. GoesOn front (bytes z.0)) (l ++ pairs_at store qs)) one e in
+      let e' : Each (λ z. GoesOn front (bytes z.0)) (x ∷ pairs_at store qs) =
+      subst (λ l. Each (λ z. GoesOn front (bytes z.0)) (l ++ pairs_at store qs)) one e in
       let (b, rest, whole) = e'.0 in
       let l : length (leaf_key bytes (finite.get store q)) ≡ length (front ++ b ∷ rest) = ap length (key ∙ whole) in
-      All-cons (λ p. length front < length (leaf_key bytes (finite.get store p))) q qs (omega (arith, simp length-append at l)) (leaves_go_on front qs (All-tail There q qs h) e'.1)
+      All-cons (λ p. length front < length (leaf_key bytes (finite.get store p))) q qs (omega (arith, simp length-append at l))
+      (leaves_go_on front qs (All-tail There q qs h) e'.1)
 
 -- the inner node that is placed
 pub kind_not_leaf : (n : ℕ) → kind_of n ≢ Leaf
@@ -161,7 +170,8 @@ module _ {K V : Type 0} where
   placed_free s p n free = held_in_inner s p.kind p.slot n ∙ ap (option_map held_inner) free
 
   -- a node placed under a free name
-  module _ (old new : Nodes K V) (p : InnerPtr) (node : Inner) (same : new.leaves ≡ old.leaves) (placed : new.inners ≡ finite.insert old.inners p node) (free : finite.get old.inners p ≡ None) where
+  module _ (old new : Nodes K V) (p : InnerPtr) (node : Inner) (same : new.leaves ≡ old.leaves)
+      (placed : new.inners ≡ finite.insert old.inners p node) (free : finite.get old.inners p ≡ None) where
     placed_elsewhere : (q : InnerPtr) → q ≢ p → finite.get new.inners q ≡ finite.get old.inners q
     placed_elsewhere q n = ap (λ m. finite.get m q) placed ∙ inner_elsewhere old.inners p q node n
 
@@ -182,7 +192,8 @@ module _ {K V : Type 0} (bytes : K → List ℕ) (P : ℕ) where
           Each (λ x. IsFront way (of_key bytes x)) (leaf_pair (finite.get old.leaves q) ++ []) → Built bytes P way (q ∷ []) old old name
       go None i s w = absurd cc
       go (Some l) i s w =
-          let w' : Each (λ x. IsFront way (of_key bytes x)) ((l.key, l.value) ∷ []) = subst (λ o. Each (λ x. IsFront way (of_key bytes x)) (leaf_pair o ++ [])) i w in
+          let w' : Each (λ x. IsFront way (of_key bytes x)) ((l.key, l.value) ∷ []) =
+          subst (λ o. Each (λ x. IsFront way (of_key bytes x)) (leaf_pair o ++ [])) i w in
           record {
             tree = leaf (leaf_name q) (l.key, l.value);
             named = sym e;
@@ -196,7 +207,8 @@ module _ {K V : Type 0} (bytes : K → List ℕ) (P : ℕ) where
   -- the node that was placed first, with the children that were added to it
   module _ (old mid new : Nodes K V) (way part : List ℕ) (leaves : List LeafPtr) (p : InnerPtr) (same : mid.leaves ≡ old.leaves)
       (placed : mid.inners ≡ finite.insert old.inners p (started P part)) (free : finite.get old.inners p ≡ None)
-      (kind : p.kind ≡ kind_of (count_groups bytes old.leaves leaves (length (way ++ part)))) (two : 2 ≤ count_groups bytes old.leaves leaves (length (way ++ part)))
+      (kind : p.kind ≡ kind_of (count_groups bytes old.leaves leaves (length (way ++ part))))
+      (two : 2 ≤ count_groups bytes old.leaves leaves (length (way ++ part)))
       (kept : KeepsAllBut mid new p) (under : BuiltUnder bytes P (way ++ part) leaves mid new p (started P part)) where
     abbrev count : ℕ
     count = length (bytes_of under.below.children)
@@ -222,7 +234,8 @@ module _ {K V : Type 0} (bytes : K → List ℕ) (P : ℕ) where
         kept name (λ e. used (ap (content_at old) e ∙ placed_free old p inner_kind free)) (λ none. used (sym mid_is ∙ none)) ∙ mid_is
 
     here : node_at new (inner_name p) ≡ Some (inner_node (canonical_header P part count) (slots_of under.below.children))
-    here = ap (option_map (tree_node p.kind)) (held_in_inner new p.kind p.slot inner_kind) ∙ ap (λ o. option_map (tree_node p.kind) (option_map held_inner o)) under.there
+    here = ap (option_map (tree_node p.kind)) (held_in_inner new p.kind p.slot inner_kind)
+        ∙ ap (λ o. option_map (tree_node p.kind) (option_map held_inner o)) under.there
         ∙ ap₂ (λ (k : NodeType) (i : Inner). Some (inner_seen k i)) is
         (ap₂ (λ f (l : List (ℕ × OpaqueNodePtr)). let i : Inner = record { prefix = f; children = l } in i) under.below.prefix under.below.slots)
 
@@ -237,7 +250,8 @@ module _ {K V : Type 0} (bytes : K → List ℕ) (P : ℕ) where
       come = record {
         fresh = (
           placed_free old p inner_kind free,
-          Each-weaker (λ n. content_at mid n ≡ None) (λ n. content_at old n ≡ None) (was_free old mid mid_kept) (inner_names_below under.below.children) under.below.come.fresh,
+          Each-weaker (λ n. content_at mid n ≡ None) (λ n. content_at old n ≡ None) (was_free old mid mid_kept)
+              (inner_names_below under.below.children) under.below.come.fresh,
         );
         added = λ n used. from_below n (under.below.come.added n used);
         distinct = (
@@ -248,26 +262,32 @@ module _ {K V : Type 0} (bytes : K → List ℕ) (P : ℕ) where
       };
     }
       where
-        from_mid : (n : OpaqueNodePtr) → IsUsed mid n → (n ≡ inner_name p) ⊎ (n ≢ inner_name p) → IsUsed old n ⊎ IsIn n (inner_name p ∷ inner_names_below under.below.children)
+        from_mid : (n : OpaqueNodePtr) → IsUsed mid n → (n ≡ inner_name p) ⊎ (n ≢ inner_name p) →
+            IsUsed old n ⊎ IsIn n (inner_name p ∷ inner_names_below under.below.children)
         from_mid n used (inl e) = inr (inl (sym e))
         from_mid n used (inr e) = inl (λ none. used (placed_others old mid p (started P part) same placed free n e ∙ none))
 
-        from_below : (n : OpaqueNodePtr) → IsUsed mid n ⊎ IsIn n (inner_names_below under.below.children) → IsUsed old n ⊎ IsIn n (inner_name p ∷ inner_names_below under.below.children)
+        from_below : (n : OpaqueNodePtr) → IsUsed mid n ⊎ IsIn n (inner_names_below under.below.children) →
+            IsUsed old n ⊎ IsIn n (inner_name p ∷ inner_names_below under.below.children)
         from_below n (inl used) = from_mid n used (name_cases n (inner_name p))
         from_below n (inr h) = inr (inr h)
 
 -- a prefix by its length and its first bytes
-header_started : (P len : ℕ) (rf : List ℕ) → len ≤ length rf → record { prefix = record { len = len; stored = take (min len P) rf }; children = [] } ≡ started P (take len rf)
+header_started : (P len : ℕ) (rf : List ℕ) → len ≤ length rf →
+    record { prefix = record { len = len; stored = take (min len P) rf }; children = [] } ≡ started P (take len rf)
 header_started P len rf long =
     let n : length (take len rf) ≡ len = length-take-le len rf long in
-    let bytes : take (min P (length (take len rf))) (take len rf) ≡ take (min len P) rf = rw n (take-take (min P len) len rf (omega arith) ∙ ap (λ m. take m rf) (min_comm P len)) in
-    ap₂ (λ (m : ℕ) (s : List ℕ). let i : Inner = record { prefix = record { len = m; stored = s }; children = [] } in i) (sym n) (sym bytes ∙ take_min P (take len rf))
+    let bytes : take (min P (length (take len rf))) (take len rf) ≡ take (min len P) rf =
+    rw n (take-take (min P len) len rf (omega arith) ∙ ap (λ m. take m rf) (min_comm P len)) in
+    ap₂ (λ (m : ℕ) (s : List ℕ). let i : Inner = record { prefix = record { len = m; stored = s }; children = [] } in i) (sym n)
+    (sym bytes ∙ take_min P (take len rf))
   where
     min_comm : (a b : ℕ) → min a b ≡ min b a
     min_comm a b = omega arith
 
 -- what the first and the last of the leaves of a node show
-module _ {K V : Type 0} (bytes : K → List ℕ) (store : finite.FinMap leaf_cmp (LeafNode K V)) (way : List ℕ) (leaves : List LeafPtr) (depth : ℕ) (kf kl : List ℕ) where
+module _ {K V : Type 0} (bytes : K → List ℕ) (store : finite.FinMap leaf_cmp (LeafNode K V)) (way : List ℕ) (leaves : List LeafPtr)
+    (depth : ℕ) (kf kl : List ℕ) where
   abbrev pub part_of : List ℕ
   part_of = common_front (drop depth kf) (drop depth kl)
 
@@ -290,10 +310,14 @@ module _ {K V : Type 0} (bytes : K → List ℕ) (store : finite.FinMap leaf_cmp
       let low_is : drop depth kf ≡ part_of ++ p.x ∷ p.r = p.a_is ∙ ap (λ z. z ++ p.x ∷ p.r) p.is_shared in
       let high_is : drop depth kl ≡ part_of ++ p.y ∷ p.s = p.b_is ∙ ap (λ z. z ++ p.y ∷ p.s) p.is_shared in
       let shared = share (of_key bytes) way (drop depth kf) (drop depth kl) e.x (e.y ∷ e.ys) map' ways' first last in
-      let on = subst (Each (λ z. GoesOn (way ++ part_of) (of_key bytes z))) (sym e.pairs_are) (go_on (of_key bytes) (way ++ part_of) e.x e.y e.ys map' shared) in
+      let on =
+      subst (Each (λ z. GoesOn (way ++ part_of) (of_key bytes z))) (sym e.pairs_are)
+      (go_on (of_key bytes) (way ++ part_of) e.x e.y e.ys map' shared) in
       let at : length (way ++ part_of) ≡ depth + length part_of = length-append way part_of ∙ ap (λ m. m + length part_of) ready.depth_is in
-      let lf : length kf ≡ depth + length (drop depth kf) = ap length (sym e.first_is ∙ first) ∙ length-append way (drop depth kf) ∙ ap (λ m. m + length (drop depth kf)) ready.depth_is in
-      let ll : length kl ≡ depth + length (drop depth kl) = ap length (sym e.last_is ∙ last) ∙ length-append way (drop depth kl) ∙ ap (λ m. m + length (drop depth kl)) ready.depth_is in
+      let lf : length kf ≡ depth + length (drop depth kf) =
+      ap length (sym e.first_is ∙ first) ∙ length-append way (drop depth kf) ∙ ap (λ m. m + length (drop depth kf)) ready.depth_is in
+      let ll : length kl ≡ depth + length (drop depth kl) =
+      ap length (sym e.last_is ∙ last) ∙ length-append way (drop depth kl) ∙ ap (λ m. m + length (drop depth kl)) ready.depth_is in
       let lp : length (drop depth kf) ≡ length part_of + length (p.x ∷ p.r) = ap length low_is ∙ length-append part_of (p.x ∷ p.r) in
       let byte_f : byte_at (of_key bytes) (length (way ++ part_of)) e.x ≡ p.x =
       at_byte (of_key bytes) (way ++ part_of) e.x p.x p.r (first ∙ ap (λ l. way ++ l) low_is ∙ sym (append_assoc way part_of (p.x ∷ p.r))) in
@@ -350,7 +374,8 @@ module _ {K V : Type 0} (bytes : K → List ℕ) (store : finite.FinMap leaf_cmp
     pub ready_below : ReadyBelow bytes store (way ++ its_part) leaves (depth + len)
     ready_below = subst (λ m. ReadyBelow bytes store (way ++ its_part) leaves (depth + m)) (sym len_is) its_parting.below
 
-    pub starts : (P : ℕ) (node : Inner) → node ≡ record { prefix = record { len = len; stored = take (min len P) rf }; children = [] } → Starts bytes P store way leaves depth (depth + len) node
+    pub starts : (P : ℕ) (node : Inner) → node ≡ record { prefix = record { len = len; stored = take (min len P) rf }; children = [] } →
+        Starts bytes P store way leaves depth (depth + len) node
     starts P node d =
         let part_read : take len rf ≡ its_part = ap₂ (λ (m : ℕ) (u : List ℕ). take m u) len_is f ∙ its_parting.part_is in
         let long : len ≤ length rf = rw n (common_fits rf rl) in
@@ -368,7 +393,8 @@ module _ {K V : Type 0} (bytes : K → List ℕ) (store : finite.FinMap leaf_cmp
         }
 
 -- A node that was placed for leaves, and gets its children.
-module _ {K V : Type 0} (bytes : K → List ℕ) (P : ℕ) (old mid : Nodes K V) (name : InnerPtr) {way : List ℕ} {leaves : List LeafPtr} {depth at : ℕ} {node : Inner}
+module _ {K V : Type 0} (bytes : K → List ℕ) (P : ℕ) (old mid : Nodes K V) (name : InnerPtr) {way : List ℕ} {leaves : List LeafPtr}
+    {depth at : ℕ} {node : Inner}
     (same : mid.leaves ≡ old.leaves) (placed : mid.inners ≡ finite.insert old.inners name node) (s : Starts bytes P old.leaves way leaves depth at node) where
   pub two_below : 2 ≤ count_groups bytes old.leaves leaves (length (way ++ s.part))
   two_below = rw s.pairs_are (two_groups (byte_at (of_key bytes) (length (way ++ s.part))) s.x (s.y ∷ s.ys) s.differ)
@@ -382,8 +408,10 @@ module _ {K V : Type 0} (bytes : K → List ℕ) (P : ℕ) (old mid : Nodes K V)
   pub placed_ready : ReadyBelow bytes mid.leaves (way ++ s.part) leaves at
   placed_ready = rw same s.below
 
-  module _ {new : Nodes K V} (fresh : finite.get old.inners name ≡ None) (kind : name.kind ≡ kind_of (count_groups bytes old.leaves leaves at)) (kept : KeepsAllBut mid new name)
-      (built : (front : List ℕ) (n : Inner) → ReadyBelow bytes mid.leaves front leaves at → finite.get mid.inners name ≡ Some n → AreBelow bytes mid.leaves leaves at n →
+  module _ {new : Nodes K V} (fresh : finite.get old.inners name ≡ None)
+      (kind : name.kind ≡ kind_of (count_groups bytes old.leaves leaves at)) (kept : KeepsAllBut mid new name)
+      (built : (front : List ℕ) (n : Inner) → ReadyBelow bytes mid.leaves front leaves at → finite.get mid.inners name ≡ Some n →
+      AreBelow bytes mid.leaves leaves at n →
       BuiltUnder bytes P front leaves mid new name n) where
     its_kind : name.kind ≡ kind_of (count_groups bytes old.leaves leaves (length (way ++ s.part)))
     its_kind = kind ∙ ap (λ m. kind_of (count_groups bytes old.leaves leaves m)) (sym s.below.depth_is)
@@ -394,8 +422,10 @@ module _ {K V : Type 0} (bytes : K → List ℕ) (P : ℕ) (old mid : Nodes K V)
 
     pub finished_built : Built bytes P way leaves old new (inner_name name)
     finished_built =
-        node_built bytes P old mid new way s.part leaves name same (placed ∙ ap (finite.insert old.inners name) s.node_is) fresh its_kind two_below kept its_children
+        node_built bytes P old mid new way s.part leaves name same
+        (placed ∙ ap (finite.insert old.inners name) s.node_is) fresh its_kind two_below kept its_children
 
     pub finished_kept : KeepsNodes old new
     finished_kept =
-        node_kept bytes P old mid new way s.part leaves name same (placed ∙ ap (finite.insert old.inners name) s.node_is) fresh its_kind two_below kept its_children
+        node_kept bytes P old mid new way s.part leaves name same
+        (placed ∙ ap (finite.insert old.inners name) s.node_is) fresh its_kind two_below kept its_children

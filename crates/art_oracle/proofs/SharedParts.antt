@@ -16,7 +16,8 @@ common_between (x ∷ a) b [] h k = (b, refl)
 common_between (x ∷ a) [] (z ∷ c) h k = absurd (true≢false h)
 common_between (x ∷ a) (y ∷ b) (z ∷ c) h k = go (common_between a b c) (eqb x z) refl (cases_order x y)
   where
-    go : (is_before b a ≡ false → is_before c b ≡ false → IsFront (common_front a c) b) → (t : Bool) → eqb x z ≡ t → (x ≡ y) ⊎ ((x < y) ⊎ (y < x)) → IsFront (cond t (x ∷ common_front a c) []) (y ∷ b)
+    go : (is_before b a ≡ false → is_before c b ≡ false → IsFront (common_front a c) b) → (t : Bool) → eqb x z ≡ t →
+        (x ≡ y) ⊎ ((x < y) ⊎ (y < x)) → IsFront (cond t (x ∷ common_front a c) []) (y ∷ b)
     go ih false e o = (y ∷ b, refl)
     go ih true e (inl s) =
         let g : x ≡ z = eqb-true x z e in
@@ -36,4 +37,6 @@ common_ends a b count n m l k e = go (cases_lt (length a) (length b))
     go (inr le) = let z : drop n b ≡ [] = drop_all n b (omega arith) in let f = rw (z, common_end_right (drop n a)) at e in omega arith
 
 pub common_fits : (a b : List ℕ) → length (common_front a b) ≤ length a
-common_fits a b = let (r, e) = common_front_left a b in let l : length a ≡ length (common_front a b) + length r = ap length e ∙ length-append (common_front a b) r in omega arith
+common_fits a b = let (r, e) =
+    common_front_left a b in let l : length a ≡ length (common_front a b) + length r =
+    ap length e ∙ length-append (common_front a b) r in omega arith

@@ -32,10 +32,13 @@ use Rattle.art_oracle.proofs.Leaves.{all_from, placed_kept}
 -- leaves and inner nodes have different names
 module _ {N A : Type 0} (L M : N → Type 0) (apart : (x y : N) → L x → M y → x ≢ y) where
   mutual
-    pub all_distinct : (t : Tree N A) → AreDistinct (leaf_names t) → AreDistinct (inner_names t) → Each L (leaf_names t) → Each M (inner_names t) → AreDistinct (names_of t)
+    pub all_distinct : (t : Tree N A) → AreDistinct (leaf_names t) → AreDistinct (inner_names t) → Each L (leaf_names t) →
+        Each M (inner_names t) → AreDistinct (names_of t)
     all_distinct (leaf n x) dl di l m = dl
-    all_distinct (inner n h cs) dl di l m =
-        (names_each_below (λ k. n ≢ k) cs (Each-weaker L (λ k. n ≢ k) (λ k lk e. apart k n lk m.0 (sym e)) (leaf_names_below cs) l) di.0, all_distinct_below cs dl di.1 l m.1)
+    all_distinct (inner n h cs) dl di l m = (
+      names_each_below (λ k. n ≢ k) cs (Each-weaker L (λ k. n ≢ k) (λ k lk e. apart k n lk m.0 (sym e)) (leaf_names_below cs) l) di.0,
+      all_distinct_below cs dl di.1 l m.1,
+    )
 
     pub all_distinct_below : (cs : Subtrees N A) → AreDistinct (leaf_names_below cs) → AreDistinct (inner_names_below cs) →
         Each L (leaf_names_below cs) → Each M (inner_names_below cs) → AreDistinct (names_below cs)
@@ -47,13 +50,15 @@ module _ {N A : Type 0} (L M : N → Type 0) (apart : (x y : N) → L x → M y 
         let mr = Each-right M (inner_names t) (inner_names_below cs) m in
         Pairwise-append ◌≢◌ (names_of t) (names_below cs)
         (all_distinct t (Pairwise-left ◌≢◌ (leaf_names t) (leaf_names_below cs) dl) (Pairwise-left ◌≢◌ (inner_names t) (inner_names_below cs) di) ll ml)
-        (all_distinct_below cs (Pairwise-right ◌≢◌ (leaf_names t) (leaf_names_below cs) dl) (Pairwise-right ◌≢◌ (inner_names t) (inner_names_below cs) di) lr mr)
+        (all_distinct_below cs (Pairwise-right ◌≢◌ (leaf_names t) (leaf_names_below cs) dl)
+        (Pairwise-right ◌≢◌ (inner_names t) (inner_names_below cs) di) lr mr)
         (names_each (λ x. Each (λ y. x ≢ y) (names_below cs)) t
         (Each-weaker (λ x. Each (λ y. x ≢ y) (leaf_names_below cs) × L x) (λ x. Each (λ y. x ≢ y) (names_below cs))
         (λ x (d, lx). names_each_below (λ y. x ≢ y) cs d (Each-weaker M (λ y. x ≢ y) (λ y my. apart x y lx my) (inner_names_below cs) mr)) (leaf_names t)
         (both (λ x. Each (λ y. x ≢ y) (leaf_names_below cs)) L (leaf_names t) (Pairwise-across ◌≢◌ (leaf_names t) (leaf_names_below cs) dl) ll))
         (Each-weaker (λ x. Each (λ y. x ≢ y) (inner_names_below cs) × M x) (λ x. Each (λ y. x ≢ y) (names_below cs))
-        (λ x (d, mx). names_each_below (λ y. x ≢ y) cs (Each-weaker L (λ y. x ≢ y) (λ y ly e. apart y x ly mx (sym e)) (leaf_names_below cs) lr) d) (inner_names t)
+        (λ x (d, mx). names_each_below (λ y. x ≢ y) cs
+        (Each-weaker L (λ y. x ≢ y) (λ y ly e. apart y x ly mx (sym e)) (leaf_names_below cs) lr) d) (inner_names t)
         (both (λ x. Each (λ y. x ≢ y) (inner_names_below cs)) M (inner_names t) (Pairwise-across ◌≢◌ (inner_names t) (inner_names_below cs) di) ml)))
 
 -- the leaves of a map, placed and linked
@@ -63,7 +68,8 @@ pub record HasLeaves {K V : Type 0} (old new : Nodes K V) (names : List LeafPtr)
   pub inners : new.inners ≡ old.inners
 
 -- leaves that were placed, and then linked as they are listed
-pub has_leaves : {K V : Type 0} (old mid new : Nodes K V) (names list : List LeafPtr) (pairs : List (K × V)) → list ≡ names → IsPlaced old.leaves mid.leaves names pairs → mid.inners ≡ old.inners →
+pub has_leaves : {K V : Type 0} (old mid new : Nodes K V) (names list : List LeafPtr) (pairs : List (K × V)) → list ≡ names →
+    IsPlaced old.leaves mid.leaves names pairs → mid.inners ≡ old.inners →
     KeepsPairs mid.leaves new.leaves list → AreLinked (links_at new) None (map leaf_name list) None → new.inners ≡ mid.inners → HasLeaves old new names pairs
 has_leaves old mid new names list pairs e placed same keeps linked same' = record {
   placed = placed_kept old.leaves mid.leaves new.leaves names pairs placed (subst (KeepsPairs mid.leaves new.leaves) e keeps);
@@ -95,7 +101,8 @@ module _ {K V : Type 0} {old new : Nodes K V} {names : List LeafPtr} {pairs : Li
 
   names_used : Each (IsUsed new) (map leaf_name names)
   names_used =
-      each_map leaf_name (IsUsed new) names (Each-weaker (λ p. IsSome (finite.get new.leaves p)) (λ p. IsUsed new (leaf_name p)) (λ p h. used (finite.get new.leaves p) h) names H.placed.there)
+      each_map leaf_name (IsUsed new) names (Each-weaker (λ p. IsSome (finite.get new.leaves p)) (λ p. IsUsed new (leaf_name p))
+      (λ p h. used (finite.get new.leaves p) h) names H.placed.there)
     where
       used : (o : Option (LeafNode K V)) → IsSome o → option_map held_leaf o ≢ None
       used None h = absurd cc
@@ -123,7 +130,8 @@ module _ {K V : Type 0} {old new : Nodes K V} {names : List LeafPtr} {pairs : Li
   name_in p (q ∷ qs) (inr i) = inr (name_in p qs i)
 
   -- a name is a placed leaf's, or holds what it held
-  leaves_others : (kind : NodeType) (slot : ℕ) → IsIn (record { kind = kind; slot = slot }) (map leaf_name names) ⊎ (content_in new kind slot ≡ content_in old kind slot)
+  leaves_others : (kind : NodeType) (slot : ℕ) →
+      IsIn (record { kind = kind; slot = slot }) (map leaf_name names) ⊎ (content_in new kind slot ≡ content_in old kind slot)
   leaves_others Leaf slot = go (H.placed.others (record { slot = slot }))
     where
       go : IsIn (record { slot = slot }) names ⊎ (finite.get new.leaves (record { slot = slot }) ≡ finite.get old.leaves (record { slot = slot })) →
@@ -149,7 +157,8 @@ module _ {K V : Type 0} {old new : Nodes K V} {names : List LeafPtr} {pairs : Li
       go (inl i) = inr i
       go (inr e) = inl (λ none. used (e ∙ none))
 
-pub whole_kept : {K V : Type 0} {old mid : Nodes K V} {names : List LeafPtr} {pairs : List (K × V)} → HasLeaves old mid names pairs → (new : Nodes K V) → KeepsNodes mid new → KeepsNodes old new
+pub whole_kept : {K V : Type 0} {old mid : Nodes K V} {names : List LeafPtr} {pairs : List (K × V)} → HasLeaves old mid names pairs →
+    (new : Nodes K V) → KeepsNodes mid new → KeepsNodes old new
 whole_kept {old = old} {mid = mid} H new kept = keeps-trans old mid new (leaves_kept H) kept
 
 -- the tree over the leaves
@@ -161,14 +170,23 @@ module _ {K V : Type 0} {bytes : K → List ℕ} {P : ℕ} {old mid new : Nodes 
 
   linked : AreLinked (links_at new) None (leaf_names b.tree) None
   linked = subst (λ l. AreLinked (links_at new) None l None) (sym b.leaves_are)
-      (linked-frame (links_at mid) (links_at new) (map leaf_name names) None None (each_map leaf_name (λ n. links_at new n ≡ links_at mid n) names (every names)) H.linked)
+      (linked-frame (links_at mid) (links_at new) (map leaf_name names) None None
+      (each_map leaf_name (λ n. links_at new n ≡ links_at mid n) names (every names)) H.linked)
     where
       every : (ps : List LeafPtr) → Each (λ p. links_at new (leaf_name p) ≡ links_at mid (leaf_name p)) ps
       every [] = tt
       every (p ∷ ps) = (ap (λ m. option_and_then links_of (option_map held_leaf (finite.get m p))) same, every ps)
 
   pub whole_tree : IsCanonicalTree (of_key bytes) P new root pairs b.tree
-  whole_tree = canonical_from (record { named = b.named; radix = b.radix; pairs_are = b.its ∙ H.placed.its; holds = b.holds; distinct = distinct; linked = linked })
+  whole_tree =
+      canonical_from (record {
+        named = b.named;
+        radix = b.radix;
+        pairs_are = b.its ∙ H.placed.its;
+        holds = b.holds;
+        distinct = distinct;
+        linked = linked;
+      })
 
   pub whole_added : AddsTree (of_key bytes) P old new (Some root) pairs
   whole_added name used = from_mid (b.come.added name used)
@@ -183,7 +201,8 @@ module _ {K V : Type 0} {bytes : K → List ℕ} {P : ℕ} {old mid new : Nodes 
 
   pub whole_fresh : (name : OpaqueNodePtr) → IsInTree (of_key bytes) P new (Some root) pairs name → content_at old name ≡ None
   whole_fresh name (layout, is, i) =
-      each_in (λ n. content_at old n ≡ None) name (names_of b.tree) free (subst (λ t. IsIn name (names_of t)) (has_one_layout (node_at new) root b.tree layout whole_tree.stands.0 is.stands.0) i)
+      each_in (λ n. content_at old n ≡ None) name (names_of b.tree) free
+      (subst (λ t. IsIn name (names_of t)) (has_one_layout (node_at new) root b.tree layout whole_tree.stands.0 is.stands.0) i)
     where
       free : Each (λ n. content_at old n ≡ None) (names_of b.tree)
       free = names_each (λ n. content_at old n ≡ None) b.tree (subst (Each (λ n. content_at old n ≡ None)) (sym b.leaves_are) (names_free H))

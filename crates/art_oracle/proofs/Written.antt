@@ -26,7 +26,8 @@ module _ {K V : Type 0} where
   inner_is_used s p node n there none = let e = sym (held_in_inner s p.kind p.slot n ∙ ap (option_map held_inner) there) ∙ none in absurd cc
 
   -- an inner node that is kept is the same in the map
-  pub inner_kept : (old new : Nodes K V) (p : InnerPtr) (node : Inner) → p.kind ≢ Leaf → KeepsNodes old new → finite.get old.inners p ≡ Some node → finite.get new.inners p ≡ Some node
+  pub inner_kept : (old new : Nodes K V) (p : InnerPtr) (node : Inner) → p.kind ≢ Leaf → KeepsNodes old new →
+      finite.get old.inners p ≡ Some node → finite.get new.inners p ≡ Some node
   inner_kept old new p node n kept there =
       go (finite.get new.inners p) (sym (held_in_inner new p.kind p.slot n) ∙ kept (inner_name p) (inner_is_used old p node n there) ∙
       held_in_inner old p.kind p.slot n ∙ ap (option_map held_inner) there)
@@ -35,10 +36,13 @@ module _ {K V : Type 0} where
       go None e = absurd cc
       go (Some x) e = cc
 
-  module _ (old mid written : Nodes K V) (parent : InnerPtr) (f : Inner → Inner) (from : Inner) (inner_kind : parent.kind ≢ Leaf) (there : finite.get old.inners parent ≡ Some from)
+  module _ (old mid written : Nodes K V) (parent : InnerPtr) (f : Inner → Inner) (from : Inner) (inner_kind : parent.kind ≢ Leaf)
+      (there : finite.get old.inners parent ≡ Some from)
       (kept : KeepsNodes old mid) (same : written.leaves ≡ mid.leaves) (change_is : written.inners ≡ change mid.inners parent f) where
     pub parent_written : finite.get written.inners parent ≡ Some (f from)
-    parent_written = ap (λ m. finite.get m parent) change_is ∙ inner_changed_here mid.inners parent f from (inner_kept old mid parent from inner_kind kept there)
+    parent_written =
+        ap (λ m. finite.get m parent) change_is ∙ inner_changed_here mid.inners parent f from
+        (inner_kept old mid parent from inner_kind kept there)
 
     elsewhere : (q : InnerPtr) → q ≢ parent → finite.get written.inners q ≡ finite.get mid.inners q
     elsewhere q n = ap (λ m. finite.get m q) change_is ∙ inner_changed_elsewhere mid.inners parent q f n

@@ -1,6 +1,5 @@
 //! The radix tree of a map, built in a store at once.
-ghost use Rattle.std.specs.Prelude.{◌≡◌, ◌≢◌, ℕ, ◌+◌, ◌^◌, ◌<◌, ◌≤◌, List, length, get_or, Some, None, IsSome, IfOk, OnOk};
-ghost use Rattle.std.specs.Prelude.{map as list_map};
+ghost use Rattle.std.specs.Prelude.{◌≡◌, ◌≢◌, ℕ, ◌+◌, ◌^◌, ◌<◌, ◌≤◌, List, length, get_or, Some, None, IsSome, IfOk, OnOk, map as list_map};
 ghost use Rattle.std.specs.FinMap as map;
 ghost use Rattle.std.specs.List.{AllByRecursion as Each};
 ghost use Rattle.art_parts.specs.Names.{leaf_name};
@@ -279,7 +278,8 @@ pub fn build<K: AsBytes + Drop, V: Drop, const P: usize>(
     ensures names { IfOk result (λ root.
         AddsTree (of_key K.bytes) P store.old store.new root pairs.items) }
     ensures fresh { IfOk result (λ root. (name : OpaqueNodePtr) →
-        IsInTree (of_key K.bytes) P store.new root pairs.items name → content_at store.old name ≡ None) }
+        IsInTree (of_key K.bytes) P store.new root pairs.items name →
+        content_at store.old name ≡ None) }
 {
     let names = place_leaves(store, pairs)?;
     if names.is_empty() {

@@ -27,22 +27,27 @@ new_header P whole bytes header begins is =
 
 -- a trim of a prefix that is stored whole, and of one whose bytes a key has
 take-drop_back : (P n : ℕ) (whole : List ℕ) → take (min (length whole - n) P) (drop n whole) ≡ take P (drop n whole)
-take-drop_back P n whole = let count : length whole - n ≡ length (drop n whole) = sym (length-drop n whole) in ap (λ (k : ℕ). take (min k P) (drop n whole)) count ∙ stored_part P (drop n whole)
+take-drop_back P n whole = let count : length whole - n ≡ length (drop n whole) =
+    sym (length-drop n whole) in ap (λ (k : ℕ). take (min k P) (drop n whole)) count ∙ stored_part P (drop n whole)
 
-pub trimmed_header : (P n : ℕ) (whole : List ℕ) (old new : Prefix) → old ≡ header_of P whole → old.len ≤ P → new.len ≡ old.len - n → new.stored ≡ drop n old.stored → new ≡ header_of P (drop n whole)
+pub trimmed_header : (P n : ℕ) (whole : List ℕ) (old new : Prefix) → old ≡ header_of P whole → old.len ≤ P → new.len ≡ old.len - n →
+    new.stored ≡ drop n old.stored → new ≡ header_of P (drop n whole)
 trimmed_header P n whole old new was fits len stored =
     let long = len_of_header P whole old was in
     let all : take P whole ≡ whole = take_all P whole (omega (arith, long)) in
     let left : take P (drop n whole) ≡ drop n whole = take_all P (drop n whole) (omega (arith, long, length-drop n whole)) in
-    header_by_parts P (drop n whole) new (omega (arith, len, long, length-drop n whole)) (stored ∙ ap (drop n) (stored_of_header P whole old was ∙ all) ∙ sym left)
+    header_by_parts P (drop n whole) new (omega (arith, len, long, length-drop n whole))
+    (stored ∙ ap (drop n) (stored_of_header P whole old was ∙ all) ∙ sym left)
 
 pub trimmed_by_leaf : (P n depth : ℕ) (whole leaf : List ℕ) (old new : Prefix) → old ≡ header_of P whole → n ≤ old.len →
-    take old.len (drop depth leaf) ≡ whole → new.len ≡ old.len - n → new.stored ≡ take (min (old.len - n) P) (drop (depth + n) leaf) → new ≡ header_of P (drop n whole)
+    take old.len (drop depth leaf) ≡ whole → new.len ≡ old.len - n → new.stored ≡ take (min (old.len - n) P) (drop (depth + n) leaf) →
+    new ≡ header_of P (drop n whole)
 trimmed_by_leaf P n depth whole leaf old new was within has len stored =
     let long = len_of_header P whole old was in
     let split : n + (old.len - n) ≡ old.len = omega arith in
     let rest : take (old.len - n) (drop (depth + n) leaf) ≡ drop n whole =
-    ap (take (old.len - n)) (sym (drop-drop n depth leaf)) ∙ sym (drop-take n (old.len - n) (drop depth leaf)) ∙ ap (λ (k : ℕ). drop n (take k (drop depth leaf))) split ∙ ap (drop n) has in
+    ap (take (old.len - n)) (sym (drop-drop n depth leaf)) ∙ sym (drop-take n (old.len - n) (drop depth leaf))
+    ∙ ap (λ (k : ℕ). drop n (take k (drop depth leaf))) split ∙ ap (drop n) has in
     let turned : min (old.len - n) P ≡ min P (old.len - n) = omega arith in
     header_by_parts P (drop n whole) new (omega (arith, len, long, length-drop n whole))
     (stored ∙ ap (λ (k : ℕ). take k (drop (depth + n) leaf)) turned ∙ sym (take_of_take P (old.len - n) (drop (depth + n) leaf)) ∙ ap (take P) rest)
@@ -63,7 +68,8 @@ take-append P xs ys = elim (by_order (length xs) P) [
     whole fits = take-append_over P xs ys fits ∙ ap (λ (t : List ℕ). t ++ take (P - length xs) ys) (sym (take_all P xs fits))
 
 -- bytes that start as the appended prefix does are as good as it
-same_part : (k P : ℕ) (more bytes : List ℕ) → k ≤ P → take (min (length more) P) bytes ≡ take (min (length more) P) more → take k (take (length more) bytes) ≡ take k more
+same_part : (k P : ℕ) (more bytes : List ℕ) → k ≤ P → take (min (length more) P) bytes ≡ take (min (length more) P) more →
+    take k (take (length more) bytes) ≡ take k more
 same_part k P more bytes within begins =
     take_of_take k (length more) bytes
     ∙ sym (take-take (min k (length more)) (min (length more) P) bytes (omega arith))
@@ -90,7 +96,8 @@ extended_header P whole more bytes old new was begins len stored =
 pub cleared_header : (P : ℕ) (header : Prefix) → header ≡ record { len = 0; stored = [] } → header ≡ header_of P []
 cleared_header P header is = header_by_parts P [] header (ap (λ (h : Prefix). h.len) is) (ap (λ (h : Prefix). h.stored) is ∙ sym (take_all P [] (omega arith)))
 
-pub cleared_bytes : (P : ℕ) (whole bytes zeros : List ℕ) (old : Prefix) → old ≡ header_of P whole → bytes ≡ old.stored ++ zeros → take (min (length whole) P) bytes ≡ take (min (length whole) P) whole
+pub cleared_bytes : (P : ℕ) (whole bytes zeros : List ℕ) (old : Prefix) → old ≡ header_of P whole → bytes ≡ old.stored ++ zeros →
+    take (min (length whole) P) bytes ≡ take (min (length whole) P) whole
 cleared_bytes P whole bytes zeros old was is =
     let stored : old.stored ≡ take P whole = stored_of_header P whole old was in
     ap (take (min (length whole) P)) (is ∙ ap (λ (t : List ℕ). t ++ zeros) stored)
@@ -98,4 +105,14 @@ cleared_bytes P whole bytes zeros old was is =
     ∙ take-take (min (length whole) P) P whole (omega arith)
 
 -- what the header of a whole prefix becomes by each call
-pub ruleset header_laws = (header_by_parts, len_of_header, stored_of_header, new_header, trimmed_header, trimmed_by_leaf, extended_header, cleared_header, cleared_bytes)
+pub ruleset header_laws = (
+  header_by_parts,
+  len_of_header,
+  stored_of_header,
+  new_header,
+  trimmed_header,
+  trimmed_by_leaf,
+  extended_header,
+  cleared_header,
+  cleared_bytes,
+)

@@ -7,7 +7,8 @@ use Rattle.art_parts.proofs.Comparisons.{by_order}
 use borrow.Rule.Slice.PartMut.{put_mid}
 
 -- a prefix that is stored whole, without its first bytes
-pub trimmed : (P n len : ℕ) (bytes : List ℕ) → n ≤ len → len ≤ P → take (min (len - n) P) (take (length bytes - n) (drop n bytes)) ≡ drop n (take (min len P) bytes)
+pub trimmed : (P n len : ℕ) (bytes : List ℕ) → n ≤ len → len ≤ P →
+    take (min (len - n) P) (take (length bytes - n) (drop n bytes)) ≡ drop n (take (min len P) bytes)
 trimmed P n len bytes within whole =
     let rest : min (len - n) P ≡ len - n = omega arith in
     let all : n + (len - n) ≡ min len P = omega arith in
@@ -18,12 +19,15 @@ trimmed P n len bytes within whole =
 
 -- the first bytes of two lists, where all of the first one fits
 pub take-append_over : (P : ℕ) (xs ys : List ℕ) → length xs ≤ P → take P (xs ++ ys) ≡ xs ++ take (P - length xs) ys
-take-append_over P xs ys fits = let split : P ≡ length xs + (P - length xs) = omega arith in ap (λ (n : ℕ). take n (xs ++ ys)) split ∙ take-append-add xs ys (P - length xs)
+take-append_over P xs ys fits =
+    let split : P ≡ length xs + (P - length xs) = omega arith in
+    ap (λ (n : ℕ). take n (xs ++ ys)) split ∙ take-append-add xs ys (P - length xs)
 
 pub take_of_take : (k n : ℕ) (xs : List ℕ) → take k (take n xs) ≡ take (min k n) xs
 take_of_take k n xs = elim (by_order k n) [
   | inl l ↦ least k (omega arith) (take-take k n xs (omega arith))
-  | inr g ↦ least n (elim g [ inl e ↦ omega arith | inr m ↦ omega arith ]) (take_all k (take n xs) (elim g [ inl e ↦ omega (arith, length-take n xs) | inr m ↦ omega (arith, length-take n xs) ]))
+  | inr g ↦ least n (elim g [ inl e ↦ omega arith | inr m ↦ omega arith ])
+      (take_all k (take n xs) (elim g [ inl e ↦ omega (arith, length-take n xs) | inr m ↦ omega (arith, length-take n xs) ]))
 ]
   where
     least : (m : ℕ) → m ≡ min k n → take k (take n xs) ≡ take m xs → take k (take n xs) ≡ take (min k n) xs
@@ -50,7 +54,8 @@ module _ (P len n start end : ℕ) (bytes more new : List ℕ) (from : start ≡
       ∙ ap (λ (k : ℕ). take P (take k bytes ++ take n more)) from
 
   -- behind them are zeros
-  pub zeros_after : drop (min len P) bytes ≡ replicate (P - min len P) 0 → drop (min (len + n) P) (put_mid start (end - start) bytes new) ≡ replicate (P - min (len + n) P) 0
+  pub zeros_after : drop (min len P) bytes ≡ replicate (P - min len P) 0 →
+      drop (min (len + n) P) (put_mid start (end - start) bytes new) ≡ replicate (P - min (len + n) P) 0
   zeros_after zeros =
       drop-put_mid start (end - start) bytes new (min (len + n) P) (omega arith) (omega arith) count
       ∙ fewer P bytes (end - start) (min len P) (min (len + n) P) (omega arith) zeros

@@ -68,4 +68,5 @@ pub leaf_tied : (p q : LeafPtr) → eq_by_cmp leaf_cmp p q ≡ eqb p.slot q.slot
 leaf_tied p q = unsigned_tied p.slot q.slot
 
 pub inner_tied : (p q : InnerPtr) → eq_by_cmp inner_cmp p q ≡ (eqb (kind_index p.kind) (kind_index q.kind) && eqb p.slot q.slot)
-inner_tied p q = then_tied _ _ ∙ ap (λ b. b && eq_by_cmp nat_cmp p.slot q.slot) (unsigned_tied _ _) ∙ ap (λ b. eqb (kind_index p.kind) (kind_index q.kind) && b) (unsigned_tied _ _)
+inner_tied p q = then_tied _ _ ∙ ap (λ b. b && eq_by_cmp nat_cmp p.slot q.slot) (unsigned_tied _ _)
+    ∙ ap (λ b. eqb (kind_index p.kind) (kind_index q.kind) && b) (unsigned_tied _ _)

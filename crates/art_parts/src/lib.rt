@@ -3,5 +3,6 @@
 
 pub mod bytes;
 pub mod header;
+pub mod laws;
 pub mod leaf;
 pub mod names;

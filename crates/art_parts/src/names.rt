@@ -1,7 +1,9 @@
 //! The names of nodes, and their kinds.
 ghost use Rattle.std.specs.Prelude.{◌≡◌, ◌≢◌, false, Some, IsSome, IfSome, ◌↔◌};
-ghost use Rattle.art_parts.specs.Kinds.{kind_text};
-ghost use Rattle.art_parts.specs.Names.{inner_cmp, inner_name, kind_cmp, leaf_cmp, leaf_name, name_cmp, name_text, split_cmp};
+ghost use Rattle.art_parts.specs.Kinds.{kind_text, kind_capacity, kind_least, next_larger, next_smaller};
+ghost use Rattle.art_parts.specs.Names.{inner_name, leaf_name, name_text, name_in, IsProper};
+ghost use Rattle.std.specs.Range.{range_inclusive_start, range_inclusive_end, range_inclusive_exhausted};
+ghost use Rattle.art_parts.specs.declared.names.NodeType.TheVariants.{Leaf};
 
 use std::fmt;
 use std::ops::RangeInclusive;
@@ -17,10 +19,6 @@ pub enum NodeType {
 }
 
 impl NodeType {
-    ghost use Rattle.std.specs.Range.{range_inclusive_start, range_inclusive_end, range_inclusive_exhausted};
-    ghost use Rattle.art_parts.specs.Kinds.{kind_capacity, kind_least, next_larger, next_smaller};
-    ghost use Rattle.art_parts.specs.declared.names.NodeType.TheVariants.{Leaf};
-
     /// Returns how many children a node of this kind has in a well-formed tree.
     pub fn capacity_range(self) -> RangeInclusive<usize>
         requires { self ≢ Leaf }
@@ -141,8 +139,6 @@ impl LeafPtr {
 }
 
 impl InnerPtr {
-    ghost use Rattle.art_parts.specs.declared.names.NodeType.TheVariants.{Leaf};
-
     /// Returns the name of the inner node of this kind in this slot, or `None` for the kind of leaves.
     pub fn from_parts(kind: NodeType, slot: usize) -> Option<Self>
         ensures inner { IsSome result ↔ (kind ≢ Leaf) }
@@ -167,9 +163,6 @@ impl InnerPtr {
 }
 
 impl OpaqueNodePtr {
-    ghost use Rattle.art_parts.specs.Names.{name_in, IsProper};
-    ghost use Rattle.art_parts.specs.declared.names.NodeType.TheVariants.{Leaf};
-
     /// Returns the name of the node of this kind in this slot, whether there is one or not.
     pub fn from_parts(kind: NodeType, slot: usize) -> Self
         ensures { result ≡ record { kind = kind; slot = slot } }
@@ -232,16 +225,6 @@ impl OpaqueNodePtr {
         }
     }
 }
-
-/// Names are ordered by their kinds, and those of one kind by their slots. The kinds are ordered by their room, and the
-/// kind of leaves is the last; but in the order of `NodePtr` leaves come first.
-pub fn names_are_in_order()
-    ensures kinds { (a b : NodeType) → ⟦<NodeType as Ord>⟧.cmp a b ≡ kind_cmp a b }
-    ensures leaves { (a b : LeafPtr) → ⟦<LeafPtr as Ord>⟧.cmp a b ≡ leaf_cmp a b }
-    ensures inners { (a b : InnerPtr) → ⟦<InnerPtr as Ord>⟧.cmp a b ≡ inner_cmp a b }
-    ensures nodes { (a b : OpaqueNodePtr) → ⟦<OpaqueNodePtr as Ord>⟧.cmp a b ≡ name_cmp a b }
-    ensures split { (a b : NodePtr) → ⟦<NodePtr as Ord>⟧.cmp a b ≡ split_cmp a b }
-{}
 
 impl fmt::Display for LeafPtr {
     ghost output = { λ leaf. Some (name_text (leaf_name leaf)) };

@@ -22,7 +22,8 @@ use Rattle.art_operations.proofs.FreedTrees.{shape_at-inner, shape_there}
 
 module _ {K V : Type 0} (s : Nodes K V) where
   -- a linked name is that of a leaf
-  linked_leaf : (names : List OpaqueNodePtr) (before after : Option OpaqueNodePtr) (k : OpaqueNodePtr) → AreLinked (links_at s) before names after → IsIn k names → k.kind ≢ Leaf → ⊥
+  linked_leaf : (names : List OpaqueNodePtr) (before after : Option OpaqueNodePtr) (k : OpaqueNodePtr) →
+      AreLinked (links_at s) before names after → IsIn k names → k.kind ≢ Leaf → ⊥
   linked_leaf [] before after k linked i off = absurd i
   linked_leaf (x ∷ xs) before after k linked (inl e) off =
       let linked_here = subst (λ n. links_at s n ≡ Some (record { previous = before; next = first_or xs after })) e linked.0 in
@@ -37,7 +38,8 @@ module _ {K V : Type 0} (s : Nodes K V) where
     inner_kind (inner n h cs) holds k (inl e) = subst (λ z. z.kind ≢ Leaf) e (shape_there s n h (slots_of cs) holds.0).off
     inner_kind (inner n h cs) holds k (inr i) = inner_kind_below cs holds.1 k i
 
-    inner_kind_below : (cs : Subtrees OpaqueNodePtr (Unit {0})) → HoldsBelow (shape_at s) cs → (k : OpaqueNodePtr) → IsIn k (inner_names_below cs) → k.kind ≢ Leaf
+    inner_kind_below : (cs : Subtrees OpaqueNodePtr (Unit {0})) → HoldsBelow (shape_at s) cs → (k : OpaqueNodePtr) →
+        IsIn k (inner_names_below cs) → k.kind ≢ Leaf
     inner_kind_below no_child holds k i = absurd i
     inner_kind_below (child b t cs) holds k i = elim (in_either k (inner_names t) (inner_names_below cs) i) [
       | inl j ↦ inner_kind t holds.0 k j
@@ -50,7 +52,8 @@ module _ {K V : Type 0} where
   same_shape s t k stays = elim (leaf_or k) [
     | inl (p, is) ↦ subst (λ z. shape_at t z ≡ shape_at s z) (sym is) refl
     | inr off ↦
-        let same = same_inner_held K V (map.get t.inners (as_inner k)) (map.get s.inners (as_inner k)) (sym (held_in_inner t k.kind k.slot off) ∙ stays off ∙ held_in_inner s k.kind k.slot off) in
+        let same = same_inner_held K V (map.get t.inners (as_inner k)) (map.get s.inners (as_inner k))
+        (sym (held_in_inner t k.kind k.slot off) ∙ stays off ∙ held_in_inner s k.kind k.slot off) in
         shape_at-inner t k off (map.get s.inners (as_inner k)) same ∙ sym (shape_at-inner s k off (map.get s.inners (as_inner k)) refl)
   ]
 

@@ -42,11 +42,14 @@ module _ {K V : Type 0} {s : Nodes K V} {tree : Tree OpaqueNodePtr (K × V)} whe
         (record { name_is = name_is; pair = x; pair_is = pair_is; has = record { path = d.path; whole = whole } }, d.along.1)
 
     -- at an inner node it continues below the child at the end
-    pub steps : (end : End) {p : InnerPtr} {shown : Inner} (d : IsAtEdge (IsAlong end path) s tree name) → IsShown d.node p shown → (r : ℕ × OpaqueNodePtr) → IsEndChild end shown.children r →
+    pub steps : (end : End) {p : InnerPtr} {shown : Inner} (d : IsAtEdge (IsAlong end path) s tree name) → IsShown d.node p shown →
+        (r : ℕ × OpaqueNodePtr) → IsEndChild end shown.children r →
         IsAtEdge (IsAlong end (step_down path p r.0)) s tree r.1 × (height (node_at s) (map.len s.inners) r.1 < height (node_at s) (map.len s.inners) name)
     steps First {p} d at r e =
         let (t, ds, split, named) = first_child at.children r (ap (λ cs. slice_get cs 0) (sym at.slots) ∙ e) in
-        edge_down (IsAlong First path) s tree d at (IsAlong First (step_down path p r.0)) no_child r.0 t ds split named ((refl, d.along.0), ap (λ z. step_down z p r.0) d.along.1)
+        edge_down (IsAlong First path) s tree d at (IsAlong First (step_down path p r.0)) no_child r.0 t ds split named
+        ((refl, d.along.0), ap (λ z. step_down z p r.0) d.along.1)
     steps Last {p} d at r e =
         let (ds, t, split, named) = last_child at.children r (ap (λ cs. slice_get cs (length cs - 1)) (sym at.slots) ∙ e) in
-        edge_down (IsAlong Last path) s tree d at (IsAlong Last (step_down path p r.0)) ds r.0 t no_child split named ((refl, d.along.0), ap (λ z. step_down z p r.0) d.along.1)
+        edge_down (IsAlong Last path) s tree d at (IsAlong Last (step_down path p r.0)) ds r.0 t no_child split named
+        ((refl, d.along.0), ap (λ z. step_down z p r.0) d.along.1)

@@ -32,7 +32,8 @@ use Rattle.art_reading.proofs.Descents.{IsDescent, start, front, front_len, chil
 use Rattle.art_reading.proofs.Left.{child_left}
 
 -- a key that continues after a part of the prefix with another byte than the prefix does not start with the prefix
-other_byte : (prefix front x : List ℕ) (c : ℕ) → length front < length prefix → c ≢ get_or prefix (length front) 0 → IsFront (front ++ c ∷ []) x → is_front prefix x ≡ false
+other_byte : (prefix front x : List ℕ) (c : ℕ) → length front < length prefix → c ≢ get_or prefix (length front) 0 →
+    IsFront (front ++ c ∷ []) x → is_front prefix x ≡ false
 other_byte prefix front x c within other leads = go (is_front prefix x) refl
   where
     go : (t : Bool) → is_front prefix x ≡ t → t ≡ false
@@ -57,12 +58,14 @@ starts_front x prefix false e = go (is_front prefix x) refl
     go true i = let f = front_from prefix x i in absurd (false≢true ((starts_is Decides-eqb x prefix false e).1 f.0 f.1))
 
 -- A descent to a node of a tree between pairs that do not start with the prefix, by a path.
-pub record IsWayBelow {A : Type 0} (bytes : A → List ℕ) (P : ℕ) (prefix : List ℕ) (tree : Tree OpaqueNodePtr A) (path : TreePath) (name : OpaqueNodePtr) (depth : ℕ) : Type 0 where
+pub record IsWayBelow {A : Type 0} (bytes : A → List ℕ) (P : ℕ) (prefix : List ℕ) (tree : Tree OpaqueNodePtr A) (path : TreePath)
+    (name : OpaqueNodePtr) (depth : ℕ) : Type 0 where
   pub descent : IsDescent bytes P (IsNotBelow bytes prefix) (IsNotBelow bytes prefix) tree name depth
   pub path_is : path ≡ path_of descent.at.path
 
 -- it begins at the root
-abbrev pub way_begins : {K V : Type 0} {s : Nodes K V} {bytes : K × V → List ℕ} {P : ℕ} {root : OpaqueNodePtr} {pairs : List (K × V)} {layout : Tree OpaqueNodePtr (K × V)} (prefix : List ℕ) →
+abbrev pub way_begins : {K V : Type 0} {s : Nodes K V} {bytes : K × V → List ℕ} {P : ℕ} {root : OpaqueNodePtr} {pairs : List (K × V)}
+    {layout : Tree OpaqueNodePtr (K × V)} (prefix : List ℕ) →
     IsCanonicalTree bytes P s root pairs layout → {path : TreePath} → path ≡ Root → IsWayBelow bytes P prefix layout path root 0
 way_begins prefix by is = record { descent = start by; path_is = is }
 
@@ -94,7 +97,8 @@ module _ {A : Type 0} {bytes : A → List ℕ} {P : ℕ} (prefix : List ℕ) {tr
             at = d.at;
             begin = is_front prefix (front d at);
             alike = each_under d at (λ x. is_front prefix (bytes x) ≡ is_front prefix (front d at))
-                (λ c i x leads. let (r, e) = front_cut (front d at) (c ∷ []) (bytes x) leads in ap (is_front prefix) e ∙ front_within prefix (front d at) r long);
+                (λ c i x leads. let (r, e) = front_cut (front d at) (c ∷ []) (bytes x) leads in
+                ap (is_front prefix) e ∙ front_within prefix (front d at) r long);
           },
           way.path_is,
         )
@@ -112,7 +116,12 @@ module _ {A : Type 0} {bytes : A → List ℕ} {P : ℕ} (prefix : List ℕ) {tr
           let middle =
           each_under d at (IsNotBelow bytes prefix) (λ c i x leads. off c (λ e. child_there d at c i (ap (child_at shown.children) e ∙ none)) x leads) in
           ap (λ t. below bytes prefix (pairs_of t)) (sym d.at.whole) ∙ ap (below bytes prefix) (pairs_of-plug d.at.path d.at.node)
-          ∙ simp (filter-append, filter_none test (pairs_before d.at.path) d.at.before, filter_none test (pairs_of d.at.node) middle, filter_none test (pairs_after d.at.path) d.at.after) refl
+          ∙ simp (
+            filter-append,
+            filter_none test (pairs_before d.at.path) d.at.before,
+            filter_none test (pairs_of d.at.node) middle,
+            filter_none test (pairs_after d.at.path) d.at.after,
+          ) refl
 
       -- the path continues below the child
       pub goes_down : {to : OpaqueNodePtr} → child_at shown.children (get_or prefix (depth + len) 0) ≡ Some to →
@@ -125,11 +134,14 @@ module _ {A : Type 0} {bytes : A → List ℕ} {P : ℕ} (prefix : List ℕ) {tr
           let high : (c : ℕ) → IsIn c (bytes_of at.children) → b < c → (x : A) → IsFront (front d at ++ c ∷ []) (bytes x) → IsNotBelow bytes prefix x =
           λ c i more x leads. off c (λ e. omega arith) x leads in
           subst (λ n. (next : IsWayBelow bytes P prefix tree (step_down path p b) to (depth + n + 1))
-          × (left_on_way bytes prefix depth d.at.node ≤ left_on_way bytes prefix (depth + n + 1) next.descent.at.node + 1)) (sym len_is)
-          (record { descent = down d at b there low high; path_is = ap (λ z. step_down z p b) way.path_is }, child_left d prefix at b (ap (λ n. get_or prefix (depth + n) 0) len_is) there low high)
+          × (left_on_way bytes prefix depth d.at.node ≤ left_on_way bytes prefix (depth + n + 1) next.descent.at.node + 1)) (sym len_is) (
+            record { descent = down d at b there low high; path_is = ap (λ z. step_down z p b) way.path_is },
+            child_left d prefix at b (ap (λ n. get_or prefix (depth + n) 0) len_is) there low high,
+          )
 
 -- Such a descent, and what it has read: the nodes above that are on the path of the prefix, and at most one for each level.
-pub record IsReadBelow {K V : Type 0} (bytes : K × V → List ℕ) (P : ℕ) (s : Nodes K V) (root : OpaqueNodePtr) (prefix : List ℕ) (tree : Tree OpaqueNodePtr (K × V)) (path : TreePath)
+pub record IsReadBelow {K V : Type 0} (bytes : K × V → List ℕ) (P : ℕ) (s : Nodes K V) (root : OpaqueNodePtr) (prefix : List ℕ)
+    (tree : Tree OpaqueNodePtr (K × V)) (path : TreePath)
     (name : OpaqueNodePtr) (depth number : ℕ) : Type 0 where
   pub way : IsWayBelow bytes P prefix tree path name depth
   pub at_least : length (nodes_on_way bytes prefix tree) ≤ number + left_on_way bytes prefix depth way.descent.at.node

@@ -52,7 +52,8 @@ pub record IsOnKey {A : Type 0} (bytes : A → List ℕ) (P : ℕ) (key : List �
 
 module _ {A : Type 0} {bytes : A → List ℕ} {P : ℕ} {key : List ℕ} {tree : Tree OpaqueNodePtr A} {name : OpaqueNodePtr} {depth : ℕ} where
   -- where the key does not start with the place, all keys below are on the side of the place
-  off_place : (d : IsDescent bytes P (λ x. Precedes (bytes x) key) (λ x. Precedes key (bytes x)) tree name depth) → (IsFront d.place key → ⊥) → StandsBeside bytes key tree name
+  off_place : (d : IsDescent bytes P (λ x. Precedes (bytes x) key) (λ x. Precedes key (bytes x)) tree name depth) →
+      (IsFront d.place key → ⊥) → StandsBeside bytes key tree name
   off_place d off = record {
     at = d.at;
     is_lower = is_before d.place key;
@@ -89,9 +90,11 @@ module _ {A : Type 0} {bytes : A → List ℕ} {P : ℕ} {key : List ℕ} {tree 
             is_lower = is_before (w ++ 0 ∷ []) key;
             is_upper = is_before key (w ++ 0 ∷ []);
             lower = each_under o.descent at (λ x. is_before (bytes x) key ≡ is_before (front o.descent at ++ 0 ∷ []) key)
-                (λ c i x (r, e). ap (λ z. is_before z key) (e ∙ append_assoc (front o.descent at) (c ∷ []) r) ∙ ap is_lt (ended_left (front o.descent at) key r c long));
+                (λ c i x (r, e). ap (λ z. is_before z key) (e ∙ append_assoc (front o.descent at) (c ∷ []) r)
+                ∙ ap is_lt (ended_left (front o.descent at) key r c long));
             upper = each_under o.descent at (λ x. is_before key (bytes x) ≡ is_before key (front o.descent at ++ 0 ∷ []))
-                (λ c i x (r, e). ap (is_before key) (e ∙ append_assoc (front o.descent at) (c ∷ []) r) ∙ ap is_lt (ended_right (front o.descent at) key r c long));
+                (λ c i x (r, e). ap (is_before key) (e ∙ append_assoc (front o.descent at) (c ∷ []) r)
+                ∙ ap is_lt (ended_right (front o.descent at) key r c long));
           }
 
       -- the key differs from the node's prefix
@@ -103,9 +106,11 @@ module _ {A : Type 0} {bytes : A → List ℕ} {P : ℕ} {key : List ℕ} {tree 
             is_lower = is_before w key;
             is_upper = is_before key w;
             lower = each_under o.descent at (λ x. is_before (bytes x) key ≡ is_before (front o.descent at) key)
-                (λ c i x f. let (r, e) = front_cut (front o.descent at) (c ∷ []) (bytes x) f in ap (λ z. is_before z key) e ∙ ap is_lt (apart_left (front o.descent at) r key off));
+                (λ c i x f. let (r, e) = front_cut (front o.descent at) (c ∷ []) (bytes x) f in
+                ap (λ z. is_before z key) e ∙ ap is_lt (apart_left (front o.descent at) r key off));
             upper = each_under o.descent at (λ x. is_before key (bytes x) ≡ is_before key (front o.descent at))
-                (λ c i x f. let (r, e) = front_cut (front o.descent at) (c ∷ []) (bytes x) f in ap (is_before key) e ∙ ap is_lt (apart_right (front o.descent at) r key off));
+                (λ c i x f. let (r, e) = front_cut (front o.descent at) (c ∷ []) (bytes x) f in
+                ap (is_before key) e ∙ ap is_lt (apart_right (front o.descent at) r key off));
           }
 
       module _ (long : depth + len < length key) (goes : IsFront (front o.descent at) key) where
@@ -122,11 +127,14 @@ module _ {A : Type 0} {bytes : A → List ℕ} {P : ℕ} {key : List ℕ} {tree 
 
         -- the key continues below a child
         pub onto_child : {to : OpaqueNodePtr} → child_at shown.children (get_or key (depth + len) 0) ≡ Some to →
-            (next : IsOnKey bytes P key tree to (depth + len + 1)) × (left_on_way bytes key depth o.descent.at.node ≤ left_on_way bytes key (depth + len + 1) next.descent.at.node + 1)
+            (next : IsOnKey bytes P key tree to (depth + len + 1)) ×
+            (left_on_way bytes key depth o.descent.at.node ≤ left_on_way bytes key (depth + len + 1) next.descent.at.node + 1)
         onto_child {to} there =
             let b = get_or key (depth + len) 0 in
-            let low : (c : ℕ) → IsIn c (bytes_of at.children) → c < b → (x : A) → IsFront (front o.descent at ++ c ∷ []) (bytes x) → Precedes (bytes x) key = λ c i less. below_key c less in
-            let high : (c : ℕ) → IsIn c (bytes_of at.children) → b < c → (x : A) → IsFront (front o.descent at ++ c ∷ []) (bytes x) → Precedes key (bytes x) = λ c i more. above_key c more in
+            let low : (c : ℕ) → IsIn c (bytes_of at.children) → c < b → (x : A) → IsFront (front o.descent at ++ c ∷ []) (bytes x) →
+            Precedes (bytes x) key = λ c i less. below_key c less in
+            let high : (c : ℕ) → IsIn c (bytes_of at.children) → b < c → (x : A) → IsFront (front o.descent at ++ c ∷ []) (bytes x) →
+            Precedes key (bytes x) = λ c i more. above_key c more in
             subst (λ n. (next : IsOnKey bytes P key tree to (depth + n + 1))
             × (left_on_way bytes key depth o.descent.at.node ≤ left_on_way bytes key (depth + n + 1) next.descent.at.node + 1)) (sym len_is) (
               record { descent = down o.descent at b there low high; leads = down_leads o.descent at o.leads b there low high; on_way = key_byte },
@@ -179,7 +187,8 @@ module _ {A : Type 0} {bytes : A → List ℕ} {P : ℕ} {key : List ℕ} {tree 
           (prefix_is bytes P (inner_name p) (header_at p.kind shown) at.children o.descent.place (shown_radix o.descent at))
 
       -- they are the same where the key continues
-      pub same_goes : {part : List ℕ} (n : ℕ) → part ≡ take n (drop depth key) → part ≡ prefix_of bytes depth o.descent.at.node → IsFront (front o.descent at) key
+      pub same_goes : {part : List ℕ} (n : ℕ) → part ≡ take n (drop depth key) → part ≡ prefix_of bytes depth o.descent.at.node →
+          IsFront (front o.descent at) key
       same_goes {part} n part_is same =
           let (r, e) = o.on_way in
           let rest : drop depth key ≡ r = ap (λ m. drop m key) (sym o.descent.depth_is) ∙ after_front o.descent.place key r e in
@@ -191,7 +200,8 @@ module _ {A : Type 0} {bytes : A → List ℕ} {P : ℕ} {key : List ℕ} {tree 
           )
 
       -- and the other way round
-      pub goes_same : {part : List ℕ} (n : ℕ) → n ≡ len → part ≡ take n (drop depth key) → IsFront (front o.descent at) key → part ≡ prefix_of bytes depth o.descent.at.node
+      pub goes_same : {part : List ℕ} (n : ℕ) → n ≡ len → part ≡ take n (drop depth key) → IsFront (front o.descent at) key →
+          part ≡ prefix_of bytes depth o.descent.at.node
       goes_same {part} n count part_is (r, e) =
           let own = shown_radix o.descent at in
           let rest : drop depth key ≡ own.0 ++ r =
@@ -204,7 +214,8 @@ module _ {K V : Type 0} {s : Nodes K V} {bytes : K × V → List ℕ} {P : ℕ} 
   on_key_start = record { descent = start by; leads = refl; on_way = (key, refl) }
 
   -- a node on the path is on the key's path
-  abbrev pub at_on : {name other : OpaqueNodePtr} {depth : ℕ} (o : IsOnKey bytes P key layout name depth) → other ≡ name → IsAt bytes P key layout (path_of o.descent.at.path) other depth
+  abbrev pub at_on : {name other : OpaqueNodePtr} {depth : ℕ} (o : IsOnKey bytes P key layout name depth) → other ≡ name →
+      IsAt bytes P key layout (path_of o.descent.at.path) other depth
   at_on o is = record {
     frames = o.descent.at.path;
     place = o.descent.place;
@@ -219,7 +230,8 @@ module _ {K V : Type 0} {s : Nodes K V} {bytes : K × V → List ℕ} {P : ℕ} 
   }
 
 -- ---- the whole prefix of a node, as it is read
-module _ {K V : Type 0} {s : Nodes K V} {bytes : K × V → List ℕ} {P : ℕ} {p : InnerPtr} {depth : ℕ} {tree : Tree OpaqueNodePtr (K × V)} (at : IsPlaced bytes P s (inner_name p) depth tree) where
+module _ {K V : Type 0} {s : Nodes K V} {bytes : K × V → List ℕ} {P : ℕ} {p : InnerPtr} {depth : ℕ} {tree : Tree OpaqueNodePtr (K × V)}
+    (at : IsPlaced bytes P s (inner_name p) depth tree) where
   module _ (proper : p.kind ≢ Leaf) {shown : Inner} (there : Some shown ≡ map.get s.inners p) where
     seen_at : IsShown tree p shown
     seen_at = inner_shown s p proper tree at.layout.named at.layout.holds shown there
@@ -237,7 +249,8 @@ module _ {K V : Type 0} {s : Nodes K V} {bytes : K × V → List ℕ} {P : ℕ} 
     len_is = ap (λ h. h.length_of) own.1
 
     -- from what is stored
-    pub told_by_stored : {part stored : List ℕ} (t : Bool) → length part ≡ shown.prefix.len → length part ≤ P → stored ≡ shown.prefix.stored → t ≡ starts_with eqb part stored →
+    pub told_by_stored : {part stored : List ℕ} (t : Bool) → length part ≡ shown.prefix.len → length part ≤ P →
+        stored ≡ shown.prefix.stored → t ≡ starts_with eqb part stored →
         IsTrue t ↔ (part ≡ prefix_of bytes depth tree)
     told_by_stored {part} {stored} t long short read test =
         let l = len_is in
@@ -250,7 +263,8 @@ module _ {K V : Type 0} {s : Nodes K V} {bytes : K × V → List ℕ} {P : ℕ} 
       leaf_begins : IsFront (at.place ++ own.0) (bytes (pair_of l))
       leaf_begins =
           below (λ x. IsFront (at.place ++ own.0) (bytes x))
-          (subst (λ t. Each (λ x. IsFront (at.place ++ own.0) (bytes x)) (pairs_of t)) (sym seen_at.is) (radix_below bytes P seen_at.children (at.place ++ own.0) own.4))
+          (subst (λ t. Each (λ x. IsFront (at.place ++ own.0) (bytes x)) (pairs_of t)) (sym seen_at.is)
+          (radix_below bytes P seen_at.children (at.place ++ own.0) own.4))
 
       pub leaf_long : depth ≤ length (bytes (pair_of l))
       leaf_long =
@@ -259,18 +273,23 @@ module _ {K V : Type 0} {s : Nodes K V} {bytes : K × V → List ℕ} {P : ℕ} 
           let d = at.depth_is in
           omega (arith, simp length-append at n)
 
-      pub told_by_leaf : {part rest : List ℕ} (t : Bool) → length part ≡ shown.prefix.len → rest ≡ drop depth (bytes (pair_of l)) → t ≡ starts_with eqb rest part →
+      pub told_by_leaf : {part rest : List ℕ} (t : Bool) → length part ≡ shown.prefix.len → rest ≡ drop depth (bytes (pair_of l)) →
+          t ≡ starts_with eqb rest part →
           IsTrue t ↔ (part ≡ prefix_of bytes depth tree)
       told_by_leaf {part} {rest} t long rest_is test =
           let (r, e) = leaf_begins in
           let is : rest ≡ own.0 ++ r =
-          rest_is ∙ ap (λ m. drop m (bytes (pair_of l))) (sym at.depth_is) ∙ after_front at.place (bytes (pair_of l)) (own.0 ++ r) (e ∙ append_assoc at.place own.0 r) in
+          rest_is ∙ ap (λ m. drop m (bytes (pair_of l))) (sym at.depth_is)
+          ∙ after_front at.place (bytes (pair_of l)) (own.0 ++ r) (e ∙ append_assoc at.place own.0 r) in
           let same_len : length part ≡ length own.0 = let k = len_is in omega arith in
-          let told = whole_front part own.0 same_len t (sym (front_within part own.0 r (omega arith)) ∙ ap (is_front part) (sym is) ∙ starts_front rest part t test) in
+          let told =
+          whole_front part own.0 same_len t (sym (front_within part own.0 r (omega arith)) ∙ ap (is_front part) (sym is)
+          ∙ starts_front rest part t test) in
           (λ on. sym (told.0 on) ∙ sym whole_is, λ same. told.1 (sym whole_is ∙ sym same))
 
 -- A node on the key's path, and what was read before: the nodes above, at most twice as many as levels without those for the guide leaf.
-pub record IsReadOnKey {K V : Type 0} (bytes : K × V → List ℕ) (P : ℕ) (s : Nodes K V) (root : OpaqueNodePtr) (key : List ℕ) (tree : Tree OpaqueNodePtr (K × V)) (name : OpaqueNodePtr)
+pub record IsReadOnKey {K V : Type 0} (bytes : K × V → List ℕ) (P : ℕ) (s : Nodes K V) (root : OpaqueNodePtr) (key : List ℕ)
+    (tree : Tree OpaqueNodePtr (K × V)) (name : OpaqueNodePtr)
     (depth : ℕ) (guide : Option LeafPtr) (number : ℕ) : Type 0 where
   pub on_key : IsOnKey bytes P key tree name depth
   pub at_least : length (nodes_on_way bytes key tree) ≤ number + left_on_way bytes key depth on_key.descent.at.node

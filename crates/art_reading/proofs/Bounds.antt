@@ -57,7 +57,8 @@ module _ {N A : Type 0} (test : A → Bool) (t : Tree N A) where
   in_filter [] e i = absurd i
   in_filter (f ∷ es) e i = go (in_filter es e) (test f.0) i
     where
-      go : (IsIn e (filter (λ e. test e.0) es) → IsIn e es) → (b : Bool) → IsIn e (cond b (f ∷ filter (λ e. test e.0) es) (filter (λ e. test e.0) es)) → IsIn e (f ∷ es)
+      go : (IsIn e (filter (λ e. test e.0) es) → IsIn e es) → (b : Bool) →
+          IsIn e (cond b (f ∷ filter (λ e. test e.0) es) (filter (λ e. test e.0) es)) → IsIn e (f ∷ es)
       go ih true (inl same) = inl same
       go ih true (inr j) = inr (ih j)
       go ih false j = inr (ih j)
@@ -65,7 +66,8 @@ module _ {N A : Type 0} (test : A → Bool) (t : Tree N A) where
   pub where_in : (n : N) → IsIn n (leaves_where test t) → IsIn n (leaf_names t)
   where_in n i =
       let (e, j, is) = out_map (λ (e : A × N). e.1) n (filter (λ e. test e.0) (entries_of t)) i in
-      subst (IsIn n) (leaf_names-leaves t) (subst (λ z. IsIn z (each (λ e. e.1) (entries_of t))) is (in_map (λ (e : A × N). e.1) e (entries_of t) (in_filter (entries_of t) e j)))
+      subst (IsIn n) (leaf_names-leaves t) (subst (λ z. IsIn z (each (λ e. e.1) (entries_of t))) is
+      (in_map (λ (e : A × N). e.1) e (entries_of t) (in_filter (entries_of t) e j)))
 
 first_of_in : {X : Type 0} (xs : List X) (k : X) → first_of xs ≡ Some k → IsIn k xs
 first_of_in [] k e = absurd cc
@@ -92,18 +94,25 @@ module _ {N A : Type 0} (at : N → Option (Node N A)) where
 
     entries_hold_below : (cs : Subtrees N A) → HoldsBelow at cs → Each (λ e. at e.1 ≡ Some (leaf_node e.0)) (entries_below cs)
     entries_hold_below no_child h = tt
-    entries_hold_below (child b t cs) h = Each-append (λ e. at e.1 ≡ Some (leaf_node e.0)) (entries_of t) (entries_below cs) (entries_hold t h.0) (entries_hold_below cs h.1)
+    entries_hold_below (child b t cs) h =
+        Each-append (λ e. at e.1 ≡ Some (leaf_node e.0)) (entries_of t) (entries_below cs) (entries_hold t h.0) (entries_hold_below cs h.1)
 
 module _ {K V : Type 0} {s : Nodes K V} {bytes : K × V → List ℕ} {P : ℕ} {root : OpaqueNodePtr} {pairs : List (K × V)} {layout : Tree OpaqueNodePtr (K × V)}
     (by : IsCanonicalTree bytes P s root pairs layout) where
   -- a leaf at an end of those that pass is in the store
-  pub first_there : (test : K × V → Bool) (o : Option LeafPtr) → option_map leaf_name o ≡ first_of (leaves_where test layout) → IfSome o (λ p. IsSome (map.get s.leaves p))
+  pub first_there : (test : K × V → Bool) (o : Option LeafPtr) → option_map leaf_name o ≡ first_of (leaves_where test layout) →
+      IfSome o (λ p. IsSome (map.get s.leaves p))
   first_there test None e = tt
-  first_there test (Some p) e = there_in s (leaf_names layout) None None p by.linked (where_in test layout (leaf_name p) (first_of_in (leaves_where test layout) (leaf_name p) (sym e)))
+  first_there test (Some p) e =
+      there_in s (leaf_names layout) None None p by.linked
+      (where_in test layout (leaf_name p) (first_of_in (leaves_where test layout) (leaf_name p) (sym e)))
 
-  pub last_there : (test : K × V → Bool) (o : Option LeafPtr) → option_map leaf_name o ≡ last_of (leaves_where test layout) → IfSome o (λ p. IsSome (map.get s.leaves p))
+  pub last_there : (test : K × V → Bool) (o : Option LeafPtr) → option_map leaf_name o ≡ last_of (leaves_where test layout) →
+      IfSome o (λ p. IsSome (map.get s.leaves p))
   last_there test None e = tt
-  last_there test (Some p) e = there_in s (leaf_names layout) None None p by.linked (where_in test layout (leaf_name p) (last_of_in (leaves_where test layout) (leaf_name p) (sym e)))
+  last_there test (Some p) e =
+      there_in s (leaf_names layout) None None p by.linked
+      (where_in test layout (leaf_name p) (last_of_in (leaves_where test layout) (leaf_name p) (sym e)))
 
   module _ (from to : Bound (List ℕ)) where
     abbrev Entry : Type 0
@@ -141,9 +150,11 @@ module _ {K V : Type 0} {s : Nodes K V} {bytes : K × V → List ℕ} {P : ℕ} 
     no_names [] e = refl
     no_names (x ∷ es) e = absurd cc
 
-    pub none_after : None ≡ first_of (leaves_where (λ x. is_from from (bytes x)) layout) → IsIteratorOf s None (leaves_where (λ x. is_between from to (bytes x)) layout)
+    pub none_after : None ≡ first_of (leaves_where (λ x. is_from from (bytes x)) layout) →
+        IsIteratorOf s None (leaves_where (λ x. is_between from to (bytes x)) layout)
     none_after e =
-        let none = span_none (λ (e : Entry). is_from from (bytes e.0)) (λ e. is_up_to to (bytes e.0)) (entries_of layout) rise fall (no_names (filter (λ e. is_from from (bytes e.0)) (entries_of layout)) e) in
+        let none = span_none (λ (e : Entry). is_from from (bytes e.0)) (λ e. is_up_to to (bytes e.0)) (entries_of layout) rise fall
+        (no_names (filter (λ e. is_from from (bytes e.0)) (entries_of layout)) e) in
         subst (IsIteratorOf s None) (sym (ap (each (λ (e : Entry). e.1)) none)) empty_iterator
 
     -- the first leaf after the lower bound has this pair
@@ -154,25 +165,31 @@ module _ {K V : Type 0} {s : Nodes K V} {bytes : K × V → List ℕ} {P : ℕ} 
       named : entry.1 ≡ leaf_name p
       pair : entry.0 ≡ pair_of shown
 
-    begins_with : (p : LeafPtr) (shown : LeafNode K V) → Some (leaf_name p) ≡ first_of (leaves_where (λ x. is_from from (bytes x)) layout) → Some shown ≡ map.get s.leaves p → BeginsWith p shown
+    begins_with : (p : LeafPtr) (shown : LeafNode K V) → Some (leaf_name p) ≡ first_of (leaves_where (λ x. is_from from (bytes x)) layout) →
+        Some shown ≡ map.get s.leaves p → BeginsWith p shown
     begins_with p shown e read = go (filter (λ (e : Entry). is_from from (bytes e.0)) (entries_of layout)) refl e
       where
-        go : (es : List Entry) → filter (λ (e : Entry). is_from from (bytes e.0)) (entries_of layout) ≡ es → Some (leaf_name p) ≡ first_of (each (λ e. e.1) es) → BeginsWith p shown
+        go : (es : List Entry) → filter (λ (e : Entry). is_from from (bytes e.0)) (entries_of layout) ≡ es →
+            Some (leaf_name p) ≡ first_of (each (λ e. e.1) es) → BeginsWith p shown
         go [] is e = absurd cc
         go (x ∷ es) is e =
             let named : x.1 ≡ leaf_name p = cc in
             let i : IsIn x (entries_of layout) = in_filter (λ x. is_from from (bytes x)) layout (entries_of layout) x (subst (IsIn x) (sym is) (inl refl)) in
-            let held = each_in (λ (e : Entry). node_at s e.1 ≡ Some (leaf_node e.0)) x (entries_of layout) (entries_hold (node_at s) layout by.stands.0.holds) i in
+            let held =
+            each_in (λ (e : Entry). node_at s e.1 ≡ Some (leaf_node e.0)) x (entries_of layout)
+            (entries_hold (node_at s) layout by.stands.0.holds) i in
             let (other, there, same) = views.leaf_there s p x.0 (ap (node_at s) (sym named) ∙ held) in
             let one : other ≡ shown = cc in
             record { entry = x; rest = es; is = is; named = named; pair = sym same ∙ ap pair_of one }
 
-    module _ {p : LeafPtr} {shown : LeafNode K V} (e : Some (leaf_name p) ≡ first_of (leaves_where (λ x. is_from from (bytes x)) layout)) (read : Some shown ≡ map.get s.leaves p) where
+    module _ {p : LeafPtr} {shown : LeafNode K V} (e : Some (leaf_name p) ≡ first_of (leaves_where (λ x. is_from from (bytes x)) layout))
+        (read : Some shown ≡ map.get s.leaves p) where
       -- its key is after the upper bound
       pub first_past : is_up_to to (bytes (pair_of shown)) ≡ false → IsIteratorOf s None (leaves_where (λ x. is_between from to (bytes x)) layout)
       first_past off =
           let b = begins_with p shown e read in
-          let none = span_off (λ (e : Entry). is_from from (bytes e.0)) (λ e. is_up_to to (bytes e.0)) (entries_of layout) rise fall b.entry b.rest b.is (ap (λ x. is_up_to to (bytes x)) b.pair ∙ off) in
+          let none = span_off (λ (e : Entry). is_from from (bytes e.0)) (λ e. is_up_to to (bytes e.0))
+          (entries_of layout) rise fall b.entry b.rest b.is (ap (λ x. is_up_to to (bytes x)) b.pair ∙ off) in
           subst (IsIteratorOf s None) (sym (ap (each (λ (e : Entry). e.1)) none)) empty_iterator
 
       module _ (on : is_up_to to (bytes (pair_of shown)) ≡ true) where
@@ -180,18 +197,27 @@ module _ {K V : Type 0} {s : Nodes K V} {bytes : K × V → List ℕ} {P : ℕ} 
         span_first : (rest : List OpaqueNodePtr) × (leaves_where (λ x. is_between from to (bytes x)) layout ≡ leaf_name p ∷ rest)
         span_first =
             let b = begins_with p shown e read in
-            let some = span_on (λ (e : Entry). is_from from (bytes e.0)) (λ e. is_up_to to (bytes e.0)) (entries_of layout) rise fall b.entry b.rest b.is (ap (λ x. is_up_to to (bytes x)) b.pair ∙ on) in
-            (each (λ (e : Entry). e.1) (filter (λ (e : Entry). is_up_to to (bytes e.0)) b.rest), ap (each (λ (e : Entry). e.1)) some ∙ ap (λ n. n ∷ each (λ (e : Entry). e.1) (filter (λ (e : Entry). is_up_to to (bytes e.0)) b.rest)) b.named)
+            let some = span_on (λ (e : Entry). is_from from (bytes e.0)) (λ e. is_up_to to (bytes e.0))
+            (entries_of layout) rise fall b.entry b.rest b.is (ap (λ x. is_up_to to (bytes x)) b.pair ∙ on) in (
+              each (λ (e : Entry). e.1) (filter (λ (e : Entry). is_up_to to (bytes e.0)) b.rest),
+              ap (each (λ (e : Entry). e.1)) some
+                  ∙ ap (λ n. n ∷ each (λ (e : Entry). e.1) (filter (λ (e : Entry). is_up_to to (bytes e.0)) b.rest)) b.named,
+            )
 
         last_some : (x : OpaqueNodePtr) (xs : List OpaqueNodePtr) → (z : OpaqueNodePtr) × (last_of (x ∷ xs) ≡ Some z)
         last_some x [] = (x, refl)
         last_some x (y ∷ ys) = last_some y ys
 
-        span_end : (z : OpaqueNodePtr) × (last_of (leaves_where (λ x. is_between from to (bytes x)) layout) ≡ Some z) × (last_of (leaves_where (λ x. is_up_to to (bytes x)) layout) ≡ Some z)
+        span_end : (z : OpaqueNodePtr) × (last_of (leaves_where (λ x. is_between from to (bytes x)) layout) ≡ Some z) ×
+            (last_of (leaves_where (λ x. is_up_to to (bytes x)) layout) ≡ Some z)
         span_end =
             let (rest, is) = span_first in
-            let (z, last) = last_some (leaf_name p) rest in
-            (z, ap last_of is ∙ last, span_last (λ (e : Entry). is_from from (bytes e.0)) (λ e. is_up_to to (bytes e.0)) (entries_of layout) rise fall (λ e. e.1) z (ap last_of is ∙ last))
+            let (z, last) = last_some (leaf_name p) rest in (
+              z,
+              ap last_of is ∙ last,
+              span_last (λ (e : Entry). is_from from (bytes e.0)) (λ e. is_up_to to (bytes e.0))
+                  (entries_of layout) rise fall (λ e. e.1) z (ap last_of is ∙ last),
+            )
 
         pub last_is_there : (o : Option LeafPtr) → option_map leaf_name o ≡ last_of (leaves_where (λ x. is_up_to to (bytes x)) layout) → IsSome o
         last_is_there None none = let (z, own, all) = span_end in absurd cc

@@ -71,32 +71,42 @@ module _ {K V : Type 0} {s : Nodes K V} {bytes : K × V → List ℕ} {P : ℕ} 
     where
       go : (c : Cut) → Each (λ x. is_before_cut c key (bytes x) ≡ side_of c) (pairs_of b.at.node)
       go Before = b.lower
-      go After = Each-weaker (λ x. is_before key (bytes x) ≡ b.is_upper) (λ x. not (is_before key (bytes x)) ≡ not b.is_upper) (λ x e. ap not e) (pairs_of b.at.node) b.upper
+      go After = Each-weaker (λ x. is_before key (bytes x) ≡ b.is_upper) (λ x. not (is_before key (bytes x)) ≡ not b.is_upper)
+          (λ x e. ap not e) (pairs_of b.at.node) b.upper
 
   lower : Each (λ x. is_before_cut cut key (bytes x) ≡ true) (pairs_before b.at.path)
-  lower = Each-weaker (λ x. Precedes (bytes x) key) (λ x. is_before_cut cut key (bytes x) ≡ true) (λ x h. lower_side cut key (bytes x) h) (pairs_before b.at.path) b.at.before
+  lower = Each-weaker (λ x. Precedes (bytes x) key) (λ x. is_before_cut cut key (bytes x) ≡ true) (λ x h. lower_side cut key (bytes x) h)
+      (pairs_before b.at.path) b.at.before
 
   upper : Each (λ x. is_before_cut cut key (bytes x) ≡ false) (pairs_after b.at.path)
-  upper = Each-weaker (λ x. Precedes key (bytes x)) (λ x. is_before_cut cut key (bytes x) ≡ false) (λ x h. upper_side cut key (bytes x) h) (pairs_after b.at.path) b.at.after
+  upper = Each-weaker (λ x. Precedes key (bytes x)) (λ x. is_before_cut cut key (bytes x) ≡ false) (λ x h. upper_side cut key (bytes x) h)
+      (pairs_after b.at.path) b.at.after
 
   not_lower : Each (λ x. not (is_before_cut cut key (bytes x)) ≡ false) (pairs_before b.at.path)
-  not_lower = Each-weaker (λ x. is_before_cut cut key (bytes x) ≡ true) (λ x. not (is_before_cut cut key (bytes x)) ≡ false) (λ x e. ap not e) (pairs_before b.at.path) lower
+  not_lower = Each-weaker (λ x. is_before_cut cut key (bytes x) ≡ true) (λ x. not (is_before_cut cut key (bytes x)) ≡ false)
+      (λ x e. ap not e) (pairs_before b.at.path) lower
 
   not_upper : Each (λ x. not (is_before_cut cut key (bytes x)) ≡ true) (pairs_after b.at.path)
-  not_upper = Each-weaker (λ x. is_before_cut cut key (bytes x) ≡ false) (λ x. not (is_before_cut cut key (bytes x)) ≡ true) (λ x e. ap not e) (pairs_after b.at.path) upper
+  not_upper = Each-weaker (λ x. is_before_cut cut key (bytes x) ≡ false) (λ x. not (is_before_cut cut key (bytes x)) ≡ true)
+      (λ x e. ap not e) (pairs_after b.at.path) upper
 
   linked : AreLinked (links_at s) None ((leaves_before b.at.path ++ leaf_names b.at.node) ++ leaves_after b.at.path) None
   linked = subst (λ ns. AreLinked (links_at s) None ns None) (ap leaf_names (sym b.at.whole) ∙ leaf_names-plug b.at.path b.at.node) by.linked
 
   -- the leaves before the cut, and those after it
-  before_are : leaves_where (λ x. is_before_cut cut key (bytes x)) layout ≡ leaves_before b.at.path ++ leaves_where (λ x. is_before_cut cut key (bytes x)) b.at.node
-  before_are = ap (leaves_where (λ x. is_before_cut cut key (bytes x))) (sym b.at.whole) ∙ where_before (λ x. is_before_cut cut key (bytes x)) b.at.path b.at.node lower upper
+  before_are : leaves_where (λ x. is_before_cut cut key (bytes x)) layout
+      ≡ leaves_before b.at.path ++ leaves_where (λ x. is_before_cut cut key (bytes x)) b.at.node
+  before_are = ap (leaves_where (λ x. is_before_cut cut key (bytes x))) (sym b.at.whole)
+      ∙ where_before (λ x. is_before_cut cut key (bytes x)) b.at.path b.at.node lower upper
 
-  after_are : leaves_where (λ x. not (is_before_cut cut key (bytes x))) layout ≡ leaves_where (λ x. not (is_before_cut cut key (bytes x))) b.at.node ++ leaves_after b.at.path
-  after_are = ap (leaves_where (λ x. not (is_before_cut cut key (bytes x)))) (sym b.at.whole) ∙ where_after (λ x. not (is_before_cut cut key (bytes x))) b.at.path b.at.node not_lower not_upper
+  after_are : leaves_where (λ x. not (is_before_cut cut key (bytes x))) layout
+      ≡ leaves_where (λ x. not (is_before_cut cut key (bytes x))) b.at.node ++ leaves_after b.at.path
+  after_are = ap (leaves_where (λ x. not (is_before_cut cut key (bytes x)))) (sym b.at.whole)
+      ∙ where_after (λ x. not (is_before_cut cut key (bytes x))) b.at.path b.at.node not_lower not_upper
 
   -- the node is after the cut
-  module _ (off : side ≡ false) {p : LeafPtr} (first : HasFirstLeaf b.at.node (leaf_name p)) {shown : LeafNode K V} (read : Some shown ≡ map.get s.leaves p) where
+  module _ (off : side ≡ false) {p : LeafPtr} (first : HasFirstLeaf b.at.node (leaf_name p)) {shown : LeafNode K V}
+      (read : Some shown ≡ map.get s.leaves p) where
     none_before : Each (λ x. is_before_cut cut key (bytes x) ≡ false) (pairs_of b.at.node)
     none_before = subst (λ t. Each (λ x. is_before_cut cut key (bytes x) ≡ t) (pairs_of b.at.node)) off all_on_side
 
@@ -105,14 +115,18 @@ module _ {K V : Type 0} {s : Nodes K V} {bytes : K × V → List ℕ} {P : ℕ} 
         let (rest, is) = first_and_rest (leaf_name p) (leaf_names b.at.node) first.name_is in
         let own : leaves_where (λ x. not (is_before_cut cut key (bytes x))) b.at.node ≡ leaf_names b.at.node =
         where_all (λ x. not (is_before_cut cut key (bytes x))) b.at.node
-        (Each-weaker (λ x. is_before_cut cut key (bytes x) ≡ false) (λ x. not (is_before_cut cut key (bytes x)) ≡ true) (λ x h. ap not h) (pairs_of b.at.node) none_before) in
+        (Each-weaker (λ x. is_before_cut cut key (bytes x) ≡ false) (λ x. not (is_before_cut cut key (bytes x)) ≡ true) (λ x h. ap not h)
+        (pairs_of b.at.node) none_before) in
         ap (option_map leaf_name) e ∙ sym (ap first_of (after_are ∙ ap (λ ns. ns ++ leaves_after b.at.path) (own ∙ is)))
     from_first Last e =
         let (rest, is) = first_and_rest (leaf_name p) (leaf_names b.at.node) first.name_is in
         let own = where_none (λ x. is_before_cut cut key (bytes x)) b.at.node none_before in
-        let split : (leaves_before b.at.path ++ leaf_names b.at.node) ++ leaves_after b.at.path ≡ leaves_before b.at.path ++ leaf_name p ∷ (rest ++ leaves_after b.at.path) =
-        ap (λ ns. (leaves_before b.at.path ++ ns) ++ leaves_after b.at.path) is ∙ append_assoc (leaves_before b.at.path) (leaf_name p ∷ rest) (leaves_after b.at.path) in
-        let link = link_of (links_at s) (leaves_before b.at.path) (rest ++ leaves_after b.at.path) (leaf_name p) None None (subst (λ ns. AreLinked (links_at s) None ns None) split linked) in
+        let split : (leaves_before b.at.path ++ leaf_names b.at.node) ++ leaves_after b.at.path
+        ≡ leaves_before b.at.path ++ leaf_name p ∷ (rest ++ leaves_after b.at.path) =
+        ap (λ ns. (leaves_before b.at.path ++ ns) ++ leaves_after b.at.path) is
+        ∙ append_assoc (leaves_before b.at.path) (leaf_name p ∷ rest) (leaves_after b.at.path) in
+        let link = link_of (links_at s) (leaves_before b.at.path) (rest ++ leaves_after b.at.path) (leaf_name p) None None
+        (subst (λ ns. AreLinked (links_at s) None ns None) split linked) in
         let (leaf, there, previous, next) = linked_leaf (map.get s.leaves p) _ link in
         let same : leaf ≡ shown = cc in
         ap (option_map leaf_name) (e ∙ ap (λ z. z.previous) (sym same)) ∙ previous ∙ last_or_of (leaves_before b.at.path)
@@ -126,17 +140,21 @@ module _ {K V : Type 0} {s : Nodes K V} {bytes : K × V → List ℕ} {P : ℕ} 
     pub from_last : (end : End) {result : Option LeafPtr} → result ≡ of_two end (shown.next, Some q) → IsLeafAtCut bytes cut key layout end result
     from_last Last e =
         let own = where_all (λ x. is_before_cut cut key (bytes x)) b.at.node all_before in
-        ap (option_map leaf_name) e ∙ sym (ap last_of (before_are ∙ ap (λ ns. leaves_before b.at.path ++ ns) own) ∙ last_after (leaf_name q) (leaves_before b.at.path) (leaf_names b.at.node) last.name_is)
+        ap (option_map leaf_name) e ∙ sym (ap last_of (before_are ∙ ap (λ ns. leaves_before b.at.path ++ ns) own)
+        ∙ last_after (leaf_name q) (leaves_before b.at.path) (leaf_names b.at.node) last.name_is)
     from_last First e =
         let (others, is) = others_and_last (leaf_name q) (leaf_names b.at.node) last.name_is in
         let own : leaves_where (λ x. not (is_before_cut cut key (bytes x))) b.at.node ≡ [] =
         where_none (λ x. not (is_before_cut cut key (bytes x))) b.at.node
-        (Each-weaker (λ x. is_before_cut cut key (bytes x) ≡ true) (λ x. not (is_before_cut cut key (bytes x)) ≡ false) (λ x h. ap not h) (pairs_of b.at.node) all_before) in
-        let split : (leaves_before b.at.path ++ leaf_names b.at.node) ++ leaves_after b.at.path ≡ (leaves_before b.at.path ++ others) ++ leaf_name q ∷ leaves_after b.at.path =
+        (Each-weaker (λ x. is_before_cut cut key (bytes x) ≡ true) (λ x. not (is_before_cut cut key (bytes x)) ≡ false) (λ x h. ap not h)
+        (pairs_of b.at.node) all_before) in
+        let split : (leaves_before b.at.path ++ leaf_names b.at.node) ++ leaves_after b.at.path
+        ≡ (leaves_before b.at.path ++ others) ++ leaf_name q ∷ leaves_after b.at.path =
         ap (λ ns. (leaves_before b.at.path ++ ns) ++ leaves_after b.at.path) is
         ∙ ap (λ ns. ns ++ leaves_after b.at.path) (sym (append_assoc (leaves_before b.at.path) others (leaf_name q ∷ [])))
         ∙ append_assoc (leaves_before b.at.path ++ others) (leaf_name q ∷ []) (leaves_after b.at.path) in
-        let link = link_of (links_at s) (leaves_before b.at.path ++ others) (leaves_after b.at.path) (leaf_name q) None None (subst (λ ns. AreLinked (links_at s) None ns None) split linked) in
+        let link = link_of (links_at s) (leaves_before b.at.path ++ others) (leaves_after b.at.path) (leaf_name q) None None
+        (subst (λ ns. AreLinked (links_at s) None ns None) split linked) in
         let (leaf, there, previous, next) = linked_leaf (map.get s.leaves q) _ link in
         let same : leaf ≡ shown = cc in
         ap (option_map leaf_name) (e ∙ ap (λ z. z.next) (sym same)) ∙ next ∙ first_or_of (leaves_after b.at.path)

@@ -26,7 +26,8 @@ use Rattle.art_model.proofs.stores.Stores.{path_holds}
 use Rattle.art_reading.specs.PartEnds.{StandsBetween}
 
 -- A node of a radix tree at a place of so many bytes, between pairs of which these hold.
-pub record IsDescent {A : Type 0} (bytes : A → List ℕ) (P : ℕ) (Lower Upper : A → Type 0) (tree : Tree OpaqueNodePtr A) (name : OpaqueNodePtr) (depth : ℕ) : Type 0 where
+pub record IsDescent {A : Type 0} (bytes : A → List ℕ) (P : ℕ) (Lower Upper : A → Type 0) (tree : Tree OpaqueNodePtr A)
+    (name : OpaqueNodePtr) (depth : ℕ) : Type 0 where
   pub at : StandsBetween Lower Upper tree name
   pub place : List ℕ
   pub radix : IsRadix bytes P place at.node
@@ -66,7 +67,8 @@ module _ {A : Type 0} {bytes : A → List ℕ} {P : ℕ} {Lower Upper : A → Ty
   child_there c i none = each_in (λ b. b ≢ c) c (bytes_of at.children) (no_child_under at.children c (ap (λ cs. child_at cs c) (sym at.slots) ∙ none)) i refl
 
   -- what holds of all pairs that start with the bytes of a child holds of all pairs below the node
-  pub each_under : (Q : A → Type 0) → ((c : ℕ) → IsIn c (bytes_of at.children) → (x : A) → IsFront (front ++ c ∷ []) (bytes x) → Q x) → Each Q (pairs_of d.at.node)
+  pub each_under : (Q : A → Type 0) → ((c : ℕ) → IsIn c (bytes_of at.children) → (x : A) → IsFront (front ++ c ∷ []) (bytes x) → Q x) →
+      Each Q (pairs_of d.at.node)
   each_under Q h =
       subst (λ t. Each Q (pairs_of t)) (sym at.is)
       (each_below bytes P Q at.children front shown_radix.4 (each_from (λ c. (x : A) → IsFront (front ++ c ∷ []) (bytes x) → Q x) (bytes_of at.children) h))
@@ -85,11 +87,13 @@ module _ {A : Type 0} {bytes : A → List ℕ} {P : ℕ} {Lower Upper : A → Ty
       let all_upper = (Pairwise-right ◌<◌ (bytes_of u.left) (b ∷ bytes_of u.right) up).0 in
       let low = each_below bytes P Lower u.left front (AreRadix-left bytes P front u.left (child b u.tree u.right) below)
       (each_from (λ c. (x : A) → IsFront (front ++ c ∷ []) (bytes x) → Lower x) (bytes_of u.left)
-      (λ c i. lower c (subst (IsIn c) (sym split) (in_left c (bytes_of u.left) (b ∷ bytes_of u.right) i)) (each_in (λ z. z < b) c (bytes_of u.left) all_lower i))) in
+      (λ c i. lower c (subst (IsIn c) (sym split) (in_left c (bytes_of u.left) (b ∷ bytes_of u.right) i))
+      (each_in (λ z. z < b) c (bytes_of u.left) all_lower i))) in
       let own = AreRadix-right bytes P front u.left (child b u.tree u.right) below in
       let high = each_below bytes P Upper u.right front own.1
       (each_from (λ c. (x : A) → IsFront (front ++ c ∷ []) (bytes x) → Upper x) (bytes_of u.right)
-      (λ c i. upper c (subst (IsIn c) (sym split) (in_right c (bytes_of u.left) (b ∷ bytes_of u.right) (inr i))) (each_in (λ z. b < z) c (bytes_of u.right) all_upper i))) in
+      (λ c i. upper c (subst (IsIn c) (sym split) (in_right c (bytes_of u.left) (b ∷ bytes_of u.right) (inr i)))
+      (each_in (λ z. b < z) c (bytes_of u.right) all_upper i))) in
       record {
         at = record {
           path = record { mark = inner_name p; header = header_at p.kind shown; left = u.left; byte = b; right = u.right } ∷ d.at.path;

@@ -71,7 +71,18 @@ module _ {A : Type 0} (bytes : A → List ℕ) (P : ℕ) (key : List ℕ) (node 
 module _ {K V : Type 0} {s : Nodes K V} {bytes : K × V → List ℕ} {P : ℕ} {root : OpaqueNodePtr} {pairs : List (K × V)}
     {layout : Tree OpaqueNodePtr (K × V)} (by : IsCanonicalTree bytes P s root pairs layout) where
   abbrev pub start : (key : List ℕ) → IsAt bytes P key layout Root root 0
-  start key = record { frames = []; place = []; node = layout; whole = refl; leads = refl; radix = (tree_radix by).0; on_way = (key, refl); named = by.stands.0.named; depth_is = refl; path_is = refl }
+  start key = record {
+    frames = [];
+    place = [];
+    node = layout;
+    whole = refl;
+    leads = refl;
+    radix = (tree_radix by).0;
+    on_way = (key, refl);
+    named = by.stands.0.named;
+    depth_is = refl;
+    path_is = refl;
+  }
 
   module _ {key : List ℕ} {path : TreePath} {name : OpaqueNodePtr} {depth : ℕ} (d : IsAt bytes P key layout path name depth) where
     -- under another name for it
@@ -89,7 +100,8 @@ module _ {K V : Type 0} {s : Nodes K V} {bytes : K × V → List ℕ} {P : ℕ} 
       path_is = d.path_is;
     }
 
-    pub step_named : {other : OpaqueNodePtr} (same : other ≡ name) (step : SearchStep) → IsStepFrom bytes P key pairs layout path other depth (at_named same) step →
+    pub step_named : {other : OpaqueNodePtr} (same : other ≡ name) (step : SearchStep) →
+        IsStepFrom bytes P key pairs layout path other depth (at_named same) step →
         IsStepFrom bytes P key pairs layout path name depth d step
     step_named same (End kind used) (end, left) = (
       subst (λ n. IsEndFor bytes P key pairs layout (record { path = path; name = n; insert_kind = kind; key_bytes_used = used })) same end,
@@ -130,7 +142,8 @@ module _ {K V : Type 0} {s : Nodes K V} {bytes : K × V → List ℕ} {P : ℕ} 
     -- the part of the tree below
     pub part_there : {part : OpaqueNodePtr} → part ≡ name → IsPlaced bytes P s part depth d.node
     part_there is =
-        let all : AreDistinct (names_before d.frames ++ names_of d.node ++ names_after d.frames) = subst AreDistinct (ap names_of (sym d.whole) ∙ names_of-plug d.frames d.node) by.stands.0.distinct in
+        let all : AreDistinct (names_before d.frames ++ names_of d.node ++ names_after d.frames) =
+        subst AreDistinct (ap names_of (sym d.whole) ∙ names_of-plug d.frames d.node) by.stands.0.distinct in
         record {
           place = d.place;
           depth_is = d.depth_is;
@@ -155,7 +168,8 @@ module _ {K V : Type 0} {s : Nodes K V} {bytes : K × V → List ℕ} {P : ℕ} 
     deep = depth_is bytes P d.frames d.place d.leads ∙ d.depth_is
 
     -- where no longer place is a prefix of the key this is the end node
-    ends : Each (λ other. IsFront other.0 key → length other.0 ≤ length d.place) (places bytes (length d.place) d.node) → IsEndNode bytes layout key d.frames d.node
+    ends : Each (λ other. IsFront other.0 key → length other.0 ≤ length d.place) (places bytes (length d.place) d.node) →
+        IsEndNode bytes layout key d.frames d.node
     ends longest = subst (λ t. IsEndNode bytes t key d.frames d.node) d.whole (ends_at bytes P key d.frames d.place d.node d.leads d.radix d.on_way longest)
 
     -- and the key leads to it
@@ -211,7 +225,8 @@ module _ {K V : Type 0} {s : Nodes K V} {bytes : K × V → List ℕ} {P : ℕ} 
       leaf_end (Some (IntoExisting q)) h = absurd h
       leaf_end (Some (MismatchPrefix m q)) h = absurd h
 
-      pub leaf_step : (kind : Option InsertKind) → IsKindFor key p (bytes (pair_of shown)) kind → IsStepFrom bytes P key pairs layout path name depth d (End kind depth)
+      pub leaf_step : (kind : Option InsertKind) → IsKindFor key p (bytes (pair_of shown)) kind →
+          IsStepFrom bytes P key pairs layout path name depth d (End kind depth)
       leaf_step kind is = (leaf_end kind is, left_leaf_is)
 
     -- ---- at an inner node
@@ -226,7 +241,9 @@ module _ {K V : Type 0} {s : Nodes K V} {bytes : K × V → List ℕ} {P : ℕ} 
       front = d.place ++ radix.0
 
       here_prefix : prefix_of bytes depth here ≡ radix.0
-      here_prefix = subst (λ n. prefix_of bytes n here ≡ radix.0) d.depth_is (prefix_is bytes P (inner_name p) (header_at p.kind shown) at.children d.place radix)
+      here_prefix =
+          subst (λ n. prefix_of bytes n here ≡ radix.0) d.depth_is
+          (prefix_is bytes P (inner_name p) (header_at p.kind shown) at.children d.place radix)
 
       whole_prefix : prefix_of bytes depth d.node ≡ radix.0
       whole_prefix = ap (prefix_of bytes depth) at.is ∙ here_prefix
@@ -242,7 +259,8 @@ module _ {K V : Type 0} {s : Nodes K V} {bytes : K × V → List ℕ} {P : ℕ} 
       below : is_conflict bytes key pairs ≡ is_conflict bytes key (pairs_below at.children)
       below = conflict_below ∙ ap (λ t. is_conflict bytes key (pairs_of t)) at.is
 
-      longest_inner : AreAside front key at.children → Each (λ other. IsFront other.0 key → length other.0 ≤ length d.place) (places bytes (length d.place) d.node)
+      longest_inner : AreAside front key at.children →
+          Each (λ other. IsFront other.0 key → length other.0 ≤ length d.place) (places bytes (length d.place) d.node)
       longest_inner aside =
           let len : (header_at p.kind shown).length_of ≡ length radix.0 = ap (λ h. h.length_of) radix.1 in
           subst (λ t. Each (λ other. IsFront other.0 key → length other.0 ≤ length d.place) (places bytes (length d.place) t)) (sym at.is) (
@@ -264,9 +282,12 @@ module _ {K V : Type 0} {s : Nodes K V} {bytes : K × V → List ℕ} {P : ℕ} 
           go no_child two h = absurd (omega arith)
           go (child b t cs) two h =
               let (x, xs, e) = radix_some bytes P t (front ++ b ∷ []) h.0 in
-              let way : IsFront (front ++ b ∷ []) (bytes x) = (subst (Each (λ z. IsFront (front ++ b ∷ []) (bytes z))) e (radix_way bytes P t (front ++ b ∷ []) h.0)).0 in
-              let goes : IsFront key (bytes x) = front_trans key (front ++ b ∷ []) (bytes x) (front_trans key front (front ++ b ∷ []) short (b ∷ [], refl)) way in
-              let long : length key < length (bytes x) = let l = ap length short.1 in let k = ap length way.1 in omega (arith, simp length-append at l, simp length-append at k) in
+              let way : IsFront (front ++ b ∷ []) (bytes x) =
+              (subst (Each (λ z. IsFront (front ++ b ∷ []) (bytes z))) e (radix_way bytes P t (front ++ b ∷ []) h.0)).0 in
+              let goes : IsFront key (bytes x) =
+              front_trans key (front ++ b ∷ []) (bytes x) (front_trans key front (front ++ b ∷ []) short (b ∷ [], refl)) way in
+              let long : length key < length (bytes x) =
+              let l = ap length short.1 in let k = ap length way.1 in omega (arith, simp length-append at l, simp length-append at k) in
               rw e (first_conflict bytes key x (xs ++ pairs_below cs) (front_related key (bytes x) goes) (λ same. let l = ap length same in omega arith))
 
       -- so the node is replaced
@@ -277,7 +298,8 @@ module _ {K V : Type 0} {s : Nodes K V} {bytes : K × V → List ℕ} {P : ℕ} 
           let no_longer : length key ≤ length front = let l = ap length short.1 in let k = length-append key r in omega arith in (
             short_conflict short,
             comes_to used None (longest_inner (aside_end front key at.children no_longer))
-                (subst (IsOverwrittenWith bytes key depth used) (sym at.is) (is ∙ ap (used_in_prefix key depth) (sym here_prefix), subst (IsFront (drop depth key)) (sym here_prefix) (r, e))),
+                (subst (IsOverwrittenWith bytes key depth used) (sym at.is)
+                (is ∙ ap (used_in_prefix key depth) (sym here_prefix), subst (IsFront (drop depth key)) (sym here_prefix) (r, e))),
           )
 
       -- the prefix is compared
@@ -302,9 +324,11 @@ module _ {K V : Type 0} {s : Nodes K V} {bytes : K × V → List ℕ} {P : ℕ} 
           where
             go : IsFront (prefix_of bytes depth d.node) (drop depth key) → drop depth key ≡ radix.0
             go ([], e) = e ∙ append-nil (prefix_of bytes depth d.node) ∙ whole_prefix
-            go (b ∷ r, e) = absurd (let l = ap length e in let k = length-drop depth key in let m = length-append (prefix_of bytes depth d.node) (b ∷ r) in let u = c.0 in omega arith)
+            go (b ∷ r, e) = absurd (let l = ap length e in let k = length-drop depth key in
+                let m = length-append (prefix_of bytes depth d.node) (b ∷ r) in let u = c.0 in omega arith)
 
-            ends_with : length key ≡ depth + length radix.0 → length key ≡ depth + match.matched_bytes → depth + match.matched_bytes - 1 ≡ used_in_prefix key depth radix.0
+            ends_with : length key ≡ depth + length radix.0 → length key ≡ depth + match.matched_bytes →
+                depth + match.matched_bytes - 1 ≡ used_in_prefix key depth radix.0
             ends_with e f = rw (← f, eq-eqb (length key) (depth + length radix.0) e) refl
 
         module _ (long : depth + match.matched_bytes < length key) where
@@ -316,7 +340,8 @@ module _ {K V : Type 0} {s : Nodes K V} {bytes : K × V → List ℕ} {P : ℕ} 
           unrelated no_child h others = tt
           unrelated (child b t cs) h others = Each-append (λ x. are_related key (bytes x) ≡ false) (pairs_of t) (pairs_below cs)
               (Each-weaker (λ x. IsFront (front ++ b ∷ []) (bytes x)) (λ x. are_related key (bytes x) ≡ false)
-              (λ x f. unrelated_after front (get_or key (length front) 0) b key (bytes x) next f (λ e. others.0 (sym e))) (pairs_of t) (radix_way bytes P t (front ++ b ∷ []) h.0))
+              (λ x f. unrelated_after front (get_or key (length front) 0) b key (bytes x) next f (λ e. others.0 (sym e))) (pairs_of t)
+              (radix_way bytes P t (front ++ b ∷ []) h.0))
               (unrelated cs h.1 others.1)
 
           -- no child continues with the key
@@ -325,7 +350,9 @@ module _ {K V : Type 0} {s : Nodes K V} {bytes : K × V → List ℕ} {P : ℕ} 
           ends_after_prefix none =
               let gone : child_at (slots_of at.children) (get_or key (depth + match.matched_bytes) 0) ≡ None =
               ap (λ cs. child_at cs (get_or key (depth + match.matched_bytes) 0)) (sym at.slots) ∙ sym none in
-              let others = no_child_under at.children (get_or key (length front) 0) (ap (λ n. child_at (slots_of at.children) (get_or key n 0)) (sym used) ∙ gone) in
+              let others =
+              no_child_under at.children (get_or key (length front) 0)
+              (ap (λ n. child_at (slots_of at.children) (get_or key n 0)) (sym used) ∙ gone) in
               let aside = aside_others front key at.children others in (
                 (
                   below ∙ no_conflict bytes key (pairs_below at.children) (unrelated at.children radix.4 others),
@@ -355,8 +382,12 @@ module _ {K V : Type 0} {s : Nodes K V} {bytes : K × V → List ℕ} {P : ℕ} 
               ) in
               let down = path_down bytes P d.frames d.place f u.tree d.leads node in
               let others = λ (c : ℕ) (o : c ≢ b). λ (e : c ≡ get_or key (length front) 0). o (e ∙ ap (λ n. get_or key n 0) (sym used)) in
-              let low = aside_others front key u.left (Each-weaker (λ c. c ≢ b) (λ c. c ≢ get_or key (length front) 0) others (bytes_of u.left) u.others_left) in
-              let high = aside_others front key u.right (Each-weaker (λ c. c ≢ b) (λ c. c ≢ get_or key (length front) 0) others (bytes_of u.right) u.others_right) in
+              let low =
+              aside_others front key u.left (Each-weaker (λ c. c ≢ b) (λ c. c ≢ get_or key (length front) 0) others
+              (bytes_of u.left) u.others_left) in
+              let high =
+              aside_others front key u.right (Each-weaker (λ c. c ≢ b) (λ c. c ≢ get_or key (length front) 0) others
+              (bytes_of u.right) u.others_right) in
               let child_depth : length d.place + (header_at p.kind shown).length_of + 1 ≡ depth + match.matched_bytes + 1 =
               let len = ap (λ h. h.length_of) radix.1 in let whole = length-append d.place radix.0 in let k = used in omega arith in (
                 record {
@@ -386,17 +417,21 @@ module _ {K V : Type 0} {s : Nodes K V} {bytes : K × V → List ℕ} {P : ℕ} 
             IsStepFrom bytes P key pairs layout path name depth d step
         prefix_step {step} ends into down = by_length (leb (length key) (depth + match.matched_bytes)) refl
           where
-            by_child : depth + match.matched_bytes < length key → (o : Option OpaqueNodePtr) → child_at shown.children (get_or key (depth + match.matched_bytes) 0) ≡ o →
+            by_child : depth + match.matched_bytes < length key → (o : Option OpaqueNodePtr) →
+                child_at shown.children (get_or key (depth + match.matched_bytes) 0) ≡ o →
                 IsStepFrom bytes P key pairs layout path name depth d step
             by_child long None e = subst (IsStepFrom bytes P key pairs layout path name depth d) (sym (into long e)) (ends_after_prefix long (sym e))
-            by_child long (Some to) e = subst (IsStepFrom bytes P key pairs layout path name depth d) (sym (down long to e)) (let (next, left) = goes_on long (sym e) in (omega arith, next, left))
+            by_child long (Some to) e = subst (IsStepFrom bytes P key pairs layout path name depth d) (sym (down long to e))
+                (let (next, left) = goes_on long (sym e) in (omega arith, next, left))
 
             by_length : (t : Bool) → leb (length key) (depth + match.matched_bytes) ≡ t → IsStepFrom bytes P key pairs layout path name depth d step
             by_length true e =
                 let short = leb-true (length key) (depth + match.matched_bytes) e in
                 subst (IsStepFrom bytes P key pairs layout path name depth d) (sym (ends short))
                 (ends_with_prefix short, left_aside_is (aside_end front key at.children (let k = used in omega arith)))
-            by_length false e = by_child (leb-false (length key) (depth + match.matched_bytes) e) (child_at shown.children (get_or key (depth + match.matched_bytes) 0)) refl
+            by_length false e =
+                by_child (leb-false (length key) (depth + match.matched_bytes) e)
+                (child_at shown.children (get_or key (depth + match.matched_bytes) 0)) refl
 
       -- the prefix and the key differ, or the key ends
       module _ {m : ExplicitMismatch} (c : IsMismatch bytes P key d.node depth m) where
@@ -412,7 +447,8 @@ module _ {K V : Type 0} {s : Nodes K V} {bytes : K × V → List ℕ} {P : ℕ} 
         ends_in_prefix : length key ≤ depth + m.matched_bytes →
             IsEndFor bytes P key pairs layout (record { path = path; name = name; insert_kind = None; key_bytes_used = depth })
         ends_in_prefix short =
-            let rest : length (drop depth key) ≤ shared_len radix.0 (drop depth key) = let k = ap length key_is in let n = d.depth_is in let q = shared_is in omega (arith, simp length-append at k) in
+            let rest : length (drop depth key) ≤ shared_len radix.0 (drop depth key) =
+            let k = ap length key_is in let n = d.depth_is in let q = shared_is in omega (arith, simp length-append at k) in
             let inside = slice_get_within (prefix_of bytes depth d.node) m.matched_bytes m.prefix_byte c.byte in
             let w = ap length whole_prefix in
             let off : length key < depth + length radix.0 = omega arith in
@@ -469,23 +505,30 @@ module _ {K V : Type 0} {s : Nodes K V} {bytes : K × V → List ℕ} {P : ℕ} 
             by_length : (t : Bool) → leb (length key) (depth + m.matched_bytes) ≡ t → IsStepFrom bytes P key pairs layout path name depth d step
             by_length true e =
                 let short = leb-true (length key) (depth + m.matched_bytes) e in
-                subst (IsStepFrom bytes P key pairs layout path name depth d) (sym (ends short)) (ends_in_prefix short, left_aside_is (aside_end front key at.children (no_longer short)))
-            by_length false e = let long = leb-false (length key) (depth + m.matched_bytes) e in subst (IsStepFrom bytes P key pairs layout path name depth d) (sym (parts long)) (parts_from_prefix long)
+                subst (IsStepFrom bytes P key pairs layout path name depth d) (sym (ends short))
+                (ends_in_prefix short, left_aside_is (aside_end front key at.children (no_longer short)))
+            by_length false e = let long = leb-false (length key) (depth + m.matched_bytes) e in
+                subst (IsStepFrom bytes P key pairs layout path name depth d) (sym (parts long)) (parts_from_prefix long)
 
 -- what was compared of the key at a node is no more than the key has
-module _ {K V : Type 0} {s : Nodes K V} {bytes : K × V → List ℕ} {P : ℕ} {root : OpaqueNodePtr} {key : List ℕ} {path : TreePath} {name : OpaqueNodePtr} {depth : ℕ}
+module _ {K V : Type 0} {s : Nodes K V} {bytes : K × V → List ℕ} {P : ℕ} {root : OpaqueNodePtr} {key : List ℕ} {path : TreePath}
+    {name : OpaqueNodePtr} {depth : ℕ}
     (canonical : IsCanonicalRoot bytes P s root) (at : ForTree bytes P s root (λ pairs layout. IsAt bytes P key layout path name depth)) where
-  pub prefix_fits : {match : PrefixMatch} → ForTree bytes P s root (λ pairs layout. (d : IsAt bytes P key layout path name depth) → IsCompared bytes P key d.node depth (Ok match)) →
+  pub prefix_fits : {match : PrefixMatch} →
+      ForTree bytes P s root (λ pairs layout. (d : IsAt bytes P key layout path name depth) →
+      IsCompared bytes P key d.node depth (Ok match)) →
       depth + match.matched_bytes ≤ length key
   prefix_fits compared = let (pairs, layout, by) = canonical in let d = at pairs layout by in prefix_used by d (compared pairs layout by d)
 
-  pub mismatch_fits : {m : ExplicitMismatch} → ForTree bytes P s root (λ pairs layout. (d : IsAt bytes P key layout path name depth) → IsCompared bytes P key d.node depth (Err m)) →
+  pub mismatch_fits : {m : ExplicitMismatch} →
+      ForTree bytes P s root (λ pairs layout. (d : IsAt bytes P key layout path name depth) → IsCompared bytes P key d.node depth (Err m)) →
       depth + m.matched_bytes ≤ length key
   mismatch_fits compared = let (pairs, layout, by) = canonical in let d = at pairs layout by in mismatch_used by d (compared pairs layout by d)
 
 -- the part of the tree at a node, and the key, which is as long as the path to it
 module _ {K V : Type 0} {s : Nodes K V} {bytes : K × V → List ℕ} {P : ℕ} {key : List ℕ} {name : OpaqueNodePtr} {depth : ℕ}
-    (found : (root : OpaqueNodePtr) × (path : TreePath) × IsCanonicalRoot bytes P s root × ForTree bytes P s root (λ pairs layout. IsAt bytes P key layout path name depth)) where
+    (found : (root : OpaqueNodePtr) × (path : TreePath) × IsCanonicalRoot bytes P s root ×
+    ForTree bytes P s root (λ pairs layout. IsAt bytes P key layout path name depth)) where
   pub part_at : (node : Tree OpaqueNodePtr (K × V)) × IsPlaced bytes P s name depth node
   part_at = let (root, path, (pairs, layout, by), at) = found in let d = at pairs layout by in (d.node, part_there by d refl)
 

@@ -44,7 +44,8 @@ module _ (behavior : PrefixMatchBehavior) (node : Inner) (key : List ℕ) (depth
       go true e = rw (e, le-ltb (depth + node.prefix.len) (length key) short) refl
       go false e = rw e refl
 
-  module _ {rest : List ℕ} (has : HasRest (drop depth key) rest) (stored : length node.prefix.stored ≤ node.prefix.len) (long : depth + node.prefix.len < length key) where
+  module _ {rest : List ℕ} (has : HasRest (drop depth key) rest) (stored : length node.prefix.stored ≤ node.prefix.len)
+      (long : depth + node.prefix.len < length key) where
     within : node.prefix.len ≤ length rest
     within =
         let l = length-drop depth key in
@@ -62,12 +63,14 @@ module _ (behavior : PrefixMatchBehavior) (node : Inner) (key : List ℕ) (depth
 
     module _ (on : true ≡ is_ok (prefix_match behavior node.prefix rest)) where
       -- the child under the byte at the place
-      pub child_passed : {at byte : ℕ} → at ≡ depth + node.prefix.len → byte ≡ get_or key at 0 → {found : Option OpaqueNodePtr} → found ≡ child_at node.children byte →
+      pub child_passed : {at byte : ℕ} → at ≡ depth + node.prefix.len → byte ≡ get_or key at 0 → {found : Option OpaqueNodePtr} →
+          found ≡ child_at node.children byte →
           option_map (λ (c : OpaqueNodePtr). (at, c)) found ≡ child_below behavior node key depth
       child_passed {at} {byte} e f is =
           rw (is, f, e, same_outcome ∙ sym on, lt-ltb (depth + node.prefix.len) (length key) long) refl
 
-      pub behavior_passed : {after : PrefixMatchBehavior} → after ≡ behavior_after behavior node.prefix rest → after ≡ behavior_after behavior node.prefix (drop depth key)
+      pub behavior_passed : {after : PrefixMatchBehavior} → after ≡ behavior_after behavior node.prefix rest →
+          after ≡ behavior_after behavior node.prefix (drop depth key)
       behavior_passed e = e ∙ sym (ap (behavior_after behavior node.prefix) has.is ∙ after_more node.prefix rest has.last stored within behavior)
 
 -- the first bytes of a key, all or all but the last one
@@ -105,7 +108,8 @@ pub last_rest : (front : List ℕ) (last : ℕ) → HasRest (front ++ last ∷ [
 last_rest front last = record { last = last ∷ []; is = refl; few = omega arith }
 
 -- what a node's header says of its prefix
-pub prefix_same : (prefix : Prefix) {len : ℕ} {stored : List ℕ} → len ≡ prefix.len → stored ≡ prefix.stored → ◌≡◌ {A = Prefix} (record { len = len; stored = stored }) prefix
+pub prefix_same : (prefix : Prefix) {len : ℕ} {stored : List ℕ} → len ≡ prefix.len → stored ≡ prefix.stored →
+    ◌≡◌ {A = Prefix} (record { len = len; stored = stored }) prefix
 prefix_same prefix is same = ap₂ (λ l s. record { len = l; stored = s }) is same
 
 -- first bytes of a key that are no longer than the prefix of the node
@@ -142,7 +146,8 @@ front_or_whole (x ∷ a) (y ∷ t) end (r, e) = go (front_or_whole a t end (r, r
     go (inr same) = inr (ap₂ (λ z l. z ∷ l) first same)
 
 -- bytes that are no prefix of a text are one of the text and its end only as the whole
-pub else_whole : {r s : Bool} (bytes text : List ℕ) (end : ℕ) → r ≡ false → IsTrue r ↔ IsFront bytes text → IsTrue s ↔ (bytes ≡ text ++ end ∷ []) → IsTrue s ↔ IsFront bytes (text ++ end ∷ [])
+pub else_whole : {r s : Bool} (bytes text : List ℕ) (end : ℕ) → r ≡ false → IsTrue r ↔ IsFront bytes text →
+    IsTrue s ↔ (bytes ≡ text ++ end ∷ []) → IsTrue s ↔ IsFront bytes (text ++ end ∷ [])
 else_whole {r} {s} bytes text end off front whole = (
   λ t. ([], sym (whole.0 t) ∙ sym (append-nil bytes)),
   λ f. go (front_or_whole bytes text end f),
@@ -152,12 +157,14 @@ else_whole {r} {s} bytes text end off front whole = (
     go (inl f) = let on = front.1 f in absurd cc
     go (inr same) = whole.1 same
 
-module _ (behavior : PrefixMatchBehavior) (depth from : ℕ) (key text : List ℕ) (end : ℕ) (compared : behavior ≡ Pessimistic → from ≡ min depth (length key)) (passed_over : behavior ≡ Optimistic → from ≡ 0) where
+module _ (behavior : PrefixMatchBehavior) (depth from : ℕ) (key text : List ℕ) (end : ℕ)
+    (compared : behavior ≡ Pessimistic → from ≡ min depth (length key)) (passed_over : behavior ≡ Optimistic → from ≡ 0) where
   -- the comparison begins after the end of the text
   from_end : length text < from → compared_from behavior depth key (text ++ end ∷ []) ≡ length text + 1
   from_end beyond = go behavior compared passed_over
     where
-      go : (b : PrefixMatchBehavior) → (b ≡ Pessimistic → from ≡ min depth (length key)) → (b ≡ Optimistic → from ≡ 0) → compared_from b depth key (text ++ end ∷ []) ≡ length text + 1
+      go : (b : PrefixMatchBehavior) → (b ≡ Pessimistic → from ≡ min depth (length key)) → (b ≡ Optimistic → from ≡ 0) →
+          compared_from b depth key (text ++ end ∷ []) ≡ length text + 1
       go Pessimistic one other = let is = one refl in let l = length-append text (end ∷ []) in omega arith
       go Optimistic one other = let is = other refl in absurd (omega arith)
 
@@ -178,14 +185,17 @@ none_dropped xs n short = go (drop n xs) (length-drop n xs)
 
 module _ (key text : List ℕ) (end n : ℕ) (r : Bool) where
   -- after the end of the text the lengths decide
-  after_front : n ≡ length text + 1 → IsTrue r ↔ (length key ≡ length text + 1) → length text < length key → IsTrue r ↔ IsFront (drop n key) (drop n (text ++ end ∷ []))
+  after_front : n ≡ length text + 1 → IsTrue r ↔ (length key ≡ length text + 1) → length text < length key →
+      IsTrue r ↔ IsFront (drop n key) (drop n (text ++ end ∷ []))
   after_front is test long = (
     λ t. let e = test.0 t in subst (λ z. IsFront z (drop n (text ++ end ∷ []))) (sym (none_dropped key n (omega arith))) (drop n (text ++ end ∷ []), refl),
-    λ (s, f). test.1 (let l = ap length (sym f ∙ none_after_end text end n is) in let k = length-drop n key in let j = length-append (drop n key) s in omega arith),
+    λ (s, f). test.1 (let l = ap length (sym f ∙ none_after_end text end n is) in let k = length-drop n key in
+        let j = length-append (drop n key) s in omega arith),
   )
 
 -- after the end of the text the lengths decide whether the key is a prefix
-pub after_end : (behavior : PrefixMatchBehavior) (depth from : ℕ) (key text : List ℕ) (end : ℕ) → (behavior ≡ Pessimistic → from ≡ min depth (length key)) → (behavior ≡ Optimistic → from ≡ 0) →
+pub after_end : (behavior : PrefixMatchBehavior) (depth from : ℕ) (key text : List ℕ) (end : ℕ) →
+    (behavior ≡ Pessimistic → from ≡ min depth (length key)) → (behavior ≡ Optimistic → from ≡ 0) →
     length text < from → from ≤ length key → IsTrue (nat_eq (length key) (length text + 1)) ↔ LeafKeyIsPrefix behavior depth key (text ++ end ∷ [])
 after_end behavior depth from key text end compared passed_over beyond within =
     after_front key text end (compared_from behavior depth key (text ++ end ∷ [])) _ (from_end behavior depth from key text end compared passed_over beyond)

@@ -49,7 +49,11 @@ module _ {leaf query : List ℕ} {n : ℕ} (s : IsShared leaf query n) where
   whole_front (r, e) = (r, s.query_is ∙ ap (λ xs. s.front ++ xs) e ∙ sym (append_assoc s.front (drop n leaf) r) ∙ ap (λ xs. xs ++ r) (sym s.leaf_is))
 
   rest_front : IsFront leaf query → IsFront (drop n leaf) (drop n query)
-  rest_front (r, e) = (r, append_cancel_left s.front (drop n query) (drop n leaf ++ r) (sym s.query_is ∙ e ∙ ap (λ xs. xs ++ r) s.leaf_is ∙ append_assoc s.front (drop n leaf) r))
+  rest_front (r, e) = (
+    r,
+    append_cancel_left s.front (drop n query) (drop n leaf ++ r)
+        (sym s.query_is ∙ e ∙ ap (λ xs. xs ++ r) s.leaf_is ∙ append_assoc s.front (drop n leaf) r),
+  )
 
 module _ {A : Type 0} (bytes : A → List ℕ) (key : List ℕ) where
   -- an equal key matches
@@ -64,7 +68,8 @@ module _ {A : Type 0} (bytes : A → List ℕ) (key : List ℕ) where
       go ih false true e f = rw (e, f) ih
       go ih false false e f = rw (e, f) ih
 
-module _ {K V : Type 0} {bytes : K × V → List ℕ} {P : ℕ} {start : PrefixMatchBehavior} {key : List ℕ} {pairs : List (K × V)} {layout : Tree OpaqueNodePtr (K × V)} {before after : ℕ}
+module _ {K V : Type 0} {bytes : K × V → List ℕ} {P : ℕ} {start : PrefixMatchBehavior} {key : List ℕ} {pairs : List (K × V)}
+    {layout : Tree OpaqueNodePtr (K × V)} {before after : ℕ}
     {last : LastLeaf K V} (h : IsLastLeaf bytes P start key pairs layout before after last) where
   shared : IsShared (bytes (pair_of last.node.now)) key (compared_from last.behavior last.depth (bytes (pair_of last.node.now)) key)
   shared = shared_front last.behavior last.depth h.place (bytes (pair_of last.node.now)) key h.depth_is h.is_short h.leads_to h.compared
@@ -91,7 +96,8 @@ module _ {K V : Type 0} {bytes : K × V → List ℕ} {P : ℕ} {start : PrefixM
         go : (t : Bool) → are_same key (bytes (pair_of last.node.now)) ≡ t → with_key bytes key (pair_of last.node.now ∷ []) ≡ []
         go true e =
             absurd (false≢true (sym f ∙ test.1
-            (ap (λ leaf. drop (compared_from last.behavior last.depth (bytes (pair_of last.node.now)) key) leaf) (same_equal key (bytes (pair_of last.node.now)) e))))
+            (ap (λ leaf. drop (compared_from last.behavior last.depth (bytes (pair_of last.node.now)) key) leaf)
+            (same_equal key (bytes (pair_of last.node.now)) e))))
         go false e = rw e refl
 
   -- the comparison of a prefix search
@@ -102,7 +108,8 @@ module _ {K V : Type 0} {bytes : K × V → List ℕ} {P : ℕ} {start : PrefixM
     found_prefix : r ≡ true → IsOnlyLeaf (match_of bytes key pairs) layout last
     found_prefix t =
         let (rest, e) = prefix t in
-        let is : is_front (bytes (pair_of last.node.now)) key ≡ true = ap (is_front (bytes (pair_of last.node.now))) e ∙ front_is (bytes (pair_of last.node.now)) rest in
+        let is : is_front (bytes (pair_of last.node.now)) key ≡ true =
+        ap (is_front (bytes (pair_of last.node.now))) e ∙ front_is (bytes (pair_of last.node.now)) rest in
         record { only = h.only ∙ rw is refl; is_leaf = h.is_leaf; path_is = h.path_is }
 
     counted_prefix : r ≡ true → before + length (nodes_on_way bytes key layout) ≡ after
@@ -120,14 +127,16 @@ module _ {K V : Type 0} {bytes : K × V → List ℕ} {P : ℕ} {start : PrefixM
     pub found : r ≡ true → IsOnlyLeaf (asked_of asked bytes key pairs) layout last
     found t = go asked test
       where
-        go : (a : Asked) → (IsTrue r ↔ IsAskedFor a last.behavior last.depth (bytes (pair_of last.node.now)) key) → IsOnlyLeaf (asked_of a bytes key pairs) layout last
+        go : (a : Asked) → (IsTrue r ↔ IsAskedFor a last.behavior last.depth (bytes (pair_of last.node.now)) key) →
+            IsOnlyLeaf (asked_of a bytes key pairs) layout last
         go Same is = found_equal is t
         go Front is = found_prefix is t
 
     pub counted : r ≡ true → before + length (nodes_on_way bytes key layout) ≡ after
     counted t = go asked test
       where
-        go : (a : Asked) → (IsTrue r ↔ IsAskedFor a last.behavior last.depth (bytes (pair_of last.node.now)) key) → before + length (nodes_on_way bytes key layout) ≡ after
+        go : (a : Asked) → (IsTrue r ↔ IsAskedFor a last.behavior last.depth (bytes (pair_of last.node.now)) key) →
+            before + length (nodes_on_way bytes key layout) ≡ after
         go Same is = counted_equal is t
         go Front is = counted_prefix is t
 
@@ -139,25 +148,31 @@ module _ {K V : Type 0} {bytes : K × V → List ℕ} {P : ℕ} {start : PrefixM
         go Front is = lost_prefix is f
 
 -- where no key matches, none is asked for
-pub none_asked : {A : Type 0} (asked : Asked) (bytes : A → List ℕ) (key : List ℕ) (pairs : List A) → match_of bytes key pairs ≡ [] → asked_of asked bytes key pairs ≡ []
+pub none_asked : {A : Type 0} (asked : Asked) (bytes : A → List ℕ) (key : List ℕ) (pairs : List A) → match_of bytes key pairs ≡ [] →
+    asked_of asked bytes key pairs ≡ []
 none_asked Same bytes key pairs nothing = sym (with_key-match_of bytes key pairs) ∙ ap (with_key bytes key) nothing
 none_asked Front bytes key pairs nothing = nothing
 
 -- wherever a path ends, the nodes on it were counted
-least : {K V : Type 0} (bytes : K × V → List ℕ) (P : ℕ) (start : PrefixMatchBehavior) (key : List ℕ) (pairs : List (K × V)) (layout : Tree OpaqueNodePtr (K × V)) (before after : ℕ)
+least : {K V : Type 0} (bytes : K × V → List ℕ) (P : ℕ) (start : PrefixMatchBehavior) (key : List ℕ) (pairs : List (K × V))
+    (layout : Tree OpaqueNodePtr (K × V)) (before after : ℕ)
     (end : Option (LastLeaf K V)) → WalkEnds bytes P start key pairs layout before after end → before + length (nodes_on_way bytes key layout) ≤ after
 least bytes P start key pairs layout before after None ends = ends.1
 least bytes P start key pairs layout before after (Some last) ends = ends.at_least
 
 -- where each prefix is compared whole, exactly these were
-just : {K V : Type 0} (bytes : K × V → List ℕ) (P : ℕ) (start : PrefixMatchBehavior) (key : List ℕ) (pairs : List (K × V)) (layout : Tree OpaqueNodePtr (K × V)) (before after : ℕ)
-    (end : Option (LastLeaf K V)) → WalkEnds bytes P start key pairs layout before after end → ComparesAll P start layout → before + length (nodes_on_way bytes key layout) ≡ after
+just : {K V : Type 0} (bytes : K × V → List ℕ) (P : ℕ) (start : PrefixMatchBehavior) (key : List ℕ) (pairs : List (K × V))
+    (layout : Tree OpaqueNodePtr (K × V)) (before after : ℕ)
+    (end : Option (LastLeaf K V)) → WalkEnds bytes P start key pairs layout before after end → ComparesAll P start layout →
+    before + length (nodes_on_way bytes key layout) ≡ after
 just bytes P start key pairs layout before after None ends all = ends.2 all
 just bytes P start key pairs layout before after (Some last) ends all = ends.exactly (ends.compared (ends.compares all))
 
-module _ {K V : Type 0} {bytes : K × V → List ℕ} {P : ℕ} {s : Nodes K V} {root : OpaqueNodePtr} {start : PrefixMatchBehavior} {key : List ℕ} {before after : ℕ} where
+module _ {K V : Type 0} {bytes : K × V → List ℕ} {P : ℕ} {s : Nodes K V} {root : OpaqueNodePtr} {start : PrefixMatchBehavior} {key : List ℕ}
+    {before after : ℕ} where
   -- what is counted on a path that ends so
-  pub counts : (end : Option (LastLeaf K V)) → ForTree bytes P s root (λ pairs layout. WalkEnds bytes P start key pairs layout before after end) → {IsFound : Type 0} →
+  pub counts : (end : Option (LastLeaf K V)) →
+      ForTree bytes P s root (λ pairs layout. WalkEnds bytes P start key pairs layout before after end) → {IsFound : Type 0} →
       ForTree bytes P s root (λ pairs layout. IsFound → before + length (nodes_on_way bytes key layout) ≡ after) → after ≤ before + length key + 1 →
       CountsVisitsFrom start bytes P s root key before after IsFound
   counts end ends exactly at_most = record {

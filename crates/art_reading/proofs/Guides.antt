@@ -50,17 +50,22 @@ module _ {N A : Type 0} (bytes : A → List ℕ) (P : ℕ) (key y : List ℕ) wh
       Each (GoesToo key y) (places_below bytes d (join cs ds))
   joined no_child ds d h k = k
   joined (child b t cs) ds d h k =
-      Each-append (GoesToo key y) (places bytes d t) (places_below bytes d (join cs ds)) (Each-left (GoesToo key y) (places bytes d t) (places_below bytes d cs) h)
+      Each-append (GoesToo key y) (places bytes d t) (places_below bytes d (join cs ds))
+      (Each-left (GoesToo key y) (places bytes d t) (places_below bytes d cs) h)
       (joined cs ds d (Each-right (GoesToo key y) (places bytes d t) (places_below bytes d cs) h) k)
 
   -- no node below the other children is on the key's path
-  pub aside : (front : List ℕ) (d : ℕ) (cs : Subtrees N A) → d ≡ length front + 1 → AreRadix bytes P front cs → AreAside front key cs → Each (GoesToo key y) (places_below bytes d cs)
+  pub aside : (front : List ℕ) (d : ℕ) (cs : Subtrees N A) → d ≡ length front + 1 → AreRadix bytes P front cs → AreAside front key cs →
+      Each (GoesToo key y) (places_below bytes d cs)
   aside front d cs deep h off =
-      Each-weaker (IsOff (λ (p : List ℕ × N). p.0) key) (GoesToo key y) (λ p o g. absurd (o g)) (places_below bytes d cs) (aside_places bytes P front key d cs deep h off)
+      Each-weaker (IsOff (λ (p : List ℕ × N). p.0) key) (GoesToo key y) (λ p o g. absurd (o g)) (places_below bytes d cs)
+      (aside_places bytes P front key d cs deep h off)
 
   -- from the only child below which the key's path may continue to its parent
-  pub over : (depth : ℕ) (f : Frame N A) (outer part : List ℕ) (t : Tree N A) → place_of bytes depth (fill f t) ≡ outer → depth + f.header.length_of + 1 ≡ length (outer ++ part) + 1 →
-      AreRadix bytes P (outer ++ part) f.left → AreRadix bytes P (outer ++ part) f.right → AreAside (outer ++ part) key f.left → AreAside (outer ++ part) key f.right →
+  pub over : (depth : ℕ) (f : Frame N A) (outer part : List ℕ) (t : Tree N A) → place_of bytes depth (fill f t) ≡ outer →
+      depth + f.header.length_of + 1 ≡ length (outer ++ part) + 1 →
+      AreRadix bytes P (outer ++ part) f.left → AreRadix bytes P (outer ++ part) f.right → AreAside (outer ++ part) key f.left →
+      AreAside (outer ++ part) key f.right →
       IsFront outer y → Each (GoesToo key y) (places bytes (depth + f.header.length_of + 1) t) → Each (GoesToo key y) (places bytes depth (fill f t))
   over depth f outer part t place deep l r low high goes own =
       let d = depth + f.header.length_of + 1 in (
@@ -70,7 +75,8 @@ module _ {N A : Type 0} (bytes : A → List ℕ) (P : ℕ) (key y : List ℕ) wh
       )
 
   -- from a node on the key's path to the whole tree
-  pub around : (fs : List (Frame N A)) (place : List ℕ) (t : Tree N A) → IsPath bytes P place fs → IsRadix bytes P place t → IsFront place key → IsFront place y →
+  pub around : (fs : List (Frame N A)) (place : List ℕ) (t : Tree N A) → IsPath bytes P place fs → IsRadix bytes P place t →
+      IsFront place key → IsFront place y →
       Each (GoesToo key y) (places bytes (length place) t) → Each (GoesToo key y) (places bytes 0 (plug fs t))
   around [] place t e h k goes q = subst (λ w. Each (GoesToo key y) (places bytes (length w) t)) e q
   around (f ∷ fs) place t (outer, part, e, head, two, up, hl, hr, path) h k goes q =
@@ -87,8 +93,10 @@ module _ {N A : Type 0} (bytes : A → List ℕ) (P : ℕ) (key y : List ℕ) wh
       let high = Each-weaker (λ c. f.byte < c) (λ c. c ≢ get_or key (length front) 0) (λ c more same. omega arith) (bytes_of f.right)
       (Pairwise-after ◌<◌ (bytes_of f.left) (bytes_of f.right) f.byte up) in
       let long : length place ≡ length outer + f.header.length_of + 1 = ap length e ∙ length-append front (f.byte ∷ []) ∙ sym deep in
-      around fs outer (fill f t) path node (front_cut outer part key (front_cut front (f.byte ∷ []) key k')) (front_cut outer part y (front_cut front (f.byte ∷ []) y goes'))
-      (over (length outer) f outer part t (place_is bytes P (fill f t) outer node) deep hl hr (aside_others front key f.left low) (aside_others front key f.right high)
+      around fs outer (fill f t) path node (front_cut outer part key (front_cut front (f.byte ∷ []) key k'))
+      (front_cut outer part y (front_cut front (f.byte ∷ []) y goes'))
+      (over (length outer) f outer part t (place_is bytes P (fill f t) outer node) deep hl hr (aside_others front key f.left low)
+      (aside_others front key f.right high)
       (front_cut outer part y (front_cut front (f.byte ∷ []) y goes')) (subst (λ z. Each (GoesToo key y) (places bytes z t)) long q))
 
 -- A node to which the key's bytes lead by their places: a key that starts with the node's place follows the key's path, if it does so below the node.
@@ -125,14 +133,16 @@ module _ {A : Type 0} {bytes : A → List ℕ} {P : ℕ} {key : List ℕ} {tree 
       node = d.node;
       whole = d.whole;
       named = d.named;
-      all = Each-weaker (λ x. IsFront d.place (bytes x)) (λ x. GoesAlong bytes key tree (bytes x)) (λ x f. d.along (bytes x) f (own (bytes x) f)) (pairs_of d.node)
+      all = Each-weaker (λ x. IsFront d.place (bytes x)) (λ x. GoesAlong bytes key tree (bytes x))
+          (λ x f. d.along (bytes x) f (own (bytes x) f)) (pairs_of d.node)
           (radix_way bytes P d.node d.place d.radix);
     }
 
     node_place : place_of bytes depth d.node ≡ d.place
     node_place = subst (λ n. place_of bytes n d.node ≡ d.place) d.depth_is (place_is bytes P d.node d.place d.radix)
 
-    place_too : (t : Tree OpaqueNodePtr A) → d.node ≡ t → (y : List ℕ) → IsFront d.place y → IsFront (place_of bytes depth t) key → IsFront (place_of bytes depth t) y
+    place_too : (t : Tree OpaqueNodePtr A) → d.node ≡ t → (y : List ℕ) → IsFront d.place y → IsFront (place_of bytes depth t) key →
+        IsFront (place_of bytes depth t) y
     place_too t is y goes g = subst (λ z. IsFront z y) (sym (subst (λ u. place_of bytes depth u ≡ d.place) is node_place)) goes
 
     -- at a leaf
@@ -174,7 +184,8 @@ module _ {A : Type 0} {bytes : A → List ℕ} {P : ℕ} {key : List ℕ} {tree 
       pub gap_ends : child_at shown.children (get_or key (depth + len) 0) ≡ None → AllGuide bytes key tree name
       gap_ends none =
           let b = get_or key (length front) 0 in
-          ends_aside (aside_others front key at.children (no_child_under at.children b (ap (λ cs. child_at cs b) (sym at.slots) ∙ ap (child_at shown.children) same_byte ∙ none)))
+          ends_aside (aside_others front key at.children
+          (no_child_under at.children b (ap (λ cs. child_at cs b) (sym at.slots) ∙ ap (child_at shown.children) same_byte ∙ none)))
 
       -- the path continues below the child
       pub goes_below : {to : OpaqueNodePtr} → child_at shown.children (get_or key (depth + len) 0) ≡ Some to → IsByPlaces bytes P key tree to (depth + len + 1)
@@ -200,7 +211,8 @@ module _ {A : Type 0} {bytes : A → List ℕ} {P : ℕ} {key : List ℕ} {tree 
             along = λ y goes q.
                 let outer = front_cut d.place radix.0 y (front_cut front (b ∷ []) y goes) in
                 d.along y outer (subst (λ t. Each (GoesToo key y) (places bytes depth t)) (sym is)
-                (over bytes P key y depth f d.place radix.0 u.tree (subst (λ t. place_of bytes depth t ≡ d.place) is node_place) deep left right.1 low high outer q));
+                (over bytes P key y depth f d.place radix.0 u.tree
+                (subst (λ t. place_of bytes depth t ≡ d.place) is node_place) deep left right.1 low high outer q));
           })
 
 -- one path after another
@@ -223,9 +235,18 @@ each_any [] = tt
 each_any (x ∷ xs) = (tt, each_any xs)
 
 -- a part of a tree
-abbrev stands : {A : Type 0} {layout : Tree OpaqueNodePtr A} {name : OpaqueNodePtr} (path : List (Frame OpaqueNodePtr A)) (node : Tree OpaqueNodePtr A) → plug path node ≡ layout → name_of node ≡ name →
+abbrev stands : {A : Type 0} {layout : Tree OpaqueNodePtr A} {name : OpaqueNodePtr} (path : List (Frame OpaqueNodePtr A))
+    (node : Tree OpaqueNodePtr A) → plug path node ≡ layout → name_of node ≡ name →
     StandsBetween (λ x. ⊤) (λ x. ⊤) layout name
-stands path node whole named = record { path = path; node = node; whole = whole; named = named; before = each_any (pairs_before path); after = each_any (pairs_after path) }
+stands path node whole named =
+    record {
+      path = path;
+      node = node;
+      whole = whole;
+      named = named;
+      before = each_any (pairs_before path);
+      after = each_any (pairs_after path);
+    }
 
 module _ {K V : Type 0} {s : Nodes K V} {bytes : K × V → List ℕ} {P : ℕ} {root : OpaqueNodePtr} {pairs : List (K × V)} {layout : Tree OpaqueNodePtr (K × V)}
     (by : IsCanonicalTree bytes P s root pairs layout) {key : List ℕ} where
@@ -266,7 +287,8 @@ module _ {K V : Type 0} {s : Nodes K V} {bytes : K × V → List ℕ} {P : ℕ} 
           let Q = GoesToo {N = OpaqueNodePtr} key (bytes g.pair) in
           let all = subst (λ t. Each Q (places bytes 0 t)) (sym d.whole) g.along in
           let own = own_place bytes P Q (depth_of d.frames) d.node (places_at bytes P Q d.frames d.node all) in
-          let is : place_of bytes (depth_of d.frames) d.node ≡ d.place = ap (λ n. place_of bytes n d.node) (depth_is bytes P d.frames d.place d.leads) ∙ place_is bytes P d.node d.place d.radix in
+          let is : place_of bytes (depth_of d.frames) d.node ≡ d.place =
+          ap (λ n. place_of bytes n d.node) (depth_is bytes P d.frames d.place d.leads) ∙ place_is bytes P d.node d.place d.radix in
           subst (λ z. IsFront z key → IsFront z (bytes g.pair)) is own d.on_way
 
       -- so it has what all pairs below a node on the key's path have
@@ -278,4 +300,5 @@ module _ {K V : Type 0} {s : Nodes K V} {bytes : K × V → List ℕ} {P : ℕ} 
           let left : related_to bytes k (pairs_of layout) ≡ related_to bytes k (pairs_of d.node) =
           ap (λ t. related_to bytes k (pairs_of t)) (sym d.whole) ∙ related_at bytes P d.frames d.place k d.node d.leads place_begins in
           let each = subst (Each Q) (sym left) (Each-filter Q (λ x. are_related k (bytes x)) (pairs_of d.node) all) in
-          subst Q (sym its ∙ ap pair_of same) (passing Q (λ x. are_related k (bytes x)) g.pair (pairs_of layout) each in_tree (front_related k k ([], sym (append-nil k))))
+          subst Q (sym its ∙ ap pair_of same) (passing Q (λ x. are_related k (bytes x)) g.pair (pairs_of layout) each in_tree
+          (front_related k k ([], sym (append-nil k))))

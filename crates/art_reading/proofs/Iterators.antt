@@ -68,15 +68,22 @@ module _ {K V : Type 0} {s : Nodes K V} where
 module _ {K V : Type 0} where
   -- what is left of an iteration is in every store in which its links are unchanged
   pub goes_on : GoesOn K V
-  goes_on s t iterator names is same = record { ends = is.ends; segment = segment-frame (links_at t) names (each_from (λ n. links_at t n ≡ links_at s n) names same) is.segment }
+  goes_on s t iterator names is same =
+      record {
+        ends = is.ends;
+        segment = segment-frame (links_at t) names
+            (each_from (λ n. links_at t n ≡ links_at s n) names same) is.segment;
+      }
 
   -- the leaves of a canonical root, from the first to the last
   pub walks_whole : WalksWhole K V
-  walks_whole bytes P s root pairs layout first last is begins ends = record { ends = (begins.name_is, ends.name_is); segment = tree_segment layout is.stands.0.distinct is.linked }
+  walks_whole bytes P s root pairs layout first last is begins ends =
+      record { ends = (begins.name_is, ends.name_is); segment = tree_segment layout is.stands.0.distinct is.linked }
 
 module _ {K V : Type 0} (s : Nodes K V) where
   -- a leaf that is linked is in the store
-  pub there_in : (names : List OpaqueNodePtr) (before after : Option OpaqueNodePtr) (p : LeafPtr) → AreLinked (links_at s) before names after → IsIn (leaf_name p) names → IsSome (map.get s.leaves p)
+  pub there_in : (names : List OpaqueNodePtr) (before after : Option OpaqueNodePtr) (p : LeafPtr) →
+      AreLinked (links_at s) before names after → IsIn (leaf_name p) names → IsSome (map.get s.leaves p)
   there_in [] before after p linked i = absurd i
   there_in (x ∷ xs) before after p linked (inl e) =
       let found =
@@ -164,7 +171,8 @@ module _ {K V : Type 0} (s : Nodes K V) (a b : LeafPtr) where
   -- the only leaf is removed from either end
   takes_one : (end : End) (names : List OpaqueNodePtr) → a ≡ b → IsIteratorOf s (Some (a, b)) names → TakesEnd end s names (Some (of_two end (a, b))) None
   takes_one First names same is = subst (λ z. TakesEnd First s z (Some a) None) (sym (one_left names same is)) (refl, empty_iterator)
-  takes_one Last names same is = subst (λ z. TakesEnd Last s z (Some b) None) (sym (one_left names same is)) (ap (λ z. Some (leaf_name z)) (sym same), empty_iterator)
+  takes_one Last names same is =
+      subst (λ z. TakesEnd Last s z (Some b) None) (sym (one_left names same is)) (ap (λ z. Some (leaf_name z)) (sym same), empty_iterator)
 
   -- what the code sees of the leaf at an end
   module _ (end : End) (names : List OpaqueNodePtr) (p : LeafPtr) (at : p ≡ of_two end (a, b)) (is : IsIteratorOf s (Some (a, b)) names) where

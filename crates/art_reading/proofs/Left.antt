@@ -22,7 +22,9 @@ module _ {A : Type 0} (bytes : A → List ℕ) (P : ℕ) (key place : List ℕ) 
   -- the node itself, and those below
   own_counts : (t : Tree OpaqueNodePtr A) (name : OpaqueNodePtr) (others : List (List ℕ × OpaqueNodePtr)) → IsRadix bytes P place t →
       count_on_way key ((place_of bytes (length place) t, name) ∷ others) ≡ 1 + count_on_way key others
-  own_counts t name others radix = count_front key (place_of bytes (length place) t, name) others (subst (λ z. IsFront z key) (sym (place_is bytes P t place radix)) on_way)
+  own_counts t name others radix =
+      count_front key (place_of bytes (length place) t, name) others
+      (subst (λ z. IsFront z key) (sym (place_is bytes P t place radix)) on_way)
 
   pub left_leaf : (name : OpaqueNodePtr) (x : A) → IsRadix bytes P place (leaf name x) → left_on_way bytes key (length place) (leaf name x) ≡ 1
   left_leaf name x radix = own_counts (leaf name x) name [] radix
@@ -46,7 +48,8 @@ module _ {A : Type 0} (bytes : A → List ℕ) (P : ℕ) (key place : List ℕ) 
         omega arith
 
     -- else there is one more than from the child on
-    pub left_child : (l : Subtrees OpaqueNodePtr A) (b : ℕ) (t : Tree OpaqueNodePtr A) (r : Subtrees OpaqueNodePtr A) → cs ≡ join l (child b t r) → AreAside front key l → AreAside front key r →
+    pub left_child : (l : Subtrees OpaqueNodePtr A) (b : ℕ) (t : Tree OpaqueNodePtr A) (r : Subtrees OpaqueNodePtr A) →
+        cs ≡ join l (child b t r) → AreAside front key l → AreAside front key r →
         left_on_way bytes key (length place) (inner name h cs) ≡ left_on_way bytes key (length place + h.length_of + 1) t + 1
     left_child l b t r whole low high =
         let d = length place + h.length_of + 1 in
@@ -68,7 +71,8 @@ module _ {A : Type 0} {bytes : A → List ℕ} {P : ℕ} {Lower Upper : A → Ty
 
     below_left : left_on_way bytes key depth d.at.node ≤ 1 + count_on_way key (places_below bytes (depth + shown.prefix.len + 1) at.children)
     below_left = subst (λ t. left_on_way bytes key depth t ≤ 1 + count_on_way key (places_below bytes (depth + shown.prefix.len + 1) at.children)) (sym at.is)
-        (count_most key (place_of bytes depth (inner (inner_name p) (header_at p.kind shown) at.children), inner_name p) (places_below bytes (depth + shown.prefix.len + 1) at.children))
+        (count_most key (place_of bytes depth (inner (inner_name p) (header_at p.kind shown) at.children), inner_name p)
+        (places_below bytes (depth + shown.prefix.len + 1) at.children))
 
     -- where the path continues below no child
     pub aside_left : AreAside (front_of d at) key at.children → left_on_way bytes key depth d.at.node ≤ 1
@@ -107,8 +111,11 @@ module _ {A : Type 0} {bytes : A → List ℕ} {P : ℕ} {Lower Upper : A → Ty
         let u = child_under at.children b to (shown_radix d at).3 (ap (λ cs. child_at cs b) (sym at.slots) ∙ there) in
         let below = subst (AreRadix bytes P (front_of d at)) u.whole (shown_radix d at).4 in
         let others = λ (c : ℕ) (o : c ≢ b). λ (e : c ≡ get_or key (length (front_of d at)) 0). o (e ∙ byte_is ∙ sym b_is) in
-        let low = aside_others (front_of d at) key u.left (Each-weaker (λ c. c ≢ b) (λ c. c ≢ get_or key (length (front_of d at)) 0) others (bytes_of u.left) u.others_left) in
-        let high = aside_others (front_of d at) key u.right (Each-weaker (λ c. c ≢ b) (λ c. c ≢ get_or key (length (front_of d at)) 0) others (bytes_of u.right) u.others_right) in
-        let count = ap (λ z. count_on_way key (places_below bytes n z)) u.whole ∙ ap length (places_between bytes P (front_of d at) key u.left b u.tree u.right below low high n part_deep) in
+        let low = aside_others (front_of d at) key u.left
+        (Each-weaker (λ c. c ≢ b) (λ c. c ≢ get_or key (length (front_of d at)) 0) others (bytes_of u.left) u.others_left) in
+        let high = aside_others (front_of d at) key u.right
+        (Each-weaker (λ c. c ≢ b) (λ c. c ≢ get_or key (length (front_of d at)) 0) others (bytes_of u.right) u.others_right) in
+        let count = ap (λ z. count_on_way key (places_below bytes n z)) u.whole
+        ∙ ap length (places_between bytes P (front_of d at) key u.left b u.tree u.right below low high n part_deep) in
         let all = below_left in
         omega arith

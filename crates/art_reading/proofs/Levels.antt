@@ -56,7 +56,8 @@ module _ {K V : Type 0} {s : Nodes K V} {bytes : K × V → List ℕ} {P : ℕ} 
   pub root_levels : levels s root ≡ tree_height layout
   root_levels = ap (levels s) (sym by.stands.0.named) ∙ node_levels [] layout refl
 
-  module _ (fs : List (Frame OpaqueNodePtr (K × V))) (t : Tree OpaqueNodePtr (K × V)) (whole : plug fs t ≡ layout) {name : OpaqueNodePtr} (named : name_of t ≡ name) where
+  module _ (fs : List (Frame OpaqueNodePtr (K × V))) (t : Tree OpaqueNodePtr (K × V)) (whole : plug fs t ≡ layout) {name : OpaqueNodePtr}
+      (named : name_of t ≡ name) where
     -- below a node are no more levels than below the root
     pub under_root : levels s name ≤ levels s root
     under_root =
@@ -67,7 +68,8 @@ module _ {K V : Type 0} {s : Nodes K V} {bytes : K × V → List ℕ} {P : ℕ} 
         omega arith
 
     -- and below a child fewer than below the node
-    pub lower : (place : List ℕ) → IsRadix bytes P place t → (p : InnerPtr) (shown : Inner) → IsShown t p shown → (b : ℕ) (to : OpaqueNodePtr) → child_at shown.children b ≡ Some to →
+    pub lower : (place : List ℕ) → IsRadix bytes P place t → (p : InnerPtr) (shown : Inner) → IsShown t p shown →
+        (b : ℕ) (to : OpaqueNodePtr) → child_at shown.children b ≡ Some to →
         levels s to + 1 ≤ levels s name
     lower place radix p shown at b to there =
         let own = subst (IsRadix bytes P place) at.is radix in
@@ -86,8 +88,10 @@ whole_part P [] t whole = whole
 whole_part P (f ∷ fs) t whole = whole_child P f.left f.byte t f.right (whole_part P fs (fill f t) whole).1
 
 -- a node on the key's path stores its whole prefix then
-pub stored_at : {K V : Type 0} {s : Nodes K V} {bytes : K × V → List ℕ} {P : ℕ} {root : OpaqueNodePtr} {pairs : List (K × V)} {layout : Tree OpaqueNodePtr (K × V)}
-    (by : IsCanonicalTree bytes P s root pairs layout) {key : List ℕ} {path : TreePath} {p : InnerPtr} {depth : ℕ} (d : IsAt bytes P key layout path (inner_name p) depth) →
+pub stored_at : {K V : Type 0} {s : Nodes K V} {bytes : K × V → List ℕ} {P : ℕ} {root : OpaqueNodePtr} {pairs : List (K × V)}
+    {layout : Tree OpaqueNodePtr (K × V)}
+    (by : IsCanonicalTree bytes P s root pairs layout) {key : List ℕ} {path : TreePath} {p : InnerPtr} {depth : ℕ}
+    (d : IsAt bytes P key layout path (inner_name p) depth) →
     p.kind ≢ Leaf → {shown : Inner} → Some shown ≡ map.get s.inners p → IsWholeStored P layout → shown.prefix.len ≤ P
 stored_at {P = P} by d proper there whole =
     let at = shown_there by d proper refl there in
@@ -124,7 +128,8 @@ module _ {K V : Type 0} (s : Nodes K V) (root name : OpaqueNodePtr) (guide next 
       go false e = subst Cost (sym (parts (leb-false (length key) place e))) two
 
 -- a comparison that reads nothing costs nothing
-pub costs_none : {K V : Type 0} (s : Nodes K V) (root name : OpaqueNodePtr) (guide : Option LeafPtr) (result : Result PrefixMatch ExplicitMismatch) → IsPrefixCost s root name guide guide result 0
+pub costs_none : {K V : Type 0} (s : Nodes K V) (root name : OpaqueNodePtr) (guide : Option LeafPtr)
+    (result : Result PrefixMatch ExplicitMismatch) → IsPrefixCost s root name guide guide result 0
 costs_none s root name guide (Ok match) = omega arith
 costs_none s root name guide (Err mismatch) = omega arith
 
@@ -133,7 +138,8 @@ pub guide_most : {K V : Type 0} (s : Nodes K V) (root : OpaqueNodePtr) (guide : 
 guide_most s root None = omega arith
 guide_most s root (Some name) = omega arith
 
-module _ {K V : Type 0} (bytes : K × V → List ℕ) (P : ℕ) (s : Nodes K V) (root : OpaqueNodePtr) (key : List ℕ) (path : TreePath) (name : OpaqueNodePtr) (depth : ℕ) where
+module _ {K V : Type 0} (bytes : K × V → List ℕ) (P : ℕ) (s : Nodes K V) (root : OpaqueNodePtr) (key : List ℕ) (path : TreePath)
+    (name : OpaqueNodePtr) (depth : ℕ) where
   -- A node on the key's path, those above which were read, in so many readings.
   pub record IsReached (layout : Tree OpaqueNodePtr (K × V)) (number : ℕ) : Type 0 where
     pub at : IsAt bytes P key layout path name depth

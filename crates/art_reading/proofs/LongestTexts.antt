@@ -67,7 +67,8 @@ module _ {K V : Type 0} {s : Nodes K V} {bytes : K × V → List ℕ} {P : ℕ} 
   ends_at query = subst (EndsWalk bytes query pairs layout)
 
   -- wherever a descent along a query ends
-  pub ends_walk : (query : List ℕ) (end : TextEnd) {leaf : Option LeafPtr} → leaf ≡ leaf_of_end end → EndsAt bytes query pairs layout end → EndsWalk bytes query pairs layout leaf
+  pub ends_walk : (query : List ℕ) (end : TextEnd) {leaf : Option LeafPtr} → leaf ≡ leaf_of_end end → EndsAt bytes query pairs layout end →
+      EndsWalk bytes query pairs layout leaf
   ends_walk query end is ends = ends_at query (sym is) (go end ends)
     where
       go : (end : TextEnd) → EndsAt bytes query pairs layout end → EndsWalk bytes query pairs layout (leaf_of_end end)
@@ -80,15 +81,20 @@ module _ {K V : Type 0} {s : Nodes K V} {bytes : K × V → List ℕ} {P : ℕ} 
     around = sym (tree_radix by).1 ∙ ap pairs_of (sym has.whole) ∙ pairs_of-plug has.path (leaf n x)
 
     pub at_leaf : (Q : K × V → Type 0) → Each Q pairs → Q x
-    at_leaf Q all = (Each-right Q (pairs_before has.path) (x ∷ []) (Each-left Q (pairs_before has.path ++ x ∷ []) (pairs_after has.path) (subst (Each Q) around all))).0
+    at_leaf Q all =
+        (Each-right Q (pairs_before has.path) (x ∷ [])
+        (Each-left Q (pairs_before has.path ++ x ∷ []) (pairs_after has.path) (subst (Each Q) around all))).0
 
   module _ (end : ℕ) (ended : AreEnded bytes end pairs) (query : List ℕ) where
     -- no text is a prefix of the query
     pub none_found : EndsWalk bytes query pairs layout None → texts_in_front bytes query pairs ≡ []
-    none_found off = filter_none (λ x. is_front (text_of bytes x) query) pairs (Each-weaker (λ x. IsFront (text_of bytes x) query → ⊥) (λ x. is_front (text_of bytes x) query ≡ false) (λ x o. not_front (text_of bytes x) query o) pairs off)
+    none_found off = filter_none (λ x. is_front (text_of bytes x) query) pairs
+        (Each-weaker (λ x. IsFront (text_of bytes x) query → ⊥) (λ x. is_front (text_of bytes x) query ≡ false)
+        (λ x o. not_front (text_of bytes x) query o) pairs off)
 
     -- the text of the leaf is one, and continues with each other
-    pub last_found : {name : LeafPtr} (c : IsCovering bytes query pairs layout name) → IsFront (text_of bytes c.pair) query → FindsLast layout (texts_in_front bytes query pairs) (Some name)
+    pub last_found : {name : LeafPtr} (c : IsCovering bytes query pairs layout name) → IsFront (text_of bytes c.pair) query →
+        FindsLast layout (texts_in_front bytes query pairs) (Some name)
     last_found {name} c on = (c.pair, last, c.has)
       where
         test : K × V → Bool
@@ -105,14 +111,22 @@ module _ {K V : Type 0} {s : Nodes K V} {bytes : K × V → List ℕ} {P : ℕ} 
             let split = around c.has in
             let rise = Pairwise-after (λ x y. Precedes (bytes x) (bytes y)) (pairs_before c.has.path) (pairs_after c.has.path) c.pair
             (subst (IsMap bytes) (split ∙ append_assoc (pairs_before c.has.path) (c.pair ∷ []) (pairs_after c.has.path)) by.is_map) in
-            let marks = Each-right (λ x. IsEndedBy end (bytes x)) (pairs_before c.has.path ++ c.pair ∷ []) (pairs_after c.has.path) (subst (AreEnded bytes end) split ended) in
-            let covers = Each-right (λ x. IsFront (text_of bytes x) query → IsFront (text_of bytes x) (text_of bytes c.pair)) (pairs_before c.has.path ++ c.pair ∷ []) (pairs_after c.has.path)
+            let marks = Each-right (λ x. IsEndedBy end (bytes x)) (pairs_before c.has.path ++ c.pair ∷ []) (pairs_after c.has.path)
+            (subst (AreEnded bytes end) split ended) in
+            let covers = Each-right (λ x. IsFront (text_of bytes x) query → IsFront (text_of bytes x) (text_of bytes c.pair))
+            (pairs_before c.has.path ++ c.pair ∷ []) (pairs_after c.has.path)
             (subst (Each (λ x. IsFront (text_of bytes x) query → IsFront (text_of bytes x) (text_of bytes c.pair))) split c.covers) in
-            Each-both (λ y. Precedes (bytes c.pair) (bytes y)) (λ y. IsFront (text_of bytes y) query → ⊥) (λ y. is_front (text_of bytes y) query ≡ false) (λ y p o. not_front (text_of bytes y) query o) (pairs_after c.has.path) rise
-            (Each-both (λ y. Precedes (bytes c.pair) (bytes y)) (λ y. IsEndedBy end (bytes y) × (IsFront (text_of bytes y) query → IsFront (text_of bytes y) (text_of bytes c.pair))) (λ y. IsFront (text_of bytes y) query → ⊥)
+            Each-both (λ y. Precedes (bytes c.pair) (bytes y)) (λ y. IsFront (text_of bytes y) query → ⊥)
+            (λ y. is_front (text_of bytes y) query ≡ false) (λ y p o. not_front (text_of bytes y) query o) (pairs_after c.has.path) rise
+            (Each-both (λ y. Precedes (bytes c.pair) (bytes y))
+            (λ y. IsEndedBy end (bytes y) × (IsFront (text_of bytes y) query → IsFront (text_of bytes y) (text_of bytes c.pair)))
+            (λ y. IsFront (text_of bytes y) query → ⊥)
             (λ y p (i, cover) f. fronts_first end (bytes c.pair) (bytes y) e.text i.text e.is i.is e.above
-            (subst (λ z. IsFront z e.text) (ap without_last i.is ∙ ended_text i.text end) (subst (λ z. IsFront (text_of bytes y) z) own (cover f))) p) (pairs_after c.has.path) rise
-            (Each-both (λ x. IsEndedBy end (bytes x)) (λ x. IsFront (text_of bytes x) query → IsFront (text_of bytes x) (text_of bytes c.pair)) (λ y. IsEndedBy end (bytes y) × (IsFront (text_of bytes y) query → IsFront (text_of bytes y) (text_of bytes c.pair)))
+            (subst (λ z. IsFront z e.text) (ap without_last i.is ∙ ended_text i.text end)
+            (subst (λ z. IsFront (text_of bytes y) z) own (cover f))) p) (pairs_after c.has.path) rise
+            (Each-both (λ x. IsEndedBy end (bytes x))
+            (λ x. IsFront (text_of bytes x) query → IsFront (text_of bytes x) (text_of bytes c.pair))
+            (λ y. IsEndedBy end (bytes y) × (IsFront (text_of bytes y) query → IsFront (text_of bytes y) (text_of bytes c.pair)))
             (λ y i cover. (i, cover)) (pairs_after c.has.path) marks covers))
 
         here : filter test (c.pair ∷ []) ≡ c.pair ∷ []
@@ -132,7 +146,8 @@ module _ {K V : Type 0} {s : Nodes K V} {bytes : K × V → List ℕ} {P : ℕ} 
       pub shared_is : take (length (common_front (text_of bytes c.pair) query)) query ≡ common_front (text_of bytes c.pair) query
       shared_is =
           let (r, e) = common_front_right (text_of bytes c.pair) query in
-          ap (take (length (common_front (text_of bytes c.pair) query))) e ∙ take_at (common_front (text_of bytes c.pair) query) r (length (common_front (text_of bytes c.pair) query)) refl
+          ap (take (length (common_front (text_of bytes c.pair) query))) e
+          ∙ take_at (common_front (text_of bytes c.pair) query) r (length (common_front (text_of bytes c.pair) query)) refl
 
       same_fronts : texts_in_front bytes query pairs ≡ texts_in_front bytes (common_front (text_of bytes c.pair) query) pairs
       same_fronts =
@@ -141,7 +156,8 @@ module _ {K V : Type 0} {s : Nodes K V} {bytes : K × V → List ℕ} {P : ℕ} 
           (λ x. is_front (text_of bytes x) query ≡ is_front (text_of bytes x) (common_front (text_of bytes c.pair) query))
           (λ x cover. same_front (text_of bytes x) query (common_front (text_of bytes c.pair) query)
           (λ f. (common_front_is_longest (text_of bytes c.pair) query).2 (text_of bytes x) (cover f) f)
-          (λ f. front_trans (text_of bytes x) (common_front (text_of bytes c.pair) query) query f (common_front_right (text_of bytes c.pair) query))) pairs c.covers)
+          (λ f. front_trans (text_of bytes x) (common_front (text_of bytes c.pair) query) query f
+          (common_front_right (text_of bytes c.pair) query))) pairs c.covers)
 
       -- it is a prefix of the leaf's key
       begins : IsFront (common_front (text_of bytes c.pair) query) (bytes c.pair)
@@ -154,7 +170,9 @@ module _ {K V : Type 0} {s : Nodes K V} {bytes : K × V → List ℕ} {P : ℕ} 
   -- the node under the name of a leaf has its pair
   pub own_pair : {name : LeafPtr} {x : K × V} → HasLeaf layout (leaf_name name) x → {node : LeafNode K V} → Some node ≡ map.get s.leaves name → pair_of node ≡ x
   own_pair {name} {x} has {node} read =
-      let (other, there, same) = views.leaf_there s name x (path_holds (node_at s) has.path (leaf (leaf_name name) x) (subst (Holds (node_at s)) (sym has.whole) by.stands.0.holds)).1 in
+      let (other, there, same) =
+      views.leaf_there s name x (path_holds (node_at s) has.path (leaf (leaf_name name) x)
+      (subst (Holds (node_at s)) (sym has.whole) by.stands.0.holds)).1 in
       let is : node ≡ other = cc in
       ap pair_of is ∙ same
 
@@ -162,7 +180,8 @@ module _ {K V : Type 0} {s : Nodes K V} {bytes : K × V → List ℕ} {P : ℕ} 
   module _ (found : List (K × V)) where
     pub shown : {name : LeafPtr} {x : K × V} → HasLeaf layout (leaf_name name) x → option_map pair_of (map.get s.leaves name) ≡ Some x
     shown {name} {x} has =
-        let (node, there, same) = views.leaf_there s name x (path_holds (node_at s) has.path (leaf (leaf_name name) x) (subst (Holds (node_at s)) (sym has.whole) by.stands.0.holds)).1 in
+        let (node, there, same) = views.leaf_there s name x
+        (path_holds (node_at s) has.path (leaf (leaf_name name) x) (subst (Holds (node_at s)) (sym has.whole) by.stands.0.holds)).1 in
         ap (option_map pair_of) there ∙ ap Some same
 
     pub last_pair : (result : Option LeafPtr) → FindsLast layout found result → pair_under s result ≡ last_of found
@@ -178,11 +197,13 @@ module _ {K V : Type 0} {s : Nodes K V} {bytes : K × V → List ℕ} {P : ℕ} 
         some (Some node) e = refl
 
   module _ (end : ℕ) (ended : AreEnded bytes end pairs) (query : List ℕ) where
-    pub found_none : (result : Option LeafPtr) → result ≡ None → EndsWalk bytes query pairs layout None → FindsLast layout (texts_in_front bytes query pairs) result
+    pub found_none : (result : Option LeafPtr) → result ≡ None → EndsWalk bytes query pairs layout None →
+        FindsLast layout (texts_in_front bytes query pairs) result
     found_none result is off = subst (FindsLast layout (texts_in_front bytes query pairs)) (sym is) (none_found end ended query off)
 
     -- all of the text is shared
-    pub found_whole : {name : LeafPtr} (c : IsCovering bytes query pairs layout name) → length (common_front (text_of bytes c.pair) query) ≡ length (text_of bytes c.pair) →
+    pub found_whole : {name : LeafPtr} (c : IsCovering bytes query pairs layout name) →
+        length (common_front (text_of bytes c.pair) query) ≡ length (text_of bytes c.pair) →
         FindsLast layout (texts_in_front bytes query pairs) (Some name)
     found_whole c all = last_found end ended query c (shared_whole (text_of bytes c.pair) query (omega arith))
 
@@ -193,8 +214,10 @@ module _ {K V : Type 0} {s : Nodes K V} {bytes : K × V → List ℕ} {P : ℕ} 
         let cut : take n query ≡ common_front (text_of bytes c.pair) query = ap (λ m. take m query) count ∙ shared_is end ended query c in
         subst (λ xs. FindsLast layout xs result) (sym (same_fronts end ended query c)) (go result (subst (λ q. EndsWalk bytes q pairs layout result) cut ends))
       where
-        go : (result : Option LeafPtr) → EndsWalk bytes (common_front (text_of bytes c.pair) query) pairs layout result → FindsLast layout (texts_in_front bytes (common_front (text_of bytes c.pair) query) pairs) result
+        go : (result : Option LeafPtr) → EndsWalk bytes (common_front (text_of bytes c.pair) query) pairs layout result →
+            FindsLast layout (texts_in_front bytes (common_front (text_of bytes c.pair) query) pairs) result
         go None off = none_found end ended (common_front (text_of bytes c.pair) query) off
         go (Some other) d =
             last_found end ended (common_front (text_of bytes c.pair) query) d
-            (at_leaf c.has (λ x. IsFront (common_front (text_of bytes c.pair) query) (bytes x) → IsFront (text_of bytes d.pair) (common_front (text_of bytes c.pair) query)) d.along (begins end ended query c))
+            (at_leaf c.has (λ x. IsFront (common_front (text_of bytes c.pair) query) (bytes x) →
+            IsFront (text_of bytes d.pair) (common_front (text_of bytes c.pair) query)) d.along (begins end ended query c))

@@ -32,12 +32,14 @@ abbrev pub count_on_way : {N : Type 0} → List ℕ → List (List ℕ × N) →
 count_on_way key nodes = length (match_of (λ node. node.0) key nodes)
 
 -- each prefix of a child is stored whole if each of its parent is
-pub whole_child : {N A : Type 0} (P : ℕ) (cs : Subtrees N A) (b : ℕ) (t : Tree N A) (ds : Subtrees N A) → AreWholeStored P (join cs (child b t ds)) → IsWholeStored P t
+pub whole_child : {N A : Type 0} (P : ℕ) (cs : Subtrees N A) (b : ℕ) (t : Tree N A) (ds : Subtrees N A) →
+    AreWholeStored P (join cs (child b t ds)) → IsWholeStored P t
 whole_child P no_child b t ds whole = whole.0
 whole_child P (child c u cs) b t ds whole = whole_child P cs b t ds whole.1
 
 -- A node of the tree below which all pairs are that match the key. The nodes above it were counted, and all of them are on the key's path if it is, as where each prefix is compared whole.
-pub record IsOnWay {A : Type 0} (bytes : A → List ℕ) (P : ℕ) (start : PrefixMatchBehavior) (key : List ℕ) (tree : Tree OpaqueNodePtr A) (way : TreePath) (name : OpaqueNodePtr)
+pub record IsOnWay {A : Type 0} (bytes : A → List ℕ) (P : ℕ) (start : PrefixMatchBehavior) (key : List ℕ) (tree : Tree OpaqueNodePtr A)
+    (way : TreePath) (name : OpaqueNodePtr)
     (depth : ℕ) (behavior : PrefixMatchBehavior) (before now : ℕ) : Type 0 where
   pub path : List (Frame OpaqueNodePtr A)
   pub node : Tree OpaqueNodePtr A
@@ -65,7 +67,8 @@ module _ {N : Type 0} (key : List ℕ) (node : List ℕ × N) (nodes : List (Lis
   pub count_front : IsFront node.0 key → count_on_way key (node ∷ nodes) ≡ 1 + count_on_way key nodes
   count_front (r, e) = let is : is_front node.0 key ≡ true = ap (is_front node.0) e ∙ front_is node.0 r in rw is (omega arith)
 
-module _ {A : Type 0} {bytes : A → List ℕ} {P : ℕ} {start : PrefixMatchBehavior} {key : List ℕ} {tree : Tree OpaqueNodePtr A} {way : TreePath} {name : OpaqueNodePtr} {depth : ℕ}
+module _ {A : Type 0} {bytes : A → List ℕ} {P : ℕ} {start : PrefixMatchBehavior} {key : List ℕ} {tree : Tree OpaqueNodePtr A}
+    {way : TreePath} {name : OpaqueNodePtr} {depth : ℕ}
     {behavior : PrefixMatchBehavior} {before now : ℕ} (d : IsOnWay bytes P start key tree way name depth behavior before now) where
   -- the node's own place
   own_place : place_of bytes depth d.node ≡ d.place
@@ -128,10 +131,12 @@ module _ {A : Type 0} {bytes : A → List ℕ} {P : ℕ} {start : PrefixMatchBeh
     inner_least : before + count_on_way key (places bytes 0 tree) ≤ now + 1 + count_on_way key (places_below bytes (depth + shown.prefix.len + 1) at.children)
     inner_least =
         let l = subst (λ t. before + count_on_way key (places bytes 0 tree) ≤ now + count_on_way key (places bytes depth t)) at.is d.at_least in
-        let m = count_most key (place_of bytes depth (inner (inner_name p) (header_at p.kind shown) at.children), inner_name p) (places_below bytes (depth + shown.prefix.len + 1) at.children) in
+        let m = count_most key (place_of bytes depth (inner (inner_name p) (header_at p.kind shown) at.children), inner_name p)
+        (places_below bytes (depth + shown.prefix.len + 1) at.children) in
         omega arith
 
-    inner_exactly : IsFront d.place key → before + count_on_way key (places bytes 0 tree) ≡ now + 1 + count_on_way key (places_below bytes (depth + shown.prefix.len + 1) at.children)
+    inner_exactly : IsFront d.place key → before + count_on_way key (places bytes 0 tree)
+        ≡ now + 1 + count_on_way key (places_below bytes (depth + shown.prefix.len + 1) at.children)
     inner_exactly front =
         let l = subst (λ t. before + count_on_way key (places bytes 0 tree) ≡ now + count_on_way key (places bytes depth t)) at.is (d.exactly front) in
         let own = subst (λ t. place_of bytes depth t ≡ d.place) at.is own_place in
@@ -166,7 +171,8 @@ module _ {A : Type 0} {bytes : A → List ℕ} {P : ℕ} {start : PrefixMatchBeh
       where
         off : IsFront front key → ⊥
         off (r, e) =
-            let rest : drop depth key ≡ radix.0 ++ r = ap (λ n. drop n key) (sym d.depth_is) ∙ after_front d.place key (radix.0 ++ r) (e ∙ append_assoc d.place radix.0 r) in
+            let rest : drop depth key ≡ radix.0 ++ r =
+            ap (λ n. drop n key) (sym d.depth_is) ∙ after_front d.place key (radix.0 ++ r) (e ∙ append_assoc d.place radix.0 r) in
             let whole : IsFront shown.prefix.stored (drop depth key) = (
               drop P radix.0 ++ r,
               rest ∙ ap (λ xs. xs ++ r) (sym (take-append-drop P radix.0)) ∙
@@ -183,7 +189,8 @@ module _ {A : Type 0} {bytes : A → List ℕ} {P : ℕ} {start : PrefixMatchBeh
         ends_aside (aside_others front key at.children (no_child_under at.children b (ap (λ cs. child_at cs b) (sym at.slots) ∙ e)))
 
     -- all bytes of the prefix were compared
-    pub still_compared : behavior ≡ Pessimistic → length shown.prefix.stored ≤ shared_len shown.prefix.stored (drop depth key) → shown.prefix.len ≤ length shown.prefix.stored → IsFront front key
+    pub still_compared : behavior ≡ Pessimistic → length shown.prefix.stored ≤ shared_len shown.prefix.stored (drop depth key) →
+        shown.prefix.len ≤ length shown.prefix.stored → IsFront front key
     still_compared sure all long =
         let (r, e) = d.compared sure in
         let (q, g) = shared_whole shown.prefix.stored (drop depth key) all in
@@ -227,7 +234,9 @@ module _ {A : Type 0} {bytes : A → List ℕ} {P : ℕ} {start : PrefixMatchBeh
           radix = (AreRadix-right bytes P front u.left (child b u.tree u.right) below).0;
           depth_is = length-append front (b ∷ []) ∙ ap (λ n. n + 1) front_len;
           compared = λ s. front_byte front key (sure s) (let l = front_len in omega arith);
-          matches = inner_matches ∙ ap (λ cs. match_of bytes key (pairs_below cs)) u.whole ∙ pairs_between bytes P front key u.left b u.tree u.right below low high;
+          matches =
+              inner_matches ∙ ap (λ cs. match_of bytes key (pairs_below cs)) u.whole
+              ∙ pairs_between bytes P front key u.left b u.tree u.right below low high;
           at_least = let l = inner_least in omega arith;
           exactly = λ f. let l = inner_exactly (front_cut d.place radix.0 key (front_cut front (b ∷ []) key f)) in omega arith;
           compares = λ whole.

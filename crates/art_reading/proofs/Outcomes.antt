@@ -45,7 +45,9 @@ module _ (prefix : Prefix) (rest : List ℕ) where
     where
       go : Parts → Matches prefix.len rest m
       go (inl h) = let k = rw (lt-ltb (shared_len prefix.stored rest) (length prefix.stored) h) at e in absurd cc
-      go (inr h) = let k = rw (le-ltb (shared_len prefix.stored rest) (length prefix.stored) h) at e in by_length_ok prefix.len rest (ltb (length prefix.stored) prefix.len) m k
+      go (inr h) = let k =
+          rw (le-ltb (shared_len prefix.stored rest) (length prefix.stored) h) at e in
+          by_length_ok prefix.len rest (ltb (length prefix.stored) prefix.len) m k
 
   -- a mismatch is at a stored byte that was compared, or the rest is too short
   abbrev pub Why : PrefixMatchBehavior → Type 0
@@ -57,7 +59,8 @@ module _ (prefix : Prefix) (rest : List ℕ) where
     where
       go : Parts → Why Pessimistic
       go (inl h) = inl (refl, h)
-      go (inr h) = let k = rw (le-ltb (shared_len prefix.stored rest) (length prefix.stored) h) at e in inr (by_length_err prefix.len rest (ltb (length prefix.stored) prefix.len) m k)
+      go (inr h) = let k = rw (le-ltb (shared_len prefix.stored rest) (length prefix.stored) h) at e in
+          inr (by_length_err prefix.len rest (ltb (length prefix.stored) prefix.len) m k)
 
   -- a behavior that is pessimistic after a match was so before, and all bytes of the prefix are stored and the same
   abbrev pub AllCompared : PrefixMatchBehavior → Type 0
@@ -66,13 +69,19 @@ module _ (prefix : Prefix) (rest : List ℕ) where
   pub ok_compared : (behavior : PrefixMatchBehavior) (m : AttemptOptimisticPrefixMatch) → prefix_match behavior prefix rest ≡ Ok m →
       behavior_after behavior prefix rest ≡ Pessimistic → AllCompared behavior
   ok_compared Optimistic m e after = absurd cc
-  ok_compared Pessimistic m e after = go (cases_lt (shared_len prefix.stored rest) (length prefix.stored)) (cases_lt (length prefix.stored) prefix.len) (ok_len Pessimistic m e).1
+  ok_compared Pessimistic m e after =
+      go (cases_lt (shared_len prefix.stored rest) (length prefix.stored)) (cases_lt (length prefix.stored) prefix.len)
+      (ok_len Pessimistic m e).1
     where
       go : Parts → (length prefix.stored < prefix.len) ⊎ (prefix.len ≤ length prefix.stored) → prefix.len ≤ length rest → AllCompared Pessimistic
       go (inl h) stored l = let k = rw (lt-ltb (shared_len prefix.stored rest) (length prefix.stored) h) at e in absurd cc
       go (inr h) (inr stored) l = (refl, h, stored)
       go (inr h) (inl stored) l =
-          let k = rw (le-ltb (shared_len prefix.stored rest) (length prefix.stored) h, le-ltb (length rest) prefix.len l, lt-ltb (length prefix.stored) prefix.len stored) at after in absurd cc
+          let k = rw (
+            le-ltb (shared_len prefix.stored rest) (length prefix.stored) h,
+            le-ltb (length rest) prefix.len l,
+            lt-ltb (length prefix.stored) prefix.len stored,
+          ) at after in absurd cc
 
   -- a behavior that is pessimistic before a match with a prefix that is stored whole stays so
   pub ok_sure : (behavior : PrefixMatchBehavior) (m : AttemptOptimisticPrefixMatch) → prefix_match behavior prefix rest ≡ Ok m →
@@ -83,7 +92,11 @@ module _ (prefix : Prefix) (rest : List ℕ) where
       go : Parts → prefix.len ≤ length rest → behavior_after Pessimistic prefix rest ≡ Pessimistic
       go (inl h) l = rw (lt-ltb (shared_len prefix.stored rest) (length prefix.stored) h) refl
       go (inr h) l =
-          rw (le-ltb (shared_len prefix.stored rest) (length prefix.stored) h, le-ltb (length rest) prefix.len l, le-ltb (length prefix.stored) prefix.len stored) refl
+          rw (
+            le-ltb (shared_len prefix.stored rest) (length prefix.stored) h,
+            le-ltb (length rest) prefix.len l,
+            le-ltb (length prefix.stored) prefix.len stored,
+          ) refl
 
 module _ (stored rest : List ℕ) where
   -- the rest starts with the stored bytes exactly if it does not differ from them

@@ -35,6 +35,7 @@ module _ {K V : Type 0} (s : Nodes K V) (way : TreePath) (node : InnerPtr) (byte
         | inr off ↦ off
       ])
 
-  pub step_proper : {bytes : K × V → List ℕ} {P : ℕ} {root name : OpaqueNodePtr} {pairs : List (K × V)} {layout : Tree OpaqueNodePtr (K × V)} {key : List ℕ} {depth : ℕ} →
+  pub step_proper : {bytes : K × V → List ℕ} {P : ℕ} {root name : OpaqueNodePtr} {pairs : List (K × V)}
+      {layout : Tree OpaqueNodePtr (K × V)} {key : List ℕ} {depth : ℕ} →
       IsCanonicalTree bytes P s root pairs layout → IsAt bytes P key layout (step_down way node byte) name depth → node.kind ≢ Leaf
   step_proper by at = frames_proper at.frames at.node (subst (Holds (node_at s)) (sym at.whole) by.stands.0.holds) at.path_is

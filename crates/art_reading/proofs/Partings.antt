@@ -19,7 +19,8 @@ unrelated_after front x y a b f g differ = go (cases_order x y)
     go (inr (inr l)) = related_sym a b ∙ (precedes_at front y x g.0 f.0 b a (g.1 ∙ append_assoc front (y ∷ []) g.0) (f.1 ∙ append_assoc front (x ∷ []) f.0) l).1
 
 pub parted_unrelated : {a b : List ℕ} → ArePart a b → are_related a b ≡ false
-parted_unrelated {a} {b} p = unrelated_after p.front p.x p.y a b (p.r, p.a_is ∙ sym (append_assoc p.front (p.x ∷ []) p.r)) (p.s, p.b_is ∙ sym (append_assoc p.front (p.y ∷ []) p.s)) p.differ
+parted_unrelated {a} {b} p = unrelated_after p.front p.x p.y a b (p.r, p.a_is ∙ sym (append_assoc p.front (p.x ∷ []) p.r))
+    (p.s, p.b_is ∙ sym (append_assoc p.front (p.y ∷ []) p.s)) p.differ
 
 -- as many as all of the first key's bytes are shared
 pub all_shared : (a b : List ℕ) (n : ℕ) → n ≡ shared_len a b → length a ≤ n → (n ≡ length a) × IsFront a b
@@ -44,7 +45,9 @@ some_equal a b (inr h) same = whole_same a b (shared_whole a b (omega arith)) sa
 -- what the comparison of lengths with what is shared decides, where the second key was read as `c`
 module _ (a b c : List ℕ) (n : ℕ) (shared : n ≡ shared_len a c) (same : c ≡ b) where
   pub less_than_both : n < length a → n < length c → (are_related a b ≡ false) × (n ≡ shared_len a b)
-  less_than_both h k = subst (λ l. (are_related a l ≡ false) × (n ≡ shared_len a l)) same (parted_unrelated (part_where a c (omega arith) (omega arith)), shared)
+  less_than_both h k =
+      subst (λ l. (are_related a l ≡ false) × (n ≡ shared_len a l)) same
+      (parted_unrelated (part_where a c (omega arith) (omega arith)), shared)
 
   not_less : ((n < length a) × (length c ≤ n)) ⊎ (length a ≤ n) → (length a ≤ shared_len a c) ⊎ (length c ≤ shared_len a c)
   not_less (inl h) = inr (let l = h.1 in omega arith)

@@ -95,21 +95,28 @@ module _ {K V : Type 0} {s : Nodes K V} {bytes : K × V → List ℕ} {P : ℕ} 
   module _ (prefix : List ℕ) where
     -- no key starts with the prefix
     pub none_begins : below bytes prefix (pairs_of layout) ≡ [] → IsIteratorOf s None (leaves_where (λ x. is_front prefix (bytes x)) layout)
-    none_begins none = subst (IsIteratorOf s None) (sym (where_none (λ x. is_front prefix (bytes x)) layout (none_passes (λ x. is_front prefix (bytes x)) (pairs_of layout) none))) empty_iterator
+    none_begins none = subst (IsIteratorOf s None)
+        (sym (where_none (λ x. is_front prefix (bytes x)) layout
+        (none_passes (λ x. is_front prefix (bytes x)) (pairs_of layout) none))) empty_iterator
 
     module _ {name : OpaqueNodePtr} (at : HasAllBelow bytes prefix layout name) where
       at_node : leaves_where (λ x. is_front prefix (bytes x)) layout ≡ leaves_where (λ x. is_front prefix (bytes x)) at.at.node
-      at_node = ap (leaves_where (λ x. is_front prefix (bytes x))) (sym at.at.whole) ∙ where_in_hole (λ x. is_front prefix (bytes x)) at.at.path at.at.node at.at.before at.at.after
+      at_node = ap (leaves_where (λ x. is_front prefix (bytes x))) (sym at.at.whole)
+          ∙ where_in_hole (λ x. is_front prefix (bytes x)) at.at.path at.at.node at.at.before at.at.after
 
       -- the keys below the node do not
       pub others_begin : at.begin ≡ false → IsIteratorOf s None (leaves_where (λ x. is_front prefix (bytes x)) layout)
       others_begin off =
-          let none = where_none (λ x. is_front prefix (bytes x)) at.at.node (subst (λ t. Each (λ x. is_front prefix (bytes x) ≡ t) (pairs_of at.at.node)) off at.alike) in
+          let none =
+          where_none (λ x. is_front prefix (bytes x)) at.at.node
+          (subst (λ t. Each (λ x. is_front prefix (bytes x) ≡ t) (pairs_of at.at.node)) off at.alike) in
           subst (IsIteratorOf s None) (sym (at_node ∙ none)) empty_iterator
 
       -- they do
       pub these_begin : at.begin ≡ true → {p q : LeafPtr} → HasFirstLeaf at.at.node (leaf_name p) → HasLastLeaf at.at.node (leaf_name q) →
           IsIteratorOf s (Some (p, q)) (leaves_where (λ x. is_front prefix (bytes x)) layout)
       these_begin on {p} {q} first last =
-          let all = where_all (λ x. is_front prefix (bytes x)) at.at.node (subst (λ t. Each (λ x. is_front prefix (bytes x) ≡ t) (pairs_of at.at.node)) on at.alike) in
+          let all =
+          where_all (λ x. is_front prefix (bytes x)) at.at.node
+          (subst (λ t. Each (λ x. is_front prefix (bytes x) ≡ t) (pairs_of at.at.node)) on at.alike) in
           subst (IsIteratorOf s (Some (p, q))) (sym (at_node ∙ all)) (record { ends = (first.name_is, last.name_is); segment = node_segment at.at })

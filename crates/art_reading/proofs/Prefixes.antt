@@ -34,12 +34,15 @@ use Rattle.art_reading.specs.EndNodes.{IsCompared, IsLeafForPrefix}
 use Rattle.art_reading.specs.PartEnds.{IsPlaced}
 
 -- what the comparison of a prefix returns, if it is the whole prefix of the node
-module _ {A : Type 0} (bytes : A → List ℕ) (P : ℕ) (key : List ℕ) (node : Tree OpaqueNodePtr A) (depth : ℕ) (leaf_ptr : Option LeafPtr) {prefix rest : List ℕ} where
-  compared : (r : Result PrefixMatch ExplicitMismatch) → prefix ≡ prefix_of bytes depth node → rest ≡ drop depth key → IsLeafForPrefix P (prefix_of bytes depth node) node leaf_ptr →
+module _ {A : Type 0} (bytes : A → List ℕ) (P : ℕ) (key : List ℕ) (node : Tree OpaqueNodePtr A) (depth : ℕ) (leaf_ptr : Option LeafPtr)
+    {prefix rest : List ℕ} where
+  compared : (r : Result PrefixMatch ExplicitMismatch) → prefix ≡ prefix_of bytes depth node → rest ≡ drop depth key →
+      IsLeafForPrefix P (prefix_of bytes depth node) node leaf_ptr →
       IfOk r (λ m. m.matched_bytes ≡ length prefix) → IfOk r (λ m. IsFront prefix rest) → IfErr r (λ m. m.matched_bytes ≡ shared_len prefix rest) →
       IfErr r (λ m. slice_get prefix m.matched_bytes ≡ Some m.prefix_byte) → IfErr r (λ m. m.leaf_ptr ≡ leaf_ptr) →
       IsCompared bytes P key node depth r
-  compared (Ok m) whole rest_is least len front shared byte read = (len ∙ ap length whole, subst (λ p. IsFront p (drop depth key)) whole (subst (IsFront prefix) rest_is front))
+  compared (Ok m) whole rest_is least len front shared byte read =
+      (len ∙ ap length whole, subst (λ p. IsFront p (drop depth key)) whole (subst (IsFront prefix) rest_is front))
   compared (Err m) whole rest_is least len front shared byte read = record {
     matched = shared ∙ ap (shared_len prefix) rest_is ∙ ap (λ p. shared_len p (drop depth key)) whole;
     byte = subst (λ p. slice_get p m.matched_bytes ≡ Some m.prefix_byte) whole byte;
@@ -66,7 +69,8 @@ module _ {K V : Type 0} {s : Nodes K V} {bytes : K × V → List ℕ} {P : ℕ} 
 
     whole_prefix : prefix_of bytes depth node ≡ radix.0
     whole_prefix =
-        ap (prefix_of bytes depth) at.is ∙ subst (λ n. prefix_of bytes n here ≡ radix.0) part.depth_is (prefix_is bytes P (inner_name p) (header_at p.kind shown) at.children part.place radix)
+        ap (prefix_of bytes depth) at.is ∙ subst (λ n. prefix_of bytes n here ≡ radix.0) part.depth_is
+        (prefix_is bytes P (inner_name p) (header_at p.kind shown) at.children part.place radix)
 
     len_is : shown.prefix.len ≡ length (prefix_of bytes depth node)
     len_is = ap (λ h. h.length_of) radix.1 ∙ ap length (sym whole_prefix)
@@ -100,7 +104,8 @@ module _ {K V : Type 0} {s : Nodes K V} {bytes : K × V → List ℕ} {P : ℕ} 
       begins : IsFront (part.place ++ radix.0) (bytes (pair_of l))
       begins =
           own (λ x. IsFront (part.place ++ radix.0) (bytes x))
-          (subst (λ t. Each (λ x. IsFront (part.place ++ radix.0) (bytes x)) (pairs_of t)) (sym at.is) (radix_below bytes P at.children (part.place ++ radix.0) radix.4))
+          (subst (λ t. Each (λ x. IsFront (part.place ++ radix.0) (bytes x)) (pairs_of t)) (sym at.is)
+          (radix_below bytes P at.children (part.place ++ radix.0) radix.4))
 
       pub long_enough : depth + shown.prefix.len ≤ length (bytes (pair_of l))
       long_enough =
@@ -117,7 +122,8 @@ module _ {K V : Type 0} {s : Nodes K V} {bytes : K × V → List ℕ} {P : ℕ} 
       prefix_read =
           let (r, e) = begins in
           let rest : drop depth (bytes (pair_of l)) ≡ radix.0 ++ r =
-          ap (λ n. drop n (bytes (pair_of l))) (sym part.depth_is) ∙ after_front part.place (bytes (pair_of l)) (radix.0 ++ r) (e ∙ append_assoc part.place radix.0 r) in
+          ap (λ n. drop n (bytes (pair_of l))) (sym part.depth_is)
+          ∙ after_front part.place (bytes (pair_of l)) (radix.0 ++ r) (e ∙ append_assoc part.place radix.0 r) in
           ap (take shown.prefix.len) rest ∙ take_at radix.0 r shown.prefix.len (sym (ap (λ h. h.length_of) radix.1)) ∙ sym whole_prefix
 
       -- what the comparison with a prefix that is read from the leaf returns
@@ -132,10 +138,12 @@ module _ {K V : Type 0} {s : Nodes K V} {bytes : K × V → List ℕ} {P : ℕ} 
         pub matches_read : {m : PrefixMatch} → m.matched_bytes ≡ length prefix → IsFront prefix rest → IsCompared bytes P key node depth (Ok m)
         matches_read len front = (len ∙ ap length whole_read, subst (λ p. IsFront p (drop depth key)) whole_read (subst (IsFront prefix) rest_is front))
 
-        pub parts_read : {m : ExplicitMismatch} {q : LeafPtr} → P < len → m.matched_bytes ≡ shared_len prefix rest → slice_get prefix m.matched_bytes ≡ Some m.prefix_byte →
+        pub parts_read : {m : ExplicitMismatch} {q : LeafPtr} → P < len → m.matched_bytes ≡ shared_len prefix rest →
+            slice_get prefix m.matched_bytes ≡ Some m.prefix_byte →
             m.leaf_ptr ≡ Some q → HasFirstLeaf node (leaf_name q) → IsCompared bytes P key node depth (Err m)
         parts_read {m} {q} more shared byte least first = record {
           matched = shared ∙ ap (shared_len prefix) rest_is ∙ ap (λ p. shared_len p (drop depth key)) whole_read;
           byte = subst (λ p. slice_get p m.matched_bytes ≡ Some m.prefix_byte) whole_read byte;
-          least_leaf = subst (IsLeafForPrefix P (prefix_of bytes depth node) node) (sym least) ((let k = len_is in let h = ap (λ z. z.len) header_is in omega arith), first);
+          least_leaf = subst (IsLeafForPrefix P (prefix_of bytes depth node) node) (sym least)
+              ((let k = len_is in let h = ap (λ z. z.len) header_is in omega arith), first);
         }

@@ -62,20 +62,25 @@ module _ {A : Type 0} (bytes : A → List ℕ) (end : ℕ) (query : List ℕ) (a
         Each-both (λ x. IsEndedBy end (bytes x)) IsPassed (λ x. IsSought bytes query at_least x → ⊥)
         (λ x e p (f, n). p e.text e.is (subst (λ z. IsFront z query) (own_text x e) f) (subst (λ z. at_least ≤ length z) (own_text x e) n)) xs ended
 
-    finish_some : (name : LeafPtr) (x : A) (f : List ℕ) → HasLeaf tree (leaf_name name) x → bytes x ≡ f ++ end ∷ [] → Each (IsLed f) xs → EndsAtFirst bytes query at_least xs tree (Some name)
+    finish_some : (name : LeafPtr) (x : A) (f : List ℕ) → HasLeaf tree (leaf_name name) x → bytes x ≡ f ++ end ∷ [] → Each (IsLed f) xs →
+        EndsAtFirst bytes query at_least xs tree (Some name)
     finish_some name x f has is led =
         let own : text_of bytes x ≡ f = ap without_last is ∙ ended_text f end in
         record {
           pair = x;
           has = has;
-          leads = Each-both (λ y. IsEndedBy end (bytes y)) (IsLed f) (λ y. IsSought bytes query at_least y → IsFront (text_of bytes x) (text_of bytes y) × (at_least ≤ length (text_of bytes x)))
+          leads = Each-both (λ y. IsEndedBy end (bytes y)) (IsLed f)
+              (λ y. IsSought bytes query at_least y → IsFront (text_of bytes x) (text_of bytes y) × (at_least ≤ length (text_of bytes x)))
               (λ y e l (g, n).
-              let (h, m) = l e.text e.is (subst (λ z. IsFront z query) (own_text y e) g) (subst (λ z. at_least ≤ length z) (own_text y e) n) in
-              (subst (λ z. IsFront z (text_of bytes y)) (sym own) (subst (λ z. IsFront f z) (sym (own_text y e)) h), subst (λ z. at_least ≤ length z) (sym own) m)) xs ended led;
+              let (h, m) = l e.text e.is (subst (λ z. IsFront z query) (own_text y e) g) (subst (λ z. at_least ≤ length z) (own_text y e) n) in (
+                subst (λ z. IsFront z (text_of bytes y)) (sym own) (subst (λ z. IsFront f z) (sym (own_text y e)) h),
+                subst (λ z. at_least ≤ length z) (sym own) m,
+              )) xs ended led;
         }
 
 -- The descent to a node, outside of which no text is searched for.
-abbrev pub IsShortWay : {A : Type 0} (bytes : A → List ℕ) (P end : ℕ) (query : List ℕ) (at_least : ℕ) (tree : Tree OpaqueNodePtr A) (name : OpaqueNodePtr) (depth : ℕ) → Type 0
+abbrev pub IsShortWay : {A : Type 0} (bytes : A → List ℕ) (P end : ℕ) (query : List ℕ) (at_least : ℕ) (tree : Tree OpaqueNodePtr A)
+    (name : OpaqueNodePtr) (depth : ℕ) → Type 0
 IsShortWay bytes P end query at_least tree name depth =
     IsDescent bytes P (IsPassed bytes end query at_least) (IsPassed bytes end query at_least) tree name depth
 
@@ -84,10 +89,12 @@ module _ {K V : Type 0} {s : Nodes K V} {bytes : K × V → List ℕ} {P : ℕ} 
   pub short_begins : IsShortWay bytes P end query at_least layout root 0
   short_begins = start by
 
-  pub over_all : (result : Option LeafPtr) → EndsAtFirst bytes query at_least (pairs_of layout) layout result → EndsAtFirst bytes query at_least pairs layout result
+  pub over_all : (result : Option LeafPtr) → EndsAtFirst bytes query at_least (pairs_of layout) layout result →
+      EndsAtFirst bytes query at_least pairs layout result
   over_all result = subst (λ xs. EndsAtFirst bytes query at_least xs layout result) (tree_radix by).1
 
-  module _ (ended : AreEnded bytes end (pairs_of layout)) {name : OpaqueNodePtr} {depth : ℕ} (way : IsShortWay bytes P end query at_least layout name depth) where
+  module _ (ended : AreEnded bytes end (pairs_of layout)) {name : OpaqueNodePtr} {depth : ℕ}
+      (way : IsShortWay bytes P end query at_least layout name depth) where
     every : (Q : K × V → Type 0) → ((x : K × V) → IsPassed bytes end query at_least x → Q x) → Each Q (pairs_of way.at.node) → Each Q (pairs_of layout)
     every Q aside own =
         let at = way.at in
@@ -100,10 +107,14 @@ module _ {K V : Type 0} {s : Nodes K V} {bytes : K × V → List ℕ} {P : ℕ} 
     pub short_leaf : (n : LeafPtr) (x : K × V) → way.at.node ≡ leaf (leaf_name n) x → EndsAtFirst bytes query at_least (pairs_of layout) layout (Some n)
     short_leaf n x is =
         let e = (subst (λ t. AreEnded bytes end (pairs_of t)) is (ended_at by end query ended way.at)).0 in
-        finish_some bytes end query at_least (pairs_of layout) ended layout n x e.text (record { path = way.at.path; whole = ap (plug way.at.path) (sym is) ∙ way.at.whole }) e.is
+        finish_some bytes end query at_least (pairs_of layout) ended layout n x e.text
+        (record { path = way.at.path; whole = ap (plug way.at.path) (sym is) ∙ way.at.whole }) e.is
         (every (IsLed bytes end query at_least e.text) (λ y p t i f m. absurd (p t i f m))
-        (subst (λ t. Each (IsLed bytes end query at_least e.text) (pairs_of t)) (sym is)
-        ((λ t i f m. let same : t ≡ e.text = sym (ended_text t end) ∙ ap without_last (sym i ∙ e.is) ∙ ended_text e.text end in (([], same ∙ sym (append-nil e.text)), subst (λ z. at_least ≤ length z) same m)), tt)))
+        (subst (λ t. Each (IsLed bytes end query at_least e.text) (pairs_of t)) (sym is) (
+          (λ t i f m. let same : t ≡ e.text = sym (ended_text t end) ∙ ap without_last (sym i ∙ e.is) ∙ ended_text e.text end in
+              (([], same ∙ sym (append-nil e.text)), subst (λ z. at_least ≤ length z) same m)),
+          tt,
+        )))
 
     -- ---- at an inner node
     module _ {p : InnerPtr} {shown : Inner} (at : IsShown way.at.node p shown) where
@@ -114,10 +125,12 @@ module _ {K V : Type 0} {s : Nodes K V} {bytes : K × V → List ℕ} {P : ℕ} 
       below : (c : ℕ) (x : K × V) → IsFront (front way at ++ c ∷ []) (bytes x) → (t : List ℕ) → bytes x ≡ t ++ end ∷ [] → Goes (front way at) c t
       below c x leads t e = goes_within (front way at) c leads.0 t end (sym e ∙ leads.1)
 
-      none_below : ((c : ℕ) → IsIn c (bytes_of at.children) → (t : List ℕ) → Goes (front way at) c t → IsFront t query → at_least ≤ length t → ⊥) → EndsAtFirst bytes query at_least (pairs_of layout) layout None
+      none_below : ((c : ℕ) → IsIn c (bytes_of at.children) → (t : List ℕ) → Goes (front way at) c t → IsFront t query →
+          at_least ≤ length t → ⊥) → EndsAtFirst bytes query at_least (pairs_of layout) layout None
       none_below off =
           finish_none bytes end query at_least (pairs_of layout) ended layout
-          (every (IsPassed bytes end query at_least) (λ x h. h) (each_under way at (IsPassed bytes end query at_least) (λ c i x leads t e. off c i t (below c x leads t e))))
+          (every (IsPassed bytes end query at_least) (λ x h. h)
+          (each_under way at (IsPassed bytes end query at_least) (λ c i x leads t e. off c i t (below c x leads t e))))
 
       -- the query ends before the prefix does
       pub short_ends : length query < length (front way at) → EndsAtFirst bytes query at_least (pairs_of layout) layout None
@@ -136,7 +149,8 @@ module _ {K V : Type 0} {s : Nodes K V} {bytes : K × V → List ℕ} {P : ℕ} 
             record {
               path = record { mark = inner_name p; header = header_at p.kind shown; left = u.left; byte = b; right = u.right } ∷ way.at.path;
               node = u.tree;
-              whole = ap (λ cs. plug way.at.path (inner (inner_name p) (header_at p.kind shown) cs)) (sym u.whole) ∙ ap (plug way.at.path) (sym at.is) ∙ way.at.whole;
+              whole = ap (λ cs. plug way.at.path (inner (inner_name p) (header_at p.kind shown) cs)) (sym u.whole)
+                  ∙ ap (plug way.at.path) (sym at.is) ∙ way.at.whole;
               named = u.named;
               before = each_top _;
               after = each_top _;
@@ -144,17 +158,21 @@ module _ {K V : Type 0} {s : Nodes K V} {bytes : K × V → List ℕ} {P : ℕ} 
             (AreRadix-right bytes P (front way at) u.left (child b u.tree u.right) subtrees).0,
           )
 
-      module _ (result : Option LeafPtr) (short : length (front way at) < at_least → result ≡ None) (long : at_least ≤ length (front way at) → IsLeafOr (child_at shown.children end) None result) where
+      module _ (result : Option LeafPtr) (short : length (front way at) < at_least → result ≡ None)
+          (long : at_least ≤ length (front way at) → IsLeafOr (child_at shown.children end) None result) where
         -- a text that ends here is found
-        pub short_found : (n : LeafPtr) → result ≡ Some n → at_least ≤ length (front way at) → EndsAtFirst bytes query at_least (pairs_of layout) layout (Some n)
+        pub short_found : (n : LeafPtr) → result ≡ Some n → at_least ≤ length (front way at) →
+            EndsAtFirst bytes query at_least (pairs_of layout) layout (Some n)
         short_found n is enough = go (child_at shown.children end) refl (subst (λ r. IsLeafOr (child_at shown.children end) None r) is (long enough))
           where
-            go : (to : Option OpaqueNodePtr) → child_at shown.children end ≡ to → IsLeafOr to None (Some n) → EndsAtFirst bytes query at_least (pairs_of layout) layout (Some n)
+            go : (to : Option OpaqueNodePtr) → child_at shown.children end ≡ to → IsLeafOr to None (Some n) →
+                EndsAtFirst bytes query at_least (pairs_of layout) layout (Some n)
             go None there e = absurd cc
             go (Some to) there (inl (q, named, same)) =
                 let m = marked by end query ended (front way at) (child_of end there).0 (child_of end there).1 named in
                 let is_q : q ≡ n = cc in
-                finish_some bytes end query at_least (pairs_of layout) ended layout n m.x (front way at) (subst (λ l. HasLeaf layout (leaf_name l) m.x) is_q m.has) m.ended
+                finish_some bytes end query at_least (pairs_of layout) ended layout n m.x (front way at)
+                (subst (λ l. HasLeaf layout (leaf_name l) m.x) is_q m.has) m.ended
                 (every (IsLed bytes end query at_least (front way at)) (λ y p t i f l. absurd (p t i f l))
                 (each_under way at (IsLed bytes end query at_least (front way at)) (λ c i x leads t e f l. (on c t (below c x leads t e), enough))))
               where
@@ -166,7 +184,8 @@ module _ {K V : Type 0} {s : Nodes K V} {bytes : K × V → List ℕ} {P : ℕ} 
         pub short_some : IsSome result → EndsAtFirst bytes query at_least (pairs_of layout) layout result
         short_some there = go result refl there (cases_lt (length (front way at)) at_least)
           where
-            go : (r : Option LeafPtr) → result ≡ r → IsSome r → (length (front way at) < at_least) ⊎ (at_least ≤ length (front way at)) → EndsAtFirst bytes query at_least (pairs_of layout) layout r
+            go : (r : Option LeafPtr) → result ≡ r → IsSome r → (length (front way at) < at_least) ⊎ (at_least ≤ length (front way at)) →
+                EndsAtFirst bytes query at_least (pairs_of layout) layout r
             go None e some h = absurd cc
             go (Some n) e some (inl l) = let none = short l in absurd cc
             go (Some n) e some (inr m) = short_found n e m
@@ -181,24 +200,28 @@ module _ {K V : Type 0} {s : Nodes K V} {bytes : K × V → List ℕ} {P : ℕ} 
               go (Some to) there (inl (q, named, same)) = absurd cc
               go (Some to) there (inr (proper, e)) = not_inner by end query ended (front way at) (child_of end there).0 (child_of end there).1 proper
 
-          off_here : (c : ℕ) → IsIn c (bytes_of at.children) → (IsFront (front way at ++ c ∷ []) query → ⊥) → (t : List ℕ) → Goes (front way at) c t → IsFront t query → at_least ≤ length t → ⊥
+          off_here : (c : ℕ) → IsIn c (bytes_of at.children) → (IsFront (front way at ++ c ∷ []) query → ⊥) → (t : List ℕ) →
+              Goes (front way at) c t → IsFront t query → at_least ≤ length t → ⊥
           off_here c i off t (inl (same, mark)) f m = no_mark c i mark (subst (λ z. at_least ≤ length z) same m)
           off_here c i off t (inr g) f m = off (front_trans (front way at ++ c ∷ []) t query g f)
 
           -- the query ends with the prefix
           pub short_ends_with : length query ≡ length (front way at) → EndsAtFirst bytes query at_least (pairs_of layout) layout None
           short_ends_with same =
-              none_below (λ c i. off_here c i (λ f. let l = front_short (front way at ++ c ∷ []) query f in let k = length-append (front way at) (c ∷ []) in omega arith))
+              none_below (λ c i. off_here c i (λ f. let l = front_short (front way at ++ c ∷ []) query f in
+              let k = length-append (front way at) (c ∷ []) in omega arith))
 
           next_byte : (c : ℕ) → IsFront (front way at ++ c ∷ []) query → c ≡ get_or query (length (front way at)) 0
           next_byte c f = sym (byte_after (front way at) query c f)
 
           -- there is no child for the query's next byte
-          pub short_gap : child_at shown.children (get_or query (length (front way at)) 0) ≡ None → EndsAtFirst bytes query at_least (pairs_of layout) layout None
+          pub short_gap : child_at shown.children (get_or query (length (front way at)) 0) ≡ None →
+              EndsAtFirst bytes query at_least (pairs_of layout) layout None
           short_gap none = none_below (λ c i. off_here c i (λ f. child_there way at c i (ap (child_at shown.children) (next_byte c f) ∙ none)))
 
           -- the path continues below that child
-          pub short_goes_on : {to : OpaqueNodePtr} → child_at shown.children (get_or query (length (front way at)) 0) ≡ Some to → IsShortWay bytes P end query at_least layout to (depth + shown.prefix.len + 1)
+          pub short_goes_on : {to : OpaqueNodePtr} → child_at shown.children (get_or query (length (front way at)) 0) ≡ Some to →
+              IsShortWay bytes P end query at_least layout to (depth + shown.prefix.len + 1)
           short_goes_on {to} there =
               down way at (get_or query (length (front way at)) 0) there
               (λ c i less x leads t e. off_here c i (λ f. let n = next_byte c f in omega arith) t (below c x leads t e))
@@ -217,7 +240,8 @@ module _ {A : Type 0} (bytes : A → List ℕ) (query : List ℕ) (at_least : �
   none_sought : (xs : List A) → Each (λ x. IsSought bytes query at_least x → ⊥) xs → texts_from bytes query at_least xs ≡ []
   none_sought xs off =
       filter_none is_long (filter is_text xs)
-      (Each-both (λ x. IsSought bytes query at_least x → ⊥) (λ x. is_text x ≡ true) (λ x. is_long x ≡ false) (λ x o e. short x o e (is_long x) refl) (filter is_text xs)
+      (Each-both (λ x. IsSought bytes query at_least x → ⊥) (λ x. is_text x ≡ true) (λ x. is_long x ≡ false)
+      (λ x o e. short x o e (is_long x) refl) (filter is_text xs)
       (Each-filter (λ x. IsSought bytes query at_least x → ⊥) is_text xs off) (filter_passes is_text xs))
     where
       short : (x : A) → (IsSought bytes query at_least x → ⊥) → is_text x ≡ true → (b : Bool) → is_long x ≡ b → b ≡ false
@@ -243,13 +267,19 @@ module _ {A : Type 0} (bytes : A → List ℕ) (query : List ℕ) (at_least : �
 module _ {K V : Type 0} {s : Nodes K V} {bytes : K × V → List ℕ} {P : ℕ} {root : OpaqueNodePtr} {pairs : List (K × V)} {layout : Tree OpaqueNodePtr (K × V)}
     (by : IsCanonicalTree bytes P s root pairs layout) where
   module _ (end : ℕ) (ended : AreEnded bytes end pairs) (query : List ℕ) (at_least : ℕ) where
-    pub first_none : (result : Option LeafPtr) → result ≡ None → EndsAtFirst bytes query at_least pairs layout None → FindsFirst layout (texts_from bytes query at_least pairs) result
+    pub first_none : (result : Option LeafPtr) → result ≡ None → EndsAtFirst bytes query at_least pairs layout None →
+        FindsFirst layout (texts_from bytes query at_least pairs) result
     first_none result is off = subst (FindsFirst layout (texts_from bytes query at_least pairs)) (sym is) (none_sought bytes query at_least pairs off)
 
     module _ {name : LeafPtr} (c : IsBeforeAll bytes query at_least pairs layout name) where
       -- the leaf's text is searched for
       pub first_found : IsSought bytes query at_least c.pair → FindsFirst layout (texts_from bytes query at_least pairs) (Some name)
-      first_found on = (c.pair, ap (λ xs. first_of (texts_from bytes query at_least xs)) split ∙ first_sought bytes query at_least (pairs_before c.has.path) (pairs_after c.has.path) c.pair off on, c.has)
+      first_found on = (
+        c.pair,
+        ap (λ xs. first_of (texts_from bytes query at_least xs)) split
+            ∙ first_sought bytes query at_least (pairs_before c.has.path) (pairs_after c.has.path) c.pair off on,
+        c.has,
+      )
         where
           Led : K × V → Type 0
           Led = λ y. IsSought bytes query at_least y → IsFront (text_of bytes c.pair) (text_of bytes y) × (at_least ≤ length (text_of bytes c.pair))
@@ -265,8 +295,10 @@ module _ {K V : Type 0} {s : Nodes K V} {bytes : K × V → List ℕ} {P : ℕ} 
               Each-both (λ y. Precedes (bytes y) (bytes c.pair)) (λ y. IsEndedBy end (bytes y) × Led y) (λ y. IsSought bytes query at_least y → ⊥)
               (λ y before (e, led) sought.
               fronts_first end (bytes y) (bytes c.pair) e.text own.text e.is own.is e.above
-              (subst (λ z. IsFront z e.text) (ap without_last own.is ∙ ended_text own.text end) (subst (λ z. IsFront (text_of bytes c.pair) z) (ap without_last e.is ∙ ended_text e.text end) (led sought).0)) before)
-              (pairs_before c.has.path) (Pairwise-before (λ x y. Precedes (bytes x) (bytes y)) (pairs_before c.has.path) (pairs_after c.has.path) c.pair (subst (IsMap bytes) split by.is_map))
+              (subst (λ z. IsFront z e.text) (ap without_last own.is ∙ ended_text own.text end)
+              (subst (λ z. IsFront (text_of bytes c.pair) z) (ap without_last e.is ∙ ended_text e.text end) (led sought).0)) before)
+              (pairs_before c.has.path) (Pairwise-before (λ x y. Precedes (bytes x) (bytes y)) (pairs_before c.has.path)
+              (pairs_after c.has.path) c.pair (subst (IsMap bytes) split by.is_map))
               (Each-both (λ y. IsEndedBy end (bytes y)) Led (λ y. IsEndedBy end (bytes y) × Led y) (λ y e l. (e, l)) (pairs_before c.has.path)
               (Each-left (λ y. IsEndedBy end (bytes y)) (pairs_before c.has.path) (c.pair ∷ pairs_after c.has.path) (subst (AreEnded bytes end) split ended))
               (Each-left Led (pairs_before c.has.path) (c.pair ∷ pairs_after c.has.path) (subst (Each Led) split c.leads)))
@@ -275,7 +307,9 @@ module _ {K V : Type 0} {s : Nodes K V} {bytes : K × V → List ℕ} {P : ℕ} 
       pub first_missed : (IsSought bytes query at_least c.pair → ⊥) → FindsFirst layout (texts_from bytes query at_least pairs) None
       first_missed off =
           none_sought bytes query at_least pairs
-          (Each-weaker (λ y. IsSought bytes query at_least y → IsFront (text_of bytes c.pair) (text_of bytes y) × (at_least ≤ length (text_of bytes c.pair))) (λ y. IsSought bytes query at_least y → ⊥)
+          (Each-weaker (λ y. IsSought bytes query at_least y →
+          IsFront (text_of bytes c.pair) (text_of bytes y) × (at_least ≤ length (text_of bytes c.pair)))
+          (λ y. IsSought bytes query at_least y → ⊥)
           (λ y led sought. off (front_trans (text_of bytes c.pair) (text_of bytes y) query (led sought).0 sought.0, (led sought).1)) pairs c.leads)
 
   -- what is found has the pair

@@ -7,7 +7,8 @@ use Rattle.art_model.specs.Keys.{IsFront, is_front}
 use Rattle.art_model.proofs.keys.Keys.{front_from, front_is}
 
 -- a byte that is not the key's decides
-decided_left : (a k : ℕ) (w v s : List ℕ) → (a ≡ k → slice_cmp nat_cmp w s ≡ slice_cmp nat_cmp v s) → slice_cmp nat_cmp (a ∷ w) (k ∷ s) ≡ slice_cmp nat_cmp (a ∷ v) (k ∷ s)
+decided_left : (a k : ℕ) (w v s : List ℕ) → (a ≡ k → slice_cmp nat_cmp w s ≡ slice_cmp nat_cmp v s) →
+    slice_cmp nat_cmp (a ∷ w) (k ∷ s) ≡ slice_cmp nat_cmp (a ∷ v) (k ∷ s)
 decided_left a k w v s h = go (cases_order a k)
   where
     go : (a ≡ k) ⊎ ((a < k) ⊎ (k < a)) → slice_cmp nat_cmp (a ∷ w) (k ∷ s) ≡ slice_cmp nat_cmp (a ∷ v) (k ∷ s)
@@ -15,7 +16,8 @@ decided_left a k w v s h = go (cases_order a k)
     go (inr (inl l)) = rw (lt-ltb a k l) refl
     go (inr (inr l)) = rw (le-ltb a k (omega arith), ne_eqb a k (λ p. omega arith)) refl
 
-decided_right : (a k : ℕ) (w v s : List ℕ) → (a ≡ k → slice_cmp nat_cmp s w ≡ slice_cmp nat_cmp s v) → slice_cmp nat_cmp (k ∷ s) (a ∷ w) ≡ slice_cmp nat_cmp (k ∷ s) (a ∷ v)
+decided_right : (a k : ℕ) (w v s : List ℕ) → (a ≡ k → slice_cmp nat_cmp s w ≡ slice_cmp nat_cmp s v) →
+    slice_cmp nat_cmp (k ∷ s) (a ∷ w) ≡ slice_cmp nat_cmp (k ∷ s) (a ∷ v)
 decided_right a k w v s h = go (cases_order k a)
   where
     go : (k ≡ a) ⊎ ((k < a) ⊎ (a < k)) → slice_cmp nat_cmp (k ∷ s) (a ∷ w) ≡ slice_cmp nat_cmp (k ∷ s) (a ∷ v)

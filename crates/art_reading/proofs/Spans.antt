@@ -38,7 +38,8 @@ module _ {E : Type 0} (p : E → Bool) where
   from_split [] h = refl
   from_split (x ∷ xs) h = go (from_split xs h.1) (p x) refl
     where
-      go : filter (λ e. not (p e)) xs ++ filter p xs ≡ xs → (t : Bool) → p x ≡ t → cond (not t) (x ∷ filter (λ e. not (p e)) xs) (filter (λ e. not (p e)) xs) ++ cond t (x ∷ filter p xs) (filter p xs) ≡ x ∷ xs
+      go : filter (λ e. not (p e)) xs ++ filter p xs ≡ xs → (t : Bool) → p x ≡ t →
+          cond (not t) (x ∷ filter (λ e. not (p e)) xs) (filter (λ e. not (p e)) xs) ++ cond t (x ∷ filter p xs) (filter p xs) ≡ x ∷ xs
       go ih true e =
           let all = Each-weaker (λ b. p x ≡ true → p b ≡ true) (λ b. p b ≡ true) (λ b f. f e) xs h.0 in
           let none = filter_none (λ e. not (p e)) xs (Each-weaker (λ b. p b ≡ true) (λ b. not (p b) ≡ false) (λ b f. ap not f) xs all) in
@@ -50,7 +51,8 @@ module _ {E : Type 0} (p : E → Bool) where
   to_split [] h = refl
   to_split (x ∷ xs) h = go (to_split xs h.1) (p x) refl
     where
-      go : filter p xs ++ filter (λ e. not (p e)) xs ≡ xs → (t : Bool) → p x ≡ t → cond t (x ∷ filter p xs) (filter p xs) ++ cond (not t) (x ∷ filter (λ e. not (p e)) xs) (filter (λ e. not (p e)) xs) ≡ x ∷ xs
+      go : filter p xs ++ filter (λ e. not (p e)) xs ≡ xs → (t : Bool) → p x ≡ t →
+          cond t (x ∷ filter p xs) (filter p xs) ++ cond (not t) (x ∷ filter (λ e. not (p e)) xs) (filter (λ e. not (p e)) xs) ≡ x ∷ xs
       go ih true e = ap (λ ys. x ∷ ys) ih
       go ih false e =
           let none = Each-weaker (λ b. p b ≡ true → p x ≡ true) (λ b. p b ≡ false) (λ b f. not_true (p b) (λ on. true≢false (sym (f on) ∙ e))) xs h.0 in
@@ -59,7 +61,8 @@ module _ {E : Type 0} (p : E → Bool) where
 
   -- where it does not hold of the first one it holds of none
   none_to : (x : E) (xs : List E) → Pairwise (λ a b. p b ≡ true → p a ≡ true) (x ∷ xs) → p x ≡ false → filter p (x ∷ xs) ≡ []
-  none_to x xs h e = rw e (filter_none p xs (Each-weaker (λ b. p b ≡ true → p x ≡ true) (λ b. p b ≡ false) (λ b f. not_true (p b) (λ on. true≢false (sym (f on) ∙ e))) xs h.0))
+  none_to x xs h e = rw e (filter_none p xs
+      (Each-weaker (λ b. p b ≡ true → p x ≡ true) (λ b. p b ≡ false) (λ b f. not_true (p b) (λ on. true≢false (sym (f on) ∙ e))) xs h.0))
 
 module _ {E : Type 0} (p q : E → Bool) where
   -- both tests are the second one after the first
@@ -97,6 +100,7 @@ module _ {E : Type 0} (p q : E → Bool) where
     span_last name z e =
         let others = filter (λ e. not (p e)) xs in
         let all : filter q xs ≡ filter q (filter (λ e. not (p e)) xs) ++ filter (λ e. p e && q e) xs =
-        ap (filter q) (sym (from_split p xs rise)) ∙ filter-append q (filter (λ e. not (p e)) xs) (filter p xs) ∙ ap (λ ys. filter q (filter (λ e. not (p e)) xs) ++ ys) (sym (filter_both xs)) in
+        ap (filter q) (sym (from_split p xs rise)) ∙ filter-append q (filter (λ e. not (p e)) xs) (filter p xs)
+        ∙ ap (λ ys. filter q (filter (λ e. not (p e)) xs) ++ ys) (sym (filter_both xs)) in
         ap (λ ys. last_of (map name ys)) all ∙ ap last_of (map-append name (filter q (filter (λ e. not (p e)) xs)) (filter (λ e. p e && q e) xs))
         ∙ last_of_append (map name (filter q (filter (λ e. not (p e)) xs))) (map name (filter (λ e. p e && q e) xs)) z e

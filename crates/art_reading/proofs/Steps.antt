@@ -77,7 +77,8 @@ module _ {K V : Type 0} {s : Nodes K V} {bytes : K × V → List ℕ} {P : ℕ} 
     node_there = record { named = d.named; holds = (path_holds (node_at s) d.path d.node (subst (Holds (node_at s)) (sym d.whole) by.stands.0.holds)).1 }
 
     -- the store has an inner node under its name
-    pub shown_here : (node : Ref) → ref_kind node ≡ name.kind → Some (ref_view node) ≡ map.get s.inners (as_inner name) → IsShown d.node (as_inner name) (ref_view node)
+    pub shown_here : (node : Ref) → ref_kind node ≡ name.kind → Some (ref_view node) ≡ map.get s.inners (as_inner name) →
+        IsShown d.node (as_inner name) (ref_view node)
     shown_here node kind there = shown_met node_there (ref_proper node kind) refl there
 
   -- at a leaf the path ends
@@ -103,7 +104,8 @@ module _ {K V : Type 0} {s : Nodes K V} {bytes : K × V → List ℕ} {P : ℕ} 
       }
 
 module _ {K V : Type 0} {s : Nodes K V} {bytes : K × V → List ℕ} {P : ℕ} {root : OpaqueNodePtr} {pairs : List (K × V)}
-    {layout : Tree OpaqueNodePtr (K × V)} {start : PrefixMatchBehavior} {key : List ℕ} {way : TreePath} {name : OpaqueNodePtr} {depth : ℕ} {behavior : PrefixMatchBehavior}
+    {layout : Tree OpaqueNodePtr (K × V)} {start : PrefixMatchBehavior} {key : List ℕ} {way : TreePath} {name : OpaqueNodePtr} {depth : ℕ}
+    {behavior : PrefixMatchBehavior}
     {before now : ℕ} {p : InnerPtr} {shown : Inner} (by : IsCanonicalTree bytes P s root pairs layout)
     (d : IsOnWay bytes P start key layout way name depth behavior before now) (at : IsShown d.node p shown) where
   abbrev place : ℕ
@@ -117,7 +119,9 @@ module _ {K V : Type 0} {s : Nodes K V} {bytes : K × V → List ℕ} {P : ℕ} 
 
   -- the key leads to no child
   pub stops : {after : ℕ} → after ≡ now + 1 → None ≡ child_below behavior shown key depth → Ends after
-  stops {after} counted none = go (prefix_match behavior shown.prefix (drop depth key)) refl (cases_lt place (length key)) (child_at shown.children (get_or key place 0)) refl
+  stops {after} counted none =
+      go (prefix_match behavior shown.prefix (drop depth key)) refl (cases_lt place (length key))
+      (child_at shown.children (get_or key place 0)) refl
     where
       ends : IsEnd d at → Ends after
       ends (nothing, few, exactly) = (ap (match_of bytes key) (sym (tree_radix by).1) ∙ nothing, omega arith, λ whole. let l = exactly whole in omega arith)
@@ -135,8 +139,11 @@ module _ {K V : Type 0} {s : Nodes K V} {bytes : K × V → List ℕ} {P : ℕ} 
 
   -- the key leads to a child
   pub steps : {after : ℕ} {to : ℕ × OpaqueNodePtr} {behavior' : PrefixMatchBehavior} → after ≡ now + 1 → Some to ≡ child_below behavior shown key depth →
-      behavior' ≡ behavior_after behavior shown.prefix (drop depth key) → IsOnWay bytes P start key layout (step_down way p (get_or key to.0 0)) to.1 (to.0 + 1) behavior' before after
-  steps {after} {to} {behavior'} counted some is = go (prefix_match behavior shown.prefix (drop depth key)) refl (cases_lt place (length key)) (child_at shown.children (get_or key place 0)) refl
+      behavior' ≡ behavior_after behavior shown.prefix (drop depth key) →
+      IsOnWay bytes P start key layout (step_down way p (get_or key to.0 0)) to.1 (to.0 + 1) behavior' before after
+  steps {after} {to} {behavior'} counted some is =
+      go (prefix_match behavior shown.prefix (drop depth key)) refl (cases_lt place (length key))
+      (child_at shown.children (get_or key place 0)) refl
     where
       Below : ℕ × OpaqueNodePtr → ℕ → Type 0
       Below z visits = IsOnWay bytes P start key layout (step_down way p (get_or key z.0 0)) z.1 (z.0 + 1) behavior' before visits
@@ -173,15 +180,18 @@ module _ {K V : Type 0} {s : Nodes K V} {bytes : K × V → List ℕ} {P : ℕ} 
       stops_last counted none = stops counted (none ∙ below_same)
 
       -- a child is under it
-      pub steps_last : {after : ℕ} {child : OpaqueNodePtr} {behavior' : PrefixMatchBehavior} → after ≡ now + 1 → Some (length front, child) ≡ child_below left shown (front ++ last ∷ []) depth →
-          behavior' ≡ behavior_after left shown.prefix (drop depth (front ++ last ∷ [])) → IsOnWay bytes P start key layout (step_down way p last) child (length front + 1) behavior' before after
+      pub steps_last : {after : ℕ} {child : OpaqueNodePtr} {behavior' : PrefixMatchBehavior} → after ≡ now + 1 →
+          Some (length front, child) ≡ child_below left shown (front ++ last ∷ []) depth →
+          behavior' ≡ behavior_after left shown.prefix (drop depth (front ++ last ∷ [])) →
+          IsOnWay bytes P start key layout (step_down way p last) child (length front + 1) behavior' before after
       steps_last {after} {child} {behavior'} counted some compared =
           subst (λ b. IsOnWay bytes P start key layout (step_down way p b) child (length front + 1) behavior' before after)
           (ap (λ k. get_or k (length front) 0) is ∙ get_or-append_seam front last [] 0)
           (steps {to = (length front, child)} counted (some ∙ below_same) (compared ∙ ap₂ (λ b k. behavior_after b shown.prefix (drop depth k)) same (sym is)))
 
 module _ {K V : Type 0} {s : Nodes K V} {bytes : K × V → List ℕ} {P : ℕ} {root : OpaqueNodePtr} {pairs : List (K × V)}
-    {layout : Tree OpaqueNodePtr (K × V)} {start : PrefixMatchBehavior} {key : List ℕ} {way : TreePath} {name : OpaqueNodePtr} {depth : ℕ} {behavior : PrefixMatchBehavior}
+    {layout : Tree OpaqueNodePtr (K × V)} {start : PrefixMatchBehavior} {key : List ℕ} {way : TreePath} {name : OpaqueNodePtr} {depth : ℕ}
+    {behavior : PrefixMatchBehavior}
     {before now : ℕ} (by : IsCanonicalTree bytes P s root pairs layout) (d : IsOnWay bytes P start key layout way name depth behavior before now) where
   -- at an inner node after the end of the key no key matches
   pub stops_after : {after : ℕ} → after ≡ now + 1 → name.kind ≢ Leaf → length key ≤ depth →

@@ -91,7 +91,8 @@ module _ {A : Type 0} (bytes : A → List ℕ) (end : ℕ) (query : List ℕ) wh
 
 module _ {A : Type 0} (bytes : A → List ℕ) (end : ℕ) (query : List ℕ) (tree : Tree OpaqueNodePtr A) where
   -- what leads to a place leads further
-  pub leads_on : (place further : List ℕ) → IsFront place further → (best : Option LeafPtr) (found : Option (List ℕ)) → IsFound bytes end query tree place best found → IsFound bytes end query tree further best found
+  pub leads_on : (place further : List ℕ) → IsFront place further → (best : Option LeafPtr) (found : Option (List ℕ)) →
+      IsFound bytes end query tree place best found → IsFound bytes end query tree further best found
   leads_on place further on None None is = tt
   leads_on place further on None (Some f) is = is
   leads_on place further on (Some best) None is = is
@@ -105,14 +106,16 @@ module _ {A : Type 0} (bytes : A → List ℕ) (end : ℕ) (query : List ℕ) (t
   }
 
   -- a key that starts with the place, and with the query
-  pub along_place : (place : List ℕ) (best : Option LeafPtr) (found : Option (List ℕ)) → IsFound bytes end query tree place best found → (x : A) → IsFront place (bytes x) → IsAlong bytes end query found x
+  pub along_place : (place : List ℕ) (best : Option LeafPtr) (found : Option (List ℕ)) → IsFound bytes end query tree place best found →
+      (x : A) → IsFront place (bytes x) → IsAlong bytes end query found x
   along_place place None None is x at begins = tt
   along_place place None (Some f) is x at begins = absurd is
   along_place place (Some best) None is x at begins = absurd is
   along_place place (Some best) (Some f) is x at begins = front_of_fronts f query (bytes x) (front_trans f place (bytes x) is.leads at) begins is.short
 
   -- the path ends, and all pairs are covered
-  pub finish : (place : List ℕ) (best : Option LeafPtr) (found : Option (List ℕ)) → IsFound bytes end query tree place best found → (xs : List A) → AreEnded bytes end xs →
+  pub finish : (place : List ℕ) (best : Option LeafPtr) (found : Option (List ℕ)) → IsFound bytes end query tree place best found →
+      (xs : List A) → AreEnded bytes end xs →
       Each (IsCovered bytes end query found) xs → Each (IsAlong bytes end query found) xs → EndsWalk bytes query xs tree best
   finish place None None is xs ended covered along =
       Each-both (λ x. IsEndedBy end (bytes x)) (IsCovered bytes end query None) (λ x. IsFront (text_of bytes x) query → ⊥)
@@ -124,22 +127,27 @@ module _ {A : Type 0} (bytes : A → List ℕ) (end : ℕ) (query : List ℕ) (t
       record {
         pair = is.x;
         has = is.has;
-        covers = Each-both (λ x. IsEndedBy end (bytes x)) (IsCovered bytes end query (Some f)) (λ x. IsFront (text_of bytes x) query → IsFront (text_of bytes x) (text_of bytes is.x))
+        covers = Each-both (λ x. IsEndedBy end (bytes x)) (IsCovered bytes end query (Some f))
+            (λ x. IsFront (text_of bytes x) query → IsFront (text_of bytes x) (text_of bytes is.x))
             (λ x e c g.
             let text : text_of bytes x ≡ e.text = ap without_last e.is ∙ ended_text e.text end in
-            subst (λ z. IsFront (text_of bytes x) z) (sym own) (subst (λ z. IsFront z f) (sym text) (c e.text e.is (subst (λ z. IsFront z query) text g)))) xs ended covered;
-        along = Each-weaker (IsAlong bytes end query (Some f)) (λ x. IsFront query (bytes x) → IsFront (text_of bytes is.x) query) (λ x a b. subst (λ z. IsFront z query) (sym own) (a b)) xs along;
+            subst (λ z. IsFront (text_of bytes x) z) (sym own)
+            (subst (λ z. IsFront z f) (sym text) (c e.text e.is (subst (λ z. IsFront z query) text g)))) xs ended covered;
+        along = Each-weaker (IsAlong bytes end query (Some f)) (λ x. IsFront query (bytes x) → IsFront (text_of bytes is.x) query)
+            (λ x a b. subst (λ z. IsFront z query) (sym own) (a b)) xs along;
         short = subst (λ z. length z ≤ length query) (sym own) is.short;
       }
 
 -- The descent to a node, between pairs outside it, with the longest text so far.
-pub record IsNestedWay {A : Type 0} (bytes : A → List ℕ) (P end : ℕ) (query : List ℕ) (tree : Tree OpaqueNodePtr A) (name : OpaqueNodePtr) (depth : ℕ) (best : Option LeafPtr) : Type 0 where
+pub record IsNestedWay {A : Type 0} (bytes : A → List ℕ) (P end : ℕ) (query : List ℕ) (tree : Tree OpaqueNodePtr A) (name : OpaqueNodePtr)
+    (depth : ℕ) (best : Option LeafPtr) : Type 0 where
   pub found : Option (List ℕ)
   pub descent : IsDescent bytes P (IsAside bytes end query found) (IsAside bytes end query found) tree name depth
   pub is_found : IsFound bytes end query tree descent.place best found
 
 -- What was found at a node with this whole prefix, and children under these bytes.
-pub record IsBetter {A : Type 0} (bytes : A → List ℕ) (end : ℕ) (query : List ℕ) (tree : Tree OpaqueNodePtr A) (w cs : List ℕ) (before : Option (List ℕ)) (after : Option LeafPtr) : Type 0 where
+pub record IsBetter {A : Type 0} (bytes : A → List ℕ) (end : ℕ) (query : List ℕ) (tree : Tree OpaqueNodePtr A) (w cs : List ℕ)
+    (before : Option (List ℕ)) (after : Option LeafPtr) : Type 0 where
   pub found : Option (List ℕ)
   pub is_found : IsFound bytes end query tree w after found
   pub outer : (t : List ℕ) → Covered before t → Covered found t
@@ -151,12 +159,14 @@ each_top (x ∷ xs) = (tt, each_top xs)
 
 module _ {A : Type 0} (bytes : A → List ℕ) (P : ℕ) (w : List ℕ) (end : ℕ) where
   -- what continues after a text and its mark is a leaf
-  no_inner : (n : OpaqueNodePtr) (h : NodeHeader) (cs : Subtrees OpaqueNodePtr A) → IsRadix bytes P (w ++ end ∷ []) (inner n h cs) → AreEnded bytes end (pairs_below cs) → ⊥
+  no_inner : (n : OpaqueNodePtr) (h : NodeHeader) (cs : Subtrees OpaqueNodePtr A) → IsRadix bytes P (w ++ end ∷ []) (inner n h cs) →
+      AreEnded bytes end (pairs_below cs) → ⊥
   no_inner n h no_child radix ended = let two = radix.2 in omega arith
   no_inner n h (child b t cs) radix ended =
       let place = ((w ++ end ∷ []) ++ radix.0) ++ b ∷ [] in
       let (y, ys, is) = radix_some bytes P t (((w ++ end ∷ []) ++ radix.0) ++ b ∷ []) radix.4.0 in
-      let leads = (subst (Each (λ x. IsFront (((w ++ end ∷ []) ++ radix.0) ++ b ∷ []) (bytes x))) is (radix_way bytes P t (((w ++ end ∷ []) ++ radix.0) ++ b ∷ []) radix.4.0)).0 in
+      let leads = (subst (Each (λ x. IsFront (((w ++ end ∷ []) ++ radix.0) ++ b ∷ []) (bytes x))) is
+      (radix_way bytes P t (((w ++ end ∷ []) ++ radix.0) ++ b ∷ []) radix.4.0)).0 in
       let e = (subst (AreEnded bytes end) is (Each-left (λ x. IsEndedBy end (bytes x)) (pairs_of t) (pairs_below cs) ended)).0 in
       let (r, f) = front_cut (w ++ end ∷ []) radix.0 (bytes y) (front_cut ((w ++ end ∷ []) ++ radix.0) (b ∷ []) (bytes y) leads) in
       let same = ap length (mark_ends w r e.text end e.above (sym e.is ∙ f)) in
@@ -233,13 +243,16 @@ module _ {K V : Type 0} {s : Nodes K V} {bytes : K × V → List ℕ} {P : ℕ} 
         pub other_leaf : (IsFront (text_of bytes x) query → ⊥) → EndsWalk bytes query (pairs_of layout) layout best
         other_leaf off =
             finish bytes end query layout way.descent.place best way.found way.is_found (pairs_of layout) ended
-            (all (IsCovered bytes end query way.found) (λ y a. a.covered) (λ t e f. absurd (off (subst (λ z. IsFront z query) (sym (ap without_last e ∙ ended_text t end)) f))))
-            (all (IsAlong bytes end query way.found) (λ y a b. absurd (a.off b)) (along_place bytes end query layout way.descent.place best way.found way.is_found x leads_leaf))
+            (all (IsCovered bytes end query way.found) (λ y a. a.covered)
+            (λ t e f. absurd (off (subst (λ z. IsFront z query) (sym (ap without_last e ∙ ended_text t end)) f))))
+            (all (IsAlong bytes end query way.found) (λ y a b. absurd (a.off b))
+            (along_place bytes end query layout way.descent.place best way.found way.is_found x leads_leaf))
 
         -- whose text is a prefix of the query
         pub own_leaf : IsFront (text_of bytes x) query → EndsAt bytes query (pairs_of layout) layout (Whole n)
         own_leaf on =
-            let has : HasLeaf layout (leaf_name n) x = record { path = way.descent.at.path; whole = ap (plug way.descent.at.path) (sym is) ∙ way.descent.at.whole } in
+            let has : HasLeaf layout (leaf_name n) x =
+            record { path = way.descent.at.path; whole = ap (plug way.descent.at.path) (sym is) ∙ way.descent.at.whole } in
             let e = (subst (λ t. AreEnded bytes end (pairs_of t)) is (ended_at way.descent.at)).0 in
             let text : text_of bytes x ≡ e.text = ap without_last e.is ∙ ended_text e.text end in
             let in_text = longer best way.found way.is_found e.text (subst (IsFront way.descent.place) e.is leads_leaf) in
@@ -249,21 +262,27 @@ module _ {K V : Type 0} {s : Nodes K V} {bytes : K × V → List ℕ} {P : ℕ} 
               record {
                 pair = x;
                 has = has;
-                covers = Each-both (λ y. IsEndedBy end (bytes y)) (λ y. (t : List ℕ) → bytes y ≡ t ++ end ∷ [] → IsFront t query → IsFront t e.text) (λ y. IsFront (text_of bytes y) query → IsFront (text_of bytes y) (text_of bytes x))
+                covers = Each-both (λ y. IsEndedBy end (bytes y))
+                    (λ y. (t : List ℕ) → bytes y ≡ t ++ end ∷ [] → IsFront t query → IsFront t e.text)
+                    (λ y. IsFront (text_of bytes y) query → IsFront (text_of bytes y) (text_of bytes x))
                     (λ y i c g.
                     let own : text_of bytes y ≡ i.text = ap without_last i.is ∙ ended_text i.text end in
-                    subst (λ z. IsFront (text_of bytes y) z) (sym text) (subst (λ z. IsFront z e.text) (sym own) (c i.text i.is (subst (λ z. IsFront z query) own g)))) (pairs_of layout) ended covered;
+                    subst (λ z. IsFront (text_of bytes y) z) (sym text)
+                    (subst (λ z. IsFront z e.text) (sym own) (c i.text i.is (subst (λ z. IsFront z query) own g))))
+                    (pairs_of layout) ended covered;
                 along = all (λ y. IsFront query (bytes y) → IsFront (text_of bytes x) query) (λ y a b. on) (λ b. on);
                 short = front_short (text_of bytes x) query on;
               },
               on,
             )
           where
-            longer : (best : Option LeafPtr) (found : Option (List ℕ)) → IsFound bytes end query layout way.descent.place best found → (text : List ℕ) → IsFront way.descent.place (text ++ end ∷ []) →
+            longer : (best : Option LeafPtr) (found : Option (List ℕ)) → IsFound bytes end query layout way.descent.place best found →
+                (text : List ℕ) → IsFront way.descent.place (text ++ end ∷ []) →
                 (t : List ℕ) → Covered found t → IsFront t text
             longer b None i text at t c = absurd c
             longer None (Some f) i text at t c = absurd i
-            longer (Some b) (Some f) i text at t c = front_trans t f text c (front_in_text f text end i.above (front_trans f way.descent.place (text ++ end ∷ []) i.leads at))
+            longer (Some b) (Some f) i text at t c =
+                front_trans t f text c (front_in_text f text end i.above (front_trans f way.descent.place (text ++ end ∷ []) i.leads at))
 
       -- ---- at an inner node
       module _ {p : InnerPtr} {shown : Inner} (at : IsShown way.descent.at.node p shown) where
@@ -271,7 +290,8 @@ module _ {K V : Type 0} {s : Nodes K V} {bytes : K × V → List ℕ} {P : ℕ} 
         abbrev pub whole : List ℕ
         whole = way.descent.place ++ prefix_of bytes depth way.descent.at.node
 
-        front_whole : {Lower Upper : K × V → Type 0} (d : IsDescent bytes P Lower Upper layout name depth) (there : IsShown d.at.node p shown) → front d there ≡ d.place ++ prefix_of bytes depth d.at.node
+        front_whole : {Lower Upper : K × V → Type 0} (d : IsDescent bytes P Lower Upper layout name depth)
+            (there : IsShown d.at.node p shown) → front d there ≡ d.place ++ prefix_of bytes depth d.at.node
         front_whole d there =
             ap (λ z. d.place ++ z) (sym (ap (prefix_of bytes depth) there.is
             ∙ subst (λ n. prefix_of bytes n (inner (inner_name p) (header_at p.kind shown) there.children) ≡ (shown_radix d there).0) d.depth_is
@@ -294,7 +314,8 @@ module _ {K V : Type 0} {s : Nodes K V} {bytes : K × V → List ℕ} {P : ℕ} 
               record {
                 path = record { mark = inner_name p; header = header_at p.kind shown; left = u.left; byte = b; right = u.right } ∷ way.descent.at.path;
                 node = u.tree;
-                whole = ap (λ cs. plug way.descent.at.path (inner (inner_name p) (header_at p.kind shown) cs)) (sym u.whole) ∙ ap (plug way.descent.at.path) (sym at.is) ∙ way.descent.at.whole;
+                whole = ap (λ cs. plug way.descent.at.path (inner (inner_name p) (header_at p.kind shown) cs)) (sym u.whole)
+                    ∙ ap (plug way.descent.at.path) (sym at.is) ∙ way.descent.at.whole;
                 named = u.named;
                 before = each_top _;
                 after = each_top _;
@@ -303,11 +324,13 @@ module _ {K V : Type 0} {s : Nodes K V} {bytes : K × V → List ℕ} {P : ℕ} 
             )
 
         -- what is under the mark is found
-        pub better : length whole ≤ length query → (to : Option OpaqueNodePtr) → child_at shown.children end ≡ to → {after : Option LeafPtr} → IsLeafOr to best after →
+        pub better : length whole ≤ length query → (to : Option OpaqueNodePtr) → child_at shown.children end ≡ to →
+            {after : Option LeafPtr} → IsLeafOr to best after →
             IsBetter bytes end query layout whole (bytes_of at.children) way.found after
         better short None none is = record {
           found = way.found;
-          is_found = subst (λ b. IsFound bytes end query layout whole b way.found) (sym is) (leads_on bytes end query layout way.descent.place whole place_whole best way.found way.is_found);
+          is_found = subst (λ b. IsFound bytes end query layout whole b way.found) (sym is)
+              (leads_on bytes end query layout way.descent.place whole place_whole best way.found way.is_found);
           outer = λ t c. c;
           here = λ c i e. absurd (child_there way.descent at c i (ap (child_at shown.children) e ∙ none));
         }
@@ -321,15 +344,18 @@ module _ {K V : Type 0} {s : Nodes K V} {bytes : K × V → List ℕ} {P : ℕ} 
               here = λ c i e. ([], sym (append-nil whole));
             }
           where
-            covered_on : (best : Option LeafPtr) (found : Option (List ℕ)) → IsFound bytes end query layout way.descent.place best found → (t : List ℕ) → Covered found t → Covered (Some whole) t
+            covered_on : (best : Option LeafPtr) (found : Option (List ℕ)) → IsFound bytes end query layout way.descent.place best found →
+                (t : List ℕ) → Covered found t → Covered (Some whole) t
             covered_on b None i t c = absurd c
             covered_on None (Some f) i t c = absurd i
             covered_on (Some b) (Some f) i t c = front_trans t f whole c (front_trans f way.descent.place whole i.leads place_whole)
         better short (Some to) there (inr (proper, is)) = absurd (not_inner whole (child_of end there).0 (child_of end there).1 proper)
 
         -- the path ends here: what was found, and that no text of a pair below continues with the query
-        module _ (after : Option LeafPtr) (found : Option (List ℕ)) (is_found : IsFound bytes end query layout whole after found) (outer : (t : List ℕ) → Covered way.found t → Covered found t) where
-          pub ends : ((c : ℕ) → IsIn c (bytes_of at.children) → (x : K × V) → IsFront (whole ++ c ∷ []) (bytes x) → IsCovered bytes end query found x) → EndsWalk bytes query (pairs_of layout) layout after
+        module _ (after : Option LeafPtr) (found : Option (List ℕ)) (is_found : IsFound bytes end query layout whole after found)
+            (outer : (t : List ℕ) → Covered way.found t → Covered found t) where
+          pub ends : ((c : ℕ) → IsIn c (bytes_of at.children) → (x : K × V) → IsFront (whole ++ c ∷ []) (bytes x) →
+              IsCovered bytes end query found x) → EndsWalk bytes query (pairs_of layout) layout after
           ends covered =
               finish bytes end query layout whole after found is_found (pairs_of layout) ended
               (every (IsCovered bytes end query found) (λ x a t e f. outer t (a.covered t e f)) covered)
@@ -342,7 +368,8 @@ module _ {K V : Type 0} {s : Nodes K V} {bytes : K × V → List ℕ} {P : ℕ} 
                   let here = way.descent.at in
                   subst (Each Q) (sym (ap pairs_of (sym here.whole) ∙ pairs_of-plug here.path here.node))
                   (Each-append Q (pairs_before here.path ++ pairs_of here.node) (pairs_after here.path)
-                  (Each-append Q (pairs_before here.path) (pairs_of here.node) (Each-weaker (IsAside bytes end query way.found) Q aside (pairs_before here.path) here.before)
+                  (Each-append Q (pairs_before here.path) (pairs_of here.node)
+                  (Each-weaker (IsAside bytes end query way.found) Q aside (pairs_before here.path) here.before)
                   (each_under way.descent at Q (λ c i x leads. below c i x (subst (λ z. IsFront (z ++ c ∷ []) (bytes x)) (front_whole way.descent at) leads))))
                   (Each-weaker (IsAside bytes end query way.found) Q aside (pairs_after here.path) here.after))
 
@@ -358,7 +385,8 @@ module _ {K V : Type 0} {s : Nodes K V} {bytes : K × V → List ℕ} {P : ℕ} 
 
         module _ {after : Option LeafPtr} (b : IsBetter bytes end query layout whole (bytes_of at.children) way.found after) where
           -- below a byte that is not the query's next one
-          covered_off : (c : ℕ) → IsIn c (bytes_of at.children) → (IsFront (whole ++ c ∷ []) query → ⊥) → (x : K × V) → IsFront (whole ++ c ∷ []) (bytes x) → IsCovered bytes end query b.found x
+          covered_off : (c : ℕ) → IsIn c (bytes_of at.children) → (IsFront (whole ++ c ∷ []) query → ⊥) → (x : K × V) →
+              IsFront (whole ++ c ∷ []) (bytes x) → IsCovered bytes end query b.found x
           covered_off c i off x leads t e f = go (goes_within whole c leads.0 t end (sym e ∙ leads.1))
             where
               go : ((t ≡ whole) × (c ≡ end)) ⊎ IsFront (whole ++ c ∷ []) t → Covered b.found t
@@ -382,7 +410,8 @@ module _ {K V : Type 0} {s : Nodes K V} {bytes : K × V → List ℕ} {P : ℕ} 
             ends_gap none = ends_here (λ c i f. child_there way.descent at c i (ap (child_at shown.children) (next_byte c f) ∙ none))
 
             -- the path continues below that child
-            pub goes_on : {to : OpaqueNodePtr} → child_at shown.children (get_or query (length whole) 0) ≡ Some to → IsNestedWay bytes P end query layout to (depth + shown.prefix.len + 1) after
+            pub goes_on : {to : OpaqueNodePtr} → child_at shown.children (get_or query (length whole) 0) ≡ Some to →
+                IsNestedWay bytes P end query layout to (depth + shown.prefix.len + 1) after
             goes_on {to} there =
                 let now = down turned at (get_or query (length whole) 0) there
                 (λ c i less x leads. aside c i (λ e. absurd (omega arith)) x (subst (λ z. IsFront (z ++ c ∷ []) (bytes x)) (front_whole turned at) leads))
@@ -390,7 +419,9 @@ module _ {K V : Type 0} {s : Nodes K V} {bytes : K × V → List ℕ} {P : ℕ} 
                 record {
                   found = b.found;
                   descent = now;
-                  is_found = leads_on bytes end query layout whole (front turned at ++ get_or query (length whole) 0 ∷ []) (subst (λ z. IsFront whole (z ++ get_or query (length whole) 0 ∷ [])) (sym (front_whole turned at)) (get_or query (length whole) 0 ∷ [], refl))
+                  is_found = leads_on bytes end query layout whole (front turned at ++ get_or query (length whole) 0 ∷ [])
+                      (subst (λ z. IsFront whole (z ++ get_or query (length whole) 0 ∷ [])) (sym (front_whole turned at))
+                      (get_or query (length whole) 0 ∷ [], refl))
                       after b.found b.is_found;
                 }
               where
@@ -401,8 +432,10 @@ module _ {K V : Type 0} {s : Nodes K V} {bytes : K × V → List ℕ} {P : ℕ} 
                     node = way.descent.at.node;
                     whole = way.descent.at.whole;
                     named = way.descent.at.named;
-                    before = Each-weaker (IsAside bytes end query way.found) (IsAside bytes end query b.found) turn (pairs_before way.descent.at.path) way.descent.at.before;
-                    after = Each-weaker (IsAside bytes end query way.found) (IsAside bytes end query b.found) turn (pairs_after way.descent.at.path) way.descent.at.after;
+                    before = Each-weaker (IsAside bytes end query way.found) (IsAside bytes end query b.found) turn
+                        (pairs_before way.descent.at.path) way.descent.at.before;
+                    after = Each-weaker (IsAside bytes end query way.found) (IsAside bytes end query b.found) turn
+                        (pairs_after way.descent.at.path) way.descent.at.after;
                   };
                   place = way.descent.place;
                   radix = way.descent.radix;
@@ -412,10 +445,12 @@ module _ {K V : Type 0} {s : Nodes K V} {bytes : K × V → List ℕ} {P : ℕ} 
                     turn : (x : K × V) → IsAside bytes end query way.found x → IsAside bytes end query b.found x
                     turn x a = record { covered = λ t e f. b.outer t (a.covered t e f); off = a.off }
 
-                aside : (c : ℕ) → IsIn c (bytes_of at.children) → (c ≡ get_or query (length whole) 0 → ⊥) → (x : K × V) → IsFront (whole ++ c ∷ []) (bytes x) → IsAside bytes end query b.found x
+                aside : (c : ℕ) → IsIn c (bytes_of at.children) → (c ≡ get_or query (length whole) 0 → ⊥) → (x : K × V) →
+                    IsFront (whole ++ c ∷ []) (bytes x) → IsAside bytes end query b.found x
                 aside c i other x leads = record {
                   covered = covered_off c i (λ f. other (next_byte c f)) x leads;
-                  off = λ begins. other (next_byte c (front_of_fronts (whole ++ c ∷ []) query (bytes x) leads begins (let k = length-append whole (c ∷ []) in omega arith)));
+                  off = λ begins. other (next_byte c (front_of_fronts (whole ++ c ∷ []) query (bytes x) leads begins
+                      (let k = length-append whole (c ∷ []) in omega arith)));
                 }
 
         -- a step at the node
@@ -429,28 +464,39 @@ module _ {K V : Type 0} {s : Nodes K V} {bytes : K × V → List ℕ} {P : ℕ} 
             where
               go : (length query < depth + shown.prefix.len) ⊎ (depth + shown.prefix.len ≤ length query) →
                   (depth + shown.prefix.len < length query) ⊎ (length query ≤ depth + shown.prefix.len) → EndsWalk bytes query (pairs_of layout) layout after
-              go (inl less) o = let same = whole_len in subst (EndsWalk bytes query (pairs_of layout) layout) (sym (step.short less).1) (ends_short (omega arith))
+              go (inl less) o =
+                  let same = whole_len in subst (EndsWalk bytes query (pairs_of layout) layout) (sym (step.short less).1)
+                  (ends_short (omega arith))
               go (inr enough) (inl more) =
                   let same = whole_len in
                   ends_gap (passing enough) (omega arith)
-                  (ap (λ n. child_at shown.children (get_or query n 0)) whole_len ∙ unmapped _ (child_at shown.children (get_or query (depth + shown.prefix.len) 0)) (sym (step.below more) ∙ none))
+                  (ap (λ n. child_at shown.children (get_or query n 0)) whole_len
+                  ∙ unmapped _ (child_at shown.children (get_or query (depth + shown.prefix.len) 0)) (sym (step.below more) ∙ none))
               go (inr enough) (inr most) = let same = whole_len in ends_with (passing enough) (omega arith)
 
           -- to this child
-          pub step_goes : {to : OpaqueNodePtr} {below : ℕ} → ◌≡◌ {A = Option (OpaqueNodePtr × ℕ)} result (Some (to, below)) → IsNestedWay bytes P end query layout to below after × (depth < below) × (below ≤ length query)
+          pub step_goes : {to : OpaqueNodePtr} {below : ℕ} → ◌≡◌ {A = Option (OpaqueNodePtr × ℕ)} result (Some (to, below)) →
+              IsNestedWay bytes P end query layout to below after × (depth < below) × (below ≤ length query)
           step_goes {to} {below} is = go (cases_lt (length query) (depth + shown.prefix.len)) (cases_lt (depth + shown.prefix.len) (length query))
             where
               go : (length query < depth + shown.prefix.len) ⊎ (depth + shown.prefix.len ≤ length query) →
-                  (depth + shown.prefix.len < length query) ⊎ (length query ≤ depth + shown.prefix.len) → IsNestedWay bytes P end query layout to below after × (depth < below) × (below ≤ length query)
+                  (depth + shown.prefix.len < length query) ⊎ (length query ≤ depth + shown.prefix.len) →
+                  IsNestedWay bytes P end query layout to below after × (depth < below) × (below ≤ length query)
               go (inl less) o = let none = (step.short less).0 in absurd cc
               go (inr enough) (inr most) = let none = step.last (omega arith) in absurd cc
               go (inr enough) (inl more) = from (child_at shown.children (get_or query (depth + shown.prefix.len) 0)) refl (sym is ∙ step.below more)
                 where
                   from : (found : Option OpaqueNodePtr) → child_at shown.children (get_or query (depth + shown.prefix.len) 0) ≡ found →
-                      ◌≡◌ {A = Option (OpaqueNodePtr × ℕ)} (Some (to, below)) (option_map (λ next. (next, depth + shown.prefix.len + 1)) found) → IsNestedWay bytes P end query layout to below after × (depth < below) × (below ≤ length query)
+                      ◌≡◌ {A = Option (OpaqueNodePtr × ℕ)} (Some (to, below))
+                      (option_map (λ next. (next, depth + shown.prefix.len + 1)) found) →
+                      IsNestedWay bytes P end query layout to below after × (depth < below) × (below ≤ length query)
                   from None there e = absurd cc
                   from (Some next) there e =
                       let same = whole_len in
                       let (at_child, at_depth) = same_parts e in
-                      let way = goes_on (passing enough) (omega arith) (ap (λ n. child_at shown.children (get_or query n 0)) whole_len ∙ there) in
-                      (subst (λ n. IsNestedWay bytes P end query layout to n after) (sym at_depth) (subst (λ t. IsNestedWay bytes P end query layout t (depth + shown.prefix.len + 1) after) (sym at_child) way), omega arith, omega arith)
+                      let way = goes_on (passing enough) (omega arith) (ap (λ n. child_at shown.children (get_or query n 0)) whole_len ∙ there) in (
+                        subst (λ n. IsNestedWay bytes P end query layout to n after) (sym at_depth)
+                            (subst (λ t. IsNestedWay bytes P end query layout t (depth + shown.prefix.len + 1) after) (sym at_child) way),
+                        omega arith,
+                        omega arith,
+                      )

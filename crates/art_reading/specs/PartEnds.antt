@@ -56,7 +56,8 @@ pub record StandsBeside {A : Type 0} (bytes : A → List ℕ) (key : List ℕ) (
   pub upper : Each (λ x. is_before key (bytes x) ≡ is_upper) (pairs_of at.node)
 
 -- The name stands for a part of a radix tree, to which so many bytes lead.
-pub record IsPlaced {K V : Type 0} (bytes : K × V → List ℕ) (P : ℕ) (s : Nodes K V) (name : OpaqueNodePtr) (depth : ℕ) (tree : Tree OpaqueNodePtr (K × V)) : Type 0 where
+pub record IsPlaced {K V : Type 0} (bytes : K × V → List ℕ) (P : ℕ) (s : Nodes K V) (name : OpaqueNodePtr) (depth : ℕ)
+    (tree : Tree OpaqueNodePtr (K × V)) : Type 0 where
   pub place : List ℕ
   pub depth_is : length place ≡ depth
   pub radix : IsRadix bytes P place tree

@@ -12,7 +12,7 @@ ghost use Rattle.art_model.specs.Trees.{Tree};
 ghost use Rattle.art_reading.specs.Matching.{behavior_after, child_below};
 ghost use Rattle.art_reading.specs.Readings.{CountsReadings, ReadsBelow, levels};
 ghost use Rattle.art_reading.specs.PartEnds.{EndsBelow};
-ghost use Rattle.art_reading.specs.Descents.{CountsVisitsFrom, IsEndChild, IsKeysLeaf, LeadsToEnd, WalkEnds, asked_of};
+ghost use Rattle.art_reading.specs.Descents.{CountsVisitsFrom, IsEndChild, IsKeysLeaf, LeadsToEnd, WalkEnds, asked_of, of_two};
 
 use crate::matching::{Asked, PrefixMatchBehavior, Step};
 use crate::path::{LastSteps, TreePath};
@@ -193,8 +193,8 @@ fn walk<'a, Q: KeyQuery, K: AsBytes + Drop, V: Drop, const P: usize>(
 // The child of an inner node under the last byte of a key, where the bytes before it end with the node's prefix. It
 // looks the node up once more, so that the loop of a descent need not keep its address.
 #[inline(never)]
-fn last_child<K: AsBytes + Drop, V: Drop, const PREFIX_LEN: usize>(
-    store: &NodeStore<K, V, PREFIX_LEN>,
+fn last_child<K: AsBytes + Drop, V: Drop, const P: usize>(
+    store: &NodeStore<K, V, P>,
     inner: InnerPtr,
     behavior: &mut PrefixMatchBehavior,
     front: &[u8],
@@ -226,8 +226,6 @@ pub enum End {
 }
 
 impl End {
-    ghost use Rattle.art_reading.specs.Descents.{of_two};
-
     // The first of two, or the last.
     #[inline(always)]
     pub(crate) fn of<T: Copy>(self, two: (T, T)) -> T

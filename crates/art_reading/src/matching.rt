@@ -1,9 +1,12 @@
 //! The comparison of keys and prefixes on a descent.
-ghost use Rattle.std.specs.Prelude.{◌≡◌, ◌+◌, ◌<◌, ◌≤◌, ◌↔◌, ◌==◌, if◌then◌else◌, [], ◌∷◌, ◌++◌, length, take, drop, is_ok, false, IsSome, IsTrue};
+ghost use Rattle.std.specs.Prelude.{◌≡◌, ◌+◌, ◌<◌, ◌≤◌, ◌↔◌, ◌==◌, if◌then◌else◌, [], ◌∷◌, ◌++◌, length, take, drop, is_ok, false, IsSome, IsTrue, List, ℕ};
 ghost use Rattle.art_model.specs.Keys.{IsFront};
-ghost use Rattle.art_reading.specs.Matching.{shared_len};
+ghost use Rattle.art_reading.specs.Matching.{shared_len, HasRest, LeadsTo, LeafKeyIsPrefix, MatchesLeafKey, behavior_after, child_below, parts_from, prefix_match, compared_from};
 ghost use Rattle.art_reading.specs.declared.matching.PrefixMatchBehavior.TheVariants.{Optimistic, Pessimistic};
 ghost use Rattle.art_reading.specs.declared.matching.Step.TheVariants.{AtEnd, Nowhere};
+ghost use Rattle.std.specs.Option.{option_map};
+ghost use Rattle.art_inner.specs.Views.{ref_view};
+ghost use Rattle.art_reading.specs.Descents.{IsAskedFor};
 
 use crate::path::{AttemptOptimisticPrefixMatch, PessimisticMismatch};
 use art_nodes::node::{AsBytes, InnerNode, InnerRef, LeafNode, OpaqueNodePtr};
@@ -43,11 +46,6 @@ pub(crate) enum Step {
 }
 
 impl PrefixMatchBehavior {
-    ghost use Rattle.art_reading.specs.Matching.{HasRest, LeadsTo, LeafKeyIsPrefix, MatchesLeafKey, behavior_after, child_below, parts_from, prefix_match};
-    ghost use Rattle.std.specs.Prelude.{List, ℕ};
-    ghost use Rattle.std.specs.Option.{option_map};
-    ghost use Rattle.art_inner.specs.Views.{ref_view};
-
     /// Compares the prefix of an inner node with the rest of the key, from the node's depth on. Returns the prefix's
     /// length if the key continues with it, as far as its bytes were compared, and else where the two differ. Once
     /// bytes were skipped the behavior is `Optimistic`.
@@ -230,8 +228,6 @@ impl PrefixMatchBehavior {
         begins_with(&key_bytes[from..], &leaf_bytes[from..])
     }
 
-    ghost use Rattle.art_reading.specs.Descents.{IsAskedFor};
-
     // Whether the leaf's key is asked for, as far as it is still to be compared from a depth on.
     #[inline(always)]
     pub(crate) fn finds<K: AsBytes, V>(
@@ -248,8 +244,6 @@ impl PrefixMatchBehavior {
             Asked::Front => self.leaf_key_is_prefix(leaf, key_bytes, depth),
         }
     }
-
-    ghost use Rattle.art_reading.specs.Matching.{compared_from};
 
     // Where the comparison of a leaf's key with the key begins.
     #[inline(always)]

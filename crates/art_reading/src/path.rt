@@ -1,7 +1,9 @@
 //! Paths down a tree: the nodes right above a node; prefixes that a key continues with, and prefixes that it differs
 //! from.
 ghost use Rattle.std.specs.Prelude.{◌≡◌, ◌≢◌};
-ghost use Rattle.art_reading.specs.PathSteps.{last_step, up};
+ghost use Rattle.art_reading.specs.PathSteps.{last_step, up, step_down, path_after};
+ghost use Rattle.art_reading.specs.declared.path.TreePath.TheVariants.{Root};
+ghost use Rattle.art_parts.specs.declared.names.NodeType.TheVariants.{Leaf};
 
 use art_nodes::node::{InnerPtr, NodeType, OptionalLeafPtr};
 
@@ -64,8 +66,6 @@ pub fn up(path: TreePath) -> TreePath
 }
 
 impl TreePath {
-    ghost use Rattle.art_reading.specs.PathSteps.{step_down};
-
     /// Returns the path one step down: from this path's node to the child that it has under a byte.
     #[inline(always)]
     pub fn step_down(self, node: InnerPtr, byte: u8) -> TreePath
@@ -99,10 +99,6 @@ pub(crate) struct LastSteps {
 }
 
 impl LastSteps {
-    ghost use Rattle.art_reading.specs.PathSteps.{path_after, step_down};
-    ghost use Rattle.art_reading.specs.declared.path.TreePath.TheVariants.{Root};
-    ghost use Rattle.art_parts.specs.declared.names.NodeType.TheVariants.{Leaf};
-
     // At the root.
     #[inline(always)]
     pub(crate) fn new() -> Self

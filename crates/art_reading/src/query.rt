@@ -1,5 +1,5 @@
 //! Keys to look up: one slice of bytes, or a text and its end byte.
-ghost use Rattle.std.specs.Prelude.{◌≡◌, ◌+◌, ◌<◌, ◌≤◌, ◌^◌, ◌↔◌, [], ◌∷◌, ◌++◌, min, length, IsTrue};
+ghost use Rattle.std.specs.Prelude.{◌≡◌, ◌+◌, ◌<◌, ◌≤◌, ◌^◌, ◌↔◌, [], ◌∷◌, ◌++◌, min, length, IsTrue, List, ℕ};
 ghost use Rattle.std.specs.List.{cons_option};
 ghost use Rattle.art_model.specs.Keys.{IsFront};
 ghost use Rattle.art_reading.specs.Descents.{IsAskedFor};
@@ -11,8 +11,6 @@ use art_nodes::node::{AsBytes, LeafNode};
 
 /// The bytes of a key to look up.
 pub trait KeyQuery: Copy {
-    ghost use Rattle.std.specs.Prelude.{List, ℕ};
-
     /// The bytes.
     ghost key: { Self → List ℕ };
 

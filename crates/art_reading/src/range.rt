@@ -87,7 +87,8 @@ pub fn range_unchecked<K: AsBytes + Drop, V: Drop, const P: usize>(
     requires { IsCanonicalRoot (of_key K.bytes) P store.now root }
     ensures { ForTree (of_key K.bytes) P store.now root (λ pairs layout.
         IsIteratorOf store.now result (leaves_where (λ x.
-        is_between (bound_map (λ b. b.now) from.entry) (bound_map (λ b. b.now) to.entry) (K.bytes x.0))
+        is_between (bound_map (λ b. b.now) from.entry) (bound_map (λ b. b.now) to.entry)
+        (K.bytes x.0))
         layout)) }
 {
     range_visiting(store, root, from, to, &mut Visits::new())
@@ -106,7 +107,8 @@ pub fn range_visiting<K: AsBytes + Drop, V: Drop, const P: usize>(
     requires { IsCanonicalRoot (of_key K.bytes) P store.now root }
     ensures leaves { ForTree (of_key K.bytes) P store.now root (λ pairs layout.
         IsIteratorOf store.now result (leaves_where (λ x.
-        is_between (bound_map (λ b. b.now) from.entry) (bound_map (λ b. b.now) to.entry) (K.bytes x.0))
+        is_between (bound_map (λ b. b.now) from.entry) (bound_map (λ b. b.now) to.entry)
+        (K.bytes x.0))
         layout)) }
     ensures visits { CountsToBounds (of_key K.bytes) P store.now root
         (bound_map (λ b. b.now) from.entry) visits.old visits.new }

@@ -39,7 +39,8 @@ module _ {N A : Type 0} (kind : NodeType) where
 
 -- a change in the hole is one of the whole
 module _ {N A : Type 0} (fs : List (Frame N A)) (t u : Tree N A) where
-  pub more_in_hole : (kind : NodeType) (gone come : ℕ) → count_of kind u + gone ≡ count_of kind t + come → count_of kind (plug fs u) + gone ≡ count_of kind (plug fs t) + come
+  pub more_in_hole : (kind : NodeType) (gone come : ℕ) → count_of kind u + gone ≡ count_of kind t + come →
+      count_of kind (plug fs u) + gone ≡ count_of kind (plug fs t) + come
   more_in_hole kind gone come e = let p = count-plug kind fs u in let q = count-plug kind fs t in omega arith
 
   pub fewer_in_hole : (kind : NodeType) → count_of kind u ≤ count_of kind t → count_of kind (plug fs u) ≤ count_of kind (plug fs t)
@@ -47,7 +48,8 @@ module _ {N A : Type 0} (fs : List (Frame N A)) (t u : Tree N A) where
 
 -- ---- the kind of which there are more
 
-more_some : (a : NodeType) (goes old new : NodeType → ℕ) → a ≢ Leaf → goes a ≡ 0 → ((k : NodeType) → new k + goes k ≡ old k + one k a) → more_of old new ≡ Some a
+more_some : (a : NodeType) (goes old new : NodeType → ℕ) → a ≢ Leaf → goes a ≡ 0 → ((k : NodeType) → new k + goes k ≡ old k + one k a) →
+    more_of old new ≡ Some a
 more_some Node4 goes old new proper off h =
     let e : new Node4 + goes Node4 ≡ old Node4 + 1 = h Node4 in
     rw (lt-ltb (old Node4) (new Node4) (omega arith)) refl
@@ -75,13 +77,19 @@ more_some Leaf goes old new proper off h = absurd (proper refl)
 
 more_none : (old new : NodeType → ℕ) → ((k : NodeType) → new k ≤ old k) → more_of old new ≡ None
 more_none old new h =
-    rw (le-ltb (old Node4) (new Node4) (h Node4), le-ltb (old Node16) (new Node16) (h Node16), le-ltb (old Node48) (new Node48) (h Node48), le-ltb (old Node256) (new Node256) (h Node256)) refl
+    rw (
+      le-ltb (old Node4) (new Node4) (h Node4),
+      le-ltb (old Node16) (new Node16) (h Node16),
+      le-ltb (old Node48) (new Node48) (h Node48),
+      le-ltb (old Node256) (new Node256) (h Node256),
+    ) refl
 
 -- ---- the tree of pairs
 
 module _ {K V N : Type 0} (bytes : K → List ℕ) (P : ℕ) where
   counted : (t : Tree N (K × V)) → IsRadix (of_key bytes) P [] t → (kind : NodeType) → inner_count bytes P (pairs_of t) kind ≡ count_of kind t
-  counted t radix kind = ap (λ (o : Option (Tree (Unit {0}) (K × V))). elim o as (λ _. ℕ) [ None ↦ 0 | Some tree ↦ count_of kind tree ]) (rebuild_root (of_key bytes) P t radix) ∙ count-unmarked kind t
+  counted t radix kind = ap (λ (o : Option (Tree (Unit {0}) (K × V))). elim o as (λ _. ℕ) [ None ↦ 0 | Some tree ↦ count_of kind tree ])
+      (rebuild_root (of_key bytes) P t radix) ∙ count-unmarked kind t
 
   module _ (old new : Tree N (K × V)) (was : IsRadix (of_key bytes) P [] old) (is : IsRadix (of_key bytes) P [] new) where
     -- one node of a kind is added, and perhaps one of another is removed
@@ -93,4 +101,5 @@ module _ {K V N : Type 0} (bytes : K → List ℕ) (P : ℕ) where
 
     -- none is added
     pub loses : ((k : NodeType) → count_of k new ≤ count_of k old) → more_of (inner_count bytes P (pairs_of old)) (inner_count bytes P (pairs_of new)) ≡ None
-    loses h = more_none (inner_count bytes P (pairs_of old)) (inner_count bytes P (pairs_of new)) (λ k. let x = counted new is k in let y = counted old was k in let z = h k in omega arith)
+    loses h = more_none (inner_count bytes P (pairs_of old)) (inner_count bytes P (pairs_of new))
+        (λ k. let x = counted new is k in let y = counted old was k in let z = h k in omega arith)

@@ -50,7 +50,8 @@ deletes_last : Answers bytes is_clone (one ∷ two_three ∷ []) DeleteMax (Dele
 deletes_last = (refl, refl)
 
 module _ (error : InsertPrefixError) (key : Vec ℕ) where
-  conflicts : boxed_slice_items error.byte_repr ≡ 1 ∷ 2 ∷ [] → Answers bytes is_clone (one ∷ []) (Insert (1 ∷ 2 ∷ []) 12) (Conflict (1 ∷ 2 ∷ []) 12 error) (one ∷ [])
+  conflicts : boxed_slice_items error.byte_repr ≡ 1 ∷ 2 ∷ [] →
+      Answers bytes is_clone (one ∷ []) (Insert (1 ∷ 2 ∷ []) 12) (Conflict (1 ∷ 2 ∷ []) 12 error) (one ∷ [])
   conflicts e = (refl, refl, refl, e, refl)
 
   deletes : key.items ≡ 1 ∷ [] → Answers bytes is_clone (one ∷ two_three ∷ []) (Delete key) (Deleted (Some one)) (two_three ∷ [])
@@ -73,7 +74,8 @@ module _ (error : InsertPrefixError) (key : Vec ℕ) where
 
   -- the key 1, then the related key 1 2, then the key 1 deleted
   short_run : boxed_slice_items error.byte_repr ≡ 1 ∷ 2 ∷ [] → key.items ≡ 1 ∷ []
-      → Chain (Answers bytes is_clone) [] (Insert (1 ∷ []) 10 ∷ Insert (1 ∷ 2 ∷ []) 12 ∷ Delete key ∷ []) (Inserted None ∷ Conflict (1 ∷ 2 ∷ []) 12 error ∷ Deleted (Some one) ∷ []) []
+      → Chain (Answers bytes is_clone) [] (Insert (1 ∷ []) 10 ∷ Insert (1 ∷ 2 ∷ []) 12 ∷ Delete key ∷ [])
+      (Inserted None ∷ Conflict (1 ∷ 2 ∷ []) 12 error ∷ Deleted (Some one) ∷ []) []
   short_run e d = (one ∷ [], (refl, refl, refl), (one ∷ [], conflicts e, ([], rw d (refl, refl), refl)))
 
 -- each command has one reply

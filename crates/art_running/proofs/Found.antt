@@ -23,7 +23,12 @@ module _ {K V : Type 0} (bytes : K → List ℕ) where
 
   pub takes_first : TakesOut DeleteMin first_of
   takes_first [] x rising e = absurd cc
-  takes_first (y ∷ rest) x rising e = let same : y ≡ x = cc in (sym e, subst (λ q. remove_key (of_key bytes) (bytes q.0) (y ∷ rest) ≡ rest) same (first_is_removed_by_key (of_key bytes) y rest rising))
+  takes_first (y ∷ rest) x rising e = let same : y ≡ x =
+      cc in (
+        sym e,
+        subst (λ q. remove_key (of_key bytes) (bytes q.0) (y ∷ rest) ≡ rest) same
+            (first_is_removed_by_key (of_key bytes) y rest rising),
+      )
 
   pub takes_last : TakesOut DeleteMax last_of
   takes_last pairs x rising e = (sym e, last_is_removed_by_key (of_key bytes) x pairs rising e)
@@ -32,7 +37,8 @@ module _ {K V : Type 0} (bytes : K → List ℕ) where
   takes_key key pairs x rising e = (sym e, ap (λ k. remove_key (of_key bytes) k pairs) (removed_key (of_key bytes) key.items pairs x e))
 
   -- so the point of that pair is one for the command
-  pub deletion_at : (P : ℕ) {s : Nodes K V} {root : OpaqueNodePtr} {point : DeletePoint} (c : Command K V) (found : List (K × V) → Option (K × V)) → TakesOut c found →
+  pub deletion_at : (P : ℕ) {s : Nodes K V} {root : OpaqueNodePtr} {point : DeletePoint} (c : Command K V)
+      (found : List (K × V) → Option (K × V)) → TakesOut c found →
       ForTree (of_key bytes) P s root (λ pairs layout. IsDeletePoint layout (found pairs) (Some point)) → IsDeletionAt bytes P (λ _ _. Unit {0}) s root point c
   deletion_at P {s} {root} {point} c found takes is pairs layout by =
       let (x, e, leads) = point_some layout point (found pairs) (is pairs layout by) in (x, leads, takes pairs x by.is_map e)

@@ -35,7 +35,8 @@ module _ {K V : Type 0} (bytes : K → List ℕ) (P : ℕ) (is_key_clone : K →
   nothing_cloned {s} {z} = record { answers = tt; refuses = tt; sound = refl; changes = nothing z None (refl, refl); promises = refl }
 
   -- what is shown when the sides are changed
-  shown_over : (t w : Nodes K V) (root : Option OpaqueNodePtr) → from_side (opposite side) w t root ≡ on (opposite side) (of_side side t w) (of_side side w t) root
+  shown_over : (t w : Nodes K V) (root : Option OpaqueNodePtr) →
+      from_side (opposite side) w t root ≡ on (opposite side) (of_side side t w) (of_side side w t) root
   shown_over t w root = go side
     where
       go : (d : Side) → from_side (opposite d) w t root ≡ on (opposite d) (of_side d t w) (of_side d w t) root
@@ -43,13 +44,15 @@ module _ {K V : Type 0} (bytes : K → List ℕ) (P : ℕ) (is_key_clone : K →
       go Second = refl
 
   module _ {s : Nodes K V} {root : OpaqueNodePtr} {layout : Layout K V} (by : IsCanonicalTree (of_key bytes) P s root (pairs_of layout) layout) where
-    pub over_step : {t z w : Nodes K V} {after : OpaqueNodePtr} (now : Side) → now ≡ opposite side → HasGone bytes P is_key_clone is_value_clone s t z w layout after →
+    pub over_step : {t z w : Nodes K V} {after : OpaqueNodePtr} (now : Side) → now ≡ opposite side →
+        HasGone bytes P is_key_clone is_value_clone s t z w layout after →
         (new : State K V) × (shown_state new ≡ on now (of_side side t w) (of_side side w t) (Some after)) ×
         Step bytes P (IsPairClone is_key_clone is_value_clone) (in_store side s z (Some layout)) Clone Cloned new
     over_step {t} {z} {w} {after} now over is =
         let (copies, clones, (copy, by_copy)) = is.canonical in (
           in_store (opposite side) w t (Some copy),
-          ap (λ n. from_side (opposite side) w t (Some n)) by_copy.stands.0.named ∙ shown_over t w (Some after) ∙ ap (λ d. on d (of_side side t w) (of_side side w t) (Some after)) (sym over),
+          ap (λ n. from_side (opposite side) w t (Some n)) by_copy.stands.0.named ∙ shown_over t w (Some after)
+              ∙ ap (λ d. on d (of_side side t w) (of_side side w t) (Some after)) (sym over),
           record {
             answers = subst (AreClones is_key_clone is_value_clone (pairs_of layout)) (sym (tree_radix by_copy).1) clones;
             refuses = tt;
@@ -61,7 +64,8 @@ module _ {K V : Type 0} (bytes : K → List ℕ) (P : ℕ) (is_key_clone : K →
 
     -- or an allocation fails
     pub uncloned_step : (z w : Nodes K V) → SameNodes z w → IsLessened z.promise w.promise →
-        (new : State K V) × (shown_state new ≡ from_side side s w (Some root)) × Step bytes P (IsPairClone is_key_clone is_value_clone) (in_store side s z (Some layout)) Clone (NoMemory None) new
+        (new : State K V) × (shown_state new ≡ from_side side s w (Some root)) ×
+        Step bytes P (IsPairClone is_key_clone is_value_clone) (in_store side s z (Some layout)) Clone (NoMemory None) new
     uncloned_step z w same lessened = (
       in_store side s w (Some layout),
       ap (λ n. from_side side s w (Some n)) by.stands.0.named,

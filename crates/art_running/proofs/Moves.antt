@@ -41,7 +41,8 @@ module _ {K V : Type 0} where
       go Second First t w e = let side = ap (λ q. q.side) e in absurd cc
 
   -- a tree sees no difference in a store with the same nodes
-  pub nothing : {side : Side} {s t : Nodes K V} (z : Nodes K V) (tree : Option (Layout K V)) → SameNodes s t → NothingChanged (in_store side s z tree) (in_store side t z tree)
+  pub nothing : {side : Side} {s t : Nodes K V} (z : Nodes K V) (tree : Option (Layout K V)) → SameNodes s t →
+      NothingChanged (in_store side s z tree) (in_store side t z tree)
   nothing z tree same = record { side = refl; tree = refl; nodes = same; other = refl }
 
 module _ {K V : Type 0} (bytes : K → List ℕ) (P : ℕ) where
@@ -49,10 +50,12 @@ module _ {K V : Type 0} (bytes : K → List ℕ) (P : ℕ) where
   pub own_pairs : {s : Nodes K V} {root : OpaqueNodePtr} {pairs : List (K × V)} {layout : Layout K V} → IsCanonicalTree (of_key bytes) P s root pairs layout →
       IsCanonicalTree (of_key bytes) P s (name_of layout) (pairs_of layout) layout
   own_pairs {s} {root} {pairs} {layout} by =
-      subst (λ n. IsCanonicalTree (of_key bytes) P s n (pairs_of layout) layout) (sym by.stands.0.named) (subst (λ xs. IsCanonicalTree (of_key bytes) P s root xs layout) (sym (tree_radix by).1) by)
+      subst (λ n. IsCanonicalTree (of_key bytes) P s n (pairs_of layout) layout) (sym by.stands.0.named)
+      (subst (λ xs. IsCanonicalTree (of_key bytes) P s root xs layout) (sym (tree_radix by).1) by)
 
   -- the name of a canonical root is that of a canonical tree
-  pub canonical_root : {s : Nodes K V} {root : Option OpaqueNodePtr} {name : OpaqueNodePtr} → root ≡ Some name → (pairs : List (K × V)) × IsCanonical (of_key bytes) P s root pairs →
+  pub canonical_root : {s : Nodes K V} {root : Option OpaqueNodePtr} {name : OpaqueNodePtr} → root ≡ Some name →
+      (pairs : List (K × V)) × IsCanonical (of_key bytes) P s root pairs →
       IsCanonicalRoot (of_key bytes) P s name
   canonical_root {s} is (pairs, canonical) = let (layout, by) = subst (λ r. IsCanonical (of_key bytes) P s r pairs) is canonical in (pairs, layout, by)
 
@@ -63,7 +66,8 @@ module _ {K V : Type 0} (bytes : K → List ℕ) (P : ℕ) where
       let (same, named) = state_is old side s z root is in
       go old.tree named (subst (IsSound bytes P) same sound)
     where
-      go : (tree : Option (Layout K V)) → option_map name_of tree ≡ root → IsSound bytes P (in_store side s z tree) → (pairs : List (K × V)) × IsCanonical (of_key bytes) P s root pairs
+      go : (tree : Option (Layout K V)) → option_map name_of tree ≡ root → IsSound bytes P (in_store side s z tree) →
+          (pairs : List (K × V)) × IsCanonical (of_key bytes) P s root pairs
       go None e h = subst (λ r. (pairs : List (K × V)) × IsCanonical (of_key bytes) P s r pairs) e ([], refl)
       go (Some layout) e h = subst (λ r. (pairs : List (K × V)) × IsCanonical (of_key bytes) P s r pairs) e (pairs_of layout, (layout, h))
 
@@ -77,7 +81,8 @@ module _ {K V : Type 0} (bytes : K → List ℕ) (P : ℕ) where
   pub canonical_sound : (side : Side) (s z : Nodes K V) (root : Option OpaqueNodePtr) (pairs : List (K × V)) →
       IsCanonical (of_key bytes) P s root pairs → (old : State K V) × (shown_state old ≡ from_side side s z root) × IsSound bytes P old
   canonical_sound side s z None pairs h = (in_store side s z None, refl, refl)
-  canonical_sound side s z (Some name) pairs (layout, by) = (in_store side s z (Some layout), ap (λ n. from_side side s z (Some n)) by.stands.0.named, own_pairs by)
+  canonical_sound side s z (Some name) pairs (layout, by) =
+      (in_store side s z (Some layout), ap (λ n. from_side side s z (Some n)) by.stands.0.named, own_pairs by)
 
   -- the same of both stores as they stand
   pub on_sound : (side : Side) (s z : Nodes K V) (root : Option OpaqueNodePtr) (pairs : List (K × V)) →
@@ -95,12 +100,15 @@ module _ {K V : Type 0} (bytes : K → List ℕ) (P : ℕ) where
 
   pub has_tree : (s : Nodes K V) (root : Option OpaqueNodePtr) (pairs : List (K × V)) → IsCanonical (of_key bytes) P s root pairs → HasTree s root pairs
   has_tree s None pairs none = record { tree = None; shows = refl; pairs_are = sym none; is_root = none; sound = refl }
-  has_tree s (Some name) pairs (layout, by) = record { tree = Some layout; shows = ap Some by.stands.0.named; pairs_are = (tree_radix by).1; is_root = by; sound = own_pairs by }
+  has_tree s (Some name) pairs (layout, by) =
+      record { tree = Some layout; shows = ap Some by.stands.0.named; pairs_are = (tree_radix by).1; is_root = by; sound = own_pairs by }
 
 module _ {K V : Type 0} (bytes : K → List ℕ) (P : ℕ) (IsClone : K × V → K × V → Type 0) where
   -- what a step from a tree in a store, on either side, leads to
   abbrev pub StepFrom : Side → Nodes K V → Nodes K V → Nodes K V → Option (Layout K V) → Command K V → Reply K V → Option OpaqueNodePtr → Type 0
-  StepFrom side s t z tree c r after = (new : Option (Layout K V)) × (option_map name_of new ≡ after) × Step bytes P IsClone (in_store side s z tree) c r (in_store side t z new)
+  StepFrom side s t z tree c r after =
+      (new : Option (Layout K V)) × (option_map name_of new ≡ after) ×
+      Step bytes P IsClone (in_store side s z tree) c r (in_store side t z new)
 
 module _ {K V : Type 0} {IsClone : K × V → K × V → Type 0} (bytes : K → List ℕ) (P : ℕ) where
   -- a step to any state
@@ -115,7 +123,8 @@ module _ {K V : Type 0} {IsClone : K × V → K × V → Type 0} (bytes : K → 
 
     -- from the tree of a canonical root
     pub any_from_root : {name : OpaqueNodePtr} → ((layout : Layout K V) → IsCanonicalTree (of_key bytes) P s name (pairs_of layout) layout → (new : State K V) ×
-        (shown_state new ≡ to) × Step bytes P IsClone (in_store side s z (Some layout)) c r new) → MakesStep bytes P IsClone (from_side side s z (Some name)) c r to
+        (shown_state new ≡ to) × Step bytes P IsClone (in_store side s z (Some layout)) c r new) →
+        MakesStep bytes P IsClone (from_side side s z (Some name)) c r to
     any_from_root {name} step = makes_any go
       where
         go : (tree : Option (Layout K V)) → option_map name_of tree ≡ Some name → IsSound bytes P (in_store side s z tree) → (new : State K V) ×
@@ -149,7 +158,8 @@ module _ {K V : Type 0} {IsClone : K × V → K × V → Type 0} (bytes : K → 
         StepFrom bytes P IsClone side s t z (Some layout) c r after) → MakesStep bytes P IsClone (from_side side s z (Some name)) c r (from_side side t z after)
     from_root {after} {name} step = makes_step go
       where
-        go : (tree : Option (Layout K V)) → option_map name_of tree ≡ Some name → IsSound bytes P (in_store side s z tree) → StepFrom bytes P IsClone side s t z tree c r after
+        go : (tree : Option (Layout K V)) → option_map name_of tree ≡ Some name → IsSound bytes P (in_store side s z tree) →
+            StepFrom bytes P IsClone side s t z tree c r after
         go None e h = absurd cc
         go (Some layout) e h =
             let n : name_of layout ≡ name = cc in

@@ -68,7 +68,8 @@ module _ {A : Type 0} (bytes : A → List ℕ) (new : A) (pairs : List A) where
   key_by_length : (n : ℕ) → length (replace_key bytes new pairs) ≡ length pairs + n → cond (has_key bytes (bytes new) pairs) 0 1 ≡ n
   key_by_length n e = go (with_key bytes (bytes new) pairs) refl (let c = replacement_counts bytes new pairs in omega arith)
     where
-      go : (found : List A) → with_key bytes (bytes new) pairs ≡ found → n + length (with_key bytes (bytes new) pairs) ≡ 1 → cond (has_key bytes (bytes new) pairs) 0 1 ≡ n
+      go : (found : List A) → with_key bytes (bytes new) pairs ≡ found → n + length (with_key bytes (bytes new) pairs) ≡ 1 →
+          cond (has_key bytes (bytes new) pairs) 0 1 ≡ n
       go [] is c =
           let one_is : 1 ≡ n = let l = ap length is in omega arith in
           ap (λ b. cond b 0 1) (any_is_first (λ x. are_same (bytes new) (bytes x)) pairs ∙ ap (λ xs. is_some (first_of xs)) is) ∙ one_is
@@ -89,12 +90,15 @@ module _ {A : Type 0} (bytes : A → List ℕ) (new : A) (pairs : List A) where
 module _ {K V : Type 0} (bytes : K → List ℕ) (P : ℕ) (k : K) (v : V) {fs : List (Frame OpaqueNodePtr (K × V))} {place : List ℕ}
     {t : Tree OpaqueNodePtr (K × V)} (hole : IsHole (of_key bytes) P fs place t (bytes k)) (was : IsRadix (of_key bytes) P [] (plug fs t)) where
   -- what is needed for another tree in the hole, where this pair is what is stored for the new one
-  module _ (x : K × V) (alike : bytes x.0 ≡ bytes k) (u : Tree OpaqueNodePtr (K × V)) (radix : IsRadix (of_key bytes) P place u) (its : pairs_of u ≡ replace_key (of_key bytes) x (pairs_of t)) where
+  module _ (x : K × V) (alike : bytes x.0 ≡ bytes k) (u : Tree OpaqueNodePtr (K × V)) (radix : IsRadix (of_key bytes) P place u)
+      (its : pairs_of u ≡ replace_key (of_key bytes) x (pairs_of t)) where
     all_replaced : IsRadix (of_key bytes) P [] (plug fs u) × (pairs_of (plug fs u) ≡ replace_key (of_key bytes) x (pairs_of (plug fs t)))
     all_replaced =
-        changed_at (of_key bytes) P fs place hole.path t u radix (bytes x.0) (replace_key (of_key bytes) x) (replace_key-between (of_key bytes) x) (subst (IsFront place) (sym alike) hole.front) its
+        changed_at (of_key bytes) P fs place hole.path t u radix (bytes x.0) (replace_key (of_key bytes) x)
+        (replace_key-between (of_key bytes) x) (subst (IsFront place) (sym alike) hole.front) its
 
-    longer_whole : (n : ℕ) → length (pairs_of u) ≡ length (pairs_of t) + n → length (replace_key (of_key bytes) x (pairs_of (plug fs t))) ≡ length (pairs_of (plug fs t)) + n
+    longer_whole : (n : ℕ) → length (pairs_of u) ≡ length (pairs_of t) + n →
+        length (replace_key (of_key bytes) x (pairs_of (plug fs t))) ≡ length (pairs_of (plug fs t)) + n
     longer_whole n e =
         let a = ap length (pairs_of-plug fs u) in
         let b = ap length (pairs_of-plug fs t) in
@@ -110,7 +114,8 @@ module _ {K V : Type 0} (bytes : K → List ℕ) (P : ℕ) (k : K) (v : V) {fs :
       all = (all_replaced.0, all_replaced.1 ∙ sym is)
 
       leaves_needed : (n : ℕ) → length (pairs_of u) ≡ length (pairs_of t) + n → n ≡ (needs bytes P (Insert k v) (pairs_of (plug fs t))).leaves
-      leaves_needed n e = sym (ap (λ z. cond (has_key (of_key bytes) z (pairs_of (plug fs t))) 0 1) (sym alike) ∙ key_by_length (of_key bytes) x (pairs_of (plug fs t)) n (longer_whole n e))
+      leaves_needed n e = sym (ap (λ z. cond (has_key (of_key bytes) z (pairs_of (plug fs t))) 0 1) (sym alike)
+          ∙ key_by_length (of_key bytes) x (pairs_of (plug fs t)) n (longer_whole n e))
 
       pub needs_some : (n : ℕ) (a : NodeType) (goes : NodeType → ℕ) → length (pairs_of u) ≡ length (pairs_of t) + n → a ≢ Leaf → goes a ≡ 0 →
           ((kind : NodeType) → count_of kind u + goes kind ≡ count_of kind t + one kind a) →
@@ -120,7 +125,8 @@ module _ {K V : Type 0} (bytes : K → List ℕ) (P : ℕ) (k : K) (v : V) {fs :
           ∙ gains bytes P (plug fs t) (plug fs u) was all.0 a goes proper off (λ kind. more_in_hole fs t u kind (goes kind) (one kind a) (h kind))))
 
       pub needs_none : (n : ℕ) → length (pairs_of u) ≡ length (pairs_of t) + n →
-          ((kind : NodeType) → count_of kind u ≤ count_of kind t) → ◌≡◌ {A = Promise} (record { leaves = n; inner = None }) (needs bytes P (Insert k v) (pairs_of (plug fs t)))
+          ((kind : NodeType) → count_of kind u ≤ count_of kind t) →
+          ◌≡◌ {A = Promise} (record { leaves = n; inner = None }) (needs bytes P (Insert k v) (pairs_of (plug fs t)))
       needs_none n longer h = ap₂ (λ x y. record { leaves = x; inner = y }) (leaves_needed n longer)
           (sym (ap (λ ps. more_of (inner_count bytes P (pairs_of (plug fs t))) (inner_count bytes P ps)) (sym all.1) ∙
           loses bytes P (plug fs t) (plug fs u) was all.0 (λ kind. fewer_in_hole fs t u kind (h kind))))
@@ -132,10 +138,12 @@ module _ {K V : Type 0} (bytes : K → List ℕ) (P : ℕ) (k : K) (v : V) {fs :
     is_new = put-new (of_key bytes) (k, v) (pairs_of (plug fs t)) (comes_new (k, v) refl u radix its longer)
 
     pub new_needs_some : (a : NodeType) (goes : NodeType → ℕ) → a ≢ Leaf → goes a ≡ 0 →
-        ((kind : NodeType) → count_of kind u + goes kind ≡ count_of kind t + one kind a) → ◌≡◌ {A = Promise} (record { leaves = 1; inner = Some a }) (needs bytes P (Insert k v) (pairs_of (plug fs t)))
+        ((kind : NodeType) → count_of kind u + goes kind ≡ count_of kind t + one kind a) →
+        ◌≡◌ {A = Promise} (record { leaves = 1; inner = Some a }) (needs bytes P (Insert k v) (pairs_of (plug fs t)))
     new_needs_some a goes proper off h = needs_some (k, v) refl u radix its is_new 1 a goes longer proper off h
 
-    pub new_needs_none : ((kind : NodeType) → count_of kind u ≤ count_of kind t) → ◌≡◌ {A = Promise} (record { leaves = 1; inner = None }) (needs bytes P (Insert k v) (pairs_of (plug fs t)))
+    pub new_needs_none : ((kind : NodeType) → count_of kind u ≤ count_of kind t) →
+        ◌≡◌ {A = Promise} (record { leaves = 1; inner = None }) (needs bytes P (Insert k v) (pairs_of (plug fs t)))
     new_needs_none h = needs_none (k, v) refl u radix its is_new 1 longer h
 
 -- no number of children has the kind of a leaf
@@ -163,7 +171,8 @@ module _ {K V : Type 0} (bytes : K → List ℕ) (P : ℕ) (k : K) (v : V) {fs :
       (longer (ltb part.x part.y) ∙ ap (λ z. length z + 1) same) Node4 (λ kind. 0) (λ e. absurd cc) refl (λ kind. more kind (ltb part.x part.y) (counts kind))
     where
       longer : (first : Bool) → length (pairs_below
-          (cond first (child part.x u (child part.y (leaf (name_of u) (k, v)) no_child)) (child part.y (leaf (name_of u) (k, v)) (child part.x u no_child)))) ≡ length (pairs_of u) + 1
+          (cond first (child part.x u (child part.y (leaf (name_of u) (k, v)) no_child))
+          (child part.y (leaf (name_of u) (k, v)) (child part.x u no_child)))) ≡ length (pairs_of u) + 1
       longer true = length-append (pairs_of u) ((k, v) ∷ [])
       longer false = let e = length-append (pairs_of u) [] in omega arith
 
@@ -174,11 +183,13 @@ module _ {K V : Type 0} (bytes : K → List ℕ) (P : ℕ) (k : K) (v : V) {fs :
       more kind false e = omega arith
 
   -- a leaf in place of one with its key
-  same_needs : (pair : K × V) → t ≡ leaf (name_of t) pair → bytes pair.0 ≡ bytes k → ◌≡◌ {A = Promise} (record { leaves = 0; inner = None }) (needs bytes P (Insert k v) (pairs_of (plug fs t)))
+  same_needs : (pair : K × V) → t ≡ leaf (name_of t) pair → bytes pair.0 ≡ bytes k →
+      ◌≡◌ {A = Promise} (record { leaves = 0; inner = None }) (needs bytes P (Insert k v) (pairs_of (plug fs t)))
   same_needs pair is same =
       let equal : are_same (bytes k) (bytes pair.0) ≡ true = ap (are_same (bytes k)) same ∙ front_same (bytes k) in
       let stored : first_of (with_key (of_key bytes) (bytes k) (pairs_of (plug fs t))) ≡ Some pair =
-      ap first_of (with_key-hole (of_key bytes) P fs place (bytes k) t hole.path hole.front) ∙ ap (λ z. first_of (with_key (of_key bytes) (bytes k) (pairs_of z))) is ∙ rw equal refl in
+      ap first_of (with_key-hole (of_key bytes) P fs place (bytes k) t hole.path hole.front)
+      ∙ ap (λ z. first_of (with_key (of_key bytes) (bytes k) (pairs_of z))) is ∙ rw equal refl in
       let here : replace_key (of_key bytes) (pair.0, v) (pairs_of t) ≡ (pair.0, v) ∷ [] =
       ap (λ z. replace_key (of_key bytes) (pair.0, v) (pairs_of z)) is ∙ exact (of_key bytes) (pair.0, v) pair refl in
       needs_none bytes P k v hole was (pair.0, v) same (leaf (name_of t) (pair.0, v)) (subst (IsFront place) (sym same) hole.front) (sym here)
@@ -186,10 +197,12 @@ module _ {K V : Type 0} (bytes : K → List ℕ) (P : ℕ) (k : K) (v : V) {fs :
       (let e : length (pairs_of t) ≡ 1 = ap (λ z. length (pairs_of z)) is in omega arith) (λ kind. let none : 0 ≤ count_of kind t = omega arith in none)
 
   -- a leaf whose key is not related is split
-  leaf_needs : (pair : K × V) → t ≡ leaf (name_of t) pair → are_related (bytes k) (bytes pair.0) ≡ false → Branch ≡ needs bytes P (Insert k v) (pairs_of (plug fs t))
+  leaf_needs : (pair : K × V) → t ≡ leaf (name_of t) pair → are_related (bytes k) (bytes pair.0) ≡ false →
+      Branch ≡ needs bytes P (Insert k v) (pairs_of (plug fs t))
   leaf_needs pair is off =
       let (old, below) : IsFront place (bytes pair.0) = subst (IsRadix (of_key bytes) P place) is hole.radix in
-      let apart : are_related (place ++ old) (place ++ hole.front.0) ≡ false = sym (ap₂ are_related below hole.front.1) ∙ related_sym (bytes pair.0) (bytes k) ∙ off in
+      let apart : are_related (place ++ old) (place ++ hole.front.0) ≡ false =
+      sym (ap₂ are_related below hole.front.1) ∙ related_sym (bytes pair.0) (bytes k) ∙ off in
       let part = unrelated_part old hole.front.0 (sym (related_after place old hole.front.0) ∙ apart) in
       branch_needs t old part (subst (IsRadix (of_key bytes) P ((place ++ part.front) ++ part.x ∷ [])) (sym is)
       (part.r, below ∙ ap (λ z. place ++ z) part.a_is ∙ simp append_assoc)) refl (λ kind. refl)
@@ -206,7 +219,8 @@ module _ {K V : Type 0} (bytes : K → List ℕ) (P : ℕ) (k : K) (v : V) {fs :
 
     -- a prefix from which the key differs is split
     prefix_needs : (m : ℕ) (byte : ℕ) → m ≡ shared_len (prefix_of (of_key bytes) (length place) t) (drop (length place) (bytes k)) →
-        slice_get (prefix_of (of_key bytes) (length place) t) m ≡ Some byte → length place + m < length (bytes k) → Branch ≡ needs bytes P (Insert k v) (pairs_of (plug fs t))
+        slice_get (prefix_of (of_key bytes) (length place) t) m ≡ Some byte → length place + m < length (bytes k) →
+        Branch ≡ needs bytes P (Insert k v) (pairs_of (plug fs t))
     prefix_needs m byte shared at short =
         let same : m ≡ shared_len radix_here.0 hole.front.0 = shared ∙ ap₂ shared_len prefix_here rest_here in
         let inside : m < length radix_here.0 = subst (λ z. m < length z) prefix_here (slice_get_within (prefix_of (of_key bytes) (length place) t) m byte at) in
@@ -214,7 +228,8 @@ module _ {K V : Type 0} (bytes : K → List ℕ) (P : ℕ) (k : K) (v : V) {fs :
         let part = part_where radix_here.0 hole.front.0 (omega arith) (omega (arith, simp length-append at long)) in
         let count = length (bytes_of cs) in
         branch_needs (inner (name_of t) (canonical_header P part.r count) cs) radix_here.0 part
-        (trimmed (of_key bytes) P place part.front part.r part.x (name_of t) header cs radix_here.2 radix_here.3 (subst (λ z. AreRadix (of_key bytes) P (place ++ z) cs) part.a_is radix_here.4))
+        (trimmed (of_key bytes) P place part.front part.r part.x (name_of t) header cs radix_here.2 radix_here.3
+        (subst (λ z. AreRadix (of_key bytes) P (place ++ z) cs) part.a_is radix_here.4))
         (ap pairs_of (sym is)) (λ kind. ap (λ h. one kind h + inner_count_below kind cs) (sym (ap (λ h. h.kind) radix_here.1)) ∙ ap (count_of kind) (sym is))
 
     -- a node gets the leaf as its child under a byte that has none
@@ -231,8 +246,10 @@ module _ {K V : Type 0} (bytes : K → List ℕ) (P : ℕ) (k : K) (v : V) {fs :
       grown_is : IsRadix (of_key bytes) P place grown × (pairs_of grown ≡ replace_key (of_key bytes) (k, v) (pairs_below (join split.left split.right)))
       unfolding grown
       grown_is =
-          with_child (of_key bytes) P place radix_here.0 split.left split.right b (name_of t) (name_of t) (k, v) (subst (λ z. BytesRise (bytes_of z)) split.whole radix_here.3) split.low split.high
-          (let two = subst (λ z. 2 ≤ length (bytes_of z)) split.whole radix_here.2 in omega arith) (subst (AreRadix (of_key bytes) P (place ++ radix_here.0)) split.whole radix_here.4) front
+          with_child (of_key bytes) P place radix_here.0 split.left split.right b (name_of t) (name_of t) (k, v)
+          (subst (λ z. BytesRise (bytes_of z)) split.whole radix_here.3) split.low split.high
+          (let two = subst (λ z. 2 ≤ length (bytes_of z)) split.whole radix_here.2 in omega arith)
+          (subst (AreRadix (of_key bytes) P (place ++ radix_here.0)) split.whole radix_here.4) front
 
       grown_pairs : pairs_of grown ≡ replace_key (of_key bytes) (k, v) (pairs_of t)
       grown_pairs = grown_is.1 ∙ ap (replace_key (of_key bytes) (k, v)) (ap pairs_below (sym split.whole) ∙ ap pairs_of (sym is))
@@ -242,7 +259,8 @@ module _ {K V : Type 0} (bytes : K → List ℕ) (P : ℕ) (k : K) (v : V) {fs :
       longer =
           let a = ap length (pairs_below-join split.left (child b (leaf (name_of t) (k, v)) split.right)) in
           let c = ap length (pairs_below-join split.left split.right) in
-          let d : length (pairs_of t) ≡ length (pairs_below (join split.left split.right)) = ap (λ z. length (pairs_of z)) is ∙ ap (λ z. length (pairs_below z)) split.whole in
+          let d : length (pairs_of t) ≡ length (pairs_below (join split.left split.right)) =
+          ap (λ z. length (pairs_of z)) is ∙ ap (λ z. length (pairs_below z)) split.whole in
           omega (arith, simp length-append at a, simp length-append at c)
 
       kind_was : header.kind ≡ kind_of count
@@ -267,7 +285,8 @@ module _ {K V : Type 0} (bytes : K → List ℕ) (P : ℕ) (k : K) (v : V) {fs :
           let full_is : is_full s p ≡ leb (kind_capacity p.kind) count =
           subst (λ (o : Option Inner). elim o as (λ _. Bool) [ None ↦ false | Some n ↦ leb (kind_capacity p.kind) (length n.children) ] ≡ leb
           (kind_capacity p.kind) count) (sym here) (ap (leb (kind_capacity p.kind)) number) in
-          ap (λ (f : Bool). let z : Promise = record { leaves = 1; inner = cond f (next_larger p.kind) None } in z) full_is ∙ go p.kind own (leb (kind_capacity p.kind) count) refl
+          ap (λ (f : Bool). let z : Promise = record { leaves = 1; inner = cond f (next_larger p.kind) None } in z) full_is
+          ∙ go p.kind own (leb (kind_capacity p.kind) count) refl
         where
           stays : (kind : NodeType) → kind ≡ kind_of count → kind ≡ kind_of (suc count) →
               ◌≡◌ {A = Promise} (record { leaves = 1; inner = None }) (needs bytes P (Insert k v) (pairs_of (plug fs t)))
@@ -293,7 +312,8 @@ module _ {K V : Type 0} (bytes : K → List ℕ) (P : ℕ) (k : K) (v : V) {fs :
 
     -- the byte after the prefix
     into_needs : (used : ℕ) → IsFront (prefix_of (of_key bytes) (length place) t) (drop (length place) (bytes k)) →
-        used ≡ length place + length (prefix_of (of_key bytes) (length place) t) → used < length (bytes k) → child_at (slots_of cs) (get_or (bytes k) used 0) ≡ None →
+        used ≡ length place + length (prefix_of (of_key bytes) (length place) t) → used < length (bytes k) →
+        child_at (slots_of cs) (get_or (bytes k) used 0) ≡ None →
         (s : Nodes K V) (p : InnerPtr) → name_of t ≡ inner_name p → Holds (node_at s) t →
         placed_for s (IntoExisting p) ≡ needs bytes P (Insert k v) (pairs_of (plug fs t))
     into_needs used (q, e) is_used short none =
@@ -304,7 +324,9 @@ module _ {K V : Type 0} (bytes : K → List ℕ) (P : ℕ) (k : K) (v : V) {fs :
             name_of t ≡ inner_name p → Holds (node_at s) t → placed_for s (IntoExisting p) ≡ needs bytes P (Insert k v) (pairs_of (plug fs t))
         go [] whole at = absurd (let l = ap length whole in omega (arith, simp length-append at l))
         go (b ∷ r) whole at =
-            let byte : get_or (bytes k) used 0 ≡ b = ap₂ (λ z n. get_or z n 0) whole (at ∙ sym (length-append place radix_here.0)) ∙ get_or-append_seam (place ++ radix_here.0) b r 0 in
+            let byte : get_or (bytes k) used 0 ≡ b =
+            ap₂ (λ z n. get_or z n 0) whole (at ∙ sym (length-append place radix_here.0))
+            ∙ get_or-append_seam (place ++ radix_here.0) b r 0 in
             child_needs b (subst (λ z. child_at (slots_of cs) z ≡ None) byte none) (r, whole ∙ sym (append_assoc (place ++ radix_here.0) (b ∷ []) r))
 
   -- at the end node of the key
@@ -328,7 +350,8 @@ change_places kind n more own some compress keep shrink = go kind own
     told : {x : Option NodeType} → x ≡ more → ◌≡◌ {A = Promise} (record { leaves = 0; inner = x }) (record { leaves = 0; inner = more })
     told e = ap (λ (z : Option NodeType). let y : Promise = record { leaves = 0; inner = z } in y) e
 
-    other : (z : NodeType) → z ≢ Node4 → z ≡ kind_of (suc n) → 2 ≤ n → placed_by (cond (leb (suc n) (kind_least z)) (shrinks (smaller_kind z)) keeps) ≡ record { leaves = 0; inner = more }
+    other : (z : NodeType) → z ≢ Node4 → z ≡ kind_of (suc n) → 2 ≤ n →
+        placed_by (cond (leb (suc n) (kind_least z)) (shrinks (smaller_kind z)) keeps) ≡ record { leaves = 0; inner = more }
     other z off is two = elim (cases_Bool (leb (suc n) (kind_least z))) [
       | inl e ↦ rw e (told (ap Some (kind_of-smaller z n off is (let l = leb-true (suc n) (kind_least z) e in omega arith)) ∙
           shrink two (λ same. let l = leb-true (suc n) (kind_least z) e in kind_of-least z n off (omega arith) (is ∙ sym same))))
@@ -372,18 +395,23 @@ module _ {K V : Type 0} (bytes : K → List ℕ) (P : ℕ) (x : K × V) (n : Opa
         omega arith
 
     front : IsFront place (bytes x.0)
-    front = front_cut place own.0 (bytes x.0) (front_cut (place ++ own.0) (f.byte ∷ []) (bytes x.0) (AreRadix-right (of_key bytes) P (place ++ own.0) f.left (child f.byte (leaf n x) f.right) own.4).0)
+    front = front_cut place own.0 (bytes x.0)
+        (front_cut (place ++ own.0) (f.byte ∷ []) (bytes x.0)
+        (AreRadix-right (of_key bytes) P (place ++ own.0) f.left (child f.byte (leaf n x) f.right) own.4).0)
 
-    module _ (u : Tree OpaqueNodePtr (K × V)) (radix : IsRadix (of_key bytes) P place u) (its : pairs_of u ≡ remove_key (of_key bytes) (bytes x.0) (pairs_of whole)) where
+    module _ (u : Tree OpaqueNodePtr (K × V)) (radix : IsRadix (of_key bytes) P place u)
+        (its : pairs_of u ≡ remove_key (of_key bytes) (bytes x.0) (pairs_of whole)) where
       all_left : IsRadix (of_key bytes) P [] (plug fs u) × (pairs_of (plug fs u) ≡ remove_key (of_key bytes) (bytes x.0) (pairs_of (plug fs whole)))
-      all_left = changed_at (of_key bytes) P fs place path whole u radix (bytes x.0) (remove_key (of_key bytes) (bytes x.0)) (remove_key-between (of_key bytes) (bytes x.0)) front its
+      all_left = changed_at (of_key bytes) P fs place path whole u radix (bytes x.0) (remove_key (of_key bytes) (bytes x.0))
+          (remove_key-between (of_key bytes) (bytes x.0)) front its
 
       none_comes : ((kind : NodeType) → count_of kind u ≤ count_of kind whole) → None ≡ More
       none_comes h =
           sym (ap (λ ps. more_of (inner_count bytes P (pairs_of (plug fs whole))) (inner_count bytes P ps)) (sym all_left.1) ∙
           loses bytes P (plug fs whole) (plug fs u) was all_left.0 (λ kind. fewer_in_hole fs whole u kind (h kind)))
 
-      some_comes : (a : NodeType) (goes : NodeType → ℕ) → a ≢ Leaf → goes a ≡ 0 → ((kind : NodeType) → count_of kind u + goes kind ≡ count_of kind whole + one kind a) → Some a ≡ More
+      some_comes : (a : NodeType) (goes : NodeType → ℕ) → a ≢ Leaf → goes a ≡ 0 →
+          ((kind : NodeType) → count_of kind u + goes kind ≡ count_of kind whole + one kind a) → Some a ≡ More
       some_comes a goes proper off h =
           sym (ap (λ ps. more_of (inner_count bytes P (pairs_of (plug fs whole))) (inner_count bytes P ps)) (sym all_left.1) ∙
           gains bytes P (plug fs whole) (plug fs u) was all_left.0 a goes proper off (λ kind. more_in_hole fs whole u kind (goes kind) (one kind a) (h kind)))
@@ -421,9 +449,12 @@ module _ {K V : Type 0} (bytes : K → List ℕ) (P : ℕ) (x : K × V) (n : Opa
       where
         go : (c : ℕ) (v : Tree OpaqueNodePtr (K × V)) → join f.left f.right ≡ child c v no_child →
             IsRadix (of_key bytes) P ((place ++ own.0) ++ c ∷ []) v → pairs_of v ≡ remove_key (of_key bytes) (bytes x.0) (pairs_of whole) → None ≡ More
-        go c (leaf k y) is radix its = none_comes (leaf k y) (raised (of_key bytes) P place own.0 c k y radix) its (λ kind. let z : 0 ≤ count_of kind whole = omega arith in z)
+        go c (leaf k y) is radix its =
+            none_comes (leaf k y) (raised (of_key bytes) P place own.0 c k y radix) its
+            (λ kind. let z : 0 ≤ count_of kind whole = omega arith in z)
         go c (inner k h cs) is (q, e, two, up, below) its =
-            none_comes (inner k (canonical_header P (own.0 ++ c ∷ q) (length (bytes_of cs))) cs) (merged (of_key bytes) P place own.0 c q k cs two up below) its (λ kind.
+            none_comes (inner k (canonical_header P (own.0 ++ c ∷ q) (length (bytes_of cs))) cs)
+            (merged (of_key bytes) P place own.0 c q k cs two up below) its (λ kind.
             let a = below_count kind in
             let b : inner_count_below kind (join f.left f.right) ≡ one kind h.kind + inner_count_below kind cs + 0 = ap (inner_count_below kind) is in
             let d : one kind (kind_of (length (bytes_of cs))) ≡ one kind h.kind = ap (λ z. one kind z.kind) (sym e) in
@@ -433,7 +464,8 @@ module _ {K V : Type 0} (bytes : K → List ℕ) (P : ℕ) (x : K × V) (n : Opa
   parent_places : (s : Nodes K V) → Holds (node_at s) (plug fs whole) → placed_for_deletion s (path_of (f ∷ fs)) ≡ record { leaves = 0; inner = More }
   parent_places s holds =
       let (place, path, own) = radix_plug (of_key bytes) P fs whole was in
-      let (off, node, got, head, kids) = inner_at s f.mark f.header (slots_of (join f.left (child f.byte (leaf n x) f.right))) (path_holds (node_at s) fs whole holds).1.0 in
+      let (off, node, got, head, kids) =
+      inner_at s f.mark f.header (slots_of (join f.left (child f.byte (leaf n x) f.right))) (path_holds (node_at s) fs whole holds).1.0 in
       let number : length node.children ≡ suc left_over = ap length kids ∙ length-slots_of (join f.left (child f.byte (leaf n x) f.right)) ∙ one_more in
       let kind : f.mark.kind ≡ kind_of (suc left_over) = ap (λ h. h.kind) head ∙ header_kind place path own in
       let change : parent_change s (path_of (f ∷ fs)) ≡ change_of f.mark.kind (suc left_over) =
@@ -446,17 +478,25 @@ module _ {K V : Type 0} (bytes : K → List ℕ) (P : ℕ) (x : K × V) (n : Opa
       (subst (λ (o : Option Inner). elim o as (λ _. ParentChange) [ None ↦ no_parent | Some z ↦ change_of f.mark.kind (length z.children) ] ≡
       change_of f.mark.kind (suc left_over)) (sym got) (ap (change_of f.mark.kind) number)) in
       let two : 2 ≤ suc left_over = subst (λ z. 2 ≤ z) one_more own.2 in
-      ap placed_by change ∙ change_places f.mark.kind left_over More kind (omega arith) (compress_places place path own) (keep_places place path own) (shrink_places place path own)
+      ap placed_by change ∙ change_places f.mark.kind left_over More kind (omega arith) (compress_places place path own)
+      (keep_places place path own) (shrink_places place path own)
 
 -- a deletion needs the inner node that is placed
 deletion_needs : {K V : Type 0} (IsClone : K × V → K × V → Type 0) (bytes : K → List ℕ) (P : ℕ) (pairs : List (K × V)) (x : K × V) (c : Command K V) →
     Answers bytes IsClone pairs c (Deleted (Some x)) (remove_key (of_key bytes) (bytes x.0) pairs) →
-    ◌≡◌ {A = Promise} (record { leaves = 0; inner = more_of (inner_count bytes P pairs) (inner_count bytes P (remove_key (of_key bytes) (bytes x.0) pairs)) }) (needs bytes P c pairs)
+    ◌≡◌ {A = Promise} (record {
+      leaves = 0;
+      inner = more_of (inner_count bytes P pairs) (inner_count bytes P (remove_key (of_key bytes) (bytes x.0) pairs));
+    })
+    (needs bytes P c pairs)
 deletion_needs IsClone bytes P pairs x (Insert k v) h = absurd h
 deletion_needs IsClone bytes P pairs x (InsertPrefix k v) h = absurd h
-deletion_needs IsClone bytes P pairs x (Delete key) h = ap (λ ps. let y : Promise = record { leaves = 0; inner = more_of (inner_count bytes P pairs) (inner_count bytes P ps) } in y) h.1
-deletion_needs IsClone bytes P pairs x DeleteMin h = ap (λ ps. let y : Promise = record { leaves = 0; inner = more_of (inner_count bytes P pairs) (inner_count bytes P ps) } in y) h.1
-deletion_needs IsClone bytes P pairs x DeleteMax h = ap (λ ps. let y : Promise = record { leaves = 0; inner = more_of (inner_count bytes P pairs) (inner_count bytes P ps) } in y) h.1
+deletion_needs IsClone bytes P pairs x (Delete key) h =
+    ap (λ ps. let y : Promise = record { leaves = 0; inner = more_of (inner_count bytes P pairs) (inner_count bytes P ps) } in y) h.1
+deletion_needs IsClone bytes P pairs x DeleteMin h =
+    ap (λ ps. let y : Promise = record { leaves = 0; inner = more_of (inner_count bytes P pairs) (inner_count bytes P ps) } in y) h.1
+deletion_needs IsClone bytes P pairs x DeleteMax h =
+    ap (λ ps. let y : Promise = record { leaves = 0; inner = more_of (inner_count bytes P pairs) (inner_count bytes P ps) } in y) h.1
 deletion_needs IsClone bytes P pairs x (Contains key) h = absurd h
 deletion_needs IsClone bytes P pairs x Clone h = absurd h
 deletion_needs IsClone bytes P pairs x (LongestMatch key) h = absurd h
@@ -470,18 +510,21 @@ module _ {K V : Type 0} (bytes : K → List ℕ) (P : ℕ) {s : Nodes K V} {root
       let (place, path, own) = radix_plug (of_key bytes) P at.path at.node was in
       let depth = depth_is (of_key bytes) P at.path place path in
       let front : IsFront place (bytes k) =
-      subst (λ w. IsFront w (bytes k)) (ap (λ d. take d (least_key (of_key bytes) at.node)) depth ∙ place_is (of_key bytes) P at.node place own) at.is_end.is_front in
+      subst (λ w. IsFront w (bytes k)) (ap (λ d. take d (least_key (of_key bytes) at.node)) depth
+      ∙ place_is (of_key bytes) P at.node place own) at.is_end.is_front in
       let holds = (path_holds (node_at s) at.path at.node (subst (Holds (node_at s)) (sym at.is_end.whole) by.stands.0.holds)).1 in
       subst (λ l. placed_for s point.insert_kind ≡ needs bytes P (Insert k v) (pairs_of l)) at.is_end.whole
       (kind_needs bytes P k v (record { path = path; radix = own; front = front }) was s point.key_bytes_used point.insert_kind holds
       (subst (λ d. IsKindOf (of_key bytes) P (bytes k) at.node d point.key_bytes_used point.insert_kind) depth at.kind_is))
 
   pub needs_deleted : (IsClone : K × V → K × V → Type 0) (c : Command K V) (x : K × V) (point : DeletePoint) → LeadsTo layout x point →
-      Answers bytes IsClone (pairs_of layout) c (Deleted (Some x)) (remove_key (of_key bytes) (bytes x.0) (pairs_of layout)) → placed_for_deletion s point.path ≡ needs bytes P c (pairs_of layout)
+      Answers bytes IsClone (pairs_of layout) c (Deleted (Some x)) (remove_key (of_key bytes) (bytes x.0) (pairs_of layout)) →
+      placed_for_deletion s point.path ≡ needs bytes P c (pairs_of layout)
   needs_deleted IsClone c x point leads answers =
       ap (placed_for_deletion s) leads.path_is ∙ subst (λ l. Answers bytes IsClone (pairs_of l) c (Deleted (Some x))
       (remove_key (of_key bytes) (bytes x.0) (pairs_of l)) → placed_for_deletion s (path_of leads.path) ≡ needs bytes P c (pairs_of l)) leads.whole
-      (go leads.path (subst (IsRadix (of_key bytes) P []) (sym leads.whole) (tree_radix by).0) (subst (Holds (node_at s)) (sym leads.whole) by.stands.0.holds)) answers
+      (go leads.path (subst (IsRadix (of_key bytes) P []) (sym leads.whole) (tree_radix by).0)
+      (subst (Holds (node_at s)) (sym leads.whole) by.stands.0.holds)) answers
     where
       go : (fs : List (Frame OpaqueNodePtr (K × V))) → IsRadix (of_key bytes) P [] (plug fs (leaf (leaf_name point.leaf_node_ptr) x)) →
           Holds (node_at s) (plug fs (leaf (leaf_name point.leaf_node_ptr) x)) →
@@ -492,4 +535,5 @@ module _ {K V : Type 0} (bytes : K → List ℕ) (P : ℕ) {s : Nodes K V} {root
           ap (λ ps. let y : Promise = record { leaves = 0; inner = more_of (inner_count bytes P (x ∷ [])) (inner_count bytes P ps) } in y)
           (sym (alone (of_key bytes) x)) ∙ deletion_needs IsClone bytes P (x ∷ []) x c takes
       go (f ∷ fs) was holds takes =
-          parent_places bytes P x (leaf_name point.leaf_node_ptr) f fs was s holds ∙ deletion_needs IsClone bytes P (pairs_of (plug (f ∷ fs) (leaf (leaf_name point.leaf_node_ptr) x))) x c takes
+          parent_places bytes P x (leaf_name point.leaf_node_ptr) f fs was s holds
+          ∙ deletion_needs IsClone bytes P (pairs_of (plug (f ∷ fs) (leaf (leaf_name point.leaf_node_ptr) x))) x c takes

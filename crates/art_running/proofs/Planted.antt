@@ -29,7 +29,8 @@ module _ {K V : Type 0} (bytes : K → List ℕ) (P : ℕ) {s t : Nodes K V} (z 
     few : TouchesAtMost 2 2 4 s t
     few = touches_at_most s t 2 2 4 (leaves_touched bytes P is) (inners_touched bytes P is) tt tt tt (omega arith) (omega arith) (omega arith)
 
-    pub planted_step : {IsClone : K × V → K × V → Type 0} {side : Side} → StepFrom bytes P IsClone side s t z None (Insert x.0 x.1) (Inserted None) (Some (leaf_name n))
+    pub planted_step : {IsClone : K × V → K × V → Type 0} {side : Side} →
+        StepFrom bytes P IsClone side s t z None (Insert x.0 x.1) (Inserted None) (Some (leaf_name n))
     planted_step = (
       Some (leaf (leaf_name n) x),
       refl,
@@ -42,7 +43,8 @@ module _ {K V : Type 0} (bytes : K → List ℕ) (P : ℕ) {s t : Nodes K V} (z 
       },
     )
 
-    pub planted_prefix_step : {IsClone : K × V → K × V → Type 0} {side : Side} → StepFrom bytes P IsClone side s t z None (InsertPrefix x.0 x.1) (Overwrote None 0) (Some (leaf_name n))
+    pub planted_prefix_step : {IsClone : K × V → K × V → Type 0} {side : Side} →
+        StepFrom bytes P IsClone side s t z None (InsertPrefix x.0 x.1) (Overwrote None 0) (Some (leaf_name n))
     planted_prefix_step = (
       Some (leaf (leaf_name n) x),
       refl,
@@ -56,7 +58,8 @@ module _ {K V : Type 0} (bytes : K → List ℕ) (P : ℕ) {s t : Nodes K V} (z 
     )
 
   -- or an allocation fails
-  module _ {k : K} {v : V} {pair : K × V} {root : Option OpaqueNodePtr} (empty : root ≡ None) (same : t ≡ s) (handed : pair ≡ (k, v)) (none : 0 < s.promise.leaves → ⊥) where
+  module _ {k : K} {v : V} {pair : K × V} {root : Option OpaqueNodePtr} (empty : root ≡ None) (same : t ≡ s) (handed : pair ≡ (k, v))
+      (none : 0 < s.promise.leaves → ⊥) where
     pub unplanted_step : {IsClone : K × V → K × V → Type 0} {side : Side} → StepFrom bytes P IsClone side s t z None (Insert k v) (NoMemory (Some pair)) root
     unplanted_step = (
       None,
@@ -70,7 +73,8 @@ module _ {K V : Type 0} (bytes : K → List ℕ) (P : ℕ) {s t : Nodes K V} (z 
       },
     )
 
-    pub unplanted_prefix_step : {IsClone : K × V → K × V → Type 0} {side : Side} → StepFrom bytes P IsClone side s t z None (InsertPrefix k v) (NoMemory (Some pair)) root
+    pub unplanted_prefix_step : {IsClone : K × V → K × V → Type 0} {side : Side} →
+        StepFrom bytes P IsClone side s t z None (InsertPrefix k v) (NoMemory (Some pair)) root
     unplanted_prefix_step = (
       None,
       sym empty,

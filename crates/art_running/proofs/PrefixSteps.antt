@@ -58,24 +58,31 @@ placed_leaf kind count (inr (off, two)) = rw (ne_eqb count 1 (λ e. omega arith)
     inner_places Node48 off = refl
     inner_places Node256 off = refl
 
-module _ {K V : Type 0} (bytes : K → List ℕ) (P : ℕ) {s : Nodes K V} {root : OpaqueNodePtr} {layout : Layout K V} (by : IsCanonicalTree (of_key bytes) P s root (pairs_of layout) layout) where
+module _ {K V : Type 0} (bytes : K → List ℕ) (P : ℕ) {s : Nodes K V} {root : OpaqueNodePtr} {layout : Layout K V}
+    (by : IsCanonicalTree (of_key bytes) P s root (pairs_of layout) layout) where
   -- no inner node is placed where a leaf replaces a node
   none_comes : (fs : List (Frame OpaqueNodePtr (K × V))) (place : List ℕ) (node : Layout K V) (x : K × V) → plug fs node ≡ layout →
-      IsHole (of_key bytes) P fs place node (bytes x.0) → Each (λ y. are_related (bytes x.0) (bytes y.0) ≡ true) (pairs_of node) → Each (λ y. bytes y.0 ≢ bytes x.0) (pairs_of node) →
+      IsHole (of_key bytes) P fs place node (bytes x.0) → Each (λ y. are_related (bytes x.0) (bytes y.0) ≡ true) (pairs_of node) →
+      Each (λ y. bytes y.0 ≢ bytes x.0) (pairs_of node) →
       more_of (inner_count bytes P (pairs_of layout)) (inner_count bytes P (overwrite (of_key bytes) x (pairs_of layout))) ≡ None
   none_comes fs place node x whole hole related unequal =
       let F = replace_related (of_key bytes) x in
       let its : F (pairs_of node) ≡ x ∷ [] =
       ap (add_in_order (of_key bytes) x) (filter_none (λ y. not (are_related (bytes x.0) (bytes y.0))) (pairs_of node)
-      (Each-weaker (λ y. are_related (bytes x.0) (bytes y.0) ≡ true) (λ y. not (are_related (bytes x.0) (bytes y.0)) ≡ false) (λ y e. ap not e) (pairs_of node) related)) in
+      (Each-weaker (λ y. are_related (bytes x.0) (bytes y.0) ≡ true) (λ y. not (are_related (bytes x.0) (bytes y.0)) ≡ false)
+      (λ y e. ap not e) (pairs_of node) related)) in
       let new = leaf root x in
       let old : IsRadix (of_key bytes) P [] (plug fs node) = subst (IsRadix (of_key bytes) P []) (sym whole) (tree_radix by).0 in
-      let (radix, all) = changed_at (of_key bytes) P fs place hole.path node new hole.front (bytes x.0) F (replace_related-between (of_key bytes) x) hole.front (sym its) in
+      let (radix, all) =
+      changed_at (of_key bytes) P fs place hole.path node new hole.front (bytes x.0) F
+      (replace_related-between (of_key bytes) x) hole.front (sym its) in
       let none = loses bytes P (plug fs node) (plug fs new) old radix (λ k. fewer_in_hole fs node new k (omega arith)) in
       let stored : first_of (with_key (of_key bytes) (bytes x.0) (pairs_of layout)) ≡ None =
-      ap (λ l. first_of (with_key (of_key bytes) (bytes x.0) (pairs_of l))) (sym whole) ∙ ap first_of (with_key-hole (of_key bytes) P fs place (bytes x.0) node hole.path hole.front
+      ap (λ l. first_of (with_key (of_key bytes) (bytes x.0) (pairs_of l))) (sym whole)
+      ∙ ap first_of (with_key-hole (of_key bytes) P fs place (bytes x.0) node hole.path hole.front
       ∙ filter_none (λ y. are_same (bytes x.0) (bytes y.0)) (pairs_of node)
-      (Each-weaker (λ y. bytes y.0 ≢ bytes x.0) (λ y. are_same (bytes x.0) (bytes y.0) ≡ false) (λ y off. not_same (bytes x.0) (bytes y.0) (λ e. off (sym e))) (pairs_of node) unequal)) in
+      (Each-weaker (λ y. bytes y.0 ≢ bytes x.0) (λ y. are_same (bytes x.0) (bytes y.0) ≡ false)
+      (λ y off. not_same (bytes x.0) (bytes y.0) (λ e. off (sym e))) (pairs_of node) unequal)) in
       ap (λ ps. more_of (inner_count bytes P (pairs_of layout)) (inner_count bytes P ps)) (overwrite-new (of_key bytes) x (pairs_of layout) stored)
       ∙ subst (λ l. more_of (inner_count bytes P (pairs_of l)) (inner_count bytes P (F (pairs_of l))) ≡ None) whole
       (subst (λ ps. more_of (inner_count bytes P (pairs_of (plug fs node))) (inner_count bytes P ps) ≡ None) all none)
@@ -85,7 +92,8 @@ module _ {K V : Type 0} (bytes : K → List ℕ) (P : ℕ) {s : Nodes K V} {root
     pub one : IsOne kind (length (related_to (of_key bytes) (bytes k) (pairs_of layout)))
     pub none : more_of (inner_count bytes P (pairs_of layout)) (inner_count bytes P (overwrite (of_key bytes) (k, v) (pairs_of layout))) ≡ None
 
-  pub overwrites : (k : K) (v : V) (point : OverwritePoint) → AnswersToOverwrite (of_key bytes) layout (bytes k) point → Overwrites k v point.overwrite_point.kind
+  pub overwrites : (k : K) (v : V) (point : OverwritePoint) → AnswersToOverwrite (of_key bytes) layout (bytes k) point →
+      Overwrites k v point.overwrite_point.kind
   overwrites k v point at =
       let here = at_root bytes P by at.root_is in
       let answers : IsOverwritePointIn (of_key bytes) P s (bytes k) point = (pairs_of layout, layout, here, at) in
@@ -93,7 +101,11 @@ module _ {K V : Type 0} (bytes : K → List ℕ) (P : ℕ) {s : Nodes K V} {root
       elim (leaf_or point.overwrite_point) [
         | inl (p, e) ↦
             let l = related_leaf answers (sym e) here in
-            record { one = one; none = none_comes l.at.path l.at.place (leaf (leaf_name p) (pair_of l.at.shown)) (k, v) l.at.whole l.at.hole (l.related, tt) (λ e. l.unequal (sym e), tt) }
+            record {
+              one = one;
+              none = none_comes l.at.path l.at.place (leaf (leaf_name p) (pair_of l.at.shown)) (k, v) l.at.whole l.at.hole
+                  (l.related, tt) (λ e. l.unequal (sym e), tt);
+            }
         | inr off ↦
             let a = subtree_at answers off here in
             record { one = one; none = none_comes a.path a.place a.node (k, v) a.whole a.hole a.related a.unequal }
@@ -105,7 +117,10 @@ module _ {K V : Type 0} (bytes : K → List ℕ) (P : ℕ) {s : Nodes K V} {root
   needs_overwritten k v point at =
       let o = overwrites k v point at in
       placed_leaf point.overwrite_point.kind (length (related_to (of_key bytes) (bytes k) (pairs_of layout))) o.one
-      ∙ ap (λ inner. let y : Promise = record { leaves = cond (eqb (length (related_to (of_key bytes) (bytes k) (pairs_of layout))) 1) 0 1; inner = inner } in y) (sym o.none)
+      ∙ ap (λ inner. let y : Promise = record {
+        leaves = cond (eqb (length (related_to (of_key bytes) (bytes k) (pairs_of layout))) 1) 0 1;
+        inner = inner;
+      } in y) (sym o.none)
 
   -- and what is touched is what it may touch
   pub touches_overwritten : (k : K) (v : V) (point : OverwritePoint) → AnswersToOverwrite (of_key bytes) layout (bytes k) point → (t : Nodes K V) →
@@ -114,9 +129,11 @@ module _ {K V : Type 0} (bytes : K → List ℕ) (P : ℕ) {s : Nodes K V} {root
     where
       at_leaf : (kind : NodeType) → kind ≡ Leaf → TouchesForNode kind (of_key bytes) (bytes k) s t layout → TouchesAtMost 2 2 4 s t
       at_leaf kind e h =
-          let few : TouchesAtMost 0 0 1 s t = subst (λ q. TouchesForNode q (of_key bytes) (bytes k) s t layout) e h in touches_more 0 0 1 2 2 4 (omega arith) (omega arith) (omega arith) few
+          let few : TouchesAtMost 0 0 1 s t = subst (λ q. TouchesForNode q (of_key bytes) (bytes k) s t layout) e h in
+          touches_more 0 0 1 2 2 4 (omega arith) (omega arith) (omega arith) few
 
-      below : (kind : NodeType) → kind ≢ Leaf → TouchesForNode kind (of_key bytes) (bytes k) s t layout → TouchesRelated (of_key bytes) (bytes k) s t (Some layout)
+      below : (kind : NodeType) → kind ≢ Leaf → TouchesForNode kind (of_key bytes) (bytes k) s t layout →
+          TouchesRelated (of_key bytes) (bytes k) s t (Some layout)
       below Leaf off h = absurd (off refl)
       below Node4 off h = h
       below Node16 off h = h
@@ -140,7 +157,8 @@ one_at_most [] e = refl
 one_at_most (x ∷ []) e = refl
 one_at_most (x ∷ y ∷ xs) e = absurd (let f = ap (λ z. z.0) e in cc)
 
-module _ {K V : Type 0} (bytes : K → List ℕ) (P : ℕ) {s : Nodes K V} {root : OpaqueNodePtr} {layout : Layout K V} (by : IsCanonicalTree (of_key bytes) P s root (pairs_of layout) layout) where
+module _ {K V : Type 0} (bytes : K → List ℕ) (P : ℕ) {s : Nodes K V} {root : OpaqueNodePtr} {layout : Layout K V}
+    (by : IsCanonicalTree (of_key bytes) P s root (pairs_of layout) layout) where
   module _ (k : K) (v : V) (free : is_conflict (of_key bytes) (bytes k) (pairs_of layout) ≡ false) where
     same_parts : (remove_related (of_key bytes) (bytes k) (pairs_of layout) ≡ remove_key (of_key bytes) (bytes k) (pairs_of layout)) ×
         (related_to (of_key bytes) (bytes k) (pairs_of layout) ≡ with_key (of_key bytes) (bytes k) (pairs_of layout))
@@ -176,7 +194,8 @@ pub record HasAppliedPrefix {K V : Type 0} (bytes : K → List ℕ) (P : ℕ) (s
   pub canonical : IsCanonical (of_key bytes) P t (Some after) (overwrite (of_key bytes) pair (pairs_of layout))
   pub replaced : existing ≡ option_map unlinked_leaf (overwrite_reply (of_key bytes) pair (pairs_of layout)).0
   pub removed : count ≡ (overwrite_reply (of_key bytes) pair (pairs_of layout)).1
-  pub kept : (pairs : List (K × V)) (new : Layout K V) → IsCanonicalTree (of_key bytes) P t after pairs new → ChangesInPlace (of_key bytes) s t (Some layout) (Some new)
+  pub kept : (pairs : List (K × V)) (new : Layout K V) → IsCanonicalTree (of_key bytes) P t after pairs new →
+      ChangesInPlace (of_key bytes) s t (Some layout) (Some new)
   pub touches : TouchesForPrefix point (of_key bytes) (bytes pair.0) s t layout
   pub promise : t.promise ≡ promise_after (placed_for_prefix s point) s.promise
 
@@ -191,10 +210,19 @@ module _ {K V : Type 0} {IsClone : K × V → K × V → Type 0} {side : Side} (
         Some new,
         ap Some by_new.stands.0.named,
         record {
-          answers = (ap₂ (λ a b. (a, b)) (ap (option_map pair_of) is.replaced ∙ pairs_back (overwrite_reply (of_key bytes) (k, v) (pairs_of layout)).0) is.removed, (tree_radix by_new).1);
+          answers = (
+            ap₂ (λ a b. (a, b)) (ap (option_map pair_of) is.replaced
+                ∙ pairs_back (overwrite_reply (of_key bytes) (k, v) (pairs_of layout)).0) is.removed,
+            (tree_radix by_new).1,
+          );
           refuses = tt;
           sound = own_pairs bytes P by_new;
-          changes = record { side = refl; kept = is.kept (overwrite (of_key bytes) (k, v) (pairs_of layout)) new by_new; touches = touches_prefix bytes P by k v point at t is.touches; other = refl };
+          changes = record {
+            side = refl;
+            kept = is.kept (overwrite (of_key bytes) (k, v) (pairs_of layout)) new by_new;
+            touches = touches_prefix bytes P by k v point at t is.touches;
+            other = refl;
+          };
           promises = is.promise ∙ ap (λ placed. promise_after placed s.promise) (needs_prefix bytes P by k v point at);
         },
       )

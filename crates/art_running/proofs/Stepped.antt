@@ -71,12 +71,14 @@ pub record HasApplied {K V : Type 0} (bytes : K → List ℕ) (P : ℕ) (s t : N
     (after : OpaqueNodePtr) (existing : Option (LeafNode K V)) : Type 0 where
   pub canonical : IsCanonical (of_key bytes) P t (Some after) (put (of_key bytes) pair (pairs_of layout))
   pub replaced : existing ≡ option_map unlinked_leaf (put_reply (of_key bytes) pair (pairs_of layout))
-  pub kept : (pairs : List (K × V)) (new : Layout K V) → IsCanonicalTree (of_key bytes) P t after pairs new → ChangesInPlace (of_key bytes) s t (Some layout) (Some new)
+  pub kept : (pairs : List (K × V)) (new : Layout K V) → IsCanonicalTree (of_key bytes) P t after pairs new →
+      ChangesInPlace (of_key bytes) s t (Some layout) (Some new)
   pub touches : Touches point.insert_kind s t
   pub promise : t.promise ≡ promise_after (placed_for s point.insert_kind) s.promise
 
 -- What an applied delete point leaves of a tree.
-pub record HasDeleted {K V : Type 0} (bytes : K → List ℕ) (P : ℕ) (s t : Nodes K V) (layout : Layout K V) (x : K × V) (point : DeletePoint) (after : Option OpaqueNodePtr) : Type 0 where
+pub record HasDeleted {K V : Type 0} (bytes : K → List ℕ) (P : ℕ) (s t : Nodes K V) (layout : Layout K V) (x : K × V) (point : DeletePoint)
+    (after : Option OpaqueNodePtr) : Type 0 where
   pub canonical : IsCanonical (of_key bytes) P t after (remove_key (of_key bytes) (bytes x.0) (pairs_of layout))
   pub kept : ForRoot (of_key bytes) P t after (λ pairs new. ChangesInPlace (of_key bytes) s t (Some layout) new)
   pub touches : TouchesFor (parent_change s point.path) s t
@@ -88,7 +90,8 @@ pub record IsRefused {K V : Type 0} (s t : Nodes K V) (placed : Promise) : Type 
   pub void : t.promise ≡ no_promise
   pub uncovered : is_covered placed s.promise ≡ true → ⊥
 
-module _ {K V : Type 0} (bytes : K → List ℕ) (P : ℕ) {s : Nodes K V} {root : OpaqueNodePtr} {layout : Layout K V} (by : IsCanonicalTree (of_key bytes) P s root (pairs_of layout) layout) where
+module _ {K V : Type 0} (bytes : K → List ℕ) (P : ℕ) {s : Nodes K V} {root : OpaqueNodePtr} {layout : Layout K V}
+    (by : IsCanonicalTree (of_key bytes) P s root (pairs_of layout) layout) where
   -- ---- insertion
 
   -- what fails is not covered, so the key is not stored
@@ -108,7 +111,12 @@ module _ {K V : Type 0} (bytes : K → List ℕ) (P : ℕ) {s : Nodes K V} {root
             answers = (free, ap (option_map pair_of) is.replaced ∙ pairs_back (put_reply (of_key bytes) (k, v) (pairs_of layout)), (tree_radix by_new).1);
             refuses = tt;
             sound = own_pairs bytes P by_new;
-            changes = record { side = refl; kept = is.kept (put (of_key bytes) (k, v) (pairs_of layout)) new by_new; touches = insertion_touches point.insert_kind is.touches; other = refl };
+            changes = record {
+              side = refl;
+              kept = is.kept (put (of_key bytes) (k, v) (pairs_of layout)) new by_new;
+              touches = insertion_touches point.insert_kind is.touches;
+              other = refl;
+            };
             promises = is.promise ∙ ap (λ placed. promise_after placed s.promise) (needs_inserted bytes P by k v point at);
           },
         )
@@ -128,8 +136,10 @@ module _ {K V : Type 0} (bytes : K → List ℕ) (P : ℕ) {s : Nodes K V} {root
     )
 
   -- a key in conflict, with its bytes or out of memory for them
-  module _ {IsClone : K × V → K × V → Type 0} {side : Side} {k : K} {v : V} (z : Nodes K V) (refused : is_conflict (of_key bytes) (bytes k) (pairs_of layout) ≡ false → ⊥) where
-    pub conflict_step : (error : InsertPrefixError) → boxed_slice_items error.byte_repr ≡ bytes k → StepFrom bytes P IsClone side s s z (Some layout) (Insert k v) (Conflict k v error) (Some root)
+  module _ {IsClone : K × V → K × V → Type 0} {side : Side} {k : K} {v : V} (z : Nodes K V)
+      (refused : is_conflict (of_key bytes) (bytes k) (pairs_of layout) ≡ false → ⊥) where
+    pub conflict_step : (error : InsertPrefixError) → boxed_slice_items error.byte_repr ≡ bytes k →
+        StepFrom bytes P IsClone side s s z (Some layout) (Insert k v) (Conflict k v error) (Some root)
     conflict_step error repr = let related = not_false (is_conflict (of_key bytes) (bytes k) (pairs_of layout)) refused in (
       Some layout,
       ap Some by.stands.0.named,
@@ -159,13 +169,16 @@ module _ {K V : Type 0} (bytes : K → List ℕ) (P : ℕ) {s : Nodes K V} {root
 
   -- a deletion touches a few names, whatever command it is for
   touched : (IsClone : K × V → K × V → Type 0) (t : Nodes K V) (x : K × V) (d : Command K V) →
-      Answers bytes IsClone (pairs_of layout) d (Deleted (Some x)) (remove_key (of_key bytes) (bytes x.0) (pairs_of layout)) → TouchesAtMost 2 2 4 s t → TouchesBy bytes (Some layout) d s t
+      Answers bytes IsClone (pairs_of layout) d (Deleted (Some x)) (remove_key (of_key bytes) (bytes x.0) (pairs_of layout)) →
+      TouchesAtMost 2 2 4 s t → TouchesBy bytes (Some layout) d s t
   touched IsClone t x (InsertPrefix k v) h few = absurd h
   touched IsClone t x d h few = few
 
   module _ {IsClone : K × V → K × V → Type 0} {side : Side} {t : Nodes K V} {c : Command K V} {x : K × V} {point : DeletePoint} (z : Nodes K V)
-      (leads : LeadsTo layout x point) (takes : Answers bytes IsClone (pairs_of layout) c (Deleted (Some x)) (remove_key (of_key bytes) (bytes x.0) (pairs_of layout))) where
-    pub deleted_step : {after : Option OpaqueNodePtr} → HasDeleted bytes P s t layout x point after → StepFrom bytes P IsClone side s t z (Some layout) c (Deleted (Some x)) after
+      (leads : LeadsTo layout x point) (takes : Answers bytes IsClone (pairs_of layout) c (Deleted (Some x))
+      (remove_key (of_key bytes) (bytes x.0) (pairs_of layout))) where
+    pub deleted_step : {after : Option OpaqueNodePtr} → HasDeleted bytes P s t layout x point after →
+        StepFrom bytes P IsClone side s t z (Some layout) c (Deleted (Some x)) after
     deleted_step {after} is =
         let has = has_tree bytes P t after (remove_key (of_key bytes) (bytes x.0) (pairs_of layout)) is.canonical in (
           has.tree,

@@ -153,9 +153,11 @@ pub fn ran_from<const P: usize>(
     root: Option<OpaqueNodePtr>,
     rows: &[Row<'_>],
 ) -> Result<(Left, Option<OpaqueNodePtr>), AllocError>
-    requires { (pairs : List (Vec ℕ Global × ℕ)) × IsCanonical (of_key (λ key. key.items)) P first.old root pairs }
+    requires { (pairs : List (Vec ℕ Global × ℕ)) ×
+        IsCanonical (of_key (λ key. key.items)) P first.old root pairs }
     ensures { IfOk result (λ done. (pairs : List (Vec ℕ Global × ℕ)) ×
-        IsCanonical (of_key (λ key. key.items)) P (of_side done.0.side first.new second.new) done.1 pairs) }
+        IsCanonical (of_key (λ key. key.items)) P
+        (of_side done.0.side first.new second.new) done.1 pairs) }
 {
     let asked = commands(first.alloc(), rows)?;
     match run(first, second, root, asked) {
@@ -180,9 +182,11 @@ pub fn run_without_memory<const P: usize>(
     root: Option<OpaqueNodePtr>,
     asked: Vec<Command<Key, u32>>,
 ) -> Result<RunResult<Key, u32>, AllocError>
-    requires { (pairs : List (Vec ℕ Global × ℕ)) × IsCanonical (of_key (λ key. key.items)) P first.old root pairs }
+    requires { (pairs : List (Vec ℕ Global × ℕ)) ×
+        IsCanonical (of_key (λ key. key.items)) P first.old root pairs }
     ensures { IfOk result (λ done. (pairs : List (Vec ℕ Global × ℕ)) ×
-        IsCanonical (of_key (λ key. key.items)) P (of_side done.side first.new second.new) done.root pairs) }
+        IsCanonical (of_key (λ key. key.items)) P
+        (of_side done.side first.new second.new) done.root pairs) }
 {
     let alloc = first.alloc();
     let kept_free = Vec::<Reply<Key, u32>>::with_capacity(alloc, asked.len())?;
@@ -200,7 +204,8 @@ pub fn ran_without_memory<const P: usize>(
     root: Option<OpaqueNodePtr>,
     rows: &[Row<'_>],
 ) -> Result<Left, AllocError>
-    requires { (pairs : List (Vec ℕ Global × ℕ)) × IsCanonical (of_key (λ key. key.items)) P first.old root pairs }
+    requires { (pairs : List (Vec ℕ Global × ℕ)) ×
+        IsCanonical (of_key (λ key. key.items)) P first.old root pairs }
 {
     let asked = commands(first.alloc(), rows)?;
     let done = run_without_memory(first, second, root, asked)?;

@@ -34,7 +34,8 @@ pub fn planted<K: AsBytes + Clone + Drop, const P: usize>(
     keys: Vec<K>,
 ) -> Result<Option<OpaqueNodePtr>, AllocError>
     requires { KeepBytes K.bytes K.is_clone }
-    ensures { IfOk result (λ root. IfSome root (λ root. IsCanonicalRoot (of_key K.bytes) P store.new root)) }
+    ensures { IfOk result (λ root.
+        IfSome root (λ root. IsCanonicalRoot (of_key K.bytes) P store.new root)) }
 {
     let asked = insertions(store.alloc(), keys)?;
     match run(store, second, None, asked) {
@@ -96,7 +97,8 @@ pub fn try_planted_keys<const P: usize>(
     store: &mut NodeStore<Key, u32, P>,
     all: Vec<Key>,
 ) -> Result<Option<OpaqueNodePtr>, AllocError>
-    ensures { IfOk result (λ root. IfSome root (λ root. IsCanonicalRoot (of_key (λ key. key.items)) P store.new root)) }
+    ensures { IfOk result (λ root.
+        IfSome root (λ root. IsCanonicalRoot (of_key (λ key. key.items)) P store.new root)) }
 {
     let alloc = store.alloc();
     planted(store, &mut NodeStore::new(alloc), all)
@@ -117,7 +119,8 @@ pub fn planted_all<const P: usize>(
     store: &mut NodeStore<Key, u32, P>,
     slices: &[&[u8]],
 ) -> Result<Option<OpaqueNodePtr>, AllocError>
-    ensures { IfOk result (λ root. IfSome root (λ root. IsCanonicalRoot (of_key (λ key. key.items)) P store.new root)) }
+    ensures { IfOk result (λ root.
+        IfSome root (λ root. IsCanonicalRoot (of_key (λ key. key.items)) P store.new root)) }
 {
     let all = keys(store.alloc(), slices)?;
     try_planted_keys(store, all)

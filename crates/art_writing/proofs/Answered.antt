@@ -22,12 +22,14 @@ use Rattle.art_model.proofs.stores.Stores.{path_holds}
 use Rattle.art_model.proofs.stores.Views as views
 
 -- the node is in the hole of the path, at a place that is as long as the path is deep
-pub record IsPlacedEnd {A : Type 0} (bytes : A → List ℕ) (P : ℕ) (path : List (Frame OpaqueNodePtr A)) (node : Tree OpaqueNodePtr A) (key : List ℕ) : Type 0 where
+pub record IsPlacedEnd {A : Type 0} (bytes : A → List ℕ) (P : ℕ) (path : List (Frame OpaqueNodePtr A)) (node : Tree OpaqueNodePtr A)
+    (key : List ℕ) : Type 0 where
   pub place : List ℕ
   pub hole : IsHole bytes P path place node key
   pub deep : depth_of path ≡ length place
 
-pub placed_end : {K V : Type 0} {bytes : K × V → List ℕ} {P : ℕ} {s : Nodes K V} {root : OpaqueNodePtr} {pairs : List (K × V)} {layout : Tree OpaqueNodePtr (K × V)}
+pub placed_end : {K V : Type 0} {bytes : K × V → List ℕ} {P : ℕ} {s : Nodes K V} {root : OpaqueNodePtr} {pairs : List (K × V)}
+    {layout : Tree OpaqueNodePtr (K × V)}
     {key : List ℕ} {path : List (Frame OpaqueNodePtr (K × V))} {node : Tree OpaqueNodePtr (K × V)} →
     IsCanonicalTree bytes P s root pairs layout → IsEndNode bytes layout key path node → IsPlacedEnd bytes P path node key
 placed_end {bytes = bytes} {P} {key = key} {path} {node} by is_end =
@@ -44,7 +46,8 @@ placed_end {bytes = bytes} {P} {key = key} {path} {node} by is_end =
     }
 
 -- a stored leaf at the end of a path of the layout, whose place is a prefix of the key
-pub record IsEndLeaf {K V : Type 0} (bytes : K × V → List ℕ) (P : ℕ) (s : Nodes K V) (p : LeafPtr) (layout : Tree OpaqueNodePtr (K × V)) (key : List ℕ) : Type 0 where
+pub record IsEndLeaf {K V : Type 0} (bytes : K × V → List ℕ) (P : ℕ) (s : Nodes K V) (p : LeafPtr) (layout : Tree OpaqueNodePtr (K × V))
+    (key : List ℕ) : Type 0 where
   pub path : List (Frame OpaqueNodePtr (K × V))
   pub shown : LeafNode K V
   pub place : List ℕ
@@ -53,14 +56,17 @@ pub record IsEndLeaf {K V : Type 0} (bytes : K × V → List ℕ) (P : ℕ) (s :
   pub there : map.get s.leaves p ≡ Some shown
 
 -- the end node of a key is such a leaf, where it is the leaf of a pair
-pub end_leaf : {K V : Type 0} {bytes : K × V → List ℕ} {P : ℕ} {s : Nodes K V} {root : OpaqueNodePtr} {pairs : List (K × V)} {layout : Tree OpaqueNodePtr (K × V)}
+pub end_leaf : {K V : Type 0} {bytes : K × V → List ℕ} {P : ℕ} {s : Nodes K V} {root : OpaqueNodePtr} {pairs : List (K × V)}
+    {layout : Tree OpaqueNodePtr (K × V)}
     {key : List ℕ} {path : List (Frame OpaqueNodePtr (K × V))} {node : Tree OpaqueNodePtr (K × V)} {p : LeafPtr} {pair : K × V} →
     IsCanonicalTree bytes P s root pairs layout → IsEndNode bytes layout key path node → node ≡ leaf (leaf_name p) pair →
     (at : IsEndLeaf bytes P s p layout key) × (pair_of at.shown ≡ pair)
 end_leaf {bytes = bytes} {P} {s} {layout = layout} {key} {path} {node} {p} {pair} by is_end is =
     let a = placed_end by is_end in
     let whole : plug path (leaf (leaf_name p) pair) ≡ layout = ap (plug path) (sym is) ∙ is_end.whole in
-    let (shown, there, own) = views.leaf_there s p pair (path_holds (node_at s) path (leaf (leaf_name p) pair) (subst (Holds (node_at s)) (sym whole) by.stands.0.holds)).1 in (
+    let (shown, there, own) =
+    views.leaf_there s p pair (path_holds (node_at s) path (leaf (leaf_name p) pair)
+    (subst (Holds (node_at s)) (sym whole) by.stands.0.holds)).1 in (
       record {
         path = path;
         shown = shown;

@@ -58,13 +58,15 @@ module _ {K V : Type 0} (bytes : K → List ℕ) {P : ℕ} {s t : Nodes K V} {pa
             let is = all ps l b in
             subst (λ z. ChangesInPlace (of_key bytes) s t (Some l) (Some z))
             (sym (has_one_map (of_key bytes) P t done.new_root (put (of_key bytes) pair ps) after is.tree new is.canonical c).1) is.kept;
-        apart = tree_apart (of_key bytes) P s t (Some point.root) (Some done.new_root) pairs (put (of_key bytes) pair pairs) (Some layout) (Some own.tree) by own.canonical own.kept.others;
+        apart = tree_apart (of_key bytes) P s t (Some point.root) (Some done.new_root) pairs (put (of_key bytes) pair pairs) (Some layout)
+            (Some own.tree) by own.canonical own.kept.others;
         touches = own.touches;
         memory = granted promise;
       }
 
   -- an allocation fails, and the pair is returned
-  pub refused : {point : InsertPoint} → (IsTrue (is_covered (placed_for s point.insert_kind) s.promise) → false ≡ true) → t.leaves ≡ s.leaves → t.inners ≡ s.inners →
+  pub refused : {point : InsertPoint} → (IsTrue (is_covered (placed_for s point.insert_kind) s.promise) → false ≡ true) →
+      t.leaves ≡ s.leaves → t.inners ≡ s.inners →
       t.promise ≡ no_promise → IsApplied (of_key bytes) P s t point pair (Err (record { key = pair.0; value = pair.1 }))
   refused gone leaves inners void =
       record {
@@ -79,8 +81,10 @@ module _ {K V : Type 0} (bytes : K → List ℕ) {P : ℕ} {s t : Nodes K V} {pa
       }
 
   -- the same where the pair would have replaced others
-  pub refused_overwrite : {point : OverwritePoint} → (IsTrue (is_covered (placed_for_overwrite point.overwrite_point.kind) s.promise) → false ≡ true) → t.leaves ≡ s.leaves →
-      t.inners ≡ s.inners → t.promise ≡ no_promise → IsPrefixApplied (of_key bytes) P s t (points.OverwritePoint point) pair (Err (record { key = pair.0; value = pair.1 }))
+  pub refused_overwrite : {point : OverwritePoint} →
+      (IsTrue (is_covered (placed_for_overwrite point.overwrite_point.kind) s.promise) → false ≡ true) → t.leaves ≡ s.leaves →
+      t.inners ≡ s.inners → t.promise ≡ no_promise →
+      IsPrefixApplied (of_key bytes) P s t (points.OverwritePoint point) pair (Err (record { key = pair.0; value = pair.1 }))
   refused_overwrite gone leaves inners void =
       record {
         canonical = λ ps l b. tt;
@@ -101,13 +105,16 @@ module _ {K V : Type 0} (bytes : K → List ℕ) {P : ℕ} {s t : Nodes K V} {pa
       record {
         canonical = λ pairs layout by.
             let new = is.canonical pairs layout by in
-            subst (IsCanonical (of_key bytes) P t (Some done.new_root)) (sym (put_is_overwrite (of_key bytes) pair pairs (was_free bytes pair pairs new.1.is_map))) new;
+            subst (IsCanonical (of_key bytes) P t (Some done.new_root))
+            (sym (put_is_overwrite (of_key bytes) pair pairs (was_free bytes pair pairs new.1.is_map))) new;
         root = is.root;
         leaf = is.leaf;
         replaced = λ pairs layout by.
             is.replaced pairs layout by
-            ∙ ap (λ z. option_map unlinked_leaf z.0) (sym (put_reply_is (of_key bytes) pair pairs (was_free bytes pair pairs (is.canonical pairs layout by).1.is_map)));
-        removed = λ pairs layout by. ap (λ z. z.1) (sym (put_reply_is (of_key bytes) pair pairs (was_free bytes pair pairs (is.canonical pairs layout by).1.is_map)));
+            ∙ ap (λ z. option_map unlinked_leaf z.0)
+            (sym (put_reply_is (of_key bytes) pair pairs (was_free bytes pair pairs (is.canonical pairs layout by).1.is_map)));
+        removed = λ pairs layout by. ap (λ z. z.1)
+            (sym (put_reply_is (of_key bytes) pair pairs (was_free bytes pair pairs (is.canonical pairs layout by).1.is_map)));
         kept = is.kept;
         apart = is.apart;
         touches = λ pairs layout by. is.touches;
@@ -118,9 +125,11 @@ module _ {K V : Type 0} (bytes : K → List ℕ) {P : ℕ} {s t : Nodes K V} {pa
       IsPrefixApplied (of_key bytes) P s t (points.InsertPoint point) pair (Err refused)
   refused_prefix is = search (rules, refused_too {Y = PrefixInsertResult K V} is.memory)
 
-pub overwritten : {K V : Type 0} {bytes : K × V → List ℕ} {P : ℕ} {s t : Nodes K V} {point : OverwritePoint} {pair : K × V} {key : List ℕ} {done : PrefixInsertResult K V} →
+pub overwritten : {K V : Type 0} {bytes : K × V → List ℕ} {P : ℕ} {s t : Nodes K V} {point : OverwritePoint} {pair : K × V} {key : List ℕ}
+    {done : PrefixInsertResult K V} →
     IsOverwritePointIn bytes P s key point → ForTree bytes P s point.root (λ pairs layout. IsOverwritten bytes P s t point pair pairs layout done) →
-    t.promise ≡ promise_after (placed_for_overwrite point.overwrite_point.kind) s.promise → IsPrefixApplied bytes P s t (points.OverwritePoint point) pair (Ok done)
+    t.promise ≡ promise_after (placed_for_overwrite point.overwrite_point.kind) s.promise →
+    IsPrefixApplied bytes P s t (points.OverwritePoint point) pair (Ok done)
 overwritten {bytes = bytes} {P} {s} {t} {point} {pair} {done = done} (pairs, layout, by, answers) all promise =
     let own = all pairs layout by in
     record {
@@ -133,8 +142,10 @@ overwritten {bytes = bytes} {P} {s} {t} {point} {pair} {done = done} (pairs, lay
       removed = λ ps l b. (all ps l b).removed;
       kept = λ ps l b after new c.
           let is = all ps l b in
-          subst (λ z. ChangesInPlace bytes s t (Some l) (Some z)) (sym (has_one_map bytes P t done.insert_result.new_root (overwrite bytes pair ps) after is.tree new is.canonical c).1) is.kept;
-      apart = tree_apart bytes P s t (Some point.root) (Some done.insert_result.new_root) pairs (overwrite bytes pair pairs) (Some layout) (Some own.tree) by own.canonical own.kept.others;
+          subst (λ z. ChangesInPlace bytes s t (Some l) (Some z))
+          (sym (has_one_map bytes P t done.insert_result.new_root (overwrite bytes pair ps) after is.tree new is.canonical c).1) is.kept;
+      apart = tree_apart bytes P s t (Some point.root) (Some done.insert_result.new_root) pairs (overwrite bytes pair pairs) (Some layout)
+          (Some own.tree) by own.canonical own.kept.others;
       touches = λ ps l b. (all ps l b).touches;
       memory = granted promise;
     }

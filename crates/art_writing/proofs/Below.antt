@@ -75,7 +75,8 @@ shrinks_least Leaf to count e = ((λ f. absurd cc), leb-true count 0 (passed (le
 -- ---- what becomes of a parent, by its kind and its number of children
 
 -- of one in the store
-pub change_seen : {K V : Type 0} (s : Nodes K V) (path : TreePath) {parent : InnerPtr} {byte : ℕ} {node : Inner} {kind : NodeType} → last_step path ≡ Some (parent, byte) →
+pub change_seen : {K V : Type 0} (s : Nodes K V) (path : TreePath) {parent : InnerPtr} {byte : ℕ} {node : Inner} {kind : NodeType} →
+    last_step path ≡ Some (parent, byte) →
     get s.inners parent ≡ Some node → kind ≡ parent.kind → parent_change s path ≡ change_of kind (length node.children)
 change_seen s path {parent} {node = node} step got kind_is =
     ap (λ (o : Option (InnerPtr × ℕ)). elim o as (λ _. ParentChange) [
@@ -113,7 +114,8 @@ compressed_most Leaf count e = absurd (neither (leb count 0) (shrinks Leaf) keep
 -- ---- the parent's child
 
 -- a node that has this child has one
-some_child : (name : OpaqueNodePtr) (b : ℕ) (o : Option Inner) → IsSomeAnd o (λ node. child_at node.children b ≡ Some name) → IsSomeAnd o (λ node. IsSome (child_at node.children b))
+some_child : (name : OpaqueNodePtr) (b : ℕ) (o : Option Inner) → IsSomeAnd o (λ node. child_at node.children b ≡ Some name) →
+    IsSomeAnd o (λ node. IsSome (child_at node.children b))
 some_child name b None has = has
 some_child name b (Some node) has = ap is_some has
 
@@ -122,7 +124,9 @@ pub has_child : {A : Type 0} (old new : Inners) (name : OpaqueNodePtr) (fs : Lis
     IfSome (parent_of fs) (λ p. IsSomeAnd (get old p.0) (λ node. child_at node.children p.1 ≡ Some name)) →
     ((k : OpaqueNodePtr) → IsParent fs k → get new (as_inner k) ≡ get old (as_inner k)) → HasChild new (parent_of fs)
 has_child old new name [] has same = tt
-has_child old new name (f ∷ fs) has same = subst (λ o. IsSomeAnd o (λ node. IsSome (child_at node.children f.byte))) (sym (same f.mark refl)) (some_child name f.byte (get old (as_inner f.mark)) has)
+has_child old new name (f ∷ fs) has same =
+    subst (λ o. IsSomeAnd o (λ node. IsSome (child_at node.children f.byte))) (sym (same f.mark refl))
+    (some_child name f.byte (get old (as_inner f.mark)) has)
 
 -- ---- the leaf below its parent
 
@@ -148,15 +152,19 @@ pub record IsSmaller {K V : Type 0} (u v : Nodes K V) (parent : InnerPtr) (byte 
 
 module _ {K V : Type 0} {bytes : K × V → List ℕ} {P : ℕ} {s : Nodes K V} {root : OpaqueNodePtr} {pairs : List (K × V)}
     {layout : Tree OpaqueNodePtr (K × V)} {x : K × V} {point : DeletePoint} {parent : InnerPtr} {byte : ℕ} where
-  pub is_below : IsCanonicalTree bytes P s root pairs layout → LeadsTo layout x point → last_step point.path ≡ Some (parent, byte) → IsBelow bytes P s root pairs layout x point parent byte
+  pub is_below : IsCanonicalTree bytes P s root pairs layout → LeadsTo layout x point → last_step point.path ≡ Some (parent, byte) →
+      IsBelow bytes P s root pairs layout x point parent byte
   is_below by leads step = frames leads.path leads.whole leads.path_is
     where
-      frames : (fs : List (Frame OpaqueNodePtr (K × V))) → plug fs (leaf (leaf_name point.leaf_node_ptr) x) ≡ layout → point.path ≡ path_of fs → IsBelow bytes P s root pairs layout x point parent byte
+      frames : (fs : List (Frame OpaqueNodePtr (K × V))) → plug fs (leaf (leaf_name point.leaf_node_ptr) x) ≡ layout →
+          point.path ≡ path_of fs → IsBelow bytes P s root pairs layout x point parent byte
       frames [] whole path_is = let none = sym step ∙ ap last_step path_is in absurd cc
       frames (f ∷ fs) whole path_is =
           let (node, here, pair) = leaf_at by leads in
-          let last : ◌≡◌ {A = InnerPtr × ℕ} (as_inner f.mark, f.byte) (parent, byte) = some_same (sym (last_step-path_of (f ∷ fs)) ∙ ap last_step (sym path_is) ∙ step) in
-          let all : plug fs (with_leaf_in f point.leaf_node_ptr node) ≡ layout = ap (λ z. plug (f ∷ fs) (leaf (leaf_name point.leaf_node_ptr) z)) pair ∙ whole in
+          let last : ◌≡◌ {A = InnerPtr × ℕ} (as_inner f.mark, f.byte) (parent, byte) =
+          some_same (sym (last_step-path_of (f ∷ fs)) ∙ ap last_step (sym path_is) ∙ step) in
+          let all : plug fs (with_leaf_in f point.leaf_node_ptr node) ≡ layout =
+          ap (λ z. plug (f ∷ fs) (leaf (leaf_name point.leaf_node_ptr) z)) pair ∙ whole in
           record {
             frame = f;
             above = fs;
@@ -177,19 +185,22 @@ module _ {K V : Type 0} {bytes : K × V → List ℕ} {P : ℕ} {s : Nodes K V} 
 
     -- so after writes that change no leaf it is no longer a child of the parent
     pub let_go : {u : Nodes K V} {new : Option OpaqueNodePtr} → u.leaves ≡ s.leaves →
-        ((t : Nodes K V) → (done : DeleteResult K V) → IsLeafTaken u t point new done → IsTakenOut bytes P s t root point done) → IsLetGo bytes P s u root point new
+        ((t : Nodes K V) → (done : DeleteResult K V) → IsLeafTaken u t point new done → IsTakenOut bytes P s t root point done) →
+        IsLetGo bytes P s u root point new
     let_go leaves taken =
         let ready = subst (λ m. IsSome (get m point.leaf_node_ptr) × LinksAreThere m point.leaf_node_ptr) (sym leaves) leaf_ready in
         record { leaf = ready.0; beside = ready.1; taken = taken }
 
     -- the parent as the store has it
-    pub parent_there : (node : Inner) × (get s.inners parent ≡ Some node) × (parent.kind ≢ Leaf) × (length node.children ≡ suc (length (bytes_of (join at.frame.left at.frame.right))))
+    pub parent_there : (node : Inner) × (get s.inners parent ≡ Some node) × (parent.kind ≢ Leaf) ×
+        (length node.children ≡ suc (length (bytes_of (join at.frame.left at.frame.right))))
     parent_there =
         let (off, node, got, head, kids) = parent_is at.below in (
           node,
           ap (get s.inners) (sym at.parent_is) ∙ got,
           subst (λ (p : InnerPtr). p.kind ≢ Leaf) at.parent_is off,
-          ap length kids ∙ length-slots_of (join at.frame.left (child at.frame.byte (leaf (leaf_name point.leaf_node_ptr) (pair_of at.node)) at.frame.right)) ∙ one_more at.below,
+          ap length kids ∙ length-slots_of (join at.frame.left
+              (child at.frame.byte (leaf (leaf_name point.leaf_node_ptr) (pair_of at.node)) at.frame.right)) ∙ one_more at.below,
         )
 
     -- what becomes of the parent is determined by its number of children
@@ -198,16 +209,19 @@ module _ {K V : Type 0} {bytes : K × V → List ℕ} {P : ℕ} {s : Nodes K V} 
     change_is to step is =
         let (node, got, off, count) = parent_there in
         let told : parent_change s point.path ≡ change_of parent.kind (length node.children) = change_seen s point.path step got refl in
-        ap (λ (p : InnerPtr). change_of p.kind (suc (length (bytes_of (join at.frame.left at.frame.right))))) at.parent_is ∙ ap (change_of parent.kind) (sym count) ∙ sym told ∙ is
+        ap (λ (p : InnerPtr). change_of p.kind (suc (length (bytes_of (join at.frame.left at.frame.right))))) at.parent_is
+        ∙ ap (change_of parent.kind) (sym count) ∙ sym told ∙ is
 
     -- ---- after writes that change no leaf the leaf is removed
 
-    module _ {w t : Nodes K V} {new : OpaqueNodePtr} {done : DeleteResult K V} (leaves : w.leaves ≡ s.leaves) (taken : IsLeafTaken w t point (Some new) done) where
+    module _ {w t : Nodes K V} {new : OpaqueNodePtr} {done : DeleteResult K V} (leaves : w.leaves ≡ s.leaves)
+        (taken : IsLeafTaken w t point (Some new) done) where
       leaves_without : t.leaves ≡ without_leaf s.leaves point.leaf_node_ptr at.node
       leaves_without = (taken_since s leaves at.here taken).0
 
       -- what is done, by the tree that is left, and the name in the parent's place
-      pub deleted_below : (name : OpaqueNodePtr) (tree : Tree OpaqueNodePtr (K × V)) (to : ParentChange) → parent_change s point.path ≡ to → new ≡ root_of at.above root name →
+      pub deleted_below : (name : OpaqueNodePtr) (tree : Tree OpaqueNodePtr (K × V)) (to : ParentChange) → parent_change s point.path ≡ to →
+          new ≡ root_of at.above root name →
           IsRootAfter to (path_of (at.frame ∷ at.above)) root (Some (root_of at.above root name)) →
           IsLaidOut bytes P (node_at t) (links_at t) (root_of at.above root name) (remove_key bytes (bytes (pair_of at.node)) pairs) tree →
           ChangesInPlace bytes s t (Some (plug at.above (with_leaf_in at.frame point.leaf_node_ptr at.node))) (Some tree) → TouchesFor to s t →
@@ -217,7 +231,8 @@ module _ {K V : Type 0} {bytes : K × V → List ℕ} {P : ℕ} {s : Nodes K V} 
           record {
             tree = Some tree;
             canonical = subst (λ r. IsRootOf bytes P t r (remove_key bytes (bytes x) pairs) (Some tree)) (sym answered)
-                (canonical_from (subst (λ y. IsLaidOut bytes P (node_at t) (links_at t) (root_of at.above root name) (remove_key bytes (bytes y) pairs) tree) at.pair laid));
+                (canonical_from (subst (λ y. IsLaidOut bytes P (node_at t) (links_at t) (root_of at.above root name)
+                (remove_key bytes (bytes y) pairs) tree) at.pair laid));
             deleted = (taken_since s leaves at.here taken).1 ∙ ap unlinked_leaf at.pair;
             root_is = subst (λ r. IsRootAfter (parent_change s point.path) point.path root r) (sym answered)
                 (subst (λ path. IsRootAfter (parent_change s point.path) path root (Some (root_of at.above root name))) (sym at.path_is)
@@ -233,8 +248,11 @@ module _ {K V : Type 0} {bytes : K × V → List ℕ} {P : ℕ} {s : Nodes K V} 
       parent_stays : ParentStays s t at.frame point.leaf_node_ptr at.node
       parent_stays = record {
         goes = record { here = at.here; leaves = leaves_without leaves taken };
-        spare = let more = keeps_spare at.frame.mark.kind (suc (length (bytes_of (join at.frame.left at.frame.right)))) (change_is keeps step is) in omega arith;
-        inners = taken.inners ∙ inners ∙ ap (λ p. change s.inners p (without_child byte)) (sym at.parent_is) ∙ ap (λ b. change s.inners (as_inner at.frame.mark) (without_child b)) (sym at.byte_is);
+        spare =
+            let more = keeps_spare at.frame.mark.kind (suc (length (bytes_of (join at.frame.left at.frame.right))))
+            (change_is keeps step is) in omega arith;
+        inners = taken.inners ∙ inners ∙ ap (λ p. change s.inners p (without_child byte)) (sym at.parent_is)
+            ∙ ap (λ b. change s.inners (as_inner at.frame.mark) (without_child b)) (sym at.byte_is);
       }
 
       pub child_deleted : IsDeleted bytes P s t root point x pairs layout done
@@ -244,24 +262,30 @@ module _ {K V : Type 0} {bytes : K × V → List ℕ} {P : ℕ} {s : Nodes K V} 
           (subst (λ r. IsRootAfter keeps (path_of (at.frame ∷ at.above)) root (Some r)) (sym same) (root_kept_at at.frame at.above root))
           (stays_laid_out at.below parent_stays) (stays_in_place at.below parent_stays) (stays_touches at.below parent_stays)
         where
-          same_root : (fs : List (Frame OpaqueNodePtr (K × V))) → name_of (plug fs (with_leaf_in at.frame point.leaf_node_ptr at.node)) ≡ root → root_of fs root at.frame.mark ≡ root
+          same_root : (fs : List (Frame OpaqueNodePtr (K × V))) →
+              name_of (plug fs (with_leaf_in at.frame point.leaf_node_ptr at.node)) ≡ root → root_of fs root at.frame.mark ≡ root
           same_root [] e = e
           same_root (g ∷ gs) e = refl
 
     -- ---- a smaller node replaces the parent, after a reservation that changes no node
 
-    module _ (u : Nodes K V) (same : u.inners ≡ s.inners) (to : NodeType) (step : last_step point.path ≡ Some (parent, byte)) (is : parent_change s point.path ≡ shrinks to) where
+    module _ (u : Nodes K V) (same : u.inners ≡ s.inners) (to : NodeType) (step : last_step point.path ≡ Some (parent, byte))
+        (is : parent_change s point.path ≡ shrinks to) where
       fewest : (at.frame.mark.kind ≢ Node4) × (length (bytes_of (join at.frame.left at.frame.right)) < kind_least at.frame.mark.kind)
       fewest =
-          let (larger, least) = shrinks_least at.frame.mark.kind to (suc (length (bytes_of (join at.frame.left at.frame.right)))) (change_is (shrinks to) step is) in
+          let (larger, least) =
+          shrinks_least at.frame.mark.kind to (suc (length (bytes_of (join at.frame.left at.frame.right))))
+          (change_is (shrinks to) step is) in
           (larger, omega arith)
 
       -- the smaller kind has room for the parent's other children
-      pub shrinks_fit : (parent.kind ≢ Node4) × IsSomeAnd (get u.inners parent) (λ node. length (without_child byte node).children ≤ kind_capacity (smaller_kind parent.kind))
+      pub shrinks_fit : (parent.kind ≢ Node4) ×
+          IsSomeAnd (get u.inners parent) (λ node. length (without_child byte node).children ≤ kind_capacity (smaller_kind parent.kind))
       shrinks_fit =
           let (off, node, got, head, kids) = parent_is at.below in
           let left : length (remove_child node.children byte) ≡ length (bytes_of (join at.frame.left at.frame.right)) =
-          ap (λ b. length (remove_child node.children b)) (sym at.byte_is) ∙ ap length (slots_left at.below node.children kids) ∙ length-slots_of (join at.frame.left at.frame.right) in
+          ap (λ b. length (remove_child node.children b)) (sym at.byte_is) ∙ ap length (slots_left at.below node.children kids)
+          ∙ length-slots_of (join at.frame.left at.frame.right) in
           let there : get u.inners parent ≡ Some node = ap (λ m. get m parent) same ∙ ap (get s.inners) (sym at.parent_is) ∙ got in
           let fit : length (remove_child node.children byte) ≤ kind_capacity (smaller_kind at.frame.mark.kind) =
           subst (λ n. n ≤ kind_capacity (smaller_kind at.frame.mark.kind)) (sym left)
@@ -271,9 +295,12 @@ module _ {K V : Type 0} {bytes : K × V → List ℕ} {P : ℕ} {s : Nodes K V} 
                 (subst (λ (p : InnerPtr). length (remove_child node.children byte) ≤ kind_capacity (smaller_kind p.kind)) at.parent_is fit),
           )
 
-      placed_is : (q : InnerPtr) (node : Inner) → insert (remove u.inners parent) q (without_child byte node) ≡ insert (remove s.inners (as_inner at.frame.mark)) q (without_child at.frame.byte node)
+      placed_is : (q : InnerPtr) (node : Inner) →
+          insert (remove u.inners parent) q (without_child byte node)
+          ≡ insert (remove s.inners (as_inner at.frame.mark)) q (without_child at.frame.byte node)
       placed_is q node =
-          ap (λ m. insert (remove m parent) q (without_child byte node)) same ∙ ap (λ p. insert (remove s.inners p) q (without_child byte node)) (sym at.parent_is)
+          ap (λ m. insert (remove m parent) q (without_child byte node)) same
+          ∙ ap (λ p. insert (remove s.inners p) q (without_child byte node)) (sym at.parent_is)
           ∙ ap (λ b. insert (remove s.inners (as_inner at.frame.mark)) q (without_child b node)) (sym at.byte_is)
 
       module _ {v : Nodes K V} {q : InnerPtr} (smaller : IsSmaller u v parent byte q) where
@@ -285,9 +312,12 @@ module _ {K V : Type 0} {bytes : K × V → List ℕ} {P : ℕ} {s : Nodes K V} 
         own_there = ap (λ m. get m parent) same ∙ parent_there.1
 
         inners_are : v.inners ≡ insert (remove s.inners (as_inner at.frame.mark)) q (without_child at.frame.byte own)
-        inners_are = subst (λ o. IfSome o (λ node. v.inners ≡ insert (remove u.inners parent) q (without_child byte node))) own_there smaller.inners ∙ placed_is q own
+        inners_are =
+            subst (λ o. IfSome o (λ node. v.inners ≡ insert (remove u.inners parent) q (without_child byte node)))
+            own_there smaller.inners ∙ placed_is q own
 
-        parent_shrinks : {t : Nodes K V} → t.leaves ≡ without_leaf s.leaves point.leaf_node_ptr at.node → t.inners ≡ with_child_at (last_step (up point.path)) (inner_name q) v.inners →
+        parent_shrinks : {t : Nodes K V} → t.leaves ≡ without_leaf s.leaves point.leaf_node_ptr at.node →
+            t.inners ≡ with_child_at (last_step (up point.path)) (inner_name q) v.inners →
             ParentShrinks s t at.frame at.above point.leaf_node_ptr at.node q own
         unfolding own
         parent_shrinks leaves placed = record {
@@ -299,22 +329,29 @@ module _ {K V : Type 0} {bytes : K × V → List ℕ} {P : ℕ} {s : Nodes K V} 
           fresh = ap (λ p. get (remove s.inners p) q) at.parent_is ∙ ap (λ m. get (remove m parent) q) (sym same) ∙
               inner_gone_elsewhere u.inners parent q (λ e. inner_fresh_differs u.inners q parent own smaller.fresh own_there (sym e)) ∙ smaller.fresh;
           inners = placed ∙ ap (λ path. with_child_at (last_step (up path)) (inner_name q) v.inners) at.path_is ∙
-              ap (λ above. with_child_at above (inner_name q) v.inners) (last_step-up at.frame at.above) ∙ ap (with_child_at (parent_of at.above) (inner_name q)) inners_are;
+              ap (λ above. with_child_at above (inner_name q) v.inners) (last_step-up at.frame at.above)
+              ∙ ap (with_child_at (parent_of at.above) (inner_name q)) inners_are;
         }
 
         -- before it is written, the grandparent has a child under its byte
         pub above_ready : HasChild v.inners (last_step (up point.path))
         above_ready =
-            let t : Nodes K V = record v { leaves = without_leaf s.leaves point.leaf_node_ptr at.node; inners = with_child_at (last_step (up point.path)) (inner_name q) v.inners } in
+            let t : Nodes K V = record v {
+              leaves = without_leaf s.leaves point.leaf_node_ptr at.node;
+              inners = with_child_at (last_step (up point.path)) (inner_name q) v.inners;
+            } in
             subst (HasChild v.inners) (sym (ap (λ path. last_step (up path)) at.path_is ∙ last_step-up at.frame at.above))
-            (has_child s.inners v.inners at.frame.mark at.above (parent_ready bytes P s at.above (hole at.below).0 at.frame.mark (hole at.below).1.path (above_holds at.below))
+            (has_child s.inners v.inners at.frame.mark at.above
+            (parent_ready bytes P s at.above (hole at.below).0 at.frame.mark (hole at.below).1.path (above_holds at.below))
             (λ k above. ap (λ m. get m (as_inner k)) inners_are ∙ above_same at.below (parent_shrinks {t = t} refl refl) k above))
 
         -- then the grandparent, where there is one, has it as its child
-        pub parent_deleted : {w t : Nodes K V} {new : OpaqueNodePtr} {done : DeleteResult K V} → w.leaves ≡ s.leaves → w.inners ≡ with_child_at (last_step (up point.path)) (inner_name q) v.inners →
+        pub parent_deleted : {w t : Nodes K V} {new : OpaqueNodePtr} {done : DeleteResult K V} → w.leaves ≡ s.leaves →
+            w.inners ≡ with_child_at (last_step (up point.path)) (inner_name q) v.inners →
             new ≡ root_with (up point.path) root (inner_name q) → IsLeafTaken w t point (Some new) done → IsDeleted bytes P s t root point x pairs layout done
         parent_deleted {t = t} leaves placed named taken =
-            let shrinks_to : ParentShrinks s t at.frame at.above point.leaf_node_ptr at.node q own = parent_shrinks (leaves_without leaves taken) (taken.inners ∙ placed) in
+            let shrinks_to : ParentShrinks s t at.frame at.above point.leaf_node_ptr at.node q own =
+            parent_shrinks (leaves_without leaves taken) (taken.inners ∙ placed) in
             deleted_below leaves taken (inner_name q) (plug at.above (shrunk at.below shrinks_to)) (shrinks to) is
             (named ∙ ap (λ path. root_with (up path) root (inner_name q)) at.path_is ∙ root_with-up at.frame at.above root (inner_name q))
             (root_after_at at.frame (shrinks to) at.above root (inner_name q) (λ e. absurd cc))

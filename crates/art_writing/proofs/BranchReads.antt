@@ -49,7 +49,8 @@ use Rattle.art_reading.proofs.Parts.{some_there}
 
 -- the links that a leaf has in a chain
 leaf_links : {K V : Type 0} (s : Nodes K V) (xs zs : List OpaqueNodePtr) (p : LeafPtr) (own : LeafNode K V) → get s.leaves p ≡ Some own →
-    AreLinked (links_at s) None (xs ++ leaf_name p ∷ zs) None → (option_map leaf_name own.previous ≡ last_or xs None) × (option_map leaf_name own.next ≡ first_or zs None)
+    AreLinked (links_at s) None (xs ++ leaf_name p ∷ zs) None →
+    (option_map leaf_name own.previous ≡ last_or xs None) × (option_map leaf_name own.next ≡ first_or zs None)
 leaf_links s xs zs p own here linked =
     let same : ◌≡◌ {A = Links OpaqueNodePtr} (record { previous = option_map leaf_name own.previous; next = option_map leaf_name own.next })
     (record { previous = last_or xs None; next = first_or zs None }) =
@@ -70,7 +71,8 @@ some_leaf : {K V : Type 0} (o : Option (LeafNode K V)) (Q : LeafNode K V → Typ
 some_leaf None Q h = absurd h
 some_leaf (Some own) Q h = (own, refl, h)
 
-module _ {K V : Type 0} (s : Nodes K V) (fs : List (Frame OpaqueNodePtr (K × V))) (tree : Tree OpaqueNodePtr (K × V)) (linked : AreLinked (links_at s) None (leaf_names (plug fs tree)) None) where
+module _ {K V : Type 0} (s : Nodes K V) (fs : List (Frame OpaqueNodePtr (K × V))) (tree : Tree OpaqueNodePtr (K × V))
+    (linked : AreLinked (links_at s) None (leaf_names (plug fs tree)) None) where
   -- right after the leaves in the hole, or right before them
   pub beside_is : (first : Bool) (previous next : Option LeafPtr) → IsBeside s tree (cond first After Before) previous next →
       (option_map leaf_name previous ≡ last_or (leaves_before fs ++ cond first (leaf_names tree) []) None) ×
@@ -80,7 +82,9 @@ module _ {K V : Type 0} (s : Nodes K V) (fs : List (Frame OpaqueNodePtr (K × V)
       let (front, ends) = last_split (leaf_names tree) (leaf_name last) has.name_is in
       let whole : leaf_names (plug fs tree) ≡ (leaves_before fs ++ front) ++ leaf_name last ∷ leaves_after fs =
       leaf_names-plug fs tree ∙ ap (λ ks. leaves_before fs ++ ks ++ leaves_after fs) ends ∙ simp append_assoc in
-      let links = leaf_links s (leaves_before fs ++ front) (leaves_after fs) last own found (subst (λ ks. AreLinked (links_at s) None ks None) whole linked) in (
+      let links =
+      leaf_links s (leaves_before fs ++ front) (leaves_after fs) last own found
+      (subst (λ ks. AreLinked (links_at s) None ks None) whole linked) in (
         ap (option_map leaf_name) is ∙ sym (last_or-append (leaves_before fs) (leaf_names tree) None ∙
             ap (λ ks. last_or ks (last_or (leaves_before fs) None)) ends ∙ last_or-append front (leaf_name last ∷ []) (last_or (leaves_before fs) None)),
         ap (option_map leaf_name) same ∙ links.1,
@@ -90,7 +94,9 @@ module _ {K V : Type 0} (s : Nodes K V) (fs : List (Frame OpaqueNodePtr (K × V)
       let (rest, begins) = first_split (leaf_names tree) (leaf_name first) has.name_is in
       let whole : leaf_names (plug fs tree) ≡ leaves_before fs ++ leaf_name first ∷ (rest ++ leaves_after fs) =
       leaf_names-plug fs tree ∙ ap (λ ks. leaves_before fs ++ ks ++ leaves_after fs) begins ∙ simp append_assoc in
-      let links = leaf_links s (leaves_before fs) (rest ++ leaves_after fs) first own found (subst (λ ks. AreLinked (links_at s) None ks None) whole linked) in (
+      let links =
+      leaf_links s (leaves_before fs) (rest ++ leaves_after fs) first own found
+      (subst (λ ks. AreLinked (links_at s) None ks None) whole linked) in (
         ap (option_map leaf_name) same ∙ links.0 ∙ ap (λ ks. last_or ks None) (sym (append-nil (leaves_before fs))),
         ap (option_map leaf_name) is ∙ ap (λ ks. first_or (ks ++ leaves_after fs) None) (sym begins),
       )
@@ -109,7 +115,9 @@ module _ (place part : List ℕ) (x : ℕ) (r key : List ℕ) (is : key ≡ plac
   byte_of n e = ap (λ k. get_or k n 0) regrouped ∙ get_or_at (place ++ part) x r 0 n (length-append place part ∙ sym e)
 
   pub part_of : (d n : ℕ) → d ≡ length place → n ≡ length place + length part → take (n - d) (drop d key) ≡ part
-  part_of d n e f = ap (λ z. take (n - d) (drop z key)) e ∙ ap (take (n - d)) (after_front place key (part ++ x ∷ r) is) ∙ take_at part (x ∷ r) (n - d) (omega arith)
+  part_of d n e f =
+      ap (λ z. take (n - d) (drop z key)) e ∙ ap (take (n - d)) (after_front place key (part ++ x ∷ r) is)
+      ∙ take_at part (x ∷ r) (n - d) (omega arith)
 
   pub long_of : (n : ℕ) → n ≡ length place + length part → n < length key
   long_of n e = let l = ap length regrouped in omega (arith, simp length-append at l)
@@ -127,7 +135,8 @@ pub record AreWays (place key other : List ℕ) (used : ℕ) : Type 0 where
   pub used_is : used ≡ length place + length part
 
 -- keys that are not related differ after what they share
-pub unrelated_ways : (place key other : List ℕ) (used : ℕ) → IsFront place key → IsFront place other → are_related key other ≡ false → used ≡ shared_len key other → AreWays place key other used
+pub unrelated_ways : (place key other : List ℕ) (used : ℕ) → IsFront place key → IsFront place other → are_related key other ≡ false →
+    used ≡ shared_len key other → AreWays place key other used
 unrelated_ways place key other used front fronts apart shared =
     let f = unrelated_part key other apart in
     let (part, e) = (common_front_is_longest key other).2 place front fronts in
@@ -202,7 +211,8 @@ module _ {K V : Type 0} {bytes : K × V → List ℕ} {P : ℕ} {s : Nodes K V} 
         part = w.part;
         header = header ∙ ap (header_of P) (part_is ∙ part_of place w.part w.x w.r key w.key_is point.key_bytes_used used deep w.used_is);
         new_way = subst (λ c. IsFront ((place ++ w.part) ++ c ∷ []) key) (sym new) (way_of place w.part w.x w.r key w.key_is);
-        old_way = subst (λ b. IsFront ((place ++ w.part) ++ b ∷ []) (least_key bytes at.node)) (sym old) (way_of place w.part w.y w.q (least_key bytes at.node) w.other_is);
+        old_way = subst (λ b. IsFront ((place ++ w.part) ++ b ∷ []) (least_key bytes at.node)) (sym old)
+            (way_of place w.part w.y w.q (least_key bytes at.node) w.other_is);
         apart = λ e. w.differ (sym old ∙ e ∙ new);
         previous = links.0;
         next = links.1;
@@ -240,7 +250,8 @@ module _ {K V : Type 0} {bytes : K × V → List ℕ} {P : ℕ} {s : Nodes K V} 
           let (start, (pair, is, (apart, shared))) = leaf_kind in
           let own : bytes pair ≡ least_key bytes at.node = ap (least_key bytes) (sym is) in
           unrelated_ways place key (least_key bytes at.node) used (end_hole by at).front
-          (subst (IsFront place) own (subst (IsRadix bytes P place) is (end_hole by at).radix)) (subst (λ k. are_related key k ≡ false) own apart) (shared ∙ ap (shared_len key) own)
+          (subst (IsFront place) own (subst (IsRadix bytes P place) is (end_hole by at).radix))
+          (subst (λ k. are_related key k ≡ false) own apart) (shared ∙ ap (shared_len key) own)
 
       -- the bytes exist
       pub leaf_bounds : (point.key_bytes_used ≤ used) × (used < length key) × (used < length (bytes (pair_of shown)))
@@ -255,8 +266,10 @@ module _ {K V : Type 0} {bytes : K × V → List ℕ} {P : ℕ} {s : Nodes K V} 
           )
 
       pub leaf_branch : {text : List ℕ} {part : List ℕ} {branch : Branch P} {old_byte new_byte : ℕ} → text ≡ bytes (pair_of shown) →
-          part ≡ take (used - point.key_bytes_used) (drop point.key_bytes_used key) → branch.header ≡ header_of P part → branch.old_byte ≡ old_byte → branch.new_byte ≡ new_byte →
-          old_byte ≡ get_or text used 0 → new_byte ≡ get_or key used 0 → IsBeside s at.node (side_of new_byte old_byte) branch.previous branch.next → IsBranch bytes key at.path at.node branch
+          part ≡ take (used - point.key_bytes_used) (drop point.key_bytes_used key) → branch.header ≡ header_of P part →
+          branch.old_byte ≡ old_byte → branch.new_byte ≡ new_byte →
+          old_byte ≡ get_or text used 0 → new_byte ≡ get_or key used 0 →
+          IsBeside s at.node (side_of new_byte old_byte) branch.previous branch.next → IsBranch bytes key at.path at.node branch
       leaf_branch text part header old_is new_is old_byte_is new_byte_is beside =
           let w = leaf_ways in
           branch_is w leaf_start part header old_is new_is (old_byte_is ∙ ap (λ k. get_or k used 0) (text ∙ sym least_is) ∙
@@ -293,7 +306,8 @@ module _ {K V : Type 0} {bytes : K × V → List ℕ} {P : ℕ} {s : Nodes K V} 
     prefix_way =
         let (header, children, is) = inner_found in
         let radix : IsRadix bytes P place (inner (inner_name p) header children) = subst (IsRadix bytes P place) is (end_hole by at).radix in
-        let prefix : prefix_of bytes (depth_of at.path) at.node ≡ radix.0 = ap₂ (prefix_of bytes) (end_depth by at) is ∙ prefix_is bytes P (inner_name p) header children place radix in
+        let prefix : prefix_of bytes (depth_of at.path) at.node ≡ radix.0 =
+        ap₂ (prefix_of bytes) (end_depth by at) is ∙ prefix_is bytes P (inner_name p) header children place radix in
         subst (λ z. IsFront (place ++ z) (least_key bytes at.node)) (sym prefix)
         (subst (λ t. IsFront (place ++ radix.0) (least_key bytes t)) (sym is) (least_way_below bytes P children (place ++ radix.0) radix.2 radix.4))
 
@@ -308,8 +322,10 @@ module _ {K V : Type 0} {bytes : K × V → List ℕ} {P : ℕ} {s : Nodes K V} 
         (end_depth by at) (sym (take-append-drop (depth_of at.path) key)) prefix_way parts.matched prefix_inside inner_long
 
     pub inner_branch : {end : ℕ} {part : List ℕ} {branch : Branch P} {new_byte : ℕ} → end ≡ point.key_bytes_used + mismatch.matched_bytes →
-        part ≡ take (end - point.key_bytes_used) (drop point.key_bytes_used key) → branch.header ≡ header_of P part → branch.old_byte ≡ mismatch.prefix_byte → branch.new_byte ≡ new_byte →
-        new_byte ≡ get_or key end 0 → IsBeside s at.node (side_of new_byte mismatch.prefix_byte) branch.previous branch.next → IsBranch bytes key at.path at.node branch
+        part ≡ take (end - point.key_bytes_used) (drop point.key_bytes_used key) → branch.header ≡ header_of P part →
+        branch.old_byte ≡ mismatch.prefix_byte → branch.new_byte ≡ new_byte →
+        new_byte ≡ get_or key end 0 → IsBeside s at.node (side_of new_byte mismatch.prefix_byte) branch.previous branch.next →
+        IsBranch bytes key at.path at.node branch
     inner_branch {end} {part} end_is part_is header old_is new_is new_byte_is beside =
         let (w, old) = inner_ways in
         let used : end ≡ depth_of at.path + mismatch.matched_bytes = end_is ∙ ap (λ d. d + mismatch.matched_bytes) inner_start in

@@ -74,8 +74,11 @@ module _ {K V : Type 0} {bytes : K × V → List ℕ} {P : ℕ} {s : Nodes K V} 
   end_hole =
       let (place, path, radix) = radix_plug bytes P at.path at.node end_laid.radix in
       let depth = depth_is bytes P at.path place path in
-      let front : IsFront place key = subst (λ w. IsFront w key) (ap (λ d. take d (least_key bytes at.node)) depth ∙ place_is bytes P at.node place radix) at.is_end.is_front in
-      subst (λ w. IsHole bytes P at.path w at.node key) (sym (ap (λ d. take d key) depth ∙ taken place key front)) (record { path = path; radix = radix; front = front })
+      let front : IsFront place key =
+      subst (λ w. IsFront w key) (ap (λ d. take d (least_key bytes at.node)) depth ∙ place_is bytes P at.node place radix)
+      at.is_end.is_front in
+      subst (λ w. IsHole bytes P at.path w at.node key) (sym (ap (λ d. take d key) depth ∙ taken place key front))
+      (record { path = path; radix = radix; front = front })
 
   -- and as long as the path is deep
   pub end_depth : depth_of at.path ≡ length (take (depth_of at.path) key)
@@ -85,13 +88,16 @@ module _ {K V : Type 0} {bytes : K × V → List ℕ} {P : ℕ} {s : Nodes K V} 
   pub end_parent : HasChild s.inners (last_step point.path)
   end_parent =
       subst (HasChild s.inners) (sym (ap last_step at.path_is ∙ last_step-path_of at.path))
-      (has (parent_of at.path) (parent_ready bytes P s at.path (take (depth_of at.path) key) (name_of at.node) end_hole.path (path_holds (node_at s) at.path at.node end_laid.holds).0))
+      (has (parent_of at.path) (parent_ready bytes P s at.path (take (depth_of at.path) key) (name_of at.node) end_hole.path
+      (path_holds (node_at s) at.path at.node end_laid.holds).0))
     where
-      some : (o : Option Inner) (b : ℕ) → IsSomeAnd o (λ node. child_at node.children b ≡ Some (name_of at.node)) → IsSomeAnd o (λ node. IsSome (child_at node.children b))
+      some : (o : Option Inner) (b : ℕ) → IsSomeAnd o (λ node. child_at node.children b ≡ Some (name_of at.node)) →
+          IsSomeAnd o (λ node. IsSome (child_at node.children b))
       some None b h = h
       some (Some node) b h = ap is_some h
 
-      has : (o : Option (InnerPtr × ℕ)) → IfSome o (λ p. IsSomeAnd (get s.inners p.0) (λ node. child_at node.children p.1 ≡ Some (name_of at.node))) → HasChild s.inners o
+      has : (o : Option (InnerPtr × ℕ)) → IfSome o
+          (λ p. IsSomeAnd (get s.inners p.0) (λ node. child_at node.children p.1 ≡ Some (name_of at.node))) → HasChild s.inners o
       has None h = tt
       has (Some p) h = some (get s.inners p.0) p.1 h
 
@@ -113,8 +119,10 @@ module _ {K V : Type 0} {bytes : K × V → List ℕ} {P : ℕ} {s : Nodes K V} 
 
 -- what is read is right for the key
 pub read_for : {K V : Type 0} {bytes : K × V → List ℕ} {P : ℕ} {s : Nodes K V} {point : InsertPoint} {text key : List ℕ} {branch : Branch P} →
-    text ≡ key → ForEnd bytes P s text point (λ path node. IsBranch bytes text path node branch) → ForEnd bytes P s key point (λ path node. IsBranch bytes key path node branch)
-read_for {bytes = bytes} {P} {s} {point} {branch = branch} same read = subst (λ k. ForEnd bytes P s k point (λ path node. IsBranch bytes k path node branch)) same read
+    text ≡ key → ForEnd bytes P s text point (λ path node. IsBranch bytes text path node branch) →
+    ForEnd bytes P s key point (λ path node. IsBranch bytes key path node branch)
+read_for {bytes = bytes} {P} {s} {point} {branch = branch} same read =
+    subst (λ k. ForEnd bytes P s k point (λ path node. IsBranch bytes k path node branch)) same read
 
 -- ---- the branch is placed
 
@@ -143,18 +151,23 @@ module _ {K V : Type 0} {bytes : K × V → List ℕ} {P : ℕ} {s : Nodes K V} 
     };
     kind = placed.kind;
     fresh = sym (touches.others placed.node (λ i. i) (λ i. i) (λ i.
-        (each_in (λ k. (get s.inners k ≢ None) × (get mid.inners k ≢ None)) placed.node touched touches.are_changed i).1 placed.node_was_free)) ∙ placed.node_was_free;
+        (each_in (λ k. (get s.inners k ≢ None) × (get mid.inners k ≢ None))
+        placed.node touched touches.are_changed i).1 placed.node_was_free)) ∙ placed.node_was_free;
     touches = touches;
     are_inner = kinds;
     in_tree = in_node;
-    inners = placed.inners ∙ ap₂ (λ step node. with_child_at step (inner_name placed.node) (insert mid.inners placed.node node)) (ap last_step at.path_is ∙ last_step-path_of at.path)
-        (ap₂ (λ (name : OpaqueNodePtr) (header : Prefix). with_child branch.new_byte (leaf_name done.leaf_node_ptr) (with_child branch.old_byte name (childless header))) (sym named) is.header);
+    inners = placed.inners ∙ ap₂ (λ step node. with_child_at step (inner_name placed.node) (insert mid.inners placed.node node))
+        (ap last_step at.path_is ∙ last_step-path_of at.path)
+        (ap₂ (λ (name : OpaqueNodePtr) (header : Prefix). with_child branch.new_byte (leaf_name done.leaf_node_ptr)
+        (with_child branch.old_byte name (childless header))) (sym named) is.header);
   }
 
   module _ {u : Tree OpaqueNodePtr (K × V)} (new : BranchInserted bytes P (node_at s) (node_at t) (links_at s) (links_at t) at.path
-      (take (depth_of at.path) (bytes pair)) at.node u (inner_name placed.node) (leaf_name done.leaf_node_ptr) is.part branch.old_byte branch.new_byte pair) where
+      (take (depth_of at.path) (bytes pair)) at.node u (inner_name placed.node)
+      (leaf_name done.leaf_node_ptr) is.part branch.old_byte branch.new_byte pair) where
     abbrev grown : Tree OpaqueNodePtr (K × V)
-    grown = inner (inner_name placed.node) (canonical_header P is.part 2) (two_children branch.old_byte u branch.new_byte (leaf (leaf_name done.leaf_node_ptr) pair))
+    grown = inner (inner_name placed.node) (canonical_header P is.part 2)
+        (two_children branch.old_byte u branch.new_byte (leaf (leaf_name done.leaf_node_ptr) pair))
 
     -- no pair has the key
     none_stored : first_of (with_key bytes (bytes pair) pairs) ≡ None
@@ -162,13 +175,16 @@ module _ {K V : Type 0} {bytes : K × V → List ℕ} {P : ℕ} {s : Nodes K V} 
         let key = bytes pair in
         let front = take (depth_of at.path) key ++ is.part in
         let ways : Each (λ y. IsFront (front ++ branch.old_byte ∷ []) (bytes y)) (pairs_of at.node) =
-        subst (Each (λ y. IsFront (front ++ branch.old_byte ∷ []) (bytes y))) (same_pairs_of at.node u new.same_entries) (radix_way bytes P u (front ++ branch.old_byte ∷ []) new.radix) in
+        subst (Each (λ y. IsFront (front ++ branch.old_byte ∷ []) (bytes y))) (same_pairs_of at.node u new.same_entries)
+        (radix_way bytes P u (front ++ branch.old_byte ∷ []) new.radix) in
         let none : related_to bytes key (pairs_of at.node) ≡ [] = filter_none (λ y. are_related key (bytes y)) (pairs_of at.node)
         (Each-weaker (λ y. IsFront (front ++ branch.old_byte ∷ []) (bytes y)) (λ y. are_related key (bytes y) ≡ false)
         (λ y way. unrelated_after front branch.new_byte branch.old_byte key (bytes y) is.new_way way (λ e. is.apart (sym e))) (pairs_of at.node) ways) in
         let whole : related_to bytes key pairs ≡ [] =
-        ap (related_to bytes key) (sym (end_laid by at).pairs_are) ∙ related_at bytes P at.path (take (depth_of at.path) key) key at.node (end_hole by at).path (end_hole by at).front ∙ none in
-        ap first_of (sym (filter_filter (λ y. are_same key (bytes y)) (λ y. are_related key (bytes y)) (λ y e. both key (bytes y) e) pairs) ∙ ap (with_key bytes key) whole)
+        ap (related_to bytes key) (sym (end_laid by at).pairs_are)
+        ∙ related_at bytes P at.path (take (depth_of at.path) key) key at.node (end_hole by at).path (end_hole by at).front ∙ none in
+        ap first_of (sym (filter_filter (λ y. are_same key (bytes y)) (λ y. are_related key (bytes y)) (λ y e. both key (bytes y) e) pairs)
+        ∙ ap (with_key bytes key) whole)
       where
         both : (a b : List ℕ) → are_same a b ≡ true → are_related a b ≡ true
         both a b e = front_related a b ([], same_equal a b e ∙ sym (append-nil a))
@@ -186,14 +202,17 @@ module _ {K V : Type 0} {bytes : K × V → List ℕ} {P : ℕ} {s : Nodes K V} 
         }
 
     -- the pair is inserted
-    pub branch_done : ((parent : InnerPtr × ℕ) (told : InsertParentNodeChange) → told ≡ NewParent parent.0 parent.1 → IsChange point.insert_kind (Some parent) told) →
+    pub branch_done : ((parent : InnerPtr × ℕ) (told : InsertParentNodeChange) → told ≡ NewParent parent.0 parent.1 →
+        IsChange point.insert_kind (Some parent) told) →
         {touched : List InnerPtr} → BranchStored bytes P s t at.path (take (depth_of at.path) (bytes pair)) at.node placed.node done.leaf_node_ptr
         is.part branch.old_byte branch.new_byte (record { key = pair.0; value = pair.1; previous = branch.previous; next = branch.next }) mid.inners touched →
         Touches point.insert_kind s t → IsInserted bytes P s t point pair pairs layout done
     branch_done branches stored few = record {
       tree = plug at.path grown;
-      canonical = canonical_from (subst (λ ps. IsLaidOut bytes P (node_at t) (links_at t) done.new_root ps (plug at.path grown)) (sym (put-new bytes pair pairs none_stored))
-          (subst (λ r. IsLaidOut bytes P (node_at t) (links_at t) r (replace_key bytes pair pairs) (plug at.path grown)) root (branch_inserted (end_laid by at) new)));
+      canonical = canonical_from (subst (λ ps. IsLaidOut bytes P (node_at t) (links_at t) done.new_root ps (plug at.path grown))
+          (sym (put-new bytes pair pairs none_stored))
+          (subst (λ r. IsLaidOut bytes P (node_at t) (links_at t) r (replace_key bytes pair pairs) (plug at.path grown)) root
+          (branch_inserted (end_laid by at) new)));
       inserted = subst (λ x. HasInserted (plug at.path grown) point x done) (sym (stored_for-new bytes pair pairs none_stored)) (record {
         path = leaf_frame (ltb branch.old_byte branch.new_byte) ∷ at.path;
         whole = ap (plug at.path) (filled (ltb branch.old_byte branch.new_byte));
@@ -206,7 +225,8 @@ module _ {K V : Type 0} {bytes : K × V → List ℕ} {P : ℕ} {s : Nodes K V} 
     }
       where
         root : paths.root_with at.path point.root (inner_name placed.node) ≡ done.new_root
-        root = sym (root_with-path_of at.path point.root (inner_name placed.node)) ∙ ap (λ path. root_with path point.root (inner_name placed.node)) (sym at.path_is) ∙ sym placed.root
+        root = sym (root_with-path_of at.path point.root (inner_name placed.node))
+            ∙ ap (λ path. root_with path point.root (inner_name placed.node)) (sym at.path_is) ∙ sym placed.root
 
         filled : (first : Bool) → fill (leaf_frame first) (leaf (leaf_name done.leaf_node_ptr) pair) ≡ inner (inner_name placed.node)
             (canonical_header P is.part 2) (cond first (child branch.old_byte u (child branch.new_byte (leaf (leaf_name done.leaf_node_ptr) pair) no_child))

@@ -24,12 +24,16 @@ use Rattle.art_writing.specs.declared.clone.CloneResult.{CloneResult}
 use Rattle.art_writing.specs.Cloned.{IsCopied}
 
 module _ {K V : Type 0} (bytes : K → List _) (P : _) (is_key_clone : K → K → Type 0) (is_value_clone : V → V → Type 0)
-    (keep : KeepBytes bytes is_key_clone) {s old new : Nodes K V} {root : OpaqueNodePtr} {pairs : List (K × V)} {layout : Tree OpaqueNodePtr (K × V)} {done : CloneResult}
+    (keep : KeepBytes bytes is_key_clone) {s old new : Nodes K V} {root : OpaqueNodePtr} {pairs : List (K × V)}
+    {layout : Tree OpaqueNodePtr (K × V)} {done : CloneResult}
     (is : IsCanonicalTree (of_key bytes) P s root pairs layout) (copied : IsCopied (IsPairClone is_key_clone is_value_clone) layout old new done) where
   -- the copy is canonical for clones of the pairs
-  cloned_tree : AreClones is_key_clone is_value_clone pairs (pairs_of copied.copy) × IsCanonicalTree (of_key bytes) P new done.root (pairs_of copied.copy) copied.copy
+  cloned_tree : AreClones is_key_clone is_value_clone pairs (pairs_of copied.copy) ×
+      IsCanonicalTree (of_key bytes) P new done.root (pairs_of copied.copy) copied.copy
   cloned_tree =
-      let (clones, tree) = copied_tree (IsPairClone is_key_clone is_value_clone) (of_key bytes) P (λ x y h. keep x.0 y.0 h.0) copied.copy is copied.same copied.gains in
+      let (clones, tree) =
+      copied_tree (IsPairClone is_key_clone is_value_clone) (of_key bytes) P
+      (λ x y h. keep x.0 y.0 h.0) copied.copy is copied.same copied.gains in
       (clones, subst (λ n. IsCanonicalTree (of_key bytes) P new n (pairs_of copied.copy) copied.copy) copied.named tree)
 
   pub cloned_canonical : (copies : List (K × V)) × AreClones is_key_clone is_value_clone pairs copies × IsCanonical (of_key bytes) P new (Some done.root) copies
@@ -37,13 +41,15 @@ module _ {K V : Type 0} (bytes : K → List _) (P : _) (is_key_clone : K → K �
 
   -- what holds of the copy holds of whatever tree has the root
   of_copy : (Q : Tree OpaqueNodePtr (K × V) → Type 0) → Q copied.copy → ForTree (of_key bytes) P new done.root (λ _ copy. Q copy)
-  of_copy Q holds copies copy one = subst Q (sym (has_one_map (of_key bytes) P new done.root (pairs_of copied.copy) copies copied.copy copy cloned_tree.1 one).1) holds
+  of_copy Q holds copies copy one =
+      subst Q (sym (has_one_map (of_key bytes) P new done.root (pairs_of copied.copy) copies copied.copy copy cloned_tree.1 one).1) holds
 
   cloned_others : ForTree (of_key bytes) P new done.root (λ _ copy. KeepsOthers old new [] (names_of copy))
   cloned_others = of_copy (λ z. KeepsOthers old new [] (names_of z)) (came_others copied.gains.holds copied.gains.added)
 
   cloned_apart : KeepsApart (of_key bytes) P old new None (Some done.root)
-  cloned_apart = tree_apart (of_key bytes) P old new None (Some done.root) [] (pairs_of copied.copy) None (Some copied.copy) refl cloned_tree.1 (came_others copied.gains.holds copied.gains.added)
+  cloned_apart = tree_apart (of_key bytes) P old new None (Some done.root) [] (pairs_of copied.copy) None
+      (Some copied.copy) refl cloned_tree.1 (came_others copied.gains.holds copied.gains.added)
 
   full_copy : HaveChildren 1 copied.copy
   full_copy = (has_children (of_key bytes) P new done.root (pairs_of copied.copy) copied.copy cloned_tree.1).1
@@ -56,7 +62,8 @@ module _ {K V : Type 0} (bytes : K → List _) (P : _) (is_key_clone : K → K �
 
 -- what holds where a tree is copied holds where that of a root is
 pub each_copied : {K V E : Type 0} {bytes : K × V → List ℕ} {P : ℕ} {IsClone : K × V → K × V → Type 0} {s old new : Nodes K V} {root : OpaqueNodePtr}
-    {pairs : List (K × V)} {layout : Tree OpaqueNodePtr (K × V)} (result : Result CloneResult E) {Q : CloneResult → Type 0} → IsCanonicalTree bytes P s root pairs layout →
+    {pairs : List (K × V)} {layout : Tree OpaqueNodePtr (K × V)} (result : Result CloneResult E) {Q : CloneResult → Type 0} →
+    IsCanonicalTree bytes P s root pairs layout →
     ((tree : Tree OpaqueNodePtr (K × V)) → IsFullTree s root tree → IfOk result (IsCopied IsClone tree old new)) →
     ((done : CloneResult) → IsCopied IsClone layout old new done → Q done) → IfOk result Q
 each_copied {bytes = bytes} {P} {IsClone} {s} {old} {new} {root} {pairs} {layout} result {Q} is copied then =
@@ -65,7 +72,8 @@ each_copied {bytes = bytes} {P} {IsClone} {s} {old} {new} {root} {pairs} {layout
 -- what a clone returns, as it returns the copy of each tree of its root
 module _ {K V E : Type 0} (bytes : K → List _) (P : _) (is_key_clone : K → K → Type 0) (is_value_clone : V → V → Type 0) (keep : KeepBytes bytes is_key_clone)
     {s : Nodes K V} (old new : Nodes K V) {root : OpaqueNodePtr} (result : Result CloneResult E) (canonical : IsCanonicalRoot (of_key bytes) P s root)
-    (copied : (tree : Tree OpaqueNodePtr (K × V)) → IsFullTree s root tree → IfOk result (IsCopied (IsPairClone is_key_clone is_value_clone) tree old new)) where
+    (copied : (tree : Tree OpaqueNodePtr (K × V)) → IsFullTree s root tree →
+    IfOk result (IsCopied (IsPairClone is_key_clone is_value_clone) tree old new)) where
   pub others_kept : IfOk result (λ done. ForTree (of_key bytes) P new done.root (λ _ copy. KeepsOthers old new [] (names_of copy)))
   others_kept = let (pairs, layout, is) = canonical in each_copied result is copied (λ done one. cloned_others bytes P is_key_clone is_value_clone keep is one)
 

@@ -106,7 +106,8 @@ pub record IsCloning {K V : Type 0} (IsClone : K × V → K × V → Type 0) (s 
 
 module _ {K V : Type 0} (is_key_clone : K → K → Type 0) (is_value_clone : V → V → Type 0) where
   -- a leaf is copied
-  pub copied_leaf : (s old new : Nodes K V) (p q : LeafPtr) (tree : Tree OpaqueNodePtr (K × V)) {name : OpaqueNodePtr} (x y : LeafNode K V) → IsFullTree s (leaf_name p) tree →
+  pub copied_leaf : (s old new : Nodes K V) (p q : LeafPtr) (tree : Tree OpaqueNodePtr (K × V)) {name : OpaqueNodePtr}
+      (x y : LeafNode K V) → IsFullTree s (leaf_name p) tree →
       get s.leaves p ≡ Some x → IsLeafClone is_key_clone is_value_clone x y → get old.leaves q ≡ None → new.leaves ≡ insert old.leaves q y →
       new.inners ≡ old.inners → new.promise ≡ take_leaf old.promise → name ≡ leaf_name q →
       IsCopied (IsPairClone is_key_clone is_value_clone) tree old new (record { root = name; min_leaf = q; max_leaf = q })
@@ -125,7 +126,11 @@ module _ {K V : Type 0} (is_key_clone : K → K → Type 0) (is_value_clone : V 
 -- a store in which a copy is added below a node
 abbrev put_below : {K V : Type 0} → InnerPtr → ℕ → Option LeafPtr → Nodes K V → CloneResult → Nodes K V
 put_below parent b max next done =
-    record { leaves = with_links_around next.leaves max (Some done.min_leaf) (Some done.min_leaf) max; inners = change next.inners parent (with_child b done.root); promise = next.promise }
+    record {
+      leaves = with_links_around next.leaves max (Some done.min_leaf) (Some done.min_leaf) max;
+      inners = change next.inners parent (with_child b done.root);
+      promise = next.promise;
+    }
 
 all_names : {N A : Type 0} (cs : Subtrees N A) (b : ℕ) (u : Tree N A) → leaf_names_below (join cs (child b u no_child)) ≡ leaf_names_below cs ++ leaf_names u
 all_names cs b u = leaf_names_below-join cs (child b u no_child) ∙ ap (λ z. leaf_names_below cs ++ z) (append-nil (leaf_names u))
@@ -145,9 +150,11 @@ pub record NextCloned {K V : Type 0} (IsClone : K × V → K × V → Type 0) (s
   pub low : tree_height below < tree_height tree
   pub last_there : (next : Nodes K V) (done : CloneResult) → IsCopied IsClone below now next done → IsThere next.leaves max
   pub first_there : (next : Nodes K V) (done : CloneResult) → IsCopied IsClone below now next done → IsThere next.leaves (Some done.min_leaf)
-  pub place : (next : Nodes K V) (done : CloneResult) → IsCopied IsClone below now next done → IsSomeAnd (get next.inners parent) (λ node. HasPlace (kind_capacity parent.kind) node.children b)
+  pub place : (next : Nodes K V) (done : CloneResult) → IsCopied IsClone below now next done →
+      IsSomeAnd (get next.inners parent) (λ node. HasPlace (kind_capacity parent.kind) node.children b)
   pub then : (next new : Nodes K V) (done : CloneResult) → IsCopied IsClone below now next done →
-      new.leaves ≡ with_links_around next.leaves max (Some done.min_leaf) (Some done.min_leaf) max → new.inners ≡ change next.inners parent (with_child b done.root) → new.promise ≡ next.promise →
+      new.leaves ≡ with_links_around next.leaves max (Some done.min_leaf) (Some done.min_leaf) max →
+      new.inners ≡ change next.inners parent (with_child b done.root) → new.promise ≡ next.promise →
       IsCloning IsClone s tree old new parent rest (option_or min (Some done.min_leaf)) (Some done.max_leaf)
 
 module _ {K V : Type 0} {IsClone : K × V → K × V → Type 0} where
@@ -194,15 +201,18 @@ module _ {K V : Type 0} {IsClone : K × V → K × V → Type 0} where
     copies_low : (f : IsCloning IsClone s tree old now parent ((b, name) ∷ rest) min max) (u : Tree OpaqueNodePtr (K × V)) (c : ℕ)
         (others : Subtrees OpaqueNodePtr (K × V)) → f.left ≡ child c u others → c ≡ b → Each (λ z. z < b) (bytes_of f.copies)
     copies_low f u c others is same =
-        let up : BytesRise (bytes_of f.done ++ c ∷ bytes_of others) = subst BytesRise (ap (λ z. bytes_of (join f.done z)) is ∙ bytes_of-join f.done (child c u others)) f.rising in
+        let up : BytesRise (bytes_of f.done ++ c ∷ bytes_of others) =
+        subst BytesRise (ap (λ z. bytes_of (join f.done z)) is ∙ bytes_of-join f.done (child c u others)) f.rising in
         subst (λ z. Each (λ y. y < z) (bytes_of f.copies)) same (subst (Each (λ y. y < c)) (sym (copied_bytes IsClone f.done f.copies f.same))
         (Pairwise-before (λ y z. y < z) (bytes_of f.done) (bytes_of others) c up))
 
     -- the step between the stores, whatever the last one is
     child_gained : (f : IsCloning IsClone s tree old now parent ((b, name) ∷ rest) min max) (u : Tree OpaqueNodePtr (K × V)) (c : ℕ)
-        (others : Subtrees OpaqueNodePtr (K × V)) → f.left ≡ child c u others → c ≡ b → (next new : Nodes K V) (done : CloneResult) (copied : IsCopied IsClone u now next done) →
+        (others : Subtrees OpaqueNodePtr (K × V)) → f.left ≡ child c u others → c ≡ b →
+        (next new : Nodes K V) (done : CloneResult) (copied : IsCopied IsClone u now next done) →
         new.leaves ≡ with_links_around next.leaves max (Some done.min_leaf) (Some done.min_leaf) max →
-        new.inners ≡ change next.inners parent (with_child b done.root) → GainsChild old now next new (inner_name parent) f.header f.copies b copied.copy max done.min_leaf
+        new.inners ≡ change next.inners parent (with_child b done.root) →
+        GainsChild old now next new (inner_name parent) f.header f.copies b copied.copy max done.min_leaf
     child_gained f u c others is same next new done copied leaves inners = record {
       so_far = f.gains;
       more = copied.gains;
@@ -216,7 +226,8 @@ module _ {K V : Type 0} {IsClone : K × V → K × V → Type 0} where
     next_below : IsCloning IsClone s tree old now parent ((b, name) ∷ rest) min max → NextCloned IsClone s tree old now parent b name rest min max
     next_below f = go f.left refl f.slots
       where
-        go : (left : Subtrees OpaqueNodePtr (K × V)) → f.left ≡ left → (b, name) ∷ rest ≡ slots_of left → NextCloned IsClone s tree old now parent b name rest min max
+        go : (left : Subtrees OpaqueNodePtr (K × V)) → f.left ≡ left → (b, name) ∷ rest ≡ slots_of left →
+            NextCloned IsClone s tree old now parent b name rest min max
         go no_child at slots = absurd cc
         go (child c u others) at slots =
             let slot : ◌≡◌ {A = ℕ × OpaqueNodePtr} (b, name) (c, name_of u) = cc in
@@ -227,7 +238,8 @@ module _ {K V : Type 0} {IsClone : K × V → K × V → Type 0} where
             let distinct = subst (λ z. AreDistinct (names_below z)) at f.distinct in
             let full = subst (HaveChildrenBelow 1) at f.full in
             let low = subst (λ z. height_below z < tree_height tree) at f.low in
-            let later : join f.done f.left ≡ join (join f.done (child c u no_child)) others = ap (join f.done) at ∙ sym (join_assoc f.done (child c u no_child) others) in
+            let later : join f.done f.left ≡ join (join f.done (child c u no_child)) others =
+            ap (join f.done) at ∙ sym (join_assoc f.done (child c u no_child) others) in
             record {
               below = u;
               is_full = (record { named = named; holds = holds.0; distinct = Pairwise-left ◌≢◌ (names_of u) (names_below others) distinct }, full.0);
@@ -237,12 +249,16 @@ module _ {K V : Type 0} {IsClone : K × V → K × V → Type 0} where
                   let among =
                   taken_in takes_leaves (inner (inner_name parent) f.header f.copies) (leaf_name p)
                   (last_in (leaf_names_below f.copies) (leaf_name p) (sym f.last ∙ ap (option_map leaf_name) e)) in
-                  each_in (IsTaken (node_at now)) (leaf_name p) (inner_name parent ∷ names_below f.copies) (all_taken (node_at now) (inner (inner_name parent) f.header f.copies) f.gains.holds) among
+                  each_in (IsTaken (node_at now)) (leaf_name p) (inner_name parent ∷ names_below f.copies)
+                  (all_taken (node_at now) (inner (inner_name parent) f.header f.copies) f.gains.holds) among
                   (sym (child_seen g (leaf_name p) among) ∙ node_at-leaf next p ∙ ap (λ o. option_map leaf_node (option_map pair_of o)) none);
-              first_there = λ next done copied p e. are_there next copied.copy copied.gains.holds p (first_in (leaf_names copied.copy) (leaf_name p) (copied.first ∙ ap (option_map leaf_name) e));
+              first_there = λ next done copied p e. are_there next copied.copy copied.gains.holds p
+                  (first_in (leaf_names copied.copy) (leaf_name p) (copied.first ∙ ap (option_map leaf_name) e));
               place = λ next done copied.
                   let g = child_gained f u c others at byte next (put_below parent b max next done) done copied refl refl in
-                  let (off, x, there, head, below) = inner_at next (inner_name parent) f.header (slots_of f.copies) (child_seen g (inner_name parent) (inl refl) ∙ f.gains.holds.0) in
+                  let (off, x, there, head, below) =
+                  inner_at next (inner_name parent) f.header (slots_of f.copies)
+                  (child_seen g (inner_name parent) (inl refl) ∙ f.gains.holds.0) in
                   let children = ap length below in
                   let long = length-slots_of f.copies in
                   let so_far = ap length (copied_bytes IsClone f.done f.copies f.same) in
@@ -263,7 +279,8 @@ module _ {K V : Type 0} {IsClone : K × V → K × V → Type 0} where
                 promise = ap (children_taken others) (kept ∙ copied.promise) ∙ sym (ap (λ z. children_taken z now.promise) at) ∙ f.promise;
                 first = first_more min (leaf_names_below f.copies) done.min_leaf f.first ∙
                     ap (first_or (leaf_names_below f.copies)) (sym copied.first) ∙
-                    sym (first_or-append (leaf_names_below f.copies) (leaf_names copied.copy) None) ∙ ap (λ z. first_or z None) (sym (all_names f.copies b copied.copy));
+                    sym (first_or-append (leaf_names_below f.copies) (leaf_names copied.copy) None)
+                    ∙ ap (λ z. first_or z None) (sym (all_names f.copies b copied.copy));
                 last = sym (ap (λ z. last_or z None) (all_names f.copies b copied.copy) ∙
                     last_or-append (leaf_names_below f.copies) (leaf_names copied.copy) None ∙
                     last_more (leaf_names copied.copy) (leaf_name done.max_leaf) (last_or (leaf_names_below f.copies) None) copied.last);
@@ -300,7 +317,8 @@ module _ {K V : Type 0} {IsClone : K × V → K × V → Type 0} where
     where
       stays : (k : OpaqueNodePtr) → node_at next k ≡ node_at now k
       stays k = elim (leaf_or k) [
-        | inl (q, e) ↦ subst (λ z. node_at next z ≡ node_at now z) (sym e) (node_at-leaf next q ∙ ap (λ m. option_map leaf_node (option_map pair_of (get m q))) leaves ∙ sym (node_at-leaf now q))
+        | inl (q, e) ↦ subst (λ z. node_at next z ≡ node_at now z) (sym e)
+            (node_at-leaf next q ∙ ap (λ m. option_map leaf_node (option_map pair_of (get m q))) leaves ∙ sym (node_at-leaf now q))
         | inr kind ↦ same_inner now next k kind (ap (λ m. get m (as_inner k)) inners)
       ]
 
@@ -315,7 +333,8 @@ module _ {K V : Type 0} {IsClone : K × V → K × V → Type 0} where
     pub refused_can_go : (shape : Tree OpaqueNodePtr (Unit {0})) × CanGo next true name shape
     refused_can_go = (shape_of refused.tree, all_can refused.is_layout)
 
-    pub refused_undone : {freed : Nodes K V} → ((shape : Tree OpaqueNodePtr (Unit {0})) → CanGo next true name shape → Frees (names_to_free true shape) next freed) →
+    pub refused_undone : {freed : Nodes K V} →
+        ((shape : Tree OpaqueNodePtr (Unit {0})) → CanGo next true name shape → Frees (names_to_free true shape) next freed) →
         ((q : InnerPtr) → q.kind ≡ Leaf → get freed.inners q ≡ get next.inners q) → SameNodes old freed
     unfolding refused refused_can_go
     refused_undone {freed} went improper =
@@ -345,7 +364,8 @@ module _ {K V : Type 0} {IsClone : K × V → K × V → Type 0} where
         record {
           copy = inner (inner_name parent) f.header f.copies;
           named = refl;
-          same = subst (λ t. IsCopy IsClone t (inner (inner_name parent) f.header f.copies)) (sym (f.is ∙ ap (inner f.name f.header) (ap (join f.done) at ∙ join_none f.done))) (refl, f.same);
+          same = subst (λ t. IsCopy IsClone t (inner (inner_name parent) f.header f.copies))
+              (sym (f.is ∙ ap (inner f.name f.header) (ap (join f.done) at ∙ join_none f.done))) (refl, f.same);
           gains = f.gains;
           promise = sym (ap (λ z. children_taken z now.promise) at) ∙ f.promise;
           first = sym f.first ∙ ap (option_map leaf_name) e;
@@ -353,13 +373,16 @@ module _ {K V : Type 0} {IsClone : K × V → K × V → Type 0} where
         },
       )
 
-  module _ {s : Nodes K V} {tree : Tree OpaqueNodePtr (K × V)} {old now : Nodes K V} {parent : InnerPtr} {items : List (ℕ × OpaqueNodePtr)} {min max : Option LeafPtr}
+  module _ {s : Nodes K V} {tree : Tree OpaqueNodePtr (K × V)} {old now : Nodes K V} {parent : InnerPtr} {items : List (ℕ × OpaqueNodePtr)}
+      {min max : Option LeafPtr}
       (steps : items ≡ []) (so_far : IsCloning IsClone s tree old now parent items min max) where
-    all : (p : LeafPtr) × (q : LeafPtr) × (min ≡ Some p) × (max ≡ Some q) × IsCopied IsClone tree old now (record { root = inner_name parent; min_leaf = p; max_leaf = q })
+    all : (p : LeafPtr) × (q : LeafPtr) × (min ≡ Some p) × (max ≡ Some q) ×
+        IsCopied IsClone tree old now (record { root = inner_name parent; min_leaf = p; max_leaf = q })
     all = cloning_end s tree old now parent min max (subst (λ l. IsCloning IsClone s tree old now parent l min max) steps so_far)
 
     -- the whole is copied
-    pub cloned_whole : {done : CloneResult} → min ≡ Some done.min_leaf → max ≡ Some done.max_leaf → done.root ≡ inner_name parent → IsCopied IsClone tree old now done
+    pub cloned_whole : {done : CloneResult} → min ≡ Some done.min_leaf → max ≡ Some done.max_leaf → done.root ≡ inner_name parent →
+        IsCopied IsClone tree old now done
     cloned_whole {done} e g named =
         let (k, l, h, i, copied) = all in
         let first : k ≡ done.min_leaf = cc in
@@ -381,7 +404,8 @@ module _ {K V : Type 0} {IsClone : K × V → K × V → Type 0} where
         subst IsSome (sym e) refl
 
   -- there are ends then
-  pub has_ends : {s : Nodes K V} {tree : Tree OpaqueNodePtr (K × V)} {old now : Nodes K V} {parent : InnerPtr} {items : List (ℕ × OpaqueNodePtr)} (ends : Option LeafEnds) →
+  pub has_ends : {s : Nodes K V} {tree : Tree OpaqueNodePtr (K × V)} {old now : Nodes K V} {parent : InnerPtr}
+      {items : List (ℕ × OpaqueNodePtr)} (ends : Option LeafEnds) →
       items ≡ [] → IsCloning IsClone s tree old now parent items (first_leaf ends) (last_leaf ends) → IsSome ends
   has_ends None steps so_far = has_first steps so_far
   has_ends (Some ends) steps so_far = refl

@@ -52,11 +52,14 @@ module _ {N A : Type 0} where
   -- a tree whose hole has another tree of the same name has the same name
   same_name : (gs : List (Frame N A)) (t u : Tree N A) → name_of u ≡ name_of t → name_of (plug gs u) ≡ name_of (plug gs t)
   same_name [] t u e = e
-  same_name (g ∷ gs) t u e = same_name gs (inner g.mark g.header (join g.left (child g.byte t g.right))) (inner g.mark g.header (join g.left (child g.byte u g.right))) refl
+  same_name (g ∷ gs) t u e =
+      same_name gs (inner g.mark g.header (join g.left (child g.byte t g.right)))
+      (inner g.mark g.header (join g.left (child g.byte u g.right))) refl
 
 -- ---- a leaf below a node, the innermost of a path inside a subtree
 
-module _ {K V : Type 0} {bytes : K × V → List ℕ} {P : ℕ} {s : Nodes K V} {root : OpaqueNodePtr} {pairs : List (K × V)} {f : Frame OpaqueNodePtr (K × V)} {n : LeafPtr} {y : LeafNode K V}
+module _ {K V : Type 0} {bytes : K × V → List ℕ} {P : ℕ} {s : Nodes K V} {root : OpaqueNodePtr} {pairs : List (K × V)}
+    {f : Frame OpaqueNodePtr (K × V)} {n : LeafPtr} {y : LeafNode K V}
     (fs gs : List (Frame OpaqueNodePtr (K × V))) (below : HasLeafBelow bytes P s root pairs f (gs ++ fs) n y) where
   abbrev x : K × V
   x = pair_of y
@@ -114,7 +117,8 @@ module _ {K V : Type 0} {bytes : K × V → List ℕ} {P : ℕ} {s : Nodes K V} 
 
   leaf_off : IsIn (leaf_name n) (names_of rest) → ⊥
   leaf_off i = elim (in_either (leaf_name n) (names_before (f ∷ gs)) (names_after (f ∷ gs)) (subst (IsIn (leaf_name n)) rest_names i)) [
-    | inl j ↦ apart_in (names_before (f ∷ gs)) (leaf_name n ∷ []) (leaf_name n) (Pairwise-left ◌≢◌ (names_before (f ∷ gs) ++ (leaf_name n ∷ [])) (names_after (f ∷ gs)) apart) j (inl refl)
+    | inl j ↦ apart_in (names_before (f ∷ gs)) (leaf_name n ∷ []) (leaf_name n)
+        (Pairwise-left ◌≢◌ (names_before (f ∷ gs) ++ (leaf_name n ∷ [])) (names_after (f ∷ gs)) apart) j (inl refl)
     | inr j ↦ apart_in (names_before (f ∷ gs) ++ (leaf_name n ∷ [])) (names_after (f ∷ gs)) (leaf_name n) apart
         (in_right (leaf_name n) (names_before (f ∷ gs)) (leaf_name n ∷ []) (inl refl)) j
   ]
@@ -128,11 +132,13 @@ module _ {K V : Type 0} {bytes : K × V → List ℕ} {P : ℕ} {s : Nodes K V} 
       (in_right x (pairs_before (f ∷ gs)) (x ∷ []) (inl refl)))
 
   entry_in : (e : (K × V) × OpaqueNodePtr) → IsIn e (entries_of (leaf (leaf_name n) x)) → IsIn e (entries_of node)
-  entry_in e i = subst (IsIn e) (sym (entries_of-plug (f ∷ gs) (leaf (leaf_name n) x))) (in_left e (entries_before (f ∷ gs) ++ ((x, leaf_name n) ∷ [])) (entries_after (f ∷ gs))
+  entry_in e i = subst (IsIn e) (sym (entries_of-plug (f ∷ gs) (leaf (leaf_name n) x)))
+      (in_left e (entries_before (f ∷ gs) ++ ((x, leaf_name n) ∷ [])) (entries_after (f ∷ gs))
       (in_right e (entries_before (f ∷ gs)) ((x, leaf_name n) ∷ []) i))
 
   pub mark_in : IsIn f.mark (names_of node)
-  mark_in = rest_in f.mark (subst (IsIn f.mark) (sym (names_of-plug gs fewer)) (in_left f.mark (names_before gs ++ (f.mark ∷ names_below (join f.left f.right))) (names_after gs)
+  mark_in = rest_in f.mark (subst (IsIn f.mark) (sym (names_of-plug gs fewer))
+      (in_left f.mark (names_before gs ++ (f.mark ∷ names_below (join f.left f.right))) (names_after gs)
       (in_right f.mark (names_before gs) (f.mark ∷ names_below (join f.left f.right)) (inl refl))))
 
   -- one leaf fewer
@@ -171,8 +177,10 @@ module _ {K V : Type 0} {bytes : K × V → List ℕ} {P : ℕ} {s : Nodes K V} 
       ∙ shown head (slots_left below i.children kids)
 
   mid_held : Holds (node_at mid) rest × AreDistinct (names_of rest)
-  mid_held = replace (node_at s) (node_at mid) gs upper fewer node_holds node_distinct (parent_stays (node_at s) (node_at mid) gs f.mark (path_holds (node_at s) gs upper node_holds).0 parent_same)
-      (children_regrown (node_at s) (node_at mid) gs f.mark f.header f.left (child f.byte (leaf (leaf_name n) x) no_child) f.right node_holds node_distinct f.mark f.header no_child
+  mid_held = replace (node_at s) (node_at mid) gs upper fewer node_holds node_distinct
+      (parent_stays (node_at s) (node_at mid) gs f.mark (path_holds (node_at s) gs upper node_holds).0 parent_same)
+      (children_regrown (node_at s) (node_at mid) gs f.mark f.header f.left
+      (child f.byte (leaf (leaf_name n) x) no_child) f.right node_holds node_distinct f.mark f.header no_child
       (record { named = inl refl; were_free = tt; distinct = tt; apart = tt; there = mark_now; below = tt }) (mid_same (f.mark ∷ leaf_name n ∷ []) (inl refl)))
       (mid_same (names_of upper) (inl refl))
 
@@ -197,11 +205,14 @@ module _ {K V : Type 0} {bytes : K × V → List ℕ} {P : ℕ} {s : Nodes K V} 
     }
 
     -- nodes in use outside the subtree are unchanged, except for links and the parent
-    other_held : (k : OpaqueNodePtr) → (IsIn k (names_of node) → ⊥) → (IsParent fs k → ⊥) → ((p : LeafPtr) → next ≡ Some p → k ≢ leaf_name p) → content_at w k ≡ content_at s k
+    other_held : (k : OpaqueNodePtr) → (IsIn k (names_of node) → ⊥) → (IsParent fs k → ⊥) →
+        ((p : LeafPtr) → next ≡ Some p → k ≢ leaf_name p) → content_at w k ≡ content_at s k
     other_held k off up not_next = elim (leaf_or k) [
       | inl (p, e) ↦ subst (λ z. content_at w z ≡ content_at s z) (sym e) (ap (option_map held_leaf) (ap (λ m. get m p) leaves
-          ∙ joined_elsewhere s.leaves (Some n) next next (Some n) p (λ g. off (subst (λ z. IsIn z (names_of node)) (sym (e ∙ ap leaf_name (sym (some_one g)))) leaf_in)) (λ g. not_next p g e)))
-      | inr kind ↦ held_in_inner w k.kind k.slot kind ∙ ap (option_map held_inner) (ap (λ m. get m (as_inner k)) inners ∙ with_child_at-elsewhere fs (leaf_name n) mid.inners k up
+          ∙ joined_elsewhere s.leaves (Some n) next next (Some n) p
+          (λ g. off (subst (λ z. IsIn z (names_of node)) (sym (e ∙ ap leaf_name (sym (some_one g)))) leaf_in)) (λ g. not_next p g e)))
+      | inr kind ↦ held_in_inner w k.kind k.slot kind
+          ∙ ap (option_map held_inner) (ap (λ m. get m (as_inner k)) inners ∙ with_child_at-elsewhere fs (leaf_name n) mid.inners k up
           ∙ other_inner k (λ e. off (subst (λ z. IsIn z (names_of node)) (sym e) mark_in))) ∙ sym (held_in_inner s k.kind k.slot kind)
     ]
       where
@@ -223,7 +234,8 @@ module _ {K V : Type 0} {bytes : K × V → List ℕ} {P : ℕ} {s : Nodes K V} 
 
       kept_inner_at : (k : OpaqueNodePtr) → k.kind ≢ Leaf → (IsIn k (names_of rest) → ⊥) → get t.inners (as_inner k) ≡ get w.inners (as_inner k)
       kept_inner_at k kind off =
-          same_inner_held K V (get t.inners (as_inner k)) (get w.inners (as_inner k)) (sym (held_in_inner t k.kind k.slot kind) ∙ freed.beside k off (λ z. z) ∙ held_in_inner w k.kind k.slot kind)
+          same_inner_held K V (get t.inners (as_inner k)) (get w.inners (as_inner k))
+          (sym (held_in_inner t k.kind k.slot kind) ∙ freed.beside k off (λ z. z) ∙ held_in_inner w k.kind k.slot kind)
 
       kept_node_at : (k : OpaqueNodePtr) → (IsIn k (names_of rest) → ⊥) → node_at t k ≡ node_at w k
       kept_node_at k off = ap (option_map (tree_node k.kind)) (freed.beside k off (λ z. z))
@@ -249,8 +261,10 @@ module _ {K V : Type 0} {bytes : K × V → List ℕ} {P : ℕ} {s : Nodes K V} 
 
       outer : AreDistinct ((before ++ leaf_name n ∷ []) ++ after)
       outer = Pairwise-append ◌≢◌ (before ++ leaf_name n ∷ []) after (Pairwise-left ◌≢◌ (before ++ leaf_name n ∷ []) others
-          (Pairwise-left ◌≢◌ ((before ++ leaf_name n ∷ []) ++ others) after whole_leaves)) (Pairwise-right ◌≢◌ ((before ++ leaf_name n ∷ []) ++ others) after whole_leaves)
-          (Each-left (λ k. Each (λ y. k ≢ y) after) (before ++ leaf_name n ∷ []) others (Pairwise-across ◌≢◌ ((before ++ leaf_name n ∷ []) ++ others) after whole_leaves))
+          (Pairwise-left ◌≢◌ ((before ++ leaf_name n ∷ []) ++ others) after whole_leaves))
+          (Pairwise-right ◌≢◌ ((before ++ leaf_name n ∷ []) ++ others) after whole_leaves)
+          (Each-left (λ k. Each (λ y. k ≢ y) after) (before ++ leaf_name n ∷ []) others
+          (Pairwise-across ◌≢◌ ((before ++ leaf_name n ∷ []) ++ others) after whole_leaves))
 
       stays_off : (k : OpaqueNodePtr) → IsIn k ((before ++ leaf_name n ∷ []) ++ after) → IsIn k (names_of rest) → ⊥
       stays_off k i j = elim (in_either k (before ++ leaf_name n ∷ []) after i) [
@@ -279,7 +293,8 @@ module _ {K V : Type 0} {bytes : K × V → List ℕ} {P : ℕ} {s : Nodes K V} 
       now_linked =
           let linked = relink (links_at s) (links_at t) (before ++ leaf_name n ∷ []) [] after outer (relinked_beside are_beside) others
           (subst (λ ks. AreLinked (links_at s) None ks None) all_leaves old.linked) in
-          subst (λ ks. AreLinked (links_at t) None ks None) (ap (λ z. z ++ after) (append-nil (before ++ leaf_name n ∷ [])) ∙ sym (leaf_names-plug fs (leaf (leaf_name n) x))) linked
+          subst (λ ks. AreLinked (links_at t) None ks None)
+          (ap (λ z. z ++ after) (append-nil (before ++ leaf_name n ∷ [])) ∙ sym (leaf_names-plug fs (leaf (leaf_name n) x))) linked
 
       -- the tree
       now_there : node_at t (leaf_name n) ≡ Some (leaf_node x)
@@ -288,7 +303,8 @@ module _ {K V : Type 0} {bytes : K × V → List ℕ} {P : ℕ} {s : Nodes K V} 
       now_parent : ParentHas (node_at t) fs (leaf_name n)
       now_parent = parent_written bytes P s t mid.inners fs hole.0 (name_of node) (leaf_name n) hole.1 above
           (λ k up. other_inner k (λ e. up_apart k up (subst (λ z. IsIn z (names_of node)) (sym e) mark_in)))
-          (λ k up. kept_inner_at k (parent_there bytes P s fs (name_of node) above k up).0 (λ i. up_apart k up (rest_in k i)) ∙ ap (λ m. get m (as_inner k)) inners)
+          (λ k up. kept_inner_at k (parent_there bytes P s fs (name_of node) above k up).0 (λ i. up_apart k up (rest_in k i))
+          ∙ ap (λ m. get m (as_inner k)) inners)
 
       now_same : SameBut (node_at s) (node_at t) fs (names_of node)
       now_same k up off used = kept_node_at k (λ i. off (rest_in k i)) ∙ same_but s w fs (names_of node)
@@ -299,7 +315,8 @@ module _ {K V : Type 0} {bytes : K × V → List ℕ} {P : ℕ} {s : Nodes K V} 
       leaf_radix : IsRadix bytes P hole.0 (leaf (leaf_name n) x)
       leaf_radix = each_in (λ z. IsFront hole.0 (bytes z)) x (pairs_of node) (radix_way bytes P node hole.0 hole.2) pair_in
 
-      pub now_laid : IsLaidOut bytes P (node_at t) (links_at t) (root_with fs root (leaf_name n)) (pairs_before fs ++ (x ∷ []) ++ pairs_after fs) (plug fs (leaf (leaf_name n) x))
+      pub now_laid : IsLaidOut bytes P (node_at t) (links_at t) (root_with fs root (leaf_name n))
+          (pairs_before fs ++ (x ∷ []) ++ pairs_after fs) (plug fs (leaf (leaf_name n) x))
       now_laid =
           let (holds, distinct) =
           replace (node_at s) (node_at t) fs node (leaf (leaf_name n) x) old.holds old.distinct now_parent
@@ -334,19 +351,22 @@ module _ {K V : Type 0} {bytes : K × V → List ℕ} {P : ℕ} {s : Nodes K V} 
       ])
 
       pub now_fewer : (k : OpaqueNodePtr) → IsIn k (names_of (plug fs (leaf (leaf_name n) x))) → IsIn k (names_of (plug fs node))
-      now_fewer k is_new = elim (in_either k (names_before fs ++ leaf_name n ∷ []) (names_after fs) (subst (IsIn k) (names_of-plug fs (leaf (leaf_name n) x)) is_new)) [
-        | inl i ↦ elim (in_either k (names_before fs) (leaf_name n ∷ []) i) [
-          | inl j ↦ in_old k (inl j)
-          | inr j ↦ elim j [ inl e ↦ in_old k (inr (inl (subst (λ z. IsIn z (names_of node)) e leaf_in))) | inr z ↦ absurd z ]
-        ]
-        | inr i ↦ in_old k (inr (inr i))
-      ]
+      now_fewer k is_new =
+          elim (in_either k (names_before fs ++ leaf_name n ∷ []) (names_after fs)
+          (subst (IsIn k) (names_of-plug fs (leaf (leaf_name n) x)) is_new)) [
+            | inl i ↦ elim (in_either k (names_before fs) (leaf_name n ∷ []) i) [
+              | inl j ↦ in_old k (inl j)
+              | inr j ↦ elim j [ inl e ↦ in_old k (inr (inl (subst (λ z. IsIn z (names_of node)) e leaf_in))) | inr z ↦ absurd z ]
+            ]
+            | inr i ↦ in_old k (inr (inr i))
+          ]
 
       pub now_others : KeepsOthers s t (names_of (plug fs node)) (names_of (plug fs (leaf (leaf_name n) x)))
       now_others = record {
         beside = λ k not_old not_new. freed.beside k (λ i. not_old (in_old k (inr (inl (rest_in k i))))) (λ z. z) ∙
             other_held k (λ i. not_old (in_old k (inr (inl i)))) (λ up. not_old (in_old k (inl (parent_before fs k up))))
-            (λ p e same. not_old (in_old k (inr (inr (leaves_after_in fs k (first_in after k (sym next_is ∙ ap (option_map leaf_name) e ∙ ap Some (sym same))))))));
+            (λ p e same. not_old (in_old k (inr (inr
+            (leaves_after_in fs k (first_in after k (sym next_is ∙ ap (option_map leaf_name) e ∙ ap Some (sym same))))))));
         gone = λ k is_old not_new. elim (in_either k (names_before fs ++ names_of node) (names_after fs) (subst (IsIn k) (names_of-plug fs node) is_old)) [
           | inl i ↦ elim (in_either k (names_before fs) (names_of node) i) [
             | inl j ↦ absurd (not_new (in_new k (inl j)))
@@ -358,13 +378,15 @@ module _ {K V : Type 0} {bytes : K × V → List ℕ} {P : ℕ} {s : Nodes K V} 
       }
 
       new_off : (k : OpaqueNodePtr) → IsIn k (names_of rest) → IsIn k (names_of (plug fs (leaf (leaf_name n) x))) → ⊥
-      new_off k j is_new = elim (in_either k (names_before fs ++ leaf_name n ∷ []) (names_after fs) (subst (IsIn k) (names_of-plug fs (leaf (leaf_name n) x)) is_new)) [
-        | inl i ↦ elim (in_either k (names_before fs) (leaf_name n ∷ []) i) [
-          | inl h ↦ before_apart (node_at s) (node_at s) fs node old.holds old.distinct k h (rest_in k j)
-          | inr h ↦ elim h [ inl e ↦ leaf_off (subst (λ z. IsIn z (names_of rest)) (sym e) j) | inr z ↦ z ]
-        ]
-        | inr i ↦ after_apart (node_at s) (node_at s) fs node old.holds old.distinct k (rest_in k j) i
-      ]
+      new_off k j is_new =
+          elim (in_either k (names_before fs ++ leaf_name n ∷ []) (names_after fs)
+          (subst (IsIn k) (names_of-plug fs (leaf (leaf_name n) x)) is_new)) [
+            | inl i ↦ elim (in_either k (names_before fs) (leaf_name n ∷ []) i) [
+              | inl h ↦ before_apart (node_at s) (node_at s) fs node old.holds old.distinct k h (rest_in k j)
+              | inr h ↦ elim h [ inl e ↦ leaf_off (subst (λ z. IsIn z (names_of rest)) (sym e) j) | inr z ↦ z ]
+            ]
+            | inr i ↦ after_apart (node_at s) (node_at s) fs node old.holds old.distinct k (rest_in k j) i
+          ]
 
       pub now_stays_or_goes : (k : OpaqueNodePtr) → IsIn k (names_of (plug fs node)) →
           IsIn k (names_of (plug fs (leaf (leaf_name n) x))) ⊎ (IsIn k (names_of (plug fs (leaf (leaf_name n) x))) → ⊥)
@@ -379,7 +401,8 @@ module _ {K V : Type 0} {bytes : K × V → List ℕ} {P : ℕ} {s : Nodes K V} 
       -- leaves and inner nodes keep their names
       pub now_kept : ChangesInPlace bytes s t (Some (plug fs node)) (Some (plug fs (leaf (leaf_name n) x)))
       now_kept =
-          let leaves_kept = kept_leaves bytes P fs node (leaf (leaf_name n) x) old.radix now_laid.radix (kept_leaves_fewer bytes P node (leaf (leaf_name n) x) hole.0 hole.2 entry_in) in
+          let leaves_kept = kept_leaves bytes P fs node (leaf (leaf_name n) x) old.radix now_laid.radix
+          (kept_leaves_fewer bytes P node (leaf (leaf_name n) x) hole.0 hole.2 entry_in) in
           let inners_kept = kept bytes P fs hole.0 node (leaf (leaf_name n) x) hole.1 hole.2 leaf_radix (λ e f i j. absurd j) in
           record {
             leaves = λ a b k m i j same. sym (leaves_kept (a, k) (b, m) i j tt (sym same));

@@ -30,7 +30,8 @@ use Rattle.art_writing.proofs.FreedTrees.{all_can, all_go, inner_is_there, leaf_
 
 module _ {K V : Type 0} (IsClone : K × V → K × V → Type 0) (s : Nodes K V) where
   -- A child of this node is being copied, the tree of the name, from this store on.
-  pub record IsAboveCopy (Outer : Nodes K V → Tree OpaqueNodePtr (K × V) → Type 0) (f : Above) (now : Nodes K V) (tree : Tree OpaqueNodePtr (K × V)) : Type 0 where
+  pub record IsAboveCopy (Outer : Nodes K V → Tree OpaqueNodePtr (K × V) → Type 0) (f : Above) (now : Nodes K V)
+      (tree : Tree OpaqueNodePtr (K × V)) : Type 0 where
     pub old : Nodes K V
     pub outer_tree : Tree OpaqueNodePtr (K × V)
     pub name : OpaqueNodePtr
@@ -44,7 +45,8 @@ module _ {K V : Type 0} (IsClone : K × V → K × V → Type 0) (s : Nodes K V)
   AreAbove start whole (f ∷ fs) now tree = IsAboveCopy (AreAbove start whole fs) f now tree
 
   -- The children of a node are copied, and these are still to be copied.
-  pub record IsCopying (start : Nodes K V) (whole : Tree OpaqueNodePtr (K × V)) (above : List Above) (now : Nodes K V) (copy : InnerPtr) (left : Children) (min max : Option LeafPtr) : Type 0 where
+  pub record IsCopying (start : Nodes K V) (whole : Tree OpaqueNodePtr (K × V)) (above : List Above) (now : Nodes K V) (copy : InnerPtr)
+      (left : Children) (min max : Option LeafPtr) : Type 0 where
     pub old : Nodes K V
     pub tree : Tree OpaqueNodePtr (K × V)
     pub outer : AreAbove start whole above old tree
@@ -84,7 +86,8 @@ module _ {K V : Type 0} (s : Nodes K V) where
   pub size_at_is : (name : OpaqueNodePtr) (t : Tree OpaqueNodePtr (K × V)) → IsLayout (node_at s) name t → size_at name ≡ length (names_of t)
   size_at_is name t is = ap (λ z. length (names_of z)) (read_at_is s (shape_of t) name (has_shape s name t is).0) ∙ ap length (names_of-shape t)
 
-  sizes_are : (cs : Subtrees OpaqueNodePtr (K × V)) → HoldsBelow (node_at s) cs → AreDistinct (names_below cs) → sizes_at (slots_of cs) ≡ length (names_below cs)
+  sizes_are : (cs : Subtrees OpaqueNodePtr (K × V)) → HoldsBelow (node_at s) cs → AreDistinct (names_below cs) →
+      sizes_at (slots_of cs) ≡ length (names_below cs)
   sizes_are no_child holds distinct = refl
   sizes_are (child b t cs) holds distinct =
       let one = size_at_is (name_of t) t (record { named = refl; holds = holds.0; distinct = Pairwise-left ◌≢◌ (names_of t) (names_below cs) distinct }) in
@@ -93,7 +96,8 @@ module _ {K V : Type 0} (s : Nodes K V) where
       omega (arith, one, more, both)
 
   -- the children of a node have fewer nodes than its tree
-  left_less : {IsClone : K × V → K × V → Type 0} {tree : Tree OpaqueNodePtr (K × V)} {old now : Nodes K V} {copy : InnerPtr} {rest : Children} {min max : Option LeafPtr} →
+  left_less : {IsClone : K × V → K × V → Type 0} {tree : Tree OpaqueNodePtr (K × V)} {old now : Nodes K V} {copy : InnerPtr}
+      {rest : Children} {min max : Option LeafPtr} →
       IsCloning IsClone s tree old now copy rest min max → sizes_at rest < length (names_of tree)
   left_less is =
       let slots = ap sizes_at is.slots in
@@ -104,10 +108,12 @@ module _ {K V : Type 0} (s : Nodes K V) where
       omega (arith, slots, sizes, all, names, both)
 
 -- an inner node whose name stands for a tree is in the store
-pub root_there : {K V : Type 0} (s : Nodes K V) {p : InnerPtr} → p.kind ≢ Leaf → (tree : Tree OpaqueNodePtr (K × V)) → IsFullTree s (inner_name p) tree → IsSome (map.get s.inners p)
+pub root_there : {K V : Type 0} (s : Nodes K V) {p : InnerPtr} → p.kind ≢ Leaf → (tree : Tree OpaqueNodePtr (K × V)) →
+    IsFullTree s (inner_name p) tree → IsSome (map.get s.inners p)
 root_there s off tree full = inner_is_there {s = s} off refl (shape_of tree) (all_can {s = s} full.0)
 
-pub leaf_there_of : {K V : Type 0} (s : Nodes K V) {p : LeafPtr} {root : OpaqueNodePtr} → leaf_name p ≡ root → (tree : Tree OpaqueNodePtr (K × V)) → IsFullTree s root tree →
+pub leaf_there_of : {K V : Type 0} (s : Nodes K V) {p : LeafPtr} {root : OpaqueNodePtr} → leaf_name p ≡ root →
+    (tree : Tree OpaqueNodePtr (K × V)) → IsFullTree s root tree →
     IsSome (map.get s.leaves p)
 leaf_there_of s named tree full = leaf_is_there {s = s} named refl (shape_of tree) (all_can {s = s} full.0)
 
@@ -124,10 +130,12 @@ module _ {K V : Type 0} {IsClone : K × V → K × V → Type 0} {s : Nodes K V}
         tree = whole;
         outer = (refl, refl);
         cloning = subst (λ l. IsCloning IsClone s whole start now copy l None None) (sym begun.all)
-            (cloning_start s start now p copy x (inner_name p) whole off refl full (sym there) begun.kind begun.fresh begun.placed begun.leaves begun.promise begun.rising begun.bound);
+            (cloning_start s start now p copy x (inner_name p) whole off refl full
+            (sym there) begun.kind begun.fresh begun.placed begun.leaves begun.promise begun.rising begun.bound);
       })
 
-  module _ {start now : Nodes K V} {whole : Tree OpaqueNodePtr (K × V)} {above : List Above} {copy : InnerPtr} {rest left : Children} {byte : ℕ} {name : OpaqueNodePtr} (ends : Option LeafEnds)
+  module _ {start now : Nodes K V} {whole : Tree OpaqueNodePtr (K × V)} {above : List Above} {copy : InnerPtr} {rest left : Children}
+      {byte : ℕ} {name : OpaqueNodePtr} (ends : Option LeafEnds)
       (is : IsCopying IsClone s start whole above now copy rest (first_leaf ends) (last_leaf ends)) (steps : rest ≡ (byte, name) ∷ left) where
     -- the next child
     abbrev pub with_next : IsCloning IsClone s is.tree is.old now copy ((byte, name) ∷ left) (first_leaf ends) (last_leaf ends)
@@ -139,7 +147,8 @@ module _ {K V : Type 0} {IsClone : K × V → K × V → Type 0} {s : Nodes K V}
     -- it is copied
     pub child_copied : {mid new : Nodes K V} {done : CloneResult} → IsCopied IsClone next_of.below now mid done → {after : LeafEnds} →
         Some after.first ≡ option_or (first_leaf ends) (Some done.min_leaf) → after.last ≡ done.max_leaf →
-        new.leaves ≡ with_links_around mid.leaves (last_leaf ends) (Some done.min_leaf) (Some done.min_leaf) (last_leaf ends) → new.inners ≡ change mid.inners copy (with_child byte done.root) →
+        new.leaves ≡ with_links_around mid.leaves (last_leaf ends) (Some done.min_leaf) (Some done.min_leaf) (last_leaf ends) →
+        new.inners ≡ change mid.inners copy (with_child byte done.root) →
         new.promise ≡ mid.promise → IsCopying IsClone s start whole above new copy left (first_leaf (Some after)) (last_leaf (Some after))
     child_copied {mid} {new} {done} copied first last leaves inners promise = record {
       old = is.old;
@@ -162,12 +171,16 @@ module _ {K V : Type 0} {IsClone : K × V → K × V → Type 0} {s : Nodes K V}
     pub child_counts : 0 < size_at s name
     child_counts = let e = size_at_is s name next_of.below next_of.is_full.0 in let some = some_names next_of.below in omega (arith, e, some)
 
-    begun_cloning : {new : Nodes K V} {p below : InnerPtr} {x : Inner} {children : Children} → p.kind ≢ Leaf → inner_name p ≡ name → map.get s.inners p ≡ Some x →
+    begun_cloning : {new : Nodes K V} {p below : InnerPtr} {x : Inner} {children : Children} → p.kind ≢ Leaf → inner_name p ≡ name →
+        map.get s.inners p ≡ Some x →
         IsBegun now new p x below children → IsCloning IsClone s next_of.below now new below children None None
-    begun_cloning {new} {p} {below} {x} {children} off named there begun = subst (λ l. IsCloning IsClone s next_of.below now new below l None None) (sym begun.all)
-        (cloning_start s now new p below x name next_of.below off named next_of.is_full (sym there) begun.kind begun.fresh begun.placed begun.leaves begun.promise begun.rising begun.bound)
+    begun_cloning {new} {p} {below} {x} {children} off named there begun =
+        subst (λ l. IsCloning IsClone s next_of.below now new below l None None) (sym begun.all)
+        (cloning_start s now new p below x name next_of.below off named next_of.is_full
+        (sym there) begun.kind begun.fresh begun.placed begun.leaves begun.promise begun.rising begun.bound)
 
-    pub begun_less : {new : Nodes K V} {p below : InnerPtr} {x : Inner} {children : Children} → p.kind ≢ Leaf → inner_name p ≡ name → map.get s.inners p ≡ Some x →
+    pub begun_less : {new : Nodes K V} {p below : InnerPtr} {x : Inner} {children : Children} → p.kind ≢ Leaf → inner_name p ≡ name →
+        map.get s.inners p ≡ Some x →
         IsBegun now new p x below children → sizes_at s children < size_at s name
     begun_less {new} {p} {below} {x} {children} off named there begun =
         let cloning : IsCloning IsClone s next_of.below now new below children None None = begun_cloning off named there begun in
@@ -176,8 +189,10 @@ module _ {K V : Type 0} {IsClone : K × V → K × V → Type 0} {s : Nodes K V}
         omega (arith, a, b)
 
     -- it is an inner node, and its copy is placed
-    pub child_begun : {new : Nodes K V} {p below : InnerPtr} {x : Inner} {children : Children} → p.kind ≢ Leaf → inner_name p ≡ name → map.get s.inners p ≡ Some x →
-        IsBegun now new p x below children → IsCopying IsClone s start whole (record { copy = copy; byte = byte; children = left; ends = ends } ∷ above) new below children None None
+    pub child_begun : {new : Nodes K V} {p below : InnerPtr} {x : Inner} {children : Children} → p.kind ≢ Leaf → inner_name p ≡ name →
+        map.get s.inners p ≡ Some x →
+        IsBegun now new p x below children → IsCopying IsClone s start whole
+        (record { copy = copy; byte = byte; children = left; ends = ends } ∷ above) new below children None None
     child_begun {new} {p} {below} {x} {children} off named there begun = record {
       old = now;
       tree = next_of.below;
@@ -187,8 +202,10 @@ module _ {K V : Type 0} {IsClone : K × V → K × V → Type 0} {s : Nodes K V}
 
   -- ---- all children of a node are copied
 
-  module _ {start now : Nodes K V} {whole : Tree OpaqueNodePtr (K × V)} {above : List Above} {copy : InnerPtr} {rest : Children} {min max : Option LeafPtr} {done : CloneResult}
-      (is : IsCopying IsClone s start whole above now copy rest min max) (none : rest ≡ []) (first : min ≡ Some done.min_leaf) (last : max ≡ Some done.max_leaf) (named : done.root ≡ inner_name copy) where
+  module _ {start now : Nodes K V} {whole : Tree OpaqueNodePtr (K × V)} {above : List Above} {copy : InnerPtr} {rest : Children}
+      {min max : Option LeafPtr} {done : CloneResult}
+      (is : IsCopying IsClone s start whole above now copy rest min max) (none : rest ≡ []) (first : min ≡ Some done.min_leaf)
+      (last : max ≡ Some done.max_leaf) (named : done.root ≡ inner_name copy) where
     node_copied : IsCopied IsClone is.tree is.old now done
     node_copied = cloned_whole none is.cloning first last named
 
@@ -206,13 +223,15 @@ module _ {K V : Type 0} {IsClone : K × V → K × V → Type 0} {s : Nodes K V}
       pub goes_on : IsCopying IsClone s start whole fs is.old f.copy ((f.byte, outer_of.name) ∷ f.children) (first_leaf f.ends) (last_leaf f.ends)
       goes_on = record { old = outer_of.old; tree = outer_of.outer_tree; outer = outer_of.outer; cloning = outer_of.cloning }
 
-      abbrev pub its_next : NextCloned IsClone s outer_of.outer_tree outer_of.old is.old f.copy f.byte outer_of.name f.children (first_leaf f.ends) (last_leaf f.ends)
+      abbrev pub its_next : NextCloned IsClone s outer_of.outer_tree outer_of.old is.old f.copy f.byte outer_of.name f.children
+          (first_leaf f.ends) (last_leaf f.ends)
       its_next = cloning_next refl outer_of.cloning
 
       pub its_copied : IsCopied IsClone its_next.below is.old now done
       its_copied = subst (λ t. IsCopied IsClone t is.old now done) (sym outer_of.turn) node_copied
 
-      pub outer_goes_on : {new : Nodes K V} {after : LeafEnds} → Some after.first ≡ option_or (first_leaf f.ends) (Some done.min_leaf) → after.last ≡ done.max_leaf →
+      pub outer_goes_on : {new : Nodes K V} {after : LeafEnds} → Some after.first ≡ option_or (first_leaf f.ends) (Some done.min_leaf) →
+          after.last ≡ done.max_leaf →
           new.leaves ≡ with_links_around now.leaves (last_leaf f.ends) (Some done.min_leaf) (Some done.min_leaf) (last_leaf f.ends) →
           new.inners ≡ change now.inners f.copy (with_child f.byte done.root) →
           new.promise ≡ now.promise → IsCopying IsClone s start whole fs new f.copy f.children (first_leaf (Some after)) (last_leaf (Some after))
@@ -232,7 +251,8 @@ module _ {K V : Type 0} {IsClone : K × V → K × V → Type 0} {s : Nodes K V}
     copy_can_go = let refused = cloning_refused {next = into} is.copying.cloning is.leaves is.inners named in (shape_of refused.tree, all_can refused.is_layout)
 
     -- and then the store has its old nodes
-    pub copy_undone : {freed : Nodes K V} → ((shape : Tree OpaqueNodePtr (Unit {0})) → CanGo into true name shape → Frees (names_to_free true shape) into freed) →
+    pub copy_undone : {freed : Nodes K V} → ((shape : Tree OpaqueNodePtr (Unit {0})) → CanGo into true name shape →
+        Frees (names_to_free true shape) into freed) →
         ((q : InnerPtr) → q.kind ≡ Leaf → map.get freed.inners q ≡ map.get into.inners q) → SameNodes is.copying.old freed
     unfolding copy_can_go
     copy_undone {freed} went improper =
@@ -247,7 +267,8 @@ module _ {K V : Type 0} {IsClone : K × V → K × V → Type 0} {s : Nodes K V}
         subst (λ o. SameNodes o freed) old same
 
     -- the one above it is next
-    pub outer_refused : (f : Above) (fs : List Above) → above ≡ f ∷ fs → (freed : Nodes K V) → SameNodes is.copying.old freed → IsRefusedAt IsClone s start whole fs freed f.copy
+    pub outer_refused : (f : Above) (fs : List Above) → above ≡ f ∷ fs → (freed : Nodes K V) → SameNodes is.copying.old freed →
+        IsRefusedAt IsClone s start whole fs freed f.copy
     outer_refused f fs e freed same =
         let outer = subst (λ l. AreAbove IsClone s start whole l is.copying.old is.copying.tree) e is.copying.outer in
         record {
@@ -260,11 +281,13 @@ module _ {K V : Type 0} {IsClone : K × V → K × V → Type 0} {s : Nodes K V}
           inners = same.1;
         }
 
-  pub refused_here : {start into now : Nodes K V} {whole : Tree OpaqueNodePtr (K × V)} {items same : List Above} {copy : InnerPtr} {left : Children} {min max : Option LeafPtr} →
+  pub refused_here : {start into now : Nodes K V} {whole : Tree OpaqueNodePtr (K × V)} {items same : List Above} {copy : InnerPtr}
+      {left : Children} {min max : Option LeafPtr} →
       IsCopying IsClone s start whole (reverse items) now copy left min max → same ≡ items → into.leaves ≡ now.leaves → into.inners ≡ now.inners →
       IsRefusedAt IsClone s start whole (reverse same) into copy
   refused_here {start} {into} {now} {whole} {items} {same} {copy} {left} {min} {max} is e leaves inners =
-      subst (λ l. IsRefusedAt IsClone s start whole (reverse l) into copy) (sym e) (record { now = now; left = left; min = min; max = max; copying = is; leaves = leaves; inners = inners })
+      subst (λ l. IsRefusedAt IsClone s start whole (reverse l) into copy) (sym e)
+      (record { now = now; left = left; min = min; max = max; copying = is; leaves = leaves; inners = inners })
 
 -- ---- the measure falls
 

@@ -27,7 +27,8 @@ pub leads_to : {A : Type 0} {tree : Tree OpaqueNodePtr A} {x : A} {point : Delet
 leads_to is path_is = record { path = is.path; whole = is.whole; path_is = path_is }
 
 -- where there is a pair, what leads to its leaf is the point
-pub point_there : {A : Type 0} {tree : Tree OpaqueNodePtr A} {pair : Option A} {x : A} {point : DeletePoint} → pair ≡ Some x → LeadsTo tree x point → IsDeletePoint tree pair (Some point)
+pub point_there : {A : Type 0} {tree : Tree OpaqueNodePtr A} {pair : Option A} {x : A} {point : DeletePoint} → pair ≡ Some x →
+    LeadsTo tree x point → IsDeletePoint tree pair (Some point)
 point_there {A} {tree} {pair} {x} {point} is leads = subst (λ o. IsDeletePoint tree o (Some point)) (sym is) leads
 
 -- the leaf that a point names has the pair that the point leads to
@@ -39,7 +40,8 @@ pair_named bytes P by leads =
     ap (option_map pair_of) there ∙ ap Some its
 
 -- and so is what leads to the leaf at an end, of the pair there
-pub point_at_end : {A : Type 0} {tree : Tree OpaqueNodePtr A} {pairs : List A} {point : DeletePoint} (end : End) → pairs ≡ pairs_of tree → LeadsToEnd tree end point.path point.leaf_node_ptr →
+pub point_at_end : {A : Type 0} {tree : Tree OpaqueNodePtr A} {pairs : List A} {point : DeletePoint} (end : End) → pairs ≡ pairs_of tree →
+    LeadsToEnd tree end point.path point.leaf_node_ptr →
     (x : A) × (of_two end (first_of pairs, last_of pairs) ≡ Some x) × LeadsTo tree x point
 point_at_end First same (is, path_is) = (_, ap first_of same ∙ is.pair_is, leads_to is.has path_is)
 point_at_end Last same (is, path_is) = (_, ap last_of same ∙ is.pair_is, leads_to is.has path_is)
@@ -47,5 +49,6 @@ point_at_end Last same (is, path_is) = (_, ap last_of same ∙ is.pair_is, leads
 -- where no key is equal nothing is removed
 pub nothing_goes : {A : Type 0} (bytes : A → List ℕ) (key : List ℕ) (pairs : List A) → with_key bytes key pairs ≡ [] → remove_key bytes key pairs ≡ pairs
 nothing_goes bytes key pairs e =
-    filter_all (λ y. not (are_same key (bytes y))) pairs (Each-weaker (λ y. are_same key (bytes y) ≡ false) (λ y. not (are_same key (bytes y)) ≡ true) (λ y f. ap not f) pairs
+    filter_all (λ y. not (are_same key (bytes y))) pairs
+    (Each-weaker (λ y. are_same key (bytes y) ≡ false) (λ y. not (are_same key (bytes y)) ≡ true) (λ y f. ap not f) pairs
     (none_passes (λ y. are_same key (bytes y)) pairs e))

@@ -19,8 +19,11 @@ pub leaf_elsewhere : {K V : Type 0} (s t : Nodes K V) (n : LeafPtr) (x : LeafNod
     t.inners ≡ s.inners → (k : OpaqueNodePtr) → content_at s k ≢ None → content_at t k ≡ content_at s k
 leaf_elsewhere s t n x free leaves inners k used = elim (leaf_or k) [
   | inl (p, e) ↦ subst (λ (z : OpaqueNodePtr). content_at t z ≡ content_at s z) (sym e)
-      (ap (option_map held_leaf) (ap (λ m. get m p) leaves ∙ elsewhere s.leaves n p x (λ f. used (ap (content_at s) e ∙ ap (λ q. content_at s (leaf_name q)) f ∙ ap (option_map held_leaf) free))))
-  | inr off ↦ held_in_inner t k.kind k.slot off ∙ ap (λ m. option_map held_inner (get m (record { kind = k.kind; slot = k.slot }))) inners ∙ sym (held_in_inner s k.kind k.slot off)
+      (ap (option_map held_leaf) (ap (λ m. get m p) leaves
+      ∙ elsewhere s.leaves n p x (λ f. used (ap (content_at s) e ∙ ap (λ q. content_at s (leaf_name q)) f
+      ∙ ap (option_map held_leaf) free))))
+  | inr off ↦ held_in_inner t k.kind k.slot off ∙ ap (λ m. option_map held_inner (get m (record { kind = k.kind; slot = k.slot }))) inners
+      ∙ sym (held_in_inner s k.kind k.slot off)
 ]
 
 -- so does a placement that fails
@@ -31,6 +34,8 @@ placement_elsewhere s t x (Ok n) leaves free inners same k used = leaf_elsewhere
 placement_elsewhere s t x (Err e) leaves free inners same k used = ap (λ m. content_at m k) same
 
 -- a canonical root stays one where what is in use holds what it held
-pub tree_stays : {K V : Type 0} {bytes : K × V → List ℕ} {P : ℕ} {s t : Nodes K V} {root : OpaqueNodePtr} {pairs : List (K × V)} {layout : Tree OpaqueNodePtr (K × V)} →
-    IsCanonicalTree bytes P s root pairs layout → ((k : OpaqueNodePtr) → content_at s k ≢ None → content_at t k ≡ content_at s k) → IsCanonicalTree bytes P t root pairs layout
+pub tree_stays : {K V : Type 0} {bytes : K × V → List ℕ} {P : ℕ} {s t : Nodes K V} {root : OpaqueNodePtr} {pairs : List (K × V)}
+    {layout : Tree OpaqueNodePtr (K × V)} →
+    IsCanonicalTree bytes P s root pairs layout → ((k : OpaqueNodePtr) → content_at s k ≢ None → content_at t k ≡ content_at s k) →
+    IsCanonicalTree bytes P t root pairs layout
 tree_stays by same = tree_kept by (λ k i. same k (name_used by k i))

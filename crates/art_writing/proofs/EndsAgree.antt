@@ -43,7 +43,8 @@ module _ {K V : Type 0} (bytes : K × V → List ℕ) (P : ℕ) {s : Nodes K V} 
       let (y, found, leads) = point_some layout point pair at in
       let same : y ≡ x = same_some (sym found ∙ is) in
       let entry = same_entry (λ e. bytes e.0) (λ e. e.1) (λ e f. Unit {0}) (entries_of layout) (keys_differ bytes P layout [] (tree_radix by).0)
-      (y, leaf_name point.leaf_node_ptr) (x, leaf_name name) (plugged leads.path _ y layout leads.whole) (plugged has.path _ x layout has.whole) (ap bytes same) in
+      (y, leaf_name point.leaf_node_ptr) (x, leaf_name name) (plugged leads.path _ y layout leads.whole)
+      (plugged has.path _ x layout has.whole) (ap bytes same) in
       same_leaf point.leaf_node_ptr name (ap (λ e. e.1) entry)
 
 module _ {K V : Type 0} where

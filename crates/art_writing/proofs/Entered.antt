@@ -59,7 +59,8 @@ use Rattle.art_writing.proofs.Ways.{last_step-path_of, root_with-path_of, root_t
 -- ---- the point's node
 
 -- the node to which a leaf is added, with the gap among its children at the key's byte
-pub record IsEntry {K V : Type 0} (bytes : K × V → List ℕ) (P : ℕ) (p : InnerPtr) (layout : Tree OpaqueNodePtr (K × V)) (key : List ℕ) (path : TreePath) (b : ℕ) : Type 0 where
+pub record IsEntry {K V : Type 0} (bytes : K × V → List ℕ) (P : ℕ) (p : InnerPtr) (layout : Tree OpaqueNodePtr (K × V)) (key : List ℕ)
+    (path : TreePath) (b : ℕ) : Type 0 where
   pub frames : List (Frame OpaqueNodePtr (K × V))
   pub place : List ℕ
   pub header : NodeHeader
@@ -82,10 +83,12 @@ module _ {K V : Type 0} {bytes : K × V → List ℕ} {P : ℕ} {s : Nodes K V} 
       let own = subst (IsRadix bytes P a.place) is a.hole.radix in
       let split = split_at children b own.3 (ap (child_at (slots_of children)) byte ∙ none) in
       let here : node ≡ inner (inner_name p) header (join split.left split.right) = is ∙ ap (inner (inner_name p) header) split.whole in
-      let hole : IsHole bytes P fs a.place (inner (inner_name p) header (join split.left split.right)) key = subst (λ z. IsHole bytes P fs a.place z key) here a.hole in
+      let hole : IsHole bytes P fs a.place (inner (inner_name p) header (join split.left split.right)) key =
+      subst (λ z. IsHole bytes P fs a.place z key) here a.hole in
       let part = hole.radix.0 in
       let prefix : prefix_of bytes (depth_of fs) node ≡ part =
-      ap (λ d. prefix_of bytes d node) a.deep ∙ ap (prefix_of bytes (length a.place)) here ∙ prefix_is bytes P (inner_name p) header (join split.left split.right) a.place hole.radix in
+      ap (λ d. prefix_of bytes d node) a.deep ∙ ap (prefix_of bytes (length a.place)) here
+      ∙ prefix_is bytes P (inner_name p) header (join split.left split.right) a.place hole.radix in
       let (rest, key_is) = hole.front in
       let (after, rest_is) = front in
       let on_way : IsFront (a.place ++ part) key = (
@@ -106,7 +109,8 @@ module _ {K V : Type 0} {bytes : K × V → List ℕ} {P : ℕ} {s : Nodes K V} 
         whole = ap (plug fs) (sym here) ∙ answers_at.is_end.whole;
         gap = record {
           hole = hole;
-          front = subst (λ z. IsFront ((a.place ++ part) ++ z ∷ []) key) (ap (λ d. get_or key d 0) (sym used_is) ∙ sym byte) (front_byte (a.place ++ part) key on_way (omega arith));
+          front = subst (λ z. IsFront ((a.place ++ part) ++ z ∷ []) key) (ap (λ d. get_or key d 0) (sym used_is) ∙ sym byte)
+              (front_byte (a.place ++ part) key on_way (omega arith));
           low = split.low;
           high = split.high;
         };
@@ -114,7 +118,8 @@ module _ {K V : Type 0} {bytes : K × V → List ℕ} {P : ℕ} {s : Nodes K V} 
       }
 
 module _ {K V : Type 0} {bytes : K × V → List ℕ} {P : ℕ} {s : Nodes K V} {p : InnerPtr} {root : OpaqueNodePtr} {pairs : List (K × V)}
-    {layout : Tree OpaqueNodePtr (K × V)} {key : List ℕ} {path : TreePath} {b : ℕ} (by : IsCanonicalTree bytes P s root pairs layout) (e : IsEntry bytes P p layout key path b) where
+    {layout : Tree OpaqueNodePtr (K × V)} {key : List ℕ} {path : TreePath} {b : ℕ} (by : IsCanonicalTree bytes P s root pairs layout)
+    (e : IsEntry bytes P p layout key path b) where
   abbrev entered : Tree OpaqueNodePtr (K × V)
   entered = inner (inner_name p) e.header (join e.left e.right)
 
@@ -124,18 +129,22 @@ module _ {K V : Type 0} {bytes : K × V → List ℕ} {P : ℕ} {s : Nodes K V} 
 
   own_node : (p.kind ≢ Leaf) × (node : Inner) × (map.get s.inners p ≡ Some node) × (node.children ≡ slots_of (join e.left e.right))
   own_node =
-      let (off, node, got, head, kids) = inner_at s (inner_name p) e.header (slots_of (join e.left e.right)) (path_holds (node_at s) e.frames entered entry_laid.holds).1.0 in
+      let (off, node, got, head, kids) =
+      inner_at s (inner_name p) e.header (slots_of (join e.left e.right)) (path_holds (node_at s) e.frames entered entry_laid.holds).1.0 in
       (off, node, got, kids)
 
   -- its kind is that of the number of its children
   pub entry_kind : p.kind ≡ kind_of (length (bytes_of (join e.left e.right)))
   entry_kind =
-      let (off, node, got, head, kids) = inner_at s (inner_name p) e.header (slots_of (join e.left e.right)) (path_holds (node_at s) e.frames entered entry_laid.holds).1.0 in
+      let (off, node, got, head, kids) =
+      inner_at s (inner_name p) e.header (slots_of (join e.left e.right)) (path_holds (node_at s) e.frames entered entry_laid.holds).1.0 in
       ap (λ (z : NodeHeader). z.kind) (head ∙ e.gap.hole.radix.1)
 
   -- whether it is full
   pub entry_full : is_full s p ≡ leb (kind_capacity p.kind) (length (bytes_of (join e.left e.right)))
-  entry_full = let (off, node, got, kids) = own_node in rw (got, is_full) (ap (leb (kind_capacity p.kind)) (ap length kids ∙ length-slots_of (join e.left e.right)))
+  entry_full =
+      let (off, node, got, kids) = own_node in
+      rw (got, is_full) (ap (leb (kind_capacity p.kind)) (ap length kids ∙ length-slots_of (join e.left e.right)))
 
   pub entry_inner : p.kind ≢ Leaf
   entry_inner = own_node.0
@@ -167,7 +176,8 @@ module _ {K V : Type 0} {bytes : K × V → List ℕ} {P : ℕ} {s : Nodes K V} 
 
   -- the parent is another node, and has the node as a child
   pub entry_parent : HasChild (map.remove s.inners p) (last_step path)
-  entry_parent = subst (λ z. HasChild (map.remove s.inners p) (last_step z)) (sym e.path_is) (subst (HasChild (map.remove s.inners p)) (sym (last_step-path_of e.frames)) (go e.frames refl))
+  entry_parent = subst (λ z. HasChild (map.remove s.inners p) (last_step z)) (sym e.path_is)
+      (subst (HasChild (map.remove s.inners p)) (sym (last_step-path_of e.frames)) (go e.frames refl))
     where
       go : (fs : List (Frame OpaqueNodePtr (K × V))) → e.frames ≡ fs → HasChild (map.remove s.inners p) (parent_of fs)
       go [] is = tt
@@ -177,28 +187,34 @@ module _ {K V : Type 0} {bytes : K × V → List ℕ} {P : ℕ} {s : Nodes K V} 
           subst (λ z. IfSome (parent_of z) (λ q. IsSomeAnd (map.get s.inners q.0) (λ node. child_at node.children q.1 ≡ Some (inner_name p)))) is
           (parent_ready bytes P s e.frames e.place (inner_name p) e.gap.hole.path (path_holds (node_at s) e.frames entered entry_laid.holds).0) in
           let off : as_inner f.mark ≢ p =
-          λ same. parent_apart (node_at s) (node_at s) e.frames entered entry_laid.holds entry_laid.distinct f.mark up (inl (sym (inner_name_one f.mark (inner_name p) same))) in
-          subst (λ o. IsSomeAnd o (λ node. IsSome (child_at node.children f.byte))) (sym (inner_gone_elsewhere s.inners p (as_inner f.mark) off)) (some (map.get s.inners (as_inner f.mark)) ready)
+          λ same. parent_apart (node_at s) (node_at s) e.frames entered entry_laid.holds entry_laid.distinct f.mark up
+          (inl (sym (inner_name_one f.mark (inner_name p) same))) in
+          subst (λ o. IsSomeAnd o (λ node. IsSome (child_at node.children f.byte)))
+          (sym (inner_gone_elsewhere s.inners p (as_inner f.mark) off)) (some (map.get s.inners (as_inner f.mark)) ready)
         where
-          some : (o : Option Inner) → IsSomeAnd o (λ node. child_at node.children f.byte ≡ Some (inner_name p)) → IsSomeAnd o (λ node. IsSome (child_at node.children f.byte))
+          some : (o : Option Inner) → IsSomeAnd o (λ node. child_at node.children f.byte ≡ Some (inner_name p)) →
+              IsSomeAnd o (λ node. IsSome (child_at node.children f.byte))
           some None h = h
           some (Some node) h = rw h refl
 
   -- no pair below has the key
-  unequal : (cs : Subtrees OpaqueNodePtr (K × V)) → AreRadix bytes P (e.place ++ e.gap.hole.radix.0) cs → Each (λ c. c ≢ b) (bytes_of cs) → Each (λ x. are_same key (bytes x) ≡ false) (pairs_below cs)
+  unequal : (cs : Subtrees OpaqueNodePtr (K × V)) → AreRadix bytes P (e.place ++ e.gap.hole.radix.0) cs → Each (λ c. c ≢ b) (bytes_of cs) →
+      Each (λ x. are_same key (bytes x) ≡ false) (pairs_below cs)
   unequal no_child h off = tt
   unequal (child c t cs) h off =
       let front = e.place ++ e.gap.hole.radix.0 in
       Each-append (λ x. are_same key (bytes x) ≡ false) (pairs_of t) (pairs_below cs)
       (Each-weaker (λ x. IsFront (front ++ c ∷ []) (bytes x)) (λ x. are_same key (bytes x) ≡ false)
-      (λ x f. same_related key (bytes x) (unrelated_after front b c key (bytes x) e.gap.front f (λ same. off.0 (sym same)))) (pairs_of t) (radix_way bytes P t (front ++ c ∷ []) h.0))
+      (λ x f. same_related key (bytes x) (unrelated_after front b c key (bytes x) e.gap.front f (λ same. off.0 (sym same)))) (pairs_of t)
+      (radix_way bytes P t (front ++ c ∷ []) h.0))
       (unequal cs h.1 off.1)
 
   -- so nothing is replaced
   pub entry_reply : first_of (with_key bytes key pairs) ≡ None
   entry_reply =
       let others = subst (Each (λ c. c ≢ b)) (sym (bytes_of-join e.left e.right)) (Each-append (λ c. c ≢ b) (bytes_of e.left) (bytes_of e.right)
-      (Each-weaker (λ c. c < b) (λ c. c ≢ b) (λ c l same. omega arith) (bytes_of e.left) e.gap.low) (Each-weaker (λ c. b < c) (λ c. c ≢ b) (λ c l same. omega arith) (bytes_of e.right) e.gap.high)) in
+      (Each-weaker (λ c. c < b) (λ c. c ≢ b) (λ c l same. omega arith) (bytes_of e.left) e.gap.low)
+      (Each-weaker (λ c. b < c) (λ c. c ≢ b) (λ c l same. omega arith) (bytes_of e.right) e.gap.high)) in
       ap (λ xs. first_of (with_key bytes key xs)) (sym entry_laid.pairs_are) ∙
       ap first_of (with_key-hole bytes P e.frames e.place key entered e.gap.hole.path e.gap.hole.front ∙
       filter_none (λ x. are_same key (bytes x)) (pairs_below (join e.left e.right)) (unequal (join e.left e.right) e.gap.hole.radix.4 others))
@@ -210,7 +226,8 @@ module _ {K V : Type 0} {bytes : K × V → List ℕ} {P : ℕ} {s t : Nodes K V
   -- the node, or its larger replacement, has the leaf as a child
   pub entered_inserted : {root : OpaqueNodePtr} {done : InsertResult K V} (by : IsCanonicalTree bytes P s point.root pairs layout)
       (into : point.insert_kind ≡ IntoExisting p) (e : IsEntry bytes P p layout (bytes new) point.path b) →
-      ChildAdded bytes P s t point.root pairs e.frames (inner_name p) (inner_name k) e.header e.left e.right b (leaf_name n) new → root ≡ paths.root_with e.frames point.root (inner_name k) →
+      ChildAdded bytes P s t point.root pairs e.frames (inner_name p) (inner_name k) e.header e.left e.right b (leaf_name n) new →
+      root ≡ paths.root_with e.frames point.root (inner_name k) →
       done ≡ record { leaf_node_ptr = n; existing_leaf = None; new_root = root; parent_node_change = NewParent k b } →
       Touches point.insert_kind s t → IsInserted bytes P s t point new pairs layout done
   entered_inserted {root} by into e added root_is done_is few =
@@ -220,7 +237,13 @@ module _ {K V : Type 0} {bytes : K × V → List ℕ} {P : ℕ} {s t : Nodes K V
         tree = tree;
         canonical = canonical_from (subst (λ ps. IsLaidOut bytes P (node_at t) (links_at t) root ps tree) (sym (put-new bytes new pairs (entry_reply by e)))
             (subst (λ r. IsLaidOut bytes P (node_at t) (links_at t) r (replace_key bytes new pairs) tree) (sym root_is) added.laid));
-        inserted = subst (λ x. HasInserted tree point x (record { leaf_node_ptr = n; existing_leaf = None; new_root = root; parent_node_change = NewParent k b }))
+        inserted =
+            subst (λ x. HasInserted tree point x (record {
+              leaf_node_ptr = n;
+              existing_leaf = None;
+              new_root = root;
+              parent_node_change = NewParent k b;
+            }))
             (sym (stored_for-new bytes new pairs (entry_reply by e))) (record {
               path = frame ∷ e.frames;
               whole = refl;

@@ -28,7 +28,8 @@ module _ {K V : Type 0} where
   frees_none s = record { beside = λ k off none. refl; gone = λ k i none. absurd i; taken = λ k i none. absurd i }
 
   -- some names, and then others
-  pub frees_both : {s t u : Nodes K V} (xs ys : List OpaqueNodePtr) → ((k : OpaqueNodePtr) → IsIn k xs → IsIn k ys → ⊥) → Frees xs s t → Frees ys t u → Frees (xs ++ ys) s u
+  pub frees_both : {s t u : Nodes K V} (xs ys : List OpaqueNodePtr) → ((k : OpaqueNodePtr) → IsIn k xs → IsIn k ys → ⊥) → Frees xs s t →
+      Frees ys t u → Frees (xs ++ ys) s u
   frees_both xs ys apart first second = record {
     beside = λ k off none. second.beside k (λ i. off (in_right k xs ys i)) none ∙ first.beside k (λ i. off (in_left k xs ys i)) none;
     gone = λ k i none. elim (in_either k xs ys i) [
@@ -45,9 +46,15 @@ module _ {K V : Type 0} where
       beside = λ k off none. elim (leaf_or k) [
         | inl (q, e) ↦ subst (λ z. content_at t z ≡ content_at s z) (sym e) (ap (option_map held_leaf)
             (ap (λ m. map.get m q) leaves ∙ leaf_gone_elsewhere s.leaves p q (λ f. off (inl (sym (e ∙ ap leaf_name f))))))
-        | inr kind ↦ held_in_inner t k.kind k.slot kind ∙ ap (λ m. option_map held_inner (map.get m (record { kind = k.kind; slot = k.slot }))) inners ∙ sym (held_in_inner s k.kind k.slot kind)
+        | inr kind ↦ held_in_inner t k.kind k.slot kind
+            ∙ ap (λ m. option_map held_inner (map.get m (record { kind = k.kind; slot = k.slot }))) inners
+            ∙ sym (held_in_inner s k.kind k.slot kind)
       ];
-      gone = λ k i none. elim i [ inl e ↦ subst (λ z. content_at t z ≡ None) e (ap (option_map held_leaf) (ap (λ m. map.get m p) leaves ∙ leaf_gone s.leaves p)) | inr j ↦ absurd j ];
+      gone = λ k i none. elim i [
+        | inl e ↦ subst (λ z. content_at t z ≡ None) e
+            (ap (option_map held_leaf) (ap (λ m. map.get m p) leaves ∙ leaf_gone s.leaves p))
+        | inr j ↦ absurd j
+      ];
       taken = λ k i none. absurd i;
     }
 
@@ -61,7 +68,8 @@ module _ {K V : Type 0} where
   first_freed [] p distinct e its leaves inners = absurd cc
   first_freed {s} {t} {next} (x ∷ xs) p distinct e its leaves inners =
       let same : leaf_name p ≡ x = cc in
-      let off : (n : OpaqueNodePtr) → IsIn n xs → IsIn n (leaf_name p ∷ []) → ⊥ = λ n i j. apart_in (x ∷ []) xs n distinct (elim j [ inl f ↦ inl (sym same ∙ f) | inr k ↦ absurd k ]) i in
+      let off : (n : OpaqueNodePtr) → IsIn n xs → IsIn n (leaf_name p ∷ []) → ⊥ =
+      λ n i j. apart_in (x ∷ []) xs n distinct (elim j [ inl f ↦ inl (sym same ∙ f) | inr k ↦ absurd k ]) i in
       goes_on s t next xs its (λ n i. ap (option_and_then links_of) ((leaf_freed {s = s} {t = t} p leaves inners).beside n (off n i) (λ z. z)))
 
   -- Some of the names are freed, and the iterator stands for the others.
@@ -72,7 +80,8 @@ module _ {K V : Type 0} where
     pub iterator_of : IsIteratorOf t iterator rest
     pub freed : Frees gone s t
 
-  pub all_left : {s : Nodes K V} {names : List OpaqueNodePtr} {iterator : Option (LeafPtr × LeafPtr)} → IsIteratorOf s iterator names → AreLeft s s names iterator
+  pub all_left : {s : Nodes K V} {names : List OpaqueNodePtr} {iterator : Option (LeafPtr × LeafPtr)} → IsIteratorOf s iterator names →
+      AreLeft s s names iterator
   all_left {s} {names} is = record { gone = []; rest = names; whole = refl; iterator_of = is; freed = frees_none s }
 
   module _ {s t : Nodes K V} {names : List OpaqueNodePtr} {iterator : Option (LeafPtr × LeafPtr)} (is : AreLeft s t names iterator) where
@@ -89,7 +98,8 @@ module _ {K V : Type 0} where
         IsIteratorOf t next (without_first is.rest) → u.leaves ≡ map.remove t.leaves p → u.inners ≡ t.inners → AreLeft s u names next
     one_goes {u} {next} distinct p first left leaves inners = go is.rest first is.whole left
       where
-        go : (rest : List OpaqueNodePtr) → Some (leaf_name p) ≡ first_of rest → names ≡ is.gone ++ rest → IsIteratorOf t next (without_first rest) → AreLeft s u names next
+        go : (rest : List OpaqueNodePtr) → Some (leaf_name p) ≡ first_of rest → names ≡ is.gone ++ rest →
+            IsIteratorOf t next (without_first rest) → AreLeft s u names next
         go [] e whole its = absurd cc
         go (x ∷ xs) e whole its =
             let same : leaf_name p ≡ x = cc in
@@ -100,7 +110,8 @@ module _ {K V : Type 0} where
               rest = xs;
               whole = whole ∙ ap (λ z. is.gone ++ z ∷ xs) (sym same) ∙ sym (append_assoc is.gone (leaf_name p ∷ []) xs);
               iterator_of = first_freed (x ∷ xs) p (Pairwise-right ◌≢◌ is.gone (x ∷ xs) all) e its leaves inners;
-              freed = frees_both is.gone (leaf_name p ∷ []) (λ k i j. elim j [ inl f ↦ apart_in is.gone (x ∷ xs) k all i (inl (sym same ∙ f)) | inr z ↦ z ]) is.freed goes;
+              freed = frees_both is.gone (leaf_name p ∷ [])
+                  (λ k i j. elim j [ inl f ↦ apart_in is.gone (x ∷ xs) k all i (inl (sym same ∙ f)) | inr z ↦ z ]) is.freed goes;
             }
 
 -- a map without one of its leaves has fewer
@@ -108,7 +119,8 @@ pub leaf_less : {K V : Type 0} (m : map.FinMap leaf_cmp (LeafNode K V)) (p : Lea
 leaf_less m p some =
     let there : is_some (map.get m p) ≡ true = go (map.get m p) some in
     let e : map.len (map.remove m p) ≡ map.len m - 1 = map.len-remove leaf_cmp_total m p ∙ ap (λ b. cond b (map.len m - 1) (map.len m)) there in
-    let held_some : map.len m ≢ 0 = λ z. false≢true (sym (ap is_some (map.get-empty leaf_cmp p)) ∙ ap (λ n. is_some (map.get n p)) (sym (map.empty_of_len m z)) ∙ there) in
+    let held_some : map.len m ≢ 0 =
+    λ z. false≢true (sym (ap is_some (map.get-empty leaf_cmp p)) ∙ ap (λ n. is_some (map.get n p)) (sym (map.empty_of_len m z)) ∙ there) in
     omega arith
   where
     go : {X : Type 0} (o : Option X) → IsSome o → is_some o ≡ true

@@ -69,14 +69,16 @@ module _ {N : Type 0} where
 -- ---- a tree seen without its leaves
 
 module _ {K V : Type 0} (s : Nodes K V) where
-  shape_in_inner : (kind : NodeType) (slot : ℕ) → kind ≢ Leaf → shape_in s kind slot ≡ option_map (inner_seen kind) (map.get s.inners (record { kind = kind; slot = slot }))
+  shape_in_inner : (kind : NodeType) (slot : ℕ) → kind ≢ Leaf →
+      shape_in s kind slot ≡ option_map (inner_seen kind) (map.get s.inners (record { kind = kind; slot = slot }))
   shape_in_inner Leaf slot n = absurd (n refl)
   shape_in_inner Node4 slot n = refl
   shape_in_inner Node16 slot n = refl
   shape_in_inner Node48 slot n = refl
   shape_in_inner Node256 slot n = refl
 
-  pub shape_at-inner : (k : OpaqueNodePtr) → k.kind ≢ Leaf → (o : Option Inner) → map.get s.inners (as_inner k) ≡ o → shape_at s k ≡ option_map (inner_seen k.kind) o
+  pub shape_at-inner : (k : OpaqueNodePtr) → k.kind ≢ Leaf → (o : Option Inner) → map.get s.inners (as_inner k) ≡ o →
+      shape_at s k ≡ option_map (inner_seen k.kind) o
   shape_at-inner k off o e = shape_in_inner k.kind k.slot off ∙ ap (option_map (inner_seen k.kind)) e
 
   not_leaf : (kind : NodeType) (slot : ℕ) (h : NodeHeader) (slots : List (ℕ × OpaqueNodePtr)) → shape_in s kind slot ≡ Some (inner_node h slots) → kind ≢ Leaf
@@ -99,7 +101,8 @@ module _ {K V : Type 0} (s : Nodes K V) where
       let off = not_leaf k.kind k.slot h slots e in
       go off (map.get s.inners (as_inner k)) refl (sym (shape_at-inner k off (map.get s.inners (as_inner k)) refl) ∙ e)
     where
-      go : k.kind ≢ Leaf → (o : Option Inner) → map.get s.inners (as_inner k) ≡ o → option_map (inner_seen {A = Unit {0}} k.kind) o ≡ Some (inner_node h slots) → IsThere k h slots
+      go : k.kind ≢ Leaf → (o : Option Inner) → map.get s.inners (as_inner k) ≡ o →
+          option_map (inner_seen {A = Unit {0}} k.kind) o ≡ Some (inner_node h slots) → IsThere k h slots
       go off None got f = absurd cc
       go off (Some node) got f = record { off = off; node = node; got = got; head = cc; children = cc }
 
@@ -110,7 +113,9 @@ module _ {K V : Type 0} (s : Nodes K V) where
 
     inners_held_below : (cs : Shapes) → HoldsBelow (shape_at s) cs → Each (λ n. is_some (map.get s.inners (as_inner n)) ≡ true) (inner_names_below cs)
     inners_held_below no_child h = tt
-    inners_held_below (child b t cs) h = Each-append (λ n. is_some (map.get s.inners (as_inner n)) ≡ true) (inner_names t) (inner_names_below cs) (inners_held t h.0) (inners_held_below cs h.1)
+    inners_held_below (child b t cs) h =
+        Each-append (λ n. is_some (map.get s.inners (as_inner n)) ≡ true) (inner_names t) (inner_names_below cs) (inners_held t h.0)
+        (inners_held_below cs h.1)
 
   -- the steps that a store's count of inner nodes gives are enough for the tree of a name
   shape_enough : (t : Shape) (root : OpaqueNodePtr) → IsLayout (shape_at s) root t → tree_height t ≤ map.len s.inners
@@ -135,7 +140,8 @@ pub shape_same : {K V : Type 0} (s t : Nodes K V) (k : OpaqueNodePtr) → conten
 shape_same {K} {V} s t k e = elim (leaf_or k) [
   | inl (p, is) ↦ subst (λ z. shape_at t z ≡ shape_at s z) (sym is) refl
   | inr off ↦
-      let same = same_inner_held K V (map.get t.inners (as_inner k)) (map.get s.inners (as_inner k)) (sym (held_in_inner t k.kind k.slot off) ∙ e ∙ held_in_inner s k.kind k.slot off) in
+      let same = same_inner_held K V (map.get t.inners (as_inner k)) (map.get s.inners (as_inner k))
+      (sym (held_in_inner t k.kind k.slot off) ∙ e ∙ held_in_inner s k.kind k.slot off) in
       shape_at-inner t k off (map.get s.inners (as_inner k)) same ∙ sym (shape_at-inner s k off (map.get s.inners (as_inner k)) refl)
 ]
 
@@ -175,16 +181,19 @@ pub written_elsewhere : {K V : Type 0} (t u : Nodes K V) (p : InnerPtr) (f : Inn
 written_elsewhere t u p f inners leaves k other = elim (leaf_or k) [
   | inl (q, e) ↦ subst (λ z. content_at u z ≡ content_at t z) (sym e) (ap (λ m. option_map held_leaf (map.get m q)) leaves)
   | inr off ↦ held_in_inner u k.kind k.slot off ∙ ap (option_map held_inner)
-      (ap (λ m. map.get m (as_inner k)) inners ∙ inner_changed_elsewhere t.inners p (as_inner k) f (λ e. other (ap inner_name e))) ∙ sym (held_in_inner t k.kind k.slot off)
+      (ap (λ m. map.get m (as_inner k)) inners ∙ inner_changed_elsewhere t.inners p (as_inner k) f (λ e. other (ap inner_name e)))
+      ∙ sym (held_in_inner t k.kind k.slot off)
 ]
 
 -- an inner node is freed
-pub inner_freed : {K V : Type 0} (t u : Nodes K V) (p : InnerPtr) → p.kind ≢ Leaf → u.inners ≡ map.remove t.inners p → u.leaves ≡ t.leaves → Frees (inner_name p ∷ []) t u
+pub inner_freed : {K V : Type 0} (t u : Nodes K V) (p : InnerPtr) → p.kind ≢ Leaf → u.inners ≡ map.remove t.inners p → u.leaves ≡ t.leaves →
+    Frees (inner_name p ∷ []) t u
 inner_freed t u p off inners leaves = record {
   beside = λ k out none. elim (leaf_or k) [
     | inl (q, e) ↦ subst (λ z. content_at u z ≡ content_at t z) (sym e) (ap (λ m. option_map held_leaf (map.get m q)) leaves)
     | inr kind ↦ held_in_inner u k.kind k.slot kind ∙ ap (option_map held_inner)
-        (ap (λ m. map.get m (as_inner k)) inners ∙ inner_gone_elsewhere t.inners p (as_inner k) (λ e. out (inl (sym (ap inner_name e))))) ∙ sym (held_in_inner t k.kind k.slot kind)
+        (ap (λ m. map.get m (as_inner k)) inners ∙ inner_gone_elsewhere t.inners p (as_inner k) (λ e. out (inl (sym (ap inner_name e)))))
+        ∙ sym (held_in_inner t k.kind k.slot kind)
   ];
   gone = λ k i none. elim i [
     | inl e ↦ subst (λ z. content_at u z ≡ None) e
@@ -197,7 +206,8 @@ inner_freed t u p off inners leaves = record {
 -- leaves below children are among their names
 pub leaf_below_in : (cs : Shapes) (k : OpaqueNodePtr) → IsIn k (leaf_names_below cs) → IsIn k (names_below cs)
 leaf_below_in cs k i =
-    each_in (λ n. IsIn n (names_below cs)) k (leaf_names_below cs) (among_below takes_leaves (λ n. IsIn n (names_below cs)) cs (each_from (λ n. IsIn n (names_below cs)) (names_below cs) (λ n j. j))) i
+    each_in (λ n. IsIn n (names_below cs)) k (leaf_names_below cs)
+    (among_below takes_leaves (λ n. IsIn n (names_below cs)) cs (each_from (λ n. IsIn n (names_below cs)) (names_below cs) (λ n j. j))) i
 
 pub both_counts : {N : Type 0} (b : Bool) (xs ys : List N) → cond b (length (xs ++ ys)) 0 ≡ cond b (length xs) 0 + cond b (length ys) 0
 both_counts true xs ys = length-append xs ys
@@ -210,7 +220,8 @@ module _ {K V : Type 0} {s : Nodes K V} {too : Bool} {root : OpaqueNodePtr} {p :
   at_leaf : (shape : Shape) → CanGo s too root shape → (x : Unit {0}) × (shape ≡ leaf (leaf_name p) x)
   at_leaf (leaf n x) can = (x, ap (λ z. leaf z x) (can.layout.named ∙ sym named))
   at_leaf (inner n h cs) can =
-      let shape : shape_at s (leaf_name p) ≡ Some (inner_node h (slots_of cs)) = subst (λ z. shape_at s z ≡ Some (inner_node h (slots_of cs))) (can.layout.named ∙ sym named) can.layout.holds.0 in
+      let shape : shape_at s (leaf_name p) ≡ Some (inner_node h (slots_of cs)) =
+      subst (λ z. shape_at s z ≡ Some (inner_node h (slots_of cs))) (can.layout.named ∙ sym named) can.layout.holds.0 in
       absurd cc
 
   pub leaf_stays : too ≡ false → (shape : Shape) → CanGo s too root shape → Frees (names_to_free too shape) s s × (0 ≡ leaves_to_free too shape)
@@ -240,7 +251,8 @@ module _ {K V : Type 0} {s : Nodes K V} {too : Bool} {root : OpaqueNodePtr} {p :
   off_leaf : (n : OpaqueNodePtr) (x : Unit {0}) → CanGo s too root (leaf n x) → ⊥
   off_leaf n x can =
       let shape = shape_at-inner s (inner_name p) off (map.get s.inners p) refl in
-      let held_there : shape_at s (inner_name p) ≡ Some (leaf_node x) = subst (λ z. shape_at s z ≡ Some (leaf_node x)) (can.layout.named ∙ sym named) can.layout.holds in
+      let held_there : shape_at s (inner_name p) ≡ Some (leaf_node x) =
+      subst (λ z. shape_at s z ≡ Some (leaf_node x)) (can.layout.named ∙ sym named) can.layout.holds in
       go (map.get s.inners p) (sym shape ∙ held_there)
     where
       go : (o : Option Inner) → option_map (inner_seen {A = Unit {0}} p.kind) o ≡ Some (leaf_node x) → ⊥
@@ -278,7 +290,8 @@ module _ {K V : Type 0} {s : Nodes K V} {root : OpaqueNodePtr} {layout : Tree Op
   }
 
 -- so all of its names are freed
-pub all_go : {K V : Type 0} {s t : Nodes K V} (layout : Tree OpaqueNodePtr (K × V)) → Frees (names_to_free true (shape_of layout)) s t → Frees (names_of layout) s t
+pub all_go : {K V : Type 0} {s t : Nodes K V} (layout : Tree OpaqueNodePtr (K × V)) → Frees (names_to_free true (shape_of layout)) s t →
+    Frees (names_of layout) s t
 all_go {K} {V} {s} {t} layout freed = subst (λ z. Frees z s t) (all_going (shape_of layout) ∙ names_of-shape layout) freed
 
 -- and as many leaves as it has

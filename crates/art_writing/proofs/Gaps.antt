@@ -53,7 +53,8 @@ none_later c rest k none = sym (at_later c rest k (λ e. there_is (sym none ∙ 
 
 module _ {A : Type 0} where
   -- a byte of a child has what all of them have
-  byte_there : (Good : ℕ → Type 0) (cs : Subtrees OpaqueNodePtr A) {d : ℕ} {to : OpaqueNodePtr} → Each Good (bytes_of cs) → child_at (slots_of cs) d ≡ Some to → Good d
+  byte_there : (Good : ℕ → Type 0) (cs : Subtrees OpaqueNodePtr A) {d : ℕ} {to : OpaqueNodePtr} → Each Good (bytes_of cs) →
+      child_at (slots_of cs) d ≡ Some to → Good d
   byte_there Good no_child all is = absurd cc
   byte_there Good (child c t cs) {d} all is = elim (cases_eq c d) [
     | inl e ↦ subst Good e all.0
@@ -69,7 +70,8 @@ module _ {A : Type 0} where
 
     module _ (d : ℕ) (to : OpaqueNodePtr) where
       -- the nearest child above the gap is the first on the right
-      right_first : (l r : Subtrees OpaqueNodePtr A) → Each (λ c. c < b) (bytes_of l) → Each (λ c. b < c) (bytes_of r) → BytesRise (bytes_of (join l r)) → b < d →
+      right_first : (l r : Subtrees OpaqueNodePtr A) → Each (λ c. c < b) (bytes_of l) → Each (λ c. b < c) (bytes_of r) →
+          BytesRise (bytes_of (join l r)) → b < d →
           child_at (slots_of (join l r)) d ≡ Some to → ((k : ℕ) → b < k → k < d → child_at (slots_of (join l r)) k ≡ None) →
           (t : Tree OpaqueNodePtr A) × (others : Subtrees OpaqueNodePtr A) × (r ≡ child d t others) × (name_of t ≡ to)
       right_first (child c t l) r low high up above is none =
@@ -95,14 +97,17 @@ module _ {A : Type 0} where
           LastOf : Subtrees OpaqueNodePtr A → Type 0
           LastOf cs = (u : Tree OpaqueNodePtr A) × (others : Subtrees OpaqueNodePtr A) × (cs ≡ join others (child d u no_child)) × (name_of u ≡ to)
 
-          by_byte : (l : Subtrees OpaqueNodePtr A) → Each (λ c. c < b) (bytes_of l) → BytesRise (c ∷ bytes_of (join l r)) → child_at ((c, name_of t) ∷ slots_of (join l r)) d ≡ Some to →
+          by_byte : (l : Subtrees OpaqueNodePtr A) → Each (λ c. c < b) (bytes_of l) → BytesRise (c ∷ bytes_of (join l r)) →
+              child_at ((c, name_of t) ∷ slots_of (join l r)) d ≡ Some to →
               ((k : ℕ) → d < k → k < b → child_at ((c, name_of t) ∷ slots_of (join l r)) k ≡ None) → (c ≡ d) ⊎ (c ≢ d) →
-              (child_at (slots_of (join l r)) d ≡ Some to → ((k : ℕ) → d < k → k < b → child_at (slots_of (join l r)) k ≡ None) → LastOf l) → LastOf (child c t l)
+              (child_at (slots_of (join l r)) d ≡ Some to → ((k : ℕ) → d < k → k < b → child_at (slots_of (join l r)) k ≡ None) →
+              LastOf l) → LastOf (child c t l)
           by_byte no_child low up is none (inl e) later =
               let same : Some (name_of t) ≡ Some to = sym (at_here (c, name_of t) (slots_of r) d e) ∙ is in
               (t, no_child, ap (λ z. child z t no_child) e, cc)
           by_byte (child e u l) low up is none (inl same) later =
-              let here = at_later (c, name_of t) ((e, name_of u) ∷ slots_of (join l r)) e (λ k. omega (arith, k, up.0.0)) ∙ at_here (e, name_of u) (slots_of (join l r)) e refl in
+              let here = at_later (c, name_of t) ((e, name_of u) ∷ slots_of (join l r)) e (λ k. omega (arith, k, up.0.0))
+              ∙ at_here (e, name_of u) (slots_of (join l r)) e refl in
               absurd (there_is (sym (none e (omega (arith, same, up.0.0)) low.0) ∙ here))
           by_byte l low up is none (inr n) later =
               let (u, others, whole, named) = later (sym (at_later (c, name_of t) (slots_of (join l r)) d n) ∙ is)
@@ -146,20 +151,26 @@ module _ {K V : Type 0} {s : Nodes K V} {p : InnerPtr} {b : ℕ} {l r : Subtrees
       first_right : (t : Tree OpaqueNodePtr (K × V)) × (others : Subtrees OpaqueNodePtr (K × V)) × (r ≡ child found.0 t others) × (name_of t ≡ found.1)
       first_right = right_first b found.0 found.1 l r gap.low gap.high gap.rising above in_slots.there in_slots.above
 
-      of_right : (others : Subtrees OpaqueNodePtr (K × V)) (t : Tree OpaqueNodePtr (K × V)) → r ≡ child found.0 t others → name_of t ≡ found.1 → IsFullTree s found.1 t
-      of_right others t whole named = full_child s l others found.0 t (subst (λ z. IsFullTree s (inner_name p) (inner (inner_name p) gap.header (join l z))) whole gap.full) named
+      of_right : (others : Subtrees OpaqueNodePtr (K × V)) (t : Tree OpaqueNodePtr (K × V)) → r ≡ child found.0 t others →
+          name_of t ≡ found.1 → IsFullTree s found.1 t
+      of_right others t whole named =
+          full_child s l others found.0 t (subst (λ z. IsFullTree s (inner_name p) (inner (inner_name p) gap.header (join l z)))
+          whole gap.full) named
 
       right_full : (t : Tree OpaqueNodePtr (K × V)) × IsFullTree s found.1 t
       right_full = let (t, others, whole, named) = first_right in (t, of_right others t whole named)
 
-      right_before : (previous next : Option LeafPtr) → ((t : Tree OpaqueNodePtr (K × V)) → IsFullTree s found.1 t → IsBeside s t Before previous next) → ComesBetween s l r previous next
+      right_before : (previous next : Option LeafPtr) →
+          ((t : Tree OpaqueNodePtr (K × V)) → IsFullTree s found.1 t → IsBeside s t Before previous next) → ComesBetween s l r previous next
       right_before previous next comes = let (t, others, whole, named) = first_right in inl (found.0, t, others, whole, comes t (of_right others t whole named))
 
     module _ (below : found.0 < b) where
-      last_left : (t : Tree OpaqueNodePtr (K × V)) × (others : Subtrees OpaqueNodePtr (K × V)) × (l ≡ join others (child found.0 t no_child)) × (name_of t ≡ found.1)
+      last_left : (t : Tree OpaqueNodePtr (K × V)) × (others : Subtrees OpaqueNodePtr (K × V)) ×
+          (l ≡ join others (child found.0 t no_child)) × (name_of t ≡ found.1)
       last_left = left_last b found.0 found.1 l r gap.low gap.high gap.rising below in_slots.there in_slots.below
 
-      of_left : (others : Subtrees OpaqueNodePtr (K × V)) (t : Tree OpaqueNodePtr (K × V)) → l ≡ join others (child found.0 t no_child) → name_of t ≡ found.1 → IsFullTree s found.1 t
+      of_left : (others : Subtrees OpaqueNodePtr (K × V)) (t : Tree OpaqueNodePtr (K × V)) → l ≡ join others (child found.0 t no_child) →
+          name_of t ≡ found.1 → IsFullTree s found.1 t
       of_left others t whole named =
           let all = ap (λ z. join z r) whole ∙ join_assoc others (child found.0 t no_child) r in
           full_child s others r found.0 t (subst (λ z. IsFullTree s (inner_name p) (inner (inner_name p) gap.header z)) all gap.full) named
@@ -167,7 +178,8 @@ module _ {K V : Type 0} {s : Nodes K V} {p : InnerPtr} {b : ℕ} {l r : Subtrees
       left_full : (t : Tree OpaqueNodePtr (K × V)) × IsFullTree s found.1 t
       left_full = let (t, others, whole, named) = last_left in (t, of_left others t whole named)
 
-      left_after : (previous next : Option LeafPtr) → ((t : Tree OpaqueNodePtr (K × V)) → IsFullTree s found.1 t → IsBeside s t After previous next) → ComesBetween s l r previous next
+      left_after : (previous next : Option LeafPtr) →
+          ((t : Tree OpaqueNodePtr (K × V)) → IsFullTree s found.1 t → IsBeside s t After previous next) → ComesBetween s l r previous next
       left_after previous next comes = let (t, others, whole, named) = last_left in inr (others, found.0, t, whole, comes t (of_left others t whole named))
 
     -- the child stands for a full tree

@@ -35,7 +35,8 @@ nothing_and false = refl
 
 module _ {A : Type 0} (bytes : A → List ℕ) (key : List ℕ) where
   -- a lookup finds a leaf exactly where the key is stored
-  pub found_stored : (pairs : List A) (tree : Tree OpaqueNodePtr A) (found : Option LeafPtr) → FindsLeaf tree (with_key bytes key pairs) found → is_some found ≡ has_key bytes key pairs
+  pub found_stored : (pairs : List A) (tree : Tree OpaqueNodePtr A) (found : Option LeafPtr) →
+      FindsLeaf tree (with_key bytes key pairs) found → is_some found ≡ has_key bytes key pairs
   found_stored pairs tree None h = sym (any_is_first (λ x. are_same key (bytes x)) pairs ∙ ap (λ xs. is_some (first_of xs)) h)
   found_stored pairs tree (Some name) (x, only, has) = sym (any_is_first (λ x. are_same key (bytes x)) pairs ∙ ap (λ xs. is_some (first_of xs)) only)
 
@@ -90,7 +91,8 @@ pub point_none : {A : Type 0} (tree : Tree OpaqueNodePtr A) (pair : Option A) �
 point_none tree None h = refl
 point_none tree (Some x) h = absurd h
 
-pub point_some : {A : Type 0} (tree : Tree OpaqueNodePtr A) (point : DeletePoint) (pair : Option A) → IsDeletePoint tree pair (Some point) → (x : A) × (pair ≡ Some x) × LeadsTo tree x point
+pub point_some : {A : Type 0} (tree : Tree OpaqueNodePtr A) (point : DeletePoint) (pair : Option A) → IsDeletePoint tree pair (Some point) →
+    (x : A) × (pair ≡ Some x) × LeadsTo tree x point
 point_some tree point None h = absurd h
 point_some tree point (Some x) h = (x, refl, h)
 
@@ -108,7 +110,8 @@ module _ {K V : Type 0} (bytes : K → List ℕ) where
 
   -- the length of a match that is found is that of the leaf's key
   pub match_found : (P : ℕ) {s : Nodes K V} {name : OpaqueNodePtr} {pairs : List (K × V)} {layout : Tree OpaqueNodePtr (K × V)} {p : LeafPtr}
-      {node : LeafNode K V} (matches : List (K × V)) → IsCanonicalTree (of_key bytes) P s name pairs layout → FindsLeaf layout matches (Some p) → get s.leaves p ≡ Some node →
+      {node : LeafNode K V} (matches : List (K × V)) → IsCanonicalTree (of_key bytes) P s name pairs layout →
+      FindsLeaf layout matches (Some p) → get s.leaves p ≡ Some node →
       length (bytes node.key) ∷ [] ≡ map (λ x. length (bytes x.0)) matches
   match_found P {s} {name} {pairs} {layout} {p} {node} matches by (x, only, has) got =
       let (other, there, its) = leaf_found (of_key bytes) P by has in
@@ -117,7 +120,8 @@ module _ {K V : Type 0} (bytes : K → List ℕ) where
       ap (λ y. length (bytes y.0) ∷ []) pair ∙ sym (ap (map (λ y. length (bytes y.0))) only)
 
 -- the leaf of a delete point has the pair that the point leads to
-pub deleted_pair : {K V : Type 0} (bytes : K → List ℕ) (P : ℕ) {s : Nodes K V} {root : OpaqueNodePtr} {pairs : List (K × V)} {layout : Tree OpaqueNodePtr (K × V)}
+pub deleted_pair : {K V : Type 0} (bytes : K → List ℕ) (P : ℕ) {s : Nodes K V} {root : OpaqueNodePtr} {pairs : List (K × V)}
+    {layout : Tree OpaqueNodePtr (K × V)}
     {x : K × V} {point : DeletePoint} (deleted : LeafNode K V) → IsCanonicalTree (of_key bytes) P s root pairs layout → LeadsTo layout x point →
     IfSome (get s.leaves point.leaf_node_ptr) (λ node. deleted ≡ unlinked_leaf (pair_of node)) → (deleted.key, deleted.value) ≡ x
 deleted_pair bytes P {s} {root} {pairs} {layout} {x} {point} deleted by leads told =

@@ -69,7 +69,8 @@ asked_of s p {node = node} same there =
     ap (λ k. cond (leb (kind_capacity k) (length node.children)) (next_larger k) None) same
     ∙ ap (λ (o : Option Inner). cond (elim o [ None ↦ false | Some n ↦ leb (kind_capacity p.kind) (length n.children) ]) (next_larger p.kind) None) there
 
-module _ {K V : Type 0} {bytes : K × V → List ℕ} {P : ℕ} {s : Nodes K V} (point : InsertPoint) {p : InnerPtr} {pairs : List (K × V)} {layout : Tree OpaqueNodePtr (K × V)} (new : K × V) {b : ℕ}
+module _ {K V : Type 0} {bytes : K × V → List ℕ} {P : ℕ} {s : Nodes K V} (point : InsertPoint) {p : InnerPtr} {pairs : List (K × V)}
+    {layout : Tree OpaqueNodePtr (K × V)} (new : K × V) {b : ℕ}
     (by : IsCanonicalTree bytes P s point.root pairs layout) (e : IsEntry bytes P p layout (bytes new) point.path b) where
   abbrev count : ℕ
   count = length (bytes_of (join e.left e.right))
@@ -90,7 +91,8 @@ module _ {K V : Type 0} {bytes : K × V → List ℕ} {P : ℕ} {s : Nodes K V} 
 
   module _ (previous next : Option LeafPtr) (beside : ComesBetween s e.left e.right previous next) where
     links : (option_map leaf_name previous ≡ last_or before None) × (option_map leaf_name next ≡ first_or after None)
-    links = between_links s (leaves_before e.frames) (leaves_after e.frames) previous next e.left e.right (subst (λ z. AreLinked (links_at s) None z None) leaves_are (entry_laid by e).linked) beside
+    links = between_links s (leaves_before e.frames) (leaves_after e.frames) previous next e.left e.right
+        (subst (λ z. AreLinked (links_at s) None z None) leaves_are (entry_laid by e).linked) beside
 
     all_there : AreThere s (before ++ after)
     all_there = subst (AreThere s) leaves_are (are_there s (plug e.frames (inner (inner_name p) e.header (join e.left e.right))) (entry_laid by e).holds)
@@ -107,7 +109,8 @@ module _ {K V : Type 0} {bytes : K × V → List ℕ} {P : ℕ} {s : Nodes K V} 
     new_leaf = record { key = new.0; value = new.1; previous = previous; next = next }
 
     -- the leaf is placed after a reservation, and its name is the child's
-    module _ (r q : Nodes K V) {n : LeafPtr} {child : OpaqueNodePtr} (r_leaves : r.leaves ≡ s.leaves) (r_inners : r.inners ≡ s.inners) (free : map.get r.leaves n ≡ None)
+    module _ (r q : Nodes K V) {n : LeafPtr} {child : OpaqueNodePtr} (r_leaves : r.leaves ≡ s.leaves) (r_inners : r.inners ≡ s.inners)
+        (free : map.get r.leaves n ≡ None)
         (q_leaves : q.leaves ≡ with_leaf r.leaves n (record { key = new.0; value = new.1; previous = previous; next = next }))
         (q_inners : q.inners ≡ r.inners) (child_is : child ≡ leaf_name n) (t : Nodes K V) (t_leaves : t.leaves ≡ q.leaves) where
       placed : LeafPlaced s t (plug e.frames (inner (inner_name p) e.header (join e.left e.right)))
@@ -133,17 +136,23 @@ module _ {K V : Type 0} {bytes : K × V → List ℕ} {P : ℕ} {s : Nodes K V} 
 
         room_touched : point.insert_kind ≡ IntoExisting p → Touches point.insert_kind s t
         room_touched into =
-            subst (λ kind. Touches kind s t) (sym into) (subst (λ full. MatchBool full (TouchesAtMost 2 1 3 s t) (TouchesAtMost 1 0 3 s t)) (sym room) (room_touches (entry_laid by e) into_room))
+            subst (λ kind. Touches kind s t) (sym into)
+            (subst (λ full. MatchBool full (TouchesAtMost 2 1 3 s t) (TouchesAtMost 1 0 3 s t)) (sym room)
+            (room_touches (entry_laid by e) into_room))
 
         pub room_inserted : point.insert_kind ≡ IntoExisting p → (done : InsertResult K V) →
-            done ≡ record { leaf_node_ptr = n; existing_leaf = None; new_root = point.root; parent_node_change = NewParent p b } → IsInserted bytes P s t point new pairs layout done
+            done ≡ record { leaf_node_ptr = n; existing_leaf = None; new_root = point.root; parent_node_change = NewParent p b } →
+            IsInserted bytes P s t point new pairs layout done
         room_inserted into done is =
             entered_inserted by into e (room_added (entry_laid by e) into_room)
             (sym (root_stays e.frames (inner (inner_name p) e.header (join e.left e.right)) (entry_laid by e).named)) is (room_touched into)
 
       -- the node is full, and is replaced by a larger one
-      module _ (full : is_full s p ≡ true) (not_last : p.kind ≢ Node256) (k : InnerPtr) (kind : k.kind ≡ larger_kind p.kind) (was_free : map.get q.inners k ≡ None)
-          (inners : IsSomeAnd (map.get q.inners p) (λ node. t.inners ≡ with_child_at (last_step point.path) (inner_name k) (map.insert (map.remove q.inners p) k (with_child b child node)))) where
+      module _ (full : is_full s p ≡ true) (not_last : p.kind ≢ Node256) (k : InnerPtr) (kind : k.kind ≡ larger_kind p.kind)
+          (was_free : map.get q.inners k ≡ None)
+          (inners : IsSomeAnd (map.get q.inners p)
+          (λ node. t.inners ≡ with_child_at (last_step point.path) (inner_name k)
+          (map.insert (map.remove q.inners p) k (with_child b child node)))) where
         abbrev HasGrown : Inner → Type 0
         HasGrown node = t.inners ≡ with_child_at (last_step point.path) (inner_name k) (map.insert (map.remove s.inners p) k (with_child b (leaf_name n) node))
 
@@ -174,13 +183,18 @@ module _ {K V : Type 0} {bytes : K × V → List ℕ} {P : ℕ} {s : Nodes K V} 
 
         full_touched : point.insert_kind ≡ IntoExisting p → Touches point.insert_kind s t
         full_touched into =
-            subst (λ kind. Touches kind s t) (sym into) (subst (λ full. MatchBool full (TouchesAtMost 2 1 3 s t) (TouchesAtMost 1 0 3 s t)) (sym full) (full_touches (entry_laid by e) into_full))
+            subst (λ kind. Touches kind s t) (sym into)
+            (subst (λ full. MatchBool full (TouchesAtMost 2 1 3 s t) (TouchesAtMost 1 0 3 s t)) (sym full)
+            (full_touches (entry_laid by e) into_full))
 
-        pub full_inserted : point.insert_kind ≡ IntoExisting p → {root : OpaqueNodePtr} → root ≡ root_with point.path point.root (inner_name k) → (done : InsertResult K V) →
-            done ≡ record { leaf_node_ptr = n; existing_leaf = None; new_root = root; parent_node_change = NewParent k b } → IsInserted bytes P s t point new pairs layout done
+        pub full_inserted : point.insert_kind ≡ IntoExisting p → {root : OpaqueNodePtr} →
+            root ≡ root_with point.path point.root (inner_name k) → (done : InsertResult K V) →
+            done ≡ record { leaf_node_ptr = n; existing_leaf = None; new_root = root; parent_node_change = NewParent k b } →
+            IsInserted bytes P s t point new pairs layout done
         full_inserted into root_is done is =
             entered_inserted by into e (full_added (entry_laid by e) into_full)
-            (root_is ∙ ap (λ path. root_with path point.root (inner_name k)) e.path_is ∙ root_with-path_of e.frames point.root (inner_name k)) is (full_touched into)
+            (root_is ∙ ap (λ path. root_with path point.root (inner_name k)) e.path_is
+            ∙ root_with-path_of e.frames point.root (inner_name k)) is (full_touched into)
 
   -- ---- room for one more child
 
@@ -190,20 +204,24 @@ module _ {K V : Type 0} {bytes : K × V → List ℕ} {P : ℕ} {s : Nodes K V} 
       subst (λ m. IsSomeAnd (map.get m p) (λ node. HasPlace (kind_capacity p.kind) node.children b)) (sym same)
       (some (map.get s.inners p) (entry_count by e (λ n. n < kind_capacity p.kind) (leb-false (kind_capacity p.kind) count (sym (entry_full by e) ∙ room))))
     where
-      some : (o : Option Inner) → IsSomeAnd o (λ node. length node.children < kind_capacity p.kind) → IsSomeAnd o (λ node. HasPlace (kind_capacity p.kind) node.children b)
+      some : (o : Option Inner) → IsSomeAnd o (λ node. length node.children < kind_capacity p.kind) →
+          IsSomeAnd o (λ node. HasPlace (kind_capacity p.kind) node.children b)
       some None h = h
       some (Some node) h = inl h
 
   -- a full one is not of the last kind, where it has fewer children than there are bytes
   not_of_last : IfSome (map.get s.inners p) (λ node. length node.children < 256) → is_full s p ≡ true → p.kind ≢ Node256
-  not_of_last few full last = some (map.get s.inners p) (entry_count by e (λ n. kind_capacity p.kind ≤ n) (leb-true (kind_capacity p.kind) count (sym (entry_full by e) ∙ full))) few
+  not_of_last few full last =
+      some (map.get s.inners p) (entry_count by e (λ n. kind_capacity p.kind ≤ n)
+      (leb-true (kind_capacity p.kind) count (sym (entry_full by e) ∙ full))) few
     where
       some : (o : Option Inner) → IsSomeAnd o (λ node. kind_capacity p.kind ≤ length node.children) → IfSome o (λ node. length node.children < 256) → ⊥
       some None h few = h
       some (Some node) h few = let l = ap kind_capacity last in omega arith
 
   -- a kind is requested exactly if the node is full
-  module _ {asked : Option NodeType} (few : IfSome (map.get s.inners p) (λ node. length node.children < 256)) (is : asked ≡ cond (is_full s p) (next_larger p.kind) None) where
+  module _ {asked : Option NodeType} (few : IfSome (map.get s.inners p) (λ node. length node.children < 256))
+      (is : asked ≡ cond (is_full s p) (next_larger p.kind) None) where
     asked_larger : is_full s p ≡ true → asked ≡ Some (larger_kind p.kind)
     asked_larger full = is ∙ ap (λ b. cond b (next_larger p.kind) None) full ∙ next_larger_is p.kind (not_of_last few full) (entry_inner by e)
 
@@ -222,11 +240,13 @@ module _ {K V : Type 0} {bytes : K × V → List ℕ} {P : ℕ} {s : Nodes K V} 
         go false room = room
 
   -- and a larger one has room
-  pub larger_has_room : p.kind ≢ Node256 → (q : Inners) → q ≡ s.inners → IsSomeAnd (map.get q p) (λ node. HasPlace (kind_capacity (larger_kind p.kind)) node.children b)
+  pub larger_has_room : p.kind ≢ Node256 → (q : Inners) → q ≡ s.inners →
+      IsSomeAnd (map.get q p) (λ node. HasPlace (kind_capacity (larger_kind p.kind)) node.children b)
   larger_has_room not_last q same =
       subst (λ m. IsSomeAnd (map.get m p) (λ node. HasPlace (kind_capacity (larger_kind p.kind)) node.children b)) (sym same)
       (some (map.get s.inners p) (entry_count by e (λ n. n < kind_capacity (larger_kind p.kind)) (larger_room p.kind count (entry_kind by e) not_last)))
     where
-      some : (o : Option Inner) → IsSomeAnd o (λ node. length node.children < kind_capacity (larger_kind p.kind)) → IsSomeAnd o (λ node. HasPlace (kind_capacity (larger_kind p.kind)) node.children b)
+      some : (o : Option Inner) → IsSomeAnd o (λ node. length node.children < kind_capacity (larger_kind p.kind)) →
+          IsSomeAnd o (λ node. HasPlace (kind_capacity (larger_kind p.kind)) node.children b)
       some None h = h
       some (Some node) h = inl h

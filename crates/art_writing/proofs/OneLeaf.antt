@@ -24,9 +24,11 @@ use Rattle.art_writing.specs.Inserted.{unlinked_leaf}
 use Rattle.art_writing.specs.ParentWrites.{IsPlanted}
 
 -- a leaf without siblings that is placed begins a tree
-pub placed_alone : {K V : Type 0} (s : Nodes K V) {t : Nodes K V} {n : LeafPtr} {x : K × V} {made : LeafNode K V} → get s.leaves n ≡ None → t.leaves ≡ insert s.leaves n made →
+pub placed_alone : {K V : Type 0} (s : Nodes K V) {t : Nodes K V} {n : LeafPtr} {x : K × V} {made : LeafNode K V} → get s.leaves n ≡ None →
+    t.leaves ≡ insert s.leaves n made →
     t.inners ≡ s.inners → t.promise ≡ take_leaf s.promise → made ≡ unlinked_leaf x → IsPlanted s t n x
-placed_alone s {n = n} fresh placed inners promise is = record { fresh = fresh; leaves = placed ∙ ap (insert s.leaves n) is; inners = inners; promise = promise }
+placed_alone s {n = n} fresh placed inners promise is =
+    record { fresh = fresh; leaves = placed ∙ ap (insert s.leaves n) is; inners = inners; promise = promise }
 
 module _ {K V : Type 0} (bytes : K → List ℕ) (P : ℕ) {s t : Nodes K V} {n : LeafPtr} {x : K × V} (is : IsPlanted s t n x) where
   there : get t.leaves n ≡ Some (unlinked_leaf x)
@@ -48,7 +50,8 @@ module _ {K V : Type 0} (bytes : K → List ℕ) (P : ℕ) {s t : Nodes K V} {n 
 
   -- one leaf is new, and nothing else
   pub leaves_touched : Touched s.leaves t.leaves (n ∷ []) [] []
-  leaves_touched = subst (λ m. Touched s.leaves m (n ∷ []) [] []) (sym is.leaves) (then_placed leaf_cmp_total leaf_cmp-IsAntisymmetric (touched_none s.leaves) n (unlinked_leaf x) is.fresh (λ i. i))
+  leaves_touched = subst (λ m. Touched s.leaves m (n ∷ []) [] []) (sym is.leaves)
+      (then_placed leaf_cmp_total leaf_cmp-IsAntisymmetric (touched_none s.leaves) n (unlinked_leaf x) is.fresh (λ i. i))
 
   pub inners_touched : Touched s.inners t.inners [] [] []
   inners_touched = subst (λ m. Touched s.inners m [] [] []) (sym is.inners) (touched_none s.inners)

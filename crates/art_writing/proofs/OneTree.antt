@@ -52,7 +52,8 @@ module _ {N : Type 0} where
   same_after xs ys zs same = record {
     forth = λ k i. elim (in_either k xs ys i) [ inl j ↦ in_left k xs zs j | inr j ↦ in_right k xs zs (same.forth k j) ];
     back = λ k i. elim (in_either k xs zs i) [ inl j ↦ in_left k xs ys j | inr j ↦ in_right k xs ys (same.back k j) ];
-    distinct = λ d. Pairwise-append ◌≢◌ xs zs (Pairwise-left ◌≢◌ xs ys d) (same.distinct (Pairwise-right ◌≢◌ xs ys d)) (apart_each xs zs (λ k i j. apart_in xs ys k d i (same.back k j)));
+    distinct = λ d. Pairwise-append ◌≢◌ xs zs (Pairwise-left ◌≢◌ xs ys d) (same.distinct (Pairwise-right ◌≢◌ xs ys d))
+        (apart_each xs zs (λ k i j. apart_in xs ys k d i (same.back k j)));
   }
 
   -- two neighbours are swapped
@@ -84,7 +85,8 @@ module _ {N : Type 0} where
   -- a tree's names before those of a node, of its first child and of its other ones: the tree replaces the child
   changed_places : (z : N) (a f m : List N) → SameNames (a ++ (z ∷ (f ++ m))) ((z ∷ (a ++ m)) ++ f)
   changed_places z a f m =
-      same_then (exchanged a (z ∷ []) (f ++ m)) (same_then (same_after (z ∷ a) (f ++ m) (m ++ f) (exchanged_last f m)) (same_names (ap (λ l. z ∷ l) (sym (append_assoc a m f)))))
+      same_then (exchanged a (z ∷ []) (f ++ m))
+      (same_then (same_after (z ∷ a) (f ++ m) (m ++ f) (exchanged_last f m)) (same_names (ap (λ l. z ∷ l) (sym (append_assoc a m f)))))
 
 -- a name is in a list, or not
 is_in_or : (ns : List OpaqueNodePtr) (k : OpaqueNodePtr) → IsIn k ns ⊎ (IsIn k ns → ⊥)
@@ -127,10 +129,12 @@ module _ {K V : Type 0} {s : Nodes K V} {too : Bool} where
   below_seen seen = record { holds = seen.holds.1; leaves = seen.leaves }
 
   first_seen : {b : ℕ} {t : Shape} {cs : Shapes} → AreSeen s too (child b t cs) → IsSeen s too t
-  first_seen {t = t} {cs = cs} seen = record { holds = seen.holds.0; leaves = λ every. Each-left (IsUsed s) (leaf_names t) (leaf_names_below cs) (seen.leaves every) }
+  first_seen {t = t} {cs = cs} seen =
+      record { holds = seen.holds.0; leaves = λ every. Each-left (IsUsed s) (leaf_names t) (leaf_names_below cs) (seen.leaves every) }
 
   rest_seen : {b : ℕ} {t : Shape} {cs : Shapes} → AreSeen s too (child b t cs) → AreSeen s too cs
-  rest_seen {t = t} {cs = cs} seen = record { holds = seen.holds.1; leaves = λ every. Each-right (IsUsed s) (leaf_names t) (leaf_names_below cs) (seen.leaves every) }
+  rest_seen {t = t} {cs = cs} seen =
+      record { holds = seen.holds.1; leaves = λ every. Each-right (IsUsed s) (leaf_names t) (leaf_names_below cs) (seen.leaves every) }
 
   both_seen : {t : Shape} {cs : Shapes} (b : ℕ) → IsSeen s too t → AreSeen s too cs → AreSeen s too (child b t cs)
   both_seen {t = t} {cs = cs} b first rest = record {
@@ -138,10 +142,12 @@ module _ {K V : Type 0} {s : Nodes K V} {too : Bool} where
     leaves = λ every. Each-append (IsUsed s) (leaf_names t) (leaf_names_below cs) (first.leaves every) (rest.leaves every);
   }
 
-  seen_above : {n : OpaqueNodePtr} {h : NodeHeader} {cs : Shapes} → shape_at s n ≡ Some (inner_node h (slots_of cs)) → AreSeen s too cs → IsSeen s too (inner n h cs)
+  seen_above : {n : OpaqueNodePtr} {h : NodeHeader} {cs : Shapes} → shape_at s n ≡ Some (inner_node h (slots_of cs)) → AreSeen s too cs →
+      IsSeen s too (inner n h cs)
   seen_above there seen = record { holds = (there, seen.holds); leaves = seen.leaves }
 
-still_used : {K V : Type 0} (s t : Nodes K V) (ns : List OpaqueNodePtr) → ((k : OpaqueNodePtr) → IsIn k ns → content_at t k ≡ content_at s k) → Each (IsUsed s) ns → Each (IsUsed t) ns
+still_used : {K V : Type 0} (s t : Nodes K V) (ns : List OpaqueNodePtr) →
+    ((k : OpaqueNodePtr) → IsIn k ns → content_at t k ≡ content_at s k) → Each (IsUsed s) ns → Each (IsUsed t) ns
 still_used s t ns same used = each_from (IsUsed t) ns (λ k i none. each_in (IsUsed s) k ns used i (sym (same k i) ∙ none))
 
 module _ {K V : Type 0} {s t : Nodes K V} {too : Bool} where
@@ -154,7 +160,8 @@ module _ {K V : Type 0} {s t : Nodes K V} {too : Bool} where
 
   below_still : (cs : Shapes) → ((k : OpaqueNodePtr) → IsIn k (names_below cs) → content_at t k ≡ content_at s k) → AreSeen s too cs → AreSeen t too cs
   below_still cs same seen = record {
-    holds = frame_below (shape_at s) (shape_at t) cs (each_from (λ k. shape_at t k ≡ shape_at s k) (names_below cs) (λ k i. shape_same s t k (same k i))) seen.holds;
+    holds = frame_below (shape_at s) (shape_at t) cs
+        (each_from (λ k. shape_at t k ≡ shape_at s k) (names_below cs) (λ k i. shape_same s t k (same k i))) seen.holds;
     leaves = λ every. still_used s t (leaf_names_below cs) (λ k i. same k (leaf_below_in cs k i)) (seen.leaves every);
   }
 
@@ -170,13 +177,17 @@ module _ {K V : Type 0} {s : Nodes K V} {too : Bool} (cs ds : Shapes) (seen : Ar
   left_seen : AreSeen s too cs
   left_seen = record {
     holds = HoldsBelow-left (shape_at s) cs ds seen.holds;
-    leaves = λ every. Each-left (IsUsed s) (leaf_names_below cs) (leaf_names_below ds) (subst (Each (IsUsed s)) (leaf_names_below-join cs ds) (seen.leaves every));
+    leaves =
+        λ every. Each-left (IsUsed s) (leaf_names_below cs) (leaf_names_below ds)
+        (subst (Each (IsUsed s)) (leaf_names_below-join cs ds) (seen.leaves every));
   }
 
   right_seen : AreSeen s too ds
   right_seen = record {
     holds = HoldsBelow-right (shape_at s) cs ds seen.holds;
-    leaves = λ every. Each-right (IsUsed s) (leaf_names_below cs) (leaf_names_below ds) (subst (Each (IsUsed s)) (leaf_names_below-join cs ds) (seen.leaves every));
+    leaves =
+        λ every. Each-right (IsUsed s) (leaf_names_below cs) (leaf_names_below ds)
+        (subst (Each (IsUsed s)) (leaf_names_below-join cs ds) (seen.leaves every));
   }
 
 -- ---- what the first and the last child show
@@ -281,7 +292,8 @@ module _ {K V : Type 0} {s : Nodes K V} {too : Bool} where
   }
 
   -- a step further
-  pub less_is_left : {t u : Nodes K V} {now next : OpaqueNodePtr} {shape : Shape} {count freed : ℕ} (is : IsLeft s t too now shape count) → IsTurn t u too is.left next freed →
+  pub less_is_left : {t u : Nodes K V} {now next : OpaqueNodePtr} {shape : Shape} {count freed : ℕ} (is : IsLeft s t too now shape count) →
+      IsTurn t u too is.left next freed →
       IsLeft s u too next shape (count + freed)
   less_is_left {shape = shape} is turn = record {
     left = turn.after;
@@ -291,16 +303,20 @@ module _ {K V : Type 0} {s : Nodes K V} {too : Bool} where
   }
 
   -- and one that freed no leaf
-  pub still_left : {t u : Nodes K V} {now next : OpaqueNodePtr} {shape : Shape} {count : ℕ} (is : IsLeft s t too now shape count) → IsTurn t u too is.left next 0 → IsLeft s u too next shape count
-  still_left {u = u} {next = next} {shape = shape} {count = count} is turn = subst (IsLeft s u too next shape) (let e : count + 0 ≡ count = omega arith in e) (less_is_left is turn)
+  pub still_left : {t u : Nodes K V} {now next : OpaqueNodePtr} {shape : Shape} {count : ℕ} (is : IsLeft s t too now shape count) →
+      IsTurn t u too is.left next 0 → IsLeft s u too next shape count
+  still_left {u = u} {next = next} {shape = shape} {count = count} is turn =
+      subst (IsLeft s u too next shape) (let e : count + 0 ≡ count = omega arith in e) (less_is_left is turn)
 
   -- all is freed
-  pub none_is_left : {t u : Nodes K V} {now : OpaqueNodePtr} {shape : Shape} {count : ℕ} (is : IsLeft s t too now shape count) → Frees (names_to_free too is.left) t u →
+  pub none_is_left : {t u : Nodes K V} {now : OpaqueNodePtr} {shape : Shape} {count : ℕ} (is : IsLeft s t too now shape count) →
+      Frees (names_to_free too is.left) t u →
       Frees (names_to_free too shape) s u
   none_is_left {shape = shape} is freed = keeps_on (names_to_free too shape) (names_to_free too is.left) [] is.kept freed
 
 -- fewer names are left in the store
-pub fewer_left : {K V : Type 0} {t u : Nodes K V} {too : Bool} {now next : OpaqueNodePtr} {left : Shape} {freed : ℕ} → CanGo t too now left → IsTurn t u too left next freed →
+pub fewer_left : {K V : Type 0} {t u : Nodes K V} {too : Bool} {now next : OpaqueNodePtr} {left : Shape} {freed : ℕ} →
+    CanGo t too now left → IsTurn t u too left next freed →
     count_at u next < count_at t now
 fewer_left {K} {V} {t} {u} {too} {now} {next} {left} can turn =
     let a = count_at_is t left now can.layout in
@@ -310,33 +326,41 @@ fewer_left {K} {V} {t} {u} {too} {now} {next} {left} can turn =
 
 -- ---- an inner node is written
 
-module _ {K V : Type 0} (t u : Nodes K V) (n : OpaqueNodePtr) (f : Inner → Inner) (inners : u.inners ≡ change t.inners (as_inner n) f) (leaves : u.leaves ≡ t.leaves) where
+module _ {K V : Type 0} (t u : Nodes K V) (n : OpaqueNodePtr) (f : Inner → Inner) (inners : u.inners ≡ change t.inners (as_inner n) f)
+    (leaves : u.leaves ≡ t.leaves) where
   written_off : (k : OpaqueNodePtr) → n ≢ k → content_at u k ≡ content_at t k
   written_off k other = written_elsewhere t u (as_inner n) f inners leaves k (λ e. other (sym e))
 
   -- it is seen with other children
-  written_seen : {h : NodeHeader} {slots new : List (ℕ × OpaqueNodePtr)} → ((node : Inner) → (f node).prefix ≡ node.prefix) → ((node : Inner) → node.children ≡ slots → (f node).children ≡ new) →
+  written_seen : {h : NodeHeader} {slots new : List (ℕ × OpaqueNodePtr)} → ((node : Inner) → (f node).prefix ≡ node.prefix) →
+      ((node : Inner) → node.children ≡ slots → (f node).children ≡ new) →
       shape_at t n ≡ Some (inner_node h slots) → shape_at u n ≡ Some (inner_node h new)
   written_seen {h} {slots} {new} same made seen =
       let there = shape_there t n h slots seen in
-      let got : map.get u.inners (as_inner n) ≡ Some (f there.node) = ap (λ m. map.get m (as_inner n)) inners ∙ inner_changed_here t.inners (as_inner n) f there.node there.got in
-      let head : header_at n.kind (f there.node) ≡ h = ap (λ p. let r : NodeHeader = record { kind = n.kind; length_of = p.len; stored = p.stored } in r) (same there.node) ∙ there.head in
+      let got : map.get u.inners (as_inner n) ≡ Some (f there.node) =
+      ap (λ m. map.get m (as_inner n)) inners ∙ inner_changed_here t.inners (as_inner n) f there.node there.got in
+      let head : header_at n.kind (f there.node) ≡ h =
+      ap (λ p. let r : NodeHeader = record { kind = n.kind; length_of = p.len; stored = p.stored } in r) (same there.node) ∙ there.head in
       shape_at-inner u n there.off (Some (f there.node)) got ∙ shown head (made there.node there.children)
 
 -- ---- a root with one child is freed
 
 module _ {K V : Type 0} {t u : Nodes K V} {too : Bool} where
-  only_turn : {now next mark : OpaqueNodePtr} {head : NodeHeader} {byte : ℕ} (only : Shape) → CanGo t too now (inner mark head (child byte only no_child)) → name_of only ≡ next →
+  only_turn : {now next mark : OpaqueNodePtr} {head : NodeHeader} {byte : ℕ} (only : Shape) →
+      CanGo t too now (inner mark head (child byte only no_child)) → name_of only ≡ next →
       u.inners ≡ map.remove t.inners (as_inner now) → u.leaves ≡ t.leaves → IsTurn t u too (inner mark head (child byte only no_child)) next 0
   only_turn {now} {next} {mark} {head} {byte} only can named inners leaves =
       let names = names_of only in
       let there = shape_there t mark head ((byte, name_of only) ∷ []) can.layout.holds.0 in
-      let freed : Frees (mark ∷ []) t u = inner_freed t u (as_inner mark) there.off (inners ∙ ap (λ z. map.remove t.inners (as_inner z)) (sym can.layout.named)) leaves in
-      let other : (k : OpaqueNodePtr) → mark ≢ k → content_at u k ≡ content_at t k = λ k off. freed.beside k (λ j. elim j [ inl e ↦ off e | inr z ↦ z ]) (λ z. z) in
+      let freed : Frees (mark ∷ []) t u =
+      inner_freed t u (as_inner mark) there.off (inners ∙ ap (λ z. map.remove t.inners (as_inner z)) (sym can.layout.named)) leaves in
+      let other : (k : OpaqueNodePtr) → mark ≢ k → content_at u k ≡ content_at t k =
+      λ k off. freed.beside k (λ j. elim j [ inl e ↦ off e | inr z ↦ z ]) (λ z. z) in
       let nothing = append-nil (leaf_names only) in
       record {
         after = only;
-        can = can_go named (seen_still only (λ k i. other k (each_in (λ z. mark ≢ z) k (names ++ []) can.layout.distinct.0 (in_left k names [] i))) (first_seen (below_seen (seen_of can))))
+        can = can_go named (seen_still only (λ k i. other k
+            (each_in (λ z. mark ≢ z) k (names ++ []) can.layout.distinct.0 (in_left k names [] i))) (first_seen (below_seen (seen_of can))))
             (Pairwise-left ◌≢◌ names [] can.layout.distinct.1);
         kept = record {
           beside = λ k off out. other k (λ e. off (inl e));
@@ -346,11 +370,13 @@ module _ {K V : Type 0} {t u : Nodes K V} {too : Bool} where
           ];
           taken = λ k i off. absurd (off (inr (in_left k (names_to_free too only) [] i)));
         };
-        counted = let e : leaves_to_free too (inner mark head (child byte only no_child)) ≡ leaves_to_free too only = ap (λ l. cond too (length l) 0) nothing in omega (arith, e);
+        counted = let e : leaves_to_free too (inner mark head (child byte only no_child)) ≡ leaves_to_free too only =
+            ap (λ l. cond too (length l) 0) nothing in omega (arith, e);
         fewer = let l = length-append names [] in omega (arith, l);
       }
 
-  pub only_goes : {now next : OpaqueNodePtr} (byte : ℕ) (others : Children) (left : Shape) → CanGo t too now left → children_seen (shape_at t now) ≡ others ++ (byte, next) ∷ [] → others ≡ [] →
+  pub only_goes : {now next : OpaqueNodePtr} (byte : ℕ) (others : Children) (left : Shape) → CanGo t too now left →
+      children_seen (shape_at t now) ≡ others ++ (byte, next) ∷ [] → others ≡ [] →
       u.inners ≡ map.remove t.inners (as_inner now) → u.leaves ≡ t.leaves → IsTurn t u too left next 0
   only_goes {now} {next} byte others left can last none inners leaves =
       go left can (sym (slots_are t left can.layout) ∙ last ∙ ap (λ l. l ++ (byte, next) ∷ []) none)
@@ -384,8 +410,10 @@ pub record IsCut {K V : Type 0} (t v : Nodes K V) (too : Bool) (left : Shape) (n
   pub names : length (names_of left) ≡ length (names_of upper) + length (names_of cut)
 
 module _ {K V : Type 0} {t v : Nodes K V} {too : Bool} where
-  cut_off : {now lower mark : OpaqueNodePtr} {head : NodeHeader} (byte : ℕ) (others : Shapes) (last : Shape) → CanGo t too now (inner mark head (join others (child byte last no_child))) →
-      name_of last ≡ lower → IsRising (slots_of (join others (child byte last no_child))) → v.inners ≡ change t.inners (as_inner now) (without_child byte) → v.leaves ≡ t.leaves →
+  cut_off : {now lower mark : OpaqueNodePtr} {head : NodeHeader} (byte : ℕ) (others : Shapes) (last : Shape) →
+      CanGo t too now (inner mark head (join others (child byte last no_child))) →
+      name_of last ≡ lower → IsRising (slots_of (join others (child byte last no_child))) →
+      v.inners ≡ change t.inners (as_inner now) (without_child byte) → v.leaves ≡ t.leaves →
       IsCut t v too (inner mark head (join others (child byte last no_child))) now lower
   cut_off {now} {lower} {mark} {head} byte others last can named up inners leaves =
       let o = names_below others in
@@ -394,10 +422,12 @@ module _ {K V : Type 0} {t v : Nodes K V} {too : Bool} where
       let all : names_below cs ≡ o ++ c = names_below-join others (child byte last no_child) ∙ ap (λ l. o ++ l) (append-nil c) in
       let goes : names_to_free_below too cs ≡ names_to_free_below too others ++ names_to_free too last =
       names_to_free_below-join too others (child byte last no_child) ∙ ap (λ l. names_to_free_below too others ++ l) (append-nil (names_to_free too last)) in
-      let ends : leaf_names_below cs ≡ leaf_names_below others ++ leaf_names last = leaf_names_below-join others (child byte last no_child) ∙ ap (λ l. leaf_names_below others ++ l) (append-nil (leaf_names last)) in
+      let ends : leaf_names_below cs ≡ leaf_names_below others ++ leaf_names last =
+      leaf_names_below-join others (child byte last no_child) ∙ ap (λ l. leaf_names_below others ++ l) (append-nil (leaf_names last)) in
       let slots : slots_of cs ≡ slots_of others ++ (byte, name_of last) ∷ [] = slots_of-join others (child byte last no_child) in
       let distinct : AreDistinct (mark ∷ (o ++ c)) = subst (λ l. AreDistinct (mark ∷ l)) all can.layout.distinct in
-      let written : v.inners ≡ change t.inners (as_inner mark) (without_child byte) = inners ∙ ap (λ z. change t.inners (as_inner z) (without_child byte)) (sym can.layout.named) in
+      let written : v.inners ≡ change t.inners (as_inner mark) (without_child byte) =
+      inners ∙ ap (λ z. change t.inners (as_inner z) (without_child byte)) (sym can.layout.named) in
       let off = written_off t v mark (without_child byte) written leaves in
       let same : (k : OpaqueNodePtr) → IsIn k (o ++ c) → content_at v k ≡ content_at t k = λ k i. off k (each_in (λ z. mark ≢ z) k (o ++ c) distinct.0 i) in
       let below = below_seen (seen_of can) in
@@ -410,7 +440,8 @@ module _ {K V : Type 0} {t v : Nodes K V} {too : Bool} where
         cut = last;
         can = record {
           above = can_go can.layout.named seen (Pairwise-left ◌≢◌ (mark ∷ o) c distinct);
-          below = can_go named (seen_still last (λ k i. same k (in_right k o c i)) (first_seen (right_seen others (child byte last no_child) below))) (Pairwise-right ◌≢◌ o c distinct.1);
+          below = can_go named (seen_still last (λ k i. same k (in_right k o c i))
+              (first_seen (right_seen others (child byte last no_child) below))) (Pairwise-right ◌≢◌ o c distinct.1);
           apart = distinct;
         };
         kept = subst (λ l. KeepsOthers t v (mark ∷ l) (mark ∷ (names_to_free_below too others ++ names_to_free too last))) (sym goes) (record {
@@ -423,7 +454,8 @@ module _ {K V : Type 0} {t v : Nodes K V} {too : Bool} where
       }
 
   pub last_cut : {now lower : OpaqueNodePtr} (byte : ℕ) (others : Children) (left : Shape) → CanGo t too now left → IsRising (children_seen (shape_at t now)) →
-      children_seen (shape_at t now) ≡ others ++ (byte, lower) ∷ [] → v.inners ≡ change t.inners (as_inner now) (without_child byte) → v.leaves ≡ t.leaves → IsCut t v too left now lower
+      children_seen (shape_at t now) ≡ others ++ (byte, lower) ∷ [] → v.inners ≡ change t.inners (as_inner now) (without_child byte) →
+      v.leaves ≡ t.leaves → IsCut t v too left now lower
   last_cut {now} {lower} byte others left can up last inners leaves =
       let slots = slots_are t left can.layout in
       let has = has_last left others byte lower (sym slots ∙ last) in
@@ -431,7 +463,8 @@ module _ {K V : Type 0} {t v : Nodes K V} {too : Bool} where
       (subst IsRising (slots ∙ ap slots_under has.is) up) inners leaves)
 
 -- the root is attached below that child
-pub root_hangs : {K V : Type 0} {t v u : Nodes K V} {too : Bool} {left : Shape} {now lower root : OpaqueNodePtr} {freed : ℕ} (cut : IsCut t v too left now lower) →
+pub root_hangs : {K V : Type 0} {t v u : Nodes K V} {too : Bool} {left : Shape} {now lower root : OpaqueNodePtr} {freed : ℕ}
+    (cut : IsCut t v too left now lower) →
     AreJoined v u too cut.upper cut.cut root freed → IsTurn t u too left root freed
 root_hangs {too = too} {left = left} cut joined = record {
   after = joined.both;
@@ -484,7 +517,8 @@ module _ {K V : Type 0} {s : Nodes K V} {too : Bool} where
     below = step.moved.below;
     can = step.moved.can;
     kept = keeps_on (names_to_free too upper ++ names_to_free too lower)
-        (names_to_free too is.above ++ names_to_free too is.below) (names_to_free too step.moved.above ++ names_to_free too step.moved.below) is.kept step.moved.kept;
+        (names_to_free too is.above ++ names_to_free too is.below)
+        (names_to_free too step.moved.above ++ names_to_free too step.moved.below) is.kept step.moved.kept;
     counted = is.counted ∙ step.moved.counted;
     names = is.names ∙ step.moved.names;
   }
@@ -498,7 +532,8 @@ module _ {K V : Type 0} {s : Nodes K V} {too : Bool} where
       record {
         both = is.above;
         can = can_go is.can.above.layout.named (seen_still is.above
-            (λ k i. goes.beside k (λ j. apart_in (names_of is.above) (names_of is.below) k is.can.apart i (going_in too is.below k j)) (λ z. z)) (seen_of is.can.above)) is.can.above.layout.distinct;
+            (λ k i. goes.beside k (λ j. apart_in (names_of is.above) (names_of is.below) k is.can.apart i (going_in too is.below k j))
+            (λ z. z)) (seen_of is.can.above)) is.can.above.layout.distinct;
         kept = keeps_on (names_to_free too upper ++ names_to_free too lower) (a ++ b) a is.kept (record {
           beside = λ k off out. goes.beside k (λ i. off (in_right k a b i)) (λ z. z);
           gone = λ k i out. elim (in_either k a b i) [ inl j ↦ absurd (out j) | inr j ↦ goes.gone k j (λ z. z) ];
@@ -509,7 +544,8 @@ module _ {K V : Type 0} {s : Nodes K V} {too : Bool} where
       }
 
 module _ {K V : Type 0} {t u : Nodes K V} {too : Bool} where
-  put_first : {left node next mark : OpaqueNodePtr} {head : NodeHeader} {byte : ℕ} (upper first : Shape) (more : Shapes) → CanBothGo t too left node upper (inner mark head (child byte first more)) →
+  put_first : {left node next mark : OpaqueNodePtr} {head : NodeHeader} {byte : ℕ} (upper first : Shape) (more : Shapes) →
+      CanBothGo t too left node upper (inner mark head (child byte first more)) →
       name_of first ≡ next → u.inners ≡ change t.inners (as_inner node) (with_child byte left) → u.leaves ≡ t.leaves →
       IsMove t u too upper (inner mark head (child byte first more)) node next
   put_first {left} {node} {next} {mark} {head} {byte} upper first more can named inners leaves =
@@ -521,13 +557,17 @@ module _ {K V : Type 0} {t u : Nodes K V} {too : Bool} where
       let after = inner mark head (child byte upper more) in
       let distinct : AreDistinct (names_of after ++ f) = names.distinct can.apart in
       let written : u.inners ≡ change t.inners (as_inner mark) (with_child byte (name_of upper)) =
-      inners ∙ ap (λ z. change t.inners (as_inner z) (with_child byte left)) (sym can.below.layout.named) ∙ ap (λ z. change t.inners (as_inner mark) (with_child byte z)) (sym can.above.layout.named) in
+      inners ∙ ap (λ z. change t.inners (as_inner z) (with_child byte left)) (sym can.below.layout.named)
+      ∙ ap (λ z. change t.inners (as_inner mark) (with_child byte z)) (sym can.above.layout.named) in
       let off = written_off t u mark (with_child byte (name_of upper)) written leaves in
-      let same : (k : OpaqueNodePtr) → IsIn k ((a ++ m) ++ f) → content_at u k ≡ content_at t k = λ k i. off k (each_in (λ z. mark ≢ z) k ((a ++ m) ++ f) distinct.0 i) in
+      let same : (k : OpaqueNodePtr) → IsIn k ((a ++ m) ++ f) → content_at u k ≡ content_at t k =
+      λ k i. off k (each_in (λ z. mark ≢ z) k ((a ++ m) ++ f) distinct.0 i) in
       let below = below_seen (seen_of can.below) in
       let seen = seen_above {n = mark} {h = head} {cs = child byte upper more}
-      (written_seen t u mark (with_child byte (name_of upper)) written leaves {h = head} {slots = slots_of (child byte first more)} {new = slots_of (child byte upper more)} (λ node. refl)
-      (λ node is. ap (λ l. put_child l byte (name_of upper)) is ∙ put_child-there {A = Unit {0}} no_child byte (name_of first) (name_of upper) (slots_of more) tt) can.below.layout.holds.0)
+      (written_seen t u mark (with_child byte (name_of upper))
+      written leaves {h = head} {slots = slots_of (child byte first more)} {new = slots_of (child byte upper more)} (λ node. refl)
+      (λ node is. ap (λ l. put_child l byte (name_of upper)) is
+      ∙ put_child-there {A = Unit {0}} no_child byte (name_of first) (name_of upper) (slots_of more) tt) can.below.layout.holds.0)
       (both_seen byte (seen_still upper (λ k i. same k (in_left k (a ++ m) f (in_left k a m i))) (seen_of can.above))
       (below_still more (λ k i. same k (in_left k (a ++ m) f (in_right k a m i))) (rest_seen below))) in
       record {
@@ -536,7 +576,9 @@ module _ {K V : Type 0} {t u : Nodes K V} {too : Bool} where
           below = first;
           can = record {
             above = can_go can.below.layout.named seen (Pairwise-left ◌≢◌ (names_of after) f distinct);
-            below = can_go named (seen_still first (λ k i. same k (in_right k (a ++ m) f i)) (first_seen below)) (Pairwise-right ◌≢◌ (names_of after) f distinct);
+            below =
+                can_go named (seen_still first (λ k i. same k (in_right k (a ++ m) f i)) (first_seen below))
+                (Pairwise-right ◌≢◌ (names_of after) f distinct);
             apart = distinct;
           };
           kept = record {
@@ -550,14 +592,17 @@ module _ {K V : Type 0} {t u : Nodes K V} {too : Bool} where
         fewer = let d = length-append f m in omega (arith, d);
       }
 
-  pub child_moves : {left node next : OpaqueNodePtr} {byte : ℕ} (upper lower : Shape) → CanBothGo t too left node upper lower → Some (byte, next) ≡ first_of (children_seen (shape_at t node)) →
+  pub child_moves : {left node next : OpaqueNodePtr} {byte : ℕ} (upper lower : Shape) → CanBothGo t too left node upper lower →
+      Some (byte, next) ≡ first_of (children_seen (shape_at t node)) →
       u.inners ≡ change t.inners (as_inner node) (with_child byte left) → u.leaves ≡ t.leaves → IsMove t u too upper lower node next
   child_moves {left} {node} {next} {byte} upper lower can first inners leaves =
       let has = has_first lower byte next (first ∙ ap first_of (slots_are t lower can.below.layout)) in
-      subst (λ z. IsMove t u too upper z node next) (sym has.is) (put_first upper has.first has.more (subst (CanBothGo t too left node upper) has.is can) has.named inners leaves)
+      subst (λ z. IsMove t u too upper z node next) (sym has.is)
+      (put_first upper has.first has.more (subst (CanBothGo t too left node upper) has.is can) has.named inners leaves)
 
 -- so fewer names are below in the store
-pub fewer_below : {K V : Type 0} {t u : Nodes K V} {too : Bool} {left node next first : OpaqueNodePtr} {upper lower : Shape} → CanBothGo t too left node upper lower →
+pub fewer_below : {K V : Type 0} {t u : Nodes K V} {too : Bool} {left node next first : OpaqueNodePtr} {upper lower : Shape} →
+    CanBothGo t too left node upper lower →
     IsMove t u too upper lower next first → count_at u first < count_at t node
 fewer_below {K} {V} {t} {u} {too} {left} {node} {next} {first} {upper} {lower} can step =
     let a = count_at_is t lower node can.below.layout in
@@ -574,7 +619,8 @@ pub record HasChildren {K V : Type 0} (t : Nodes K V) (k : OpaqueNodePtr) : Type
   pub got : map.get t.inners (as_inner k) ≡ Some node
   pub children : node.children ≡ children_seen (shape_at t k)
 
-pub has_children : {K V : Type 0} (t : Nodes K V) (k : OpaqueNodePtr) (x : ℕ × OpaqueNodePtr) → Some x ≡ first_of (children_seen (shape_at t k)) → HasChildren t k
+pub has_children : {K V : Type 0} (t : Nodes K V) (k : OpaqueNodePtr) (x : ℕ × OpaqueNodePtr) →
+    Some x ≡ first_of (children_seen (shape_at t k)) → HasChildren t k
 has_children t k x e = go (shape_at t k) refl e
   where
     go : (o : Option (Node OpaqueNodePtr (Unit {0}))) → shape_at t k ≡ o → Some x ≡ first_of (children_seen o) → HasChildren t k
@@ -588,7 +634,8 @@ pub node_there : {K V : Type 0} (t : Nodes K V) (k : OpaqueNodePtr) → HasChild
 node_there t k has = subst IsSome (sym has.got) refl
 
 -- a node whose last child is known has a first one
-pub some_children : {K V : Type 0} (t : Nodes K V) (k : OpaqueNodePtr) (others : Children) (x : ℕ × OpaqueNodePtr) → children_seen (shape_at t k) ≡ others ++ x ∷ [] → HasChildren t k
+pub some_children : {K V : Type 0} (t : Nodes K V) (k : OpaqueNodePtr) (others : Children) (x : ℕ × OpaqueNodePtr) →
+    children_seen (shape_at t k) ≡ others ++ x ∷ [] → HasChildren t k
 some_children t k [] x e = has_children t k x (sym (ap first_of e))
 some_children t k (o ∷ os) x e = has_children t k o (sym (ap first_of e))
 
@@ -599,7 +646,8 @@ first_place capacity (c ∷ cs) byte name e =
     let same = (some_parts (byte, name) c e).0 in
     inr (subst (λ b. IsSome (child_at (c ∷ cs) b)) (sym same) (rw (eq-eqb c.0 c.0 refl) refl))
 
-pub first_has_place : {K V : Type 0} (t : Nodes K V) (k : OpaqueNodePtr) (byte : ℕ) (name : OpaqueNodePtr) (capacity : ℕ) → Some (byte, name) ≡ first_of (children_seen (shape_at t k)) →
+pub first_has_place : {K V : Type 0} (t : Nodes K V) (k : OpaqueNodePtr) (byte : ℕ) (name : OpaqueNodePtr) (capacity : ℕ) →
+    Some (byte, name) ≡ first_of (children_seen (shape_at t k)) →
     IsSomeAnd (map.get t.inners (as_inner k)) (λ node. HasPlace capacity node.children byte)
 first_has_place t k byte name capacity e =
     let has = has_children t k (byte, name) e in

@@ -59,14 +59,17 @@ use Rattle.art_writing.proofs.Ways.{last_step-path_of, root_with-path_of}
 -- ---- the end node is a leaf
 
 -- the leaf of a related key, at the end of a path of the layout
-pub record IsRelatedLeaf {K V : Type 0} (bytes : K × V → List ℕ) (P : ℕ) (s : Nodes K V) (p : LeafPtr) (layout : Tree OpaqueNodePtr (K × V)) (key : List ℕ) : Type 0 where
+pub record IsRelatedLeaf {K V : Type 0} (bytes : K × V → List ℕ) (P : ℕ) (s : Nodes K V) (p : LeafPtr) (layout : Tree OpaqueNodePtr (K × V))
+    (key : List ℕ) : Type 0 where
   pub at : IsEndLeaf bytes P s p layout key
   pub related : are_related key (bytes (pair_of at.shown)) ≡ true
   pub unequal : key ≢ bytes (pair_of at.shown)
 
-module _ {K V : Type 0} {bytes : K × V → List ℕ} {P : ℕ} {s : Nodes K V} {point : OverwritePoint} {p : LeafPtr} {pairs : List (K × V)} {layout : Tree OpaqueNodePtr (K × V)} where
+module _ {K V : Type 0} {bytes : K × V → List ℕ} {P : ℕ} {s : Nodes K V} {point : OverwritePoint} {p : LeafPtr} {pairs : List (K × V)}
+    {layout : Tree OpaqueNodePtr (K × V)} where
   -- it is in the store where a point names it
-  pub related_leaf : {key : List ℕ} → IsOverwritePointIn bytes P s key point → leaf_name p ≡ point.overwrite_point → IsCanonicalTree bytes P s point.root pairs layout →
+  pub related_leaf : {key : List ℕ} → IsOverwritePointIn bytes P s key point → leaf_name p ≡ point.overwrite_point →
+      IsCanonicalTree bytes P s point.root pairs layout →
       IsRelatedLeaf bytes P s p layout key
   related_leaf {key} answers named by =
       let own = overwrite_answers_to answers by in
@@ -89,9 +92,18 @@ module _ {K V : Type 0} {bytes : K × V → List ℕ} {P : ℕ} {s : Nodes K V} 
 
   module _ (t : Nodes K V) (leaves : t.leaves ≡ change s.leaves p (with_pair new.0 new.1)) (inners : t.inners ≡ s.inners) where
     -- the pair is inserted, and the old one is returned
-    pub leaf_pair_overwritten : (swapped : K × V) (existing : LeafNode K V) → IfSome (map.get s.leaves p) (λ leaf. swapped ≡ (leaf.key, leaf.value)) → existing ≡ unlinked_leaf swapped →
+    pub leaf_pair_overwritten : (swapped : K × V) (existing : LeafNode K V) →
+        IfSome (map.get s.leaves p) (λ leaf. swapped ≡ (leaf.key, leaf.value)) → existing ≡ unlinked_leaf swapped →
         ForTree bytes P s point.root (λ pairs layout. IsOverwritten bytes P s t point new pairs layout
-        (record { insert_result = record { leaf_node_ptr = p; existing_leaf = Some existing; new_root = point.root; parent_node_change = NoChange }; leafs_removed = 0 }))
+        (record {
+          insert_result = record {
+            leaf_node_ptr = p;
+            existing_leaf = Some existing;
+            new_root = point.root;
+            parent_node_change = NoChange;
+          };
+          leafs_removed = 0;
+        }))
     leaf_pair_overwritten swapped existing pair is pairs layout by =
         let l = related_leaf answers named by in
         let into : IntoLeaf bytes P s t l.at.path l.at.place p l.at.shown new =
@@ -105,14 +117,16 @@ module _ {K V : Type 0} {bytes : K × V → List ℕ} {P : ℕ} {s : Nodes K V} 
           leaf = record { has = record { path = l.at.path; whole = refl }; kept = λ kind. named; change = refl };
           existing = ap Some (is ∙ ap unlinked_leaf swapped_is) ∙ ap (λ z. option_map unlinked_leaf z.0) (sym reply);
           removed = ap (λ z. z.1) (sym reply);
-          kept = subst (λ z. ChangesInPlace bytes s t (Some z) (Some (plug l.at.path (leaf (leaf_name p) new)))) l.at.whole (leaf_overwrite_kept old into l.related l.unequal);
+          kept = subst (λ z. ChangesInPlace bytes s t (Some z) (Some (plug l.at.path (leaf (leaf_name p) new)))) l.at.whole
+              (leaf_overwrite_kept old into l.related l.unequal);
           touches = subst (λ kind. TouchesForNode kind bytes (bytes new) s t layout) (ap (λ z. z.kind) named) (leaf_touches old into);
         }
 
 -- ---- the end node is an inner node
 
 -- The key is a proper prefix of all keys below the node, which are two or more.
-pub record IsSubtreeAt {K V : Type 0} (bytes : K × V → List ℕ) (P : ℕ) (s : Nodes K V) (point : OverwritePoint) (layout : Tree OpaqueNodePtr (K × V)) (key : List ℕ) : Type 0 where
+pub record IsSubtreeAt {K V : Type 0} (bytes : K × V → List ℕ) (P : ℕ) (s : Nodes K V) (point : OverwritePoint)
+    (layout : Tree OpaqueNodePtr (K × V)) (key : List ℕ) : Type 0 where
   pub path : List (Frame OpaqueNodePtr (K × V))
   pub place : List ℕ
   pub node : Tree OpaqueNodePtr (K × V)
@@ -143,8 +157,10 @@ module _ {A : Type 0} (bytes : A → List ℕ) (P : ℕ) where
           let k : length front ≡ length key + length q = ap length f ∙ length-append key q in
           omega arith
 
-module _ {K V : Type 0} {bytes : K × V → List ℕ} {P : ℕ} {s : Nodes K V} {point : OverwritePoint} {pairs : List (K × V)} {layout : Tree OpaqueNodePtr (K × V)} where
-  pub subtree_at : {key : List ℕ} → IsOverwritePointIn bytes P s key point → point.overwrite_point.kind ≢ Leaf → IsCanonicalTree bytes P s point.root pairs layout →
+module _ {K V : Type 0} {bytes : K × V → List ℕ} {P : ℕ} {s : Nodes K V} {point : OverwritePoint} {pairs : List (K × V)}
+    {layout : Tree OpaqueNodePtr (K × V)} where
+  pub subtree_at : {key : List ℕ} → IsOverwritePointIn bytes P s key point → point.overwrite_point.kind ≢ Leaf →
+      IsCanonicalTree bytes P s point.root pairs layout →
       IsSubtreeAt bytes P s point layout key
   subtree_at {key} answers off by =
       let own = overwrite_answers_to answers by in
@@ -160,11 +176,13 @@ module _ {K V : Type 0} {bytes : K × V → List ℕ} {P : ℕ} {s : Nodes K V} 
       go path place (inner n h cs) whole hole deep named path_is used (used_is, short) =
           let laid = subst (IsLaidOut bytes P (node_at s) (links_at s) point.root pairs) (sym whole) (laid_out by) in
           let part = hole.radix.0 in
-          let prefix : prefix_of bytes (depth_of path) (inner n h cs) ≡ part = ap (λ d. prefix_of bytes d (inner n h cs)) deep ∙ prefix_is bytes P n h cs place hole.radix in
+          let prefix : prefix_of bytes (depth_of path) (inner n h cs) ≡ part =
+          ap (λ d. prefix_of bytes d (inner n h cs)) deep ∙ prefix_is bytes P n h cs place hole.radix in
           let (r, e) = hole.front in
           let rest : drop (depth_of path) key ≡ r = ap (λ d. drop d key) deep ∙ after_front place key r e in
           let (q, f) = short in
-          let ends : IsFront key (place ++ part) = (q, ap (λ z. place ++ z) (sym prefix ∙ f ∙ ap (λ z. z ++ q) rest) ∙ sym (append_assoc place r q) ∙ ap (λ z. z ++ q) (sym e)) in
+          let ends : IsFront key (place ++ part) =
+          (q, ap (λ z. place ++ z) (sym prefix ∙ f ∙ ap (λ z. z ++ q) rest) ∙ sym (append_assoc place r q) ∙ ap (λ z. z ++ q) (sym e)) in
           let below = goes_on bytes P key (place ++ part) ends cs hole.radix.4 in
           record {
             path = path;
@@ -183,14 +201,16 @@ module _ {K V : Type 0} {bytes : K × V → List ℕ} {P : ℕ} {s : Nodes K V} 
               one_child (inner n h cs) (have_two_children bytes P place (inner n h cs) hole.radix),
             );
             related =
-                Each-weaker (λ y. IsFront key (bytes y) × (length key < length (bytes y))) (λ y. are_related key (bytes y) ≡ true) (λ y g. front_related key (bytes y) g.0) (pairs_below cs) below;
+                Each-weaker (λ y. IsFront key (bytes y) × (length key < length (bytes y))) (λ y. are_related key (bytes y) ≡ true)
+                (λ y g. front_related key (bytes y) g.0) (pairs_below cs) below;
             unequal =
                 Each-weaker (λ y. IsFront key (bytes y) × (length key < length (bytes y))) (λ y. bytes y ≢ key)
                 (λ y g same. let l = ap length same in let m = g.1 in omega arith) (pairs_below cs) below;
             two = two_pairs cs hole.radix.2 hole.radix.4;
           }
         where
-          two_pairs : (cs : Subtrees OpaqueNodePtr (K × V)) → 2 ≤ length (bytes_of cs) → AreRadix bytes P (place ++ hole.radix.0) cs → 2 ≤ length (pairs_below cs)
+          two_pairs : (cs : Subtrees OpaqueNodePtr (K × V)) → 2 ≤ length (bytes_of cs) → AreRadix bytes P (place ++ hole.radix.0) cs →
+              2 ≤ length (pairs_below cs)
           two_pairs no_child two h = absurd (omega arith)
           two_pairs (child b t no_child) two h = absurd (omega arith)
           two_pairs (child b t (child c u cs)) two h =
@@ -227,7 +247,8 @@ pub record IsPutAt {K V : Type 0} (s u : Nodes K V) (point : OverwritePoint) (n 
   pub inners : u.inners ≡ with_child_at (last_step point.path) (leaf_name n) s.inners
 
 -- it is where the nodes were the same before
-pub put_at : {K V : Type 0} {s : Nodes K V} (r q u : Nodes K V) {point : OverwritePoint} (x : LeafNode K V) → SameNodes s r → {n : LeafPtr} {name : OpaqueNodePtr} →
+pub put_at : {K V : Type 0} {s : Nodes K V} (r q u : Nodes K V) {point : OverwritePoint} (x : LeafNode K V) → SameNodes s r →
+    {n : LeafPtr} {name : OpaqueNodePtr} →
     map.get r.leaves n ≡ None → q.leaves ≡ with_leaf r.leaves n x → q.inners ≡ r.inners → name ≡ leaf_name n → u.leaves ≡ q.leaves →
     u.inners ≡ with_child_at (last_step point.path) name q.inners → IsPutAt s u point n x
 put_at r q u {point = point} x same {n = n} fresh leaves inners name_is after_leaves after_inners = record {
@@ -241,8 +262,11 @@ module _ {K V : Type 0} {bytes : K × V → List ℕ} {P : ℕ} {s : Nodes K V} 
   old_laid : IsLaidOut bytes P (node_at s) (links_at s) point.root pairs (plug at.path at.node)
   old_laid = subst (IsLaidOut bytes P (node_at s) (links_at s) point.root pairs) (sym at.whole) (laid_out by)
 
-  pub links_previous : (previous next : Option LeafPtr) → IsBeside s at.node Before previous next → option_map leaf_name previous ≡ last_or (leaves_before at.path) None
-  links_previous previous next comes = (beside_is s at.path at.node old_laid.linked false previous next comes).0 ∙ ap (λ ks. last_or ks None) (append-nil (leaves_before at.path))
+  pub links_previous : (previous next : Option LeafPtr) → IsBeside s at.node Before previous next →
+      option_map leaf_name previous ≡ last_or (leaves_before at.path) None
+  links_previous previous next comes =
+      (beside_is s at.path at.node old_laid.linked false previous next comes).0
+      ∙ ap (λ ks. last_or ks None) (append-nil (leaves_before at.path))
 
   pub links_next : (previous next : Option LeafPtr) → IsBeside s at.node After previous next → option_map leaf_name next ≡ first_or (leaves_after at.path) None
   links_next previous next comes = (beside_is s at.path at.node old_laid.linked true previous next comes).1
@@ -263,13 +287,16 @@ module _ {K V : Type 0} {bytes : K × V → List ℕ} {P : ℕ} {s : Nodes K V} 
   pub subtree_parent : HasChild s.inners (last_step point.path)
   subtree_parent =
       subst (HasChild s.inners) (sym (ap last_step at.path_is ∙ last_step-path_of at.path))
-      (has (parent_of at.path) (parent_ready bytes P s at.path at.place (name_of at.node) at.hole.path (path_holds (node_at s) at.path at.node old_laid.holds).0))
+      (has (parent_of at.path) (parent_ready bytes P s at.path at.place (name_of at.node) at.hole.path
+      (path_holds (node_at s) at.path at.node old_laid.holds).0))
     where
-      some : (o : Option Inner) (b : ℕ) → IsSomeAnd o (λ node. child_at node.children b ≡ Some (name_of at.node)) → IsSomeAnd o (λ node. IsSome (child_at node.children b))
+      some : (o : Option Inner) (b : ℕ) → IsSomeAnd o (λ node. child_at node.children b ≡ Some (name_of at.node)) →
+          IsSomeAnd o (λ node. IsSome (child_at node.children b))
       some None b h = h
       some (Some node) b h = ap is_some h
 
-      has : (o : Option (InnerPtr × ℕ)) → IfSome o (λ p. IsSomeAnd (map.get s.inners p.0) (λ node. child_at node.children p.1 ≡ Some (name_of at.node))) → HasChild s.inners o
+      has : (o : Option (InnerPtr × ℕ)) → IfSome o
+          (λ p. IsSomeAnd (map.get s.inners p.0) (λ node. child_at node.children p.1 ≡ Some (name_of at.node))) → HasChild s.inners o
       has None h = tt
       has (Some p) h = some (map.get s.inners p.0) p.1 h
 
@@ -295,8 +322,10 @@ module _ {K V : Type 0} {bytes : K × V → List ℕ} {P : ℕ} {s : Nodes K V} 
         named = at.full.0.named;
         holds = frame (node_at s) (node_at u) at.node (each_from (λ k. node_at u k ≡ node_at s k) (names_of at.node) (λ k i.
             stays (node_at s) (node_at u) at.path at.node old_laid.holds old_laid.distinct []
-            (same_but s u at.path [] (λ p off used. ap (λ z. option_map pair_of (map.get z p)) put.leaves ∙ with_leaf_pair s.leaves n x p (λ e. used (ap (map.get s.leaves) e ∙ put.fresh)))
-            (λ q kind up off used. ap (λ z. map.get z (as_inner q)) parent_inners ∙ with_child_at-elsewhere at.path (leaf_name n) s.inners q up)) k i (λ z. z))) at.full.0.holds;
+            (same_but s u at.path [] (λ p off used. ap (λ z. option_map pair_of (map.get z p)) put.leaves
+            ∙ with_leaf_pair s.leaves n x p (λ e. used (ap (map.get s.leaves) e ∙ put.fresh)))
+            (λ q kind up off used. ap (λ z. map.get z (as_inner q)) parent_inners
+            ∙ with_child_at-elsewhere at.path (leaf_name n) s.inners q up)) k i (λ z. z))) at.full.0.holds;
         distinct = at.full.0.distinct;
       },
       at.full.1,
@@ -318,12 +347,17 @@ module _ {K V : Type 0} {bytes : K × V → List ℕ} {P : ℕ} {s : Nodes K V} 
       }
 
       -- the leaf is inserted, and the number of removed leaves is returned
-      pub subtree_overwritten : (after : OpaqueNodePtr) (count : ℕ) → after ≡ root_with point.path point.root (leaf_name n) → count ≡ length (leaf_names at.node) → point.overwrite_point.kind ≢ Leaf →
+      pub subtree_overwritten : (after : OpaqueNodePtr) (count : ℕ) → after ≡ root_with point.path point.root (leaf_name n) →
+          count ≡ length (leaf_names at.node) → point.overwrite_point.kind ≢ Leaf →
           IsOverwritten bytes P s t point (pair_of x) pairs layout
-          (record { insert_result = record { leaf_node_ptr = n; existing_leaf = None; new_root = after; parent_node_change = NoChange }; leafs_removed = count })
+          (record {
+            insert_result = record { leaf_node_ptr = n; existing_leaf = None; new_root = after; parent_node_change = NoChange };
+            leafs_removed = count;
+          })
       subtree_overwritten after count after_is count_is off =
           let into = into_hole in
-          let reply : overwrite_reply bytes (pair_of x) pairs ≡ (None, length (pairs_of at.node)) = hole_reply old_laid into ∙ went_many (pairs_of at.node) at.two in
+          let reply : overwrite_reply bytes (pair_of x) pairs ≡ (None, length (pairs_of at.node)) =
+          hole_reply old_laid into ∙ went_many (pairs_of at.node) at.two in
           let root : after ≡ paths.root_with at.path point.root (leaf_name n) =
           after_is ∙ ap (λ z. root_with z point.root (leaf_name n)) at.path_is ∙ root_with-path_of at.path point.root (leaf_name n) in
           record {
@@ -346,13 +380,15 @@ module _ {K V : Type 0} {bytes : K × V → List ℕ} {P : ℕ} {s : Nodes K V} 
 
 -- ---- what is required of the store where the pair is inserted
 
-module _ {K V : Type 0} {bytes : K × V → List ℕ} {P : ℕ} {s : Nodes K V} {point : OverwritePoint} {key : List ℕ} (answers : IsOverwritePointIn bytes P s key point)
+module _ {K V : Type 0} {bytes : K × V → List ℕ} {P : ℕ} {s : Nodes K V} {point : OverwritePoint} {key : List ℕ}
+    (answers : IsOverwritePointIn bytes P s key point)
     (off : point.overwrite_point.kind ≢ Leaf) where
   -- the end node stands for a full tree
   pub end_full : (tree : Tree OpaqueNodePtr (K × V)) × IsFullTree s point.overwrite_point tree
   end_full = let (pairs, layout, by, own) = answers in let at = subtree_at answers off by in (at.node, at.full)
 
-module _ {K V : Type 0} {bytes : K × V → List ℕ} {P : ℕ} {s : Nodes K V} {point : OverwritePoint} {key : List ℕ} (answers : IsOverwritePointIn bytes P s key point)
+module _ {K V : Type 0} {bytes : K × V → List ℕ} {P : ℕ} {s : Nodes K V} {point : OverwritePoint} {key : List ℕ}
+    (answers : IsOverwritePointIn bytes P s key point)
     (off : point.overwrite_point.kind ≢ Leaf) (r : Nodes K V) (same : SameNodes s r) where
   -- its neighbours are in the store
   pub ends_there : (previous next : Option LeafPtr) →
@@ -373,5 +409,6 @@ module _ {K V : Type 0} {bytes : K × V → List ℕ} {P : ℕ} {s : Nodes K V} 
       subst (λ m. HasChild m (last_step point.path)) (sym (inners ∙ same.1)) (subtree_parent by (subtree_at answers off by))
 
   -- the tree is unchanged when the leaf replaces it
-  pub end_still : {u : Nodes K V} {n : LeafPtr} {x : LeafNode K V} → IsPutAt s u point n x → (tree : Tree OpaqueNodePtr (K × V)) × IsFullTree u point.overwrite_point tree
+  pub end_still : {u : Nodes K V} {n : LeafPtr} {x : LeafNode K V} → IsPutAt s u point n x →
+      (tree : Tree OpaqueNodePtr (K × V)) × IsFullTree u point.overwrite_point tree
   end_still put = let (pairs, layout, by, own) = answers in let at = subtree_at answers off by in (at.node, subtree_still by at put)

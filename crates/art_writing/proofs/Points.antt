@@ -26,7 +26,8 @@ overwriting root end =
 module _ {K V : Type 0} {s : Nodes K V} {bytes : K × V → List ℕ} {P : ℕ} {root : OpaqueNodePtr} {pairs : List (K × V)}
     {layout : Tree OpaqueNodePtr (K × V)} {key : List ℕ} (by : IsCanonicalTree bytes P s root pairs layout) {end : EndNode} where
   -- a kind makes an insert point
-  pub insert_point : {kind : InsertKind} → end.insert_kind ≡ Some kind → IsEndFor bytes P key pairs layout end → IsPointFor bytes P key pairs layout (inserting root end kind)
+  pub insert_point : {kind : InsertKind} → end.insert_kind ≡ Some kind → IsEndFor bytes P key pairs layout end →
+      IsPointFor bytes P key pairs layout (inserting root end kind)
   insert_point is (conflict, has) = (
     conflict ∙ ap is_none is,
     record {
@@ -39,7 +40,8 @@ module _ {K V : Type 0} {s : Nodes K V} {bytes : K × V → List ℕ} {P : ℕ} 
     },
   )
 
-  pub insert_point_in : {kind : InsertKind} → end.insert_kind ≡ Some kind → IsEndFor bytes P key pairs layout end → IsPrefixPointIn bytes P s key (inserting root end kind)
+  pub insert_point_in : {kind : InsertKind} → end.insert_kind ≡ Some kind → IsEndFor bytes P key pairs layout end →
+      IsPrefixPointIn bytes P s key (inserting root end kind)
   insert_point_in {kind} is at = prefix_point_in key by (inserting root end kind) (insert_point is at)
 
   -- and where there is none it is one to overwrite

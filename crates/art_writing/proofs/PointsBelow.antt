@@ -33,10 +33,13 @@ joined_step above (Normal parent b grandparent c) node byte = refl
 -- the two paths are one of the model
 joined_path : {A : Type 0} (gs fs : List (Frame OpaqueNodePtr A)) → joined (path_of fs) (path_of gs) ≡ path_of (gs ++ fs)
 joined_path [] fs = refl
-joined_path (g ∷ gs) fs = joined_step (path_of fs) (path_of gs) (as_inner g.mark) g.byte ∙ ap (λ path. step_down path (as_inner g.mark) g.byte) (joined_path gs fs)
+joined_path (g ∷ gs) fs =
+    joined_step (path_of fs) (path_of gs) (as_inner g.mark) g.byte
+    ∙ ap (λ path. step_down path (as_inner g.mark) g.byte) (joined_path gs fs)
 
 -- where the keys below the node start with the prefix, its first leaf has the first of these
-pub points_there : {A : Type 0} (bytes : A → List ℕ) (prefix : List ℕ) (layout : Tree OpaqueNodePtr A) (end : LastNode) (all : HasAllBelow bytes prefix layout end.name) →
+pub points_there : {A : Type 0} (bytes : A → List ℕ) (prefix : List ℕ) (layout : Tree OpaqueNodePtr A) (end : LastNode)
+    (all : HasAllBelow bytes prefix layout end.name) →
     end.path ≡ path_of all.at.path → all.begin ≡ true → (point : DeletePoint) (first : HasFirstLeaf all.at.node (leaf_name point.leaf_node_ptr)) →
     point.path ≡ joined end.path (path_of first.has.path) → ArePointsBelow bytes prefix layout (Some (record { path = end.path; node = end.name }, point))
 points_there bytes prefix layout end all path_is on point first below_is = (

@@ -41,7 +41,8 @@ module _ {K V : Type 0} (bytes : K × V → List ℕ) (P : ℕ) {s : Nodes K V} 
   under_root is = subst (λ n. IsCanonicalTree bytes P s n pairs layout) (sym (is ∙ by.stands.0.named)) by
 
   -- as many pairs are related to the key as the end node has, which is replaced
-  pub related_count : {key : List ℕ} (point : OverwritePoint) → AnswersToOverwrite bytes layout key point → IsOne point.overwrite_point.kind (length (related_to bytes key pairs))
+  pub related_count : {key : List ℕ} (point : OverwritePoint) → AnswersToOverwrite bytes layout key point →
+      IsOne point.overwrite_point.kind (length (related_to bytes key pairs))
   related_count {key} point at =
       let here = under_root at.root_is in
       let answers : IsOverwritePointIn bytes P s key point = (pairs, layout, here, at) in
@@ -64,7 +65,8 @@ module _ {K V : Type 0} (bytes : K × V → List ℕ) (P : ℕ) {s : Nodes K V} 
   -- where an insertion may fail no pair is related
   new_alone : {key : List ℕ} (new : K × V) (point : InsertPoint) → is_conflict bytes key pairs ≡ false → AnswersTo bytes P layout key point →
       (is_covered (placed_for s point.insert_kind) s.promise ≡ true → ⊥) → length (related_to bytes key pairs) ≢ 1
-  new_alone {key} new point free at off one = none (with_key bytes key pairs) (sym (any_is_first (λ y. are_same key (bytes y)) pairs) ∙ refused_new (under_root at.root_is) at off)
+  new_alone {key} new point free at off one =
+      none (with_key bytes key pairs) (sym (any_is_first (λ y. are_same key (bytes y)) pairs) ∙ refused_new (under_root at.root_is) at off)
       (ap length (sym (same_rest bytes new key pairs (free_unrelated bytes new key pairs free)).1) ∙ one)
     where
       none : (xs : List (K × V)) → is_some (first_of xs) ≡ false → length xs ≢ 1

@@ -74,16 +74,27 @@ pub record IsAlone {K V : Type 0} (bytes : K × V → List ℕ) (P : ℕ) (s : N
   pub laid : IsLaidOut bytes P (node_at s) (links_at s) root pairs (leaf (leaf_name point.leaf_node_ptr) (pair_of node))
   pub path_is : point.path ≡ Root
 
-module _ {K V : Type 0} {bytes : K × V → List ℕ} {P : ℕ} {s : Nodes K V} {root : OpaqueNodePtr} {pairs : List (K × V)} {layout : Tree OpaqueNodePtr (K × V)} {x : K × V} {point : DeletePoint} where
-  pub is_alone : IsCanonicalTree bytes P s root pairs layout → LeadsTo layout x point → last_step point.path ≡ None → IsAlone bytes P s root pairs layout x point
+module _ {K V : Type 0} {bytes : K × V → List ℕ} {P : ℕ} {s : Nodes K V} {root : OpaqueNodePtr} {pairs : List (K × V)}
+    {layout : Tree OpaqueNodePtr (K × V)} {x : K × V} {point : DeletePoint} where
+  pub is_alone : IsCanonicalTree bytes P s root pairs layout → LeadsTo layout x point → last_step point.path ≡ None →
+      IsAlone bytes P s root pairs layout x point
   is_alone by leads step = frames leads.path leads.whole leads.path_is
     where
-      frames : (fs : List (Frame OpaqueNodePtr (K × V))) → plug fs (leaf (leaf_name point.leaf_node_ptr) x) ≡ layout → point.path ≡ path_of fs → IsAlone bytes P s root pairs layout x point
-      frames (f ∷ fs) whole path_is = let last : ◌≡◌ {A = Option (InnerPtr × ℕ)} None (Some (as_inner f.mark, f.byte)) = sym step ∙ ap last_step path_is ∙ last_step-path_of (f ∷ fs) in absurd cc
+      frames : (fs : List (Frame OpaqueNodePtr (K × V))) → plug fs (leaf (leaf_name point.leaf_node_ptr) x) ≡ layout →
+          point.path ≡ path_of fs → IsAlone bytes P s root pairs layout x point
+      frames (f ∷ fs) whole path_is = let last : ◌≡◌ {A = Option (InnerPtr × ℕ)} None (Some (as_inner f.mark, f.byte)) =
+          sym step ∙ ap last_step path_is ∙ last_step-path_of (f ∷ fs) in absurd cc
       frames [] whole path_is =
           let (node, here, pair) = leaf_there s point.leaf_node_ptr x (subst (Holds (node_at s)) (sym whole) by.stands.0.holds) in
           let all : leaf (leaf_name point.leaf_node_ptr) (pair_of node) ≡ layout = ap (leaf (leaf_name point.leaf_node_ptr)) pair ∙ whole in
-          record { node = node; here = here; pair = pair; whole = all; laid = subst (IsLaidOut bytes P (node_at s) (links_at s) root pairs) (sym all) (laid_out by); path_is = path_is }
+          record {
+            node = node;
+            here = here;
+            pair = pair;
+            whole = all;
+            laid = subst (IsLaidOut bytes P (node_at s) (links_at s) root pairs) (sym all) (laid_out by);
+            path_is = path_is;
+          }
 
   module _ (at : IsAlone bytes P s root pairs layout x point) where
     alone_among : LeafAmong s (leaf (leaf_name point.leaf_node_ptr) (pair_of at.node)) [] [] point.leaf_node_ptr at.node
@@ -113,7 +124,8 @@ module _ {K V : Type 0} {bytes : K × V → List ℕ} {P : ℕ} {s : Nodes K V} 
 
 module _ {A : Type 0} where
   -- one child on both sides is on the right or on the left
-  sides : (l r : Subtrees OpaqueNodePtr A) (c : ℕ) (v : Tree OpaqueNodePtr A) → join l r ≡ child c v no_child → (r ≡ child c v no_child) ⊎ (l ≡ child c v no_child)
+  sides : (l r : Subtrees OpaqueNodePtr A) (c : ℕ) (v : Tree OpaqueNodePtr A) → join l r ≡ child c v no_child →
+      (r ≡ child c v no_child) ⊎ (l ≡ child c v no_child)
   sides no_child r c v e = inl e
   sides (child d u no_child) r c v e = inr cc
   sides (child d u (child f w l)) r c v e = absurd cc
@@ -164,12 +176,22 @@ module _ {K V : Type 0} {bytes : K × V → List ℕ} {P : ℕ} {s : Nodes K V} 
     -- the inner nodes when the node is removed and the child has its prefix
     pub lengthened_inners : Inners
     lengthened_inners =
-        prefix_written P (two.hole.radix.0 ++ two.c ∷ prefix_at bytes P ((two.place ++ two.hole.radix.0) ++ two.c ∷ []) two.v left_radix) two.v (remove s.inners (as_inner at.frame.mark))
+        prefix_written P (two.hole.radix.0 ++ two.c ∷ prefix_at bytes P ((two.place ++ two.hole.radix.0) ++ two.c ∷ []) two.v left_radix)
+        two.v (remove s.inners (as_inner at.frame.mark))
 
-    is_compressed_to : (t : Nodes K V) → t.leaves ≡ without_leaf s.leaves point.leaf_node_ptr at.node → t.inners ≡ with_child_at (parent_of at.above) (name_of two.v) lengthened_inners →
-        Compressed bytes P s t at.above two.place at.frame.mark at.frame.header at.frame.left at.frame.right at.frame.byte point.leaf_node_ptr at.node two.c two.v
+    is_compressed_to : (t : Nodes K V) → t.leaves ≡ without_leaf s.leaves point.leaf_node_ptr at.node →
+        t.inners ≡ with_child_at (parent_of at.above) (name_of two.v) lengthened_inners →
+        Compressed bytes P s t at.above two.place at.frame.mark at.frame.header at.frame.left at.frame.right at.frame.byte
+        point.leaf_node_ptr at.node two.c two.v
     unfolding lengthened_inners
-    is_compressed_to t leaves inners = record { hole = two.hole; one = two.one; radix = left_radix; taken = record { among = leaf_among at.below at.here; leaves = leaves }; inners = inners }
+    is_compressed_to t leaves inners =
+        record {
+          hole = two.hole;
+          one = two.one;
+          radix = left_radix;
+          taken = record { among = leaf_among at.below at.here; leaves = leaves };
+          inners = inners;
+        }
 
     -- it was so before any write
     is_compressed_at : Compressed bytes P s (record
@@ -178,7 +200,10 @@ module _ {K V : Type 0} {bytes : K × V → List ℕ} {P : ℕ} {s : Nodes K V} 
           inners = with_child_at (parent_of at.above) (name_of two.v) lengthened_inners;
         }) at.above two.place at.frame.mark at.frame.header at.frame.left at.frame.right at.frame.byte point.leaf_node_ptr at.node two.c two.v
     is_compressed_at =
-        is_compressed_to (record s { leaves = without_leaf s.leaves point.leaf_node_ptr at.node; inners = with_child_at (parent_of at.above) (name_of two.v) lengthened_inners }) refl refl
+        is_compressed_to (record s {
+          leaves = without_leaf s.leaves point.leaf_node_ptr at.node;
+          inners = with_child_at (parent_of at.above) (name_of two.v) lengthened_inners;
+        }) refl refl
 
     left_held : Holds (node_at s) two.v
     left_held = v_held at.below.laid is_compressed_at
@@ -202,7 +227,8 @@ module _ {K V : Type 0} {bytes : K × V → List ℕ} {P : ℕ} {s : Nodes K V} 
         let (off, own, got, head, kids) = parent_is at.below in
         let same : any ≡ own = some_same (sym is ∙ ap (get s.inners) (sym at.parent_is) ∙ got) in
         let shown = head ∙ two.hole.radix.1 in
-        header_by_parts P two.hole.radix.0 any.prefix (ap (λ z. z.prefix.len) same ∙ ap (λ z. z.length_of) shown) (ap (λ z. z.prefix.stored) same ∙ ap (λ z. z.stored) shown)
+        header_by_parts P two.hole.radix.0 any.prefix (ap (λ z. z.prefix.len) same ∙ ap (λ z. z.length_of) shown)
+        (ap (λ z. z.prefix.stored) same ∙ ap (λ z. z.stored) shown)
 
     parent_found : (node : Inner) × (get s.inners parent ≡ Some node)
     parent_found = let (off, node, got, head, kids) = parent_is at.below in (node, ap (get s.inners) (sym at.parent_is) ∙ got)
@@ -248,7 +274,8 @@ module _ {K V : Type 0} {bytes : K × V → List ℕ} {P : ℕ} {s : Nodes K V} 
     below_other p i =
         let (y, got, i) = leaf_at s two.v left_held p i in
         let place = (two.place ++ two.hole.radix.0) ++ two.c ∷ [] in
-        let (r, e) = each_in (λ z. IsFront (place ++ prefix_at bytes P place two.v left_radix) (bytes z)) (pair_of y) (pairs_of two.v) (whole_way bytes P place two.v left_radix) i in
+        let (r, e) = each_in (λ z. IsFront (place ++ prefix_at bytes P place two.v left_radix) (bytes z)) (pair_of y) (pairs_of two.v)
+        (whole_way bytes P place two.v left_radix) i in
         let all = ap length e in
         let a = length-append (place ++ prefix_at bytes P place two.v left_radix) r in let b = length-append place (prefix_at bytes P place two.v left_radix) in
         let d = length-append (two.place ++ two.hole.radix.0) (two.c ∷ []) in let f = length-append two.place two.hole.radix.0 in
@@ -262,13 +289,18 @@ module _ {K V : Type 0} {bytes : K × V → List ℕ} {P : ℕ} {s : Nodes K V} 
           let first : option_map leaf_name at.node.next ≡ Some some.0 =
           next_is at.below.laid.holds at.below.laid.linked (leaf_among at.below at.here) ∙
           ap (λ cs. first_or (leaf_names_below cs ++ leaves_after at.above) None) e ∙ ap (λ ks. first_or ((ks ++ []) ++ leaves_after at.above) None) some.2 in
-          let (p, is, named) = named_leaf at.node.next some.0 first in
-          (p, ap (λ t. cond t at.node.next at.node.previous) (lt-ltb byte two.c less) ∙ is, below_other p (subst (λ ks. IsIn (leaf_name p) ks) (sym some.2) (inl named)))
+          let (p, is, named) = named_leaf at.node.next some.0 first in (
+            p,
+            ap (λ t. cond t at.node.next at.node.previous) (lt-ltb byte two.c less)
+                ∙ is,
+            below_other p (subst (λ ks. IsIn (leaf_name p) ks) (sym some.2) (inl named)),
+          )
       | inr e ↦
           let less : two.c < byte = subst (λ z. two.c < z) at.byte_is (subst (λ cs. Each (λ d. d < at.frame.byte) (bytes_of cs)) e (low at.below)).0 in
           let (j, end, i) = last_of_some some.0 some.1 (last_or (leaves_before at.above) None) in
           let last : option_map leaf_name at.node.previous ≡ Some j =
-          previous_is at.below.laid.holds at.below.laid.linked (leaf_among at.below at.here) ∙ last_or-append (leaves_before at.above) (leaf_names_below at.frame.left) None
+          previous_is at.below.laid.holds at.below.laid.linked (leaf_among at.below at.here)
+          ∙ last_or-append (leaves_before at.above) (leaf_names_below at.frame.left) None
           ∙ ap (λ ks. last_or ks (last_or (leaves_before at.above) None)) (ap leaf_names_below e ∙ append-nil (leaf_names two.v) ∙ some.2) ∙ end in
           let (p, is, named) = named_leaf at.node.previous j last in (
             p,
@@ -291,26 +323,31 @@ module _ {K V : Type 0} {bytes : K × V → List ℕ} {P : ℕ} {s : Nodes K V} 
 
       -- and the prefix of the child that is left may be written
       pub may_lengthen : (p : LeafPtr) → IfSome (get u.leaves point.leaf_node_ptr) (λ leaf. cond (nat_lt byte d) leaf.next leaf.previous ≡ Some p) →
-          other.kind ≢ Leaf → IsSomeAnd (get u.leaves p) (λ leaf. IsSomeAnd (get u.inners (as_inner other)) (λ node. header.len + 1 + node.prefix.len ≤ length (bytes (pair_of leaf))))
+          other.kind ≢ Leaf → IsSomeAnd (get u.leaves p)
+          (λ leaf. IsSomeAnd (get u.inners (as_inner other)) (λ node. header.len + 1 + node.prefix.len ≤ length (bytes (pair_of leaf))))
       unfolding left_prefix
       may_lengthen p found kind =
           let next : cond (nat_lt byte two.c) at.node.next at.node.previous ≡ Some p =
           subst (λ z. cond (nat_lt byte z) at.node.next at.node.previous ≡ Some p) (byte_is taken)
-          (subst (λ o. IfSome o (λ leaf. cond (nat_lt byte d) leaf.next leaf.previous ≡ Some p)) (ap (λ z. get z point.leaf_node_ptr) taken.leaves ∙ at.here) found) in
+          (subst (λ o. IfSome o (λ leaf. cond (nat_lt byte d) leaf.next leaf.previous ≡ Some p))
+          (ap (λ z. get z point.leaf_node_ptr) taken.leaves ∙ at.here) found) in
           let (q, found, below) = beside_other in
           let same : q ≡ p = some_same (sym found ∙ next) in
           let leaf_is : get u.leaves p ≡ Some below.leaf = ap (λ z. get z p) taken.leaves ∙ ap (get s.leaves) (sym same) ∙ below.here in
           let (node, got, len) = its_prefix two.v left_radix left_held (subst (λ (z : OpaqueNodePtr). z.kind ≢ Leaf) (other_is taken) kind) in
           let gone : get u.inners (as_inner other) ≡ Some node =
           ap (λ z. get z (as_inner other)) taken.inners ∙ ap (λ z. get (remove s.inners parent) (as_inner z)) (other_is taken)
-          ∙ inner_gone_elsewhere s.inners parent (as_inner (name_of two.v)) (λ e. left_other (inner_name_one (name_of two.v) at.frame.mark (e ∙ sym at.parent_is))) ∙ got in
+          ∙ inner_gone_elsewhere s.inners parent (as_inner (name_of two.v))
+          (λ e. left_other (inner_name_one (name_of two.v) at.frame.mark (e ∙ sym at.parent_is))) ∙ got in
           let front_len = ap (λ z. z.len) (header_is taken) in
           let long = below.long in
           let fits : header.len + 1 + node.prefix.len ≤ length (bytes (pair_of below.leaf)) = omega arith in
           rw (leaf_is, gone) fits
         where
-          its_prefix : (w : Tree OpaqueNodePtr (K × V)) (radix : IsRadix bytes P ((two.place ++ two.hole.radix.0) ++ two.c ∷ []) w) → Holds (node_at s) w → (name_of w).kind ≢ Leaf →
-              (node : Inner) × (get s.inners (as_inner (name_of w)) ≡ Some node) × (node.prefix.len ≡ length (prefix_at bytes P ((two.place ++ two.hole.radix.0) ++ two.c ∷ []) w radix))
+          its_prefix : (w : Tree OpaqueNodePtr (K × V)) (radix : IsRadix bytes P ((two.place ++ two.hole.radix.0) ++ two.c ∷ []) w) →
+              Holds (node_at s) w → (name_of w).kind ≢ Leaf →
+              (node : Inner) × (get s.inners (as_inner (name_of w)) ≡ Some node) ×
+              (node.prefix.len ≡ length (prefix_at bytes P ((two.place ++ two.hole.radix.0) ++ two.c ∷ []) w radix))
           its_prefix (leaf k y) radix held kind = absurd (inner_name_is s (as_inner k) y kind held)
           its_prefix (inner k head cs) radix held kind =
               let (off, node, got, is, kids) = inner_at s k head (slots_of cs) held.0 in
@@ -319,7 +356,8 @@ module _ {K V : Type 0} {bytes : K × V → List ℕ} {P : ℕ} {s : Nodes K V} 
       -- and then the inner nodes are these
       pub lengthened_is : (now : Inners) → (other.kind ≡ Leaf → now ≡ u.inners) →
           (other.kind ≢ Leaf → (first rest : List ℕ) → header ≡ headers.header_of P first →
-          IfSome (get u.inners (as_inner other)) (λ node. node.prefix ≡ headers.header_of P rest) → now ≡ change u.inners (as_inner other) (with_header (headers.header_of P (first ++ d ∷ rest)))) →
+          IfSome (get u.inners (as_inner other)) (λ node. node.prefix ≡ headers.header_of P rest) →
+          now ≡ change u.inners (as_inner other) (with_header (headers.header_of P (first ++ d ∷ rest)))) →
           now ≡ lengthened_inners
       unfolding lengthened_inners
       lengthened_is now as_leaf as_inner_node = go two.v left_radix left_held left_other (other_is taken)
@@ -327,8 +365,10 @@ module _ {K V : Type 0} {bytes : K × V → List ℕ} {P : ℕ} {s : Nodes K V} 
           removed : u.inners ≡ remove s.inners (as_inner at.frame.mark)
           removed = taken.inners ∙ ap (remove s.inners) (sym at.parent_is)
 
-          go : (w : Tree OpaqueNodePtr (K × V)) (radix : IsRadix bytes P ((two.place ++ two.hole.radix.0) ++ two.c ∷ []) w) → Holds (node_at s) w → name_of w ≢ at.frame.mark → other ≡ name_of w →
-              now ≡ prefix_written P (two.hole.radix.0 ++ two.c ∷ prefix_at bytes P ((two.place ++ two.hole.radix.0) ++ two.c ∷ []) w radix) w (remove s.inners (as_inner at.frame.mark))
+          go : (w : Tree OpaqueNodePtr (K × V)) (radix : IsRadix bytes P ((two.place ++ two.hole.radix.0) ++ two.c ∷ []) w) →
+              Holds (node_at s) w → name_of w ≢ at.frame.mark → other ≡ name_of w →
+              now ≡ prefix_written P (two.hole.radix.0 ++ two.c ∷ prefix_at bytes P ((two.place ++ two.hole.radix.0) ++ two.c ∷ []) w radix)
+              w (remove s.inners (as_inner at.frame.mark))
           go (leaf k y) radix held off is = elim (leaf_or other) [
             | inl (p, e) ↦ as_leaf (ap (λ (z : OpaqueNodePtr). z.kind) e) ∙ removed
             | inr kind ↦ absurd (inner_name_is s (as_inner k) y (subst (λ (z : OpaqueNodePtr). z.kind ≢ Leaf) is kind) held)
@@ -338,11 +378,14 @@ module _ {K V : Type 0} {bytes : K × V → List ℕ} {P : ℕ} {s : Nodes K V} 
               let there : get u.inners (as_inner other) ≡ Some node =
               ap (λ z. get z (as_inner other)) removed ∙ ap (λ z. get (remove s.inners (as_inner at.frame.mark)) (as_inner z)) is
               ∙ inner_gone_elsewhere s.inners (as_inner at.frame.mark) (as_inner k) (λ e. off (inner_name_one k at.frame.mark e)) ∙ got in
-              let prefix : node.prefix ≡ headers.header_of P radix.0 = header_by_parts P radix.0 node.prefix (ap (λ z. z.length_of) (head_is ∙ radix.1)) (ap (λ z. z.stored) (head_is ∙ radix.1)) in
+              let prefix : node.prefix ≡ headers.header_of P radix.0 =
+              header_by_parts P radix.0 node.prefix (ap (λ z. z.length_of) (head_is ∙ radix.1)) (ap (λ z. z.stored) (head_is ∙ radix.1)) in
               as_inner_node (subst (λ (z : OpaqueNodePtr). z.kind ≢ Leaf) (sym is) kind) two.hole.radix.0 radix.0 (header_is taken)
               (subst (λ o. IfSome o (λ node. node.prefix ≡ headers.header_of P radix.0)) (sym there) prefix)
-              ∙ ap₂ (λ (inners : Inners) (b : ℕ). change inners (as_inner other) (with_header (headers.header_of P (two.hole.radix.0 ++ b ∷ radix.0)))) removed (byte_is taken)
-              ∙ ap (λ z. change (remove s.inners (as_inner at.frame.mark)) (as_inner z) (with_header (headers.header_of P (two.hole.radix.0 ++ two.c ∷ radix.0)))) is
+              ∙ ap₂ (λ (inners : Inners) (b : ℕ). change inners (as_inner other)
+              (with_header (headers.header_of P (two.hole.radix.0 ++ b ∷ radix.0)))) removed (byte_is taken)
+              ∙ ap (λ z. change (remove s.inners (as_inner at.frame.mark)) (as_inner z)
+              (with_header (headers.header_of P (two.hole.radix.0 ++ two.c ∷ radix.0)))) is
 
     above_is : (k : OpaqueNodePtr) → IsParent at.above k → get lengthened_inners (as_inner k) ≡ get s.inners (as_inner k)
     unfolding lengthened_inners is_compressed_at is_compressed_to
@@ -352,23 +395,28 @@ module _ {K V : Type 0} {bytes : K × V → List ℕ} {P : ℕ} {s : Nodes K V} 
     pub above_ready : (inners : Inners) (path : TreePath) → inners ≡ lengthened_inners → path ≡ up point.path → HasChild inners (last_step path)
     above_ready inners path is path_is = subst (HasChild inners) (sym (ap last_step (path_is ∙ ap up at.path_is) ∙ last_step-up at.frame at.above))
         (has_child s.inners inners at.frame.mark at.above (parent_ready bytes P s at.above two.place at.frame.mark two.hole.path
-        (path_holds (node_at s) at.above (with_leaf_in at.frame point.leaf_node_ptr at.node) at.below.laid.holds).0) (λ k e. ap (λ z. get z (as_inner k)) is ∙ above_is k e))
+        (path_holds (node_at s) at.above (with_leaf_in at.frame point.leaf_node_ptr at.node) at.below.laid.holds).0)
+        (λ k e. ap (λ z. get z (as_inner k)) is ∙ above_is k e))
 
     -- ---- what is done
 
     module _ {w t : Nodes K V} {path : TreePath} {other new : OpaqueNodePtr} {inners : Inners} {done : DeleteResult K V}
         (leaves : w.leaves ≡ s.leaves) (path_up : path ≡ up point.path) (is : other ≡ name_of two.v) (lengthened : inners ≡ lengthened_inners)
         (written : w.inners ≡ with_child_at (last_step path) other inners) (taken : IsLeafTaken w t point (Some new) done) where
-      is_compressed_now : Compressed bytes P s t at.above two.place at.frame.mark at.frame.header at.frame.left at.frame.right at.frame.byte point.leaf_node_ptr at.node two.c two.v
+      is_compressed_now : Compressed bytes P s t at.above two.place at.frame.mark at.frame.header at.frame.left at.frame.right at.frame.byte
+          point.leaf_node_ptr at.node two.c two.v
       is_compressed_now = is_compressed_to t (taken_since s leaves at.here taken).0 (taken.inners ∙ written ∙
-          ap (λ o. with_child_at o other inners) (ap last_step (path_up ∙ ap up at.path_is) ∙ last_step-up at.frame at.above) ∙ ap₂ (with_child_at (parent_of at.above)) is lengthened)
+          ap (λ o. with_child_at o other inners) (ap last_step (path_up ∙ ap up at.path_is) ∙ last_step-up at.frame at.above)
+          ∙ ap₂ (with_child_at (parent_of at.above)) is lengthened)
 
       -- the tree without the leaf
       pub two_deleted : parent_change s point.path ≡ is_compressed → new ≡ root_with path root other → IsDeleted bytes P s t root point x pairs layout done
       unfolding is_compressed_now is_compressed_to
       two_deleted told named =
           deleted_below at leaves taken (name_of two.v)
-          (plug at.above (with_prefix P (two.hole.radix.0 ++ two.c ∷ prefix_at bytes P ((two.place ++ two.hole.radix.0) ++ two.c ∷ []) two.v left_radix) two.v)) is_compressed told
+          (plug at.above (with_prefix P (two.hole.radix.0 ++ two.c
+          ∷ prefix_at bytes P ((two.place ++ two.hole.radix.0) ++ two.c ∷ []) two.v left_radix) two.v)) is_compressed told
           (named ∙ ap₂ (λ q k. root_with q root k) (path_up ∙ ap up at.path_is) is ∙ root_with-up at.frame at.above root (name_of two.v))
           (root_after_at at.frame is_compressed at.above root (name_of two.v) (λ e. absurd cc))
-          (compressed at.below.laid is_compressed_now) (compressed_in_place at.below.laid is_compressed_now) (compressed_touches at.below.laid is_compressed_now)
+          (compressed at.below.laid is_compressed_now) (compressed_in_place at.below.laid is_compressed_now)
+          (compressed_touches at.below.laid is_compressed_now)

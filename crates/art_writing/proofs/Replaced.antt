@@ -28,13 +28,16 @@ use Rattle.art_writing.proofs.Answered.{IsEndLeaf, end_leaf}
 use Rattle.art_writing.proofs.Standing.{answers_to}
 
 -- the leaf of a key, at the end of a path of the layout
-pub record IsOwnLeaf {K V : Type 0} (bytes : K × V → List ℕ) (P : ℕ) (s : Nodes K V) (p : LeafPtr) (layout : Tree OpaqueNodePtr (K × V)) (key : List ℕ) : Type 0 where
+pub record IsOwnLeaf {K V : Type 0} (bytes : K × V → List ℕ) (P : ℕ) (s : Nodes K V) (p : LeafPtr) (layout : Tree OpaqueNodePtr (K × V))
+    (key : List ℕ) : Type 0 where
   pub at : IsEndLeaf bytes P s p layout key
   pub same : bytes (pair_of at.shown) ≡ key
 
-module _ {K V : Type 0} {bytes : K × V → List ℕ} {P : ℕ} {s : Nodes K V} {point : InsertPoint} {p : LeafPtr} {pairs : List (K × V)} {layout : Tree OpaqueNodePtr (K × V)} where
+module _ {K V : Type 0} {bytes : K × V → List ℕ} {P : ℕ} {s : Nodes K V} {point : InsertPoint} {p : LeafPtr} {pairs : List (K × V)}
+    {layout : Tree OpaqueNodePtr (K × V)} where
   -- it is in the store where a point names it
-  pub own_leaf : {key : List ℕ} → IsPointIn bytes P s key point → point.insert_kind ≡ Exact p → IsCanonicalTree bytes P s point.root pairs layout → IsOwnLeaf bytes P s p layout key
+  pub own_leaf : {key : List ℕ} → IsPointIn bytes P s key point → point.insert_kind ≡ Exact p →
+      IsCanonicalTree bytes P s point.root pairs layout → IsOwnLeaf bytes P s p layout key
   own_leaf {key} answers exact by =
       let answers_at = answers_to answers by in
       let (used, (pair, is, equal)) = subst (IsKindOf bytes P key answers_at.node _ _) exact answers_at.kind_is in
@@ -47,13 +50,15 @@ module _ {K V : Type 0} {bytes : K × V → List ℕ} {P : ℕ} {s : Nodes K V} 
   pub own_leaf_there : IsSome (map.get s.leaves p)
   own_leaf_there = let (pairs, layout, by, own) = answers in rw (own_leaf answers exact by).at.there refl
 
-  module _ (by_key : (k : K) (v w : V) → bytes (k, v) ≡ bytes (k, w)) (t : Nodes K V) (leaves : t.leaves ≡ change s.leaves p (with_value new.1)) (inners : t.inners ≡ s.inners) where
+  module _ (by_key : (k : K) (v w : V) → bytes (k, v) ≡ bytes (k, w)) (t : Nodes K V)
+      (leaves : t.leaves ≡ change s.leaves p (with_value new.1)) (inners : t.inners ≡ s.inners) where
     -- the stored key has the bytes of the new one
     alike : {layout : Tree OpaqueNodePtr (K × V)} (l : IsOwnLeaf bytes P s p layout (bytes new)) → bytes (l.at.shown.key, new.1) ≡ bytes new
     alike l = by_key l.at.shown.key new.1 l.at.shown.value ∙ l.same
 
     -- the leaf has its key and the new value
-    into_leaf : {layout : Tree OpaqueNodePtr (K × V)} (l : IsOwnLeaf bytes P s p layout (bytes new)) → IntoLeaf bytes P s t l.at.path l.at.place p l.at.shown (l.at.shown.key, new.1)
+    into_leaf : {layout : Tree OpaqueNodePtr (K × V)} (l : IsOwnLeaf bytes P s p layout (bytes new)) →
+        IntoLeaf bytes P s t l.at.path l.at.place p l.at.shown (l.at.shown.key, new.1)
     into_leaf l = record {
       hole = subst (IsHole bytes P l.at.path l.at.place (leaf (leaf_name p) (pair_of l.at.shown))) (sym (alike l)) l.at.hole;
       here = l.at.there;
@@ -64,7 +69,8 @@ module _ {K V : Type 0} {bytes : K × V → List ℕ} {P : ℕ} {s : Nodes K V} 
     }
 
     -- the value is stored, and the old one is returned with the key that was passed
-    pub value_replaced : (swapped : V) (existing : LeafNode K V) → IfSome (map.get s.leaves p) (λ leaf. swapped ≡ leaf.value) → existing ≡ unlinked_leaf (new.0, swapped) →
+    pub value_replaced : (swapped : V) (existing : LeafNode K V) → IfSome (map.get s.leaves p) (λ leaf. swapped ≡ leaf.value) →
+        existing ≡ unlinked_leaf (new.0, swapped) →
         ForTree bytes P s point.root (λ pairs layout. IsInserted bytes P s t point new pairs layout
         (record { leaf_node_ptr = p; existing_leaf = Some existing; new_root = point.root; parent_node_change = NoChange }))
     value_replaced swapped existing value is pairs layout by =
@@ -76,10 +82,13 @@ module _ {K V : Type 0} {bytes : K × V → List ℕ} {P : ℕ} {s : Nodes K V} 
         record {
           tree = tree;
           canonical = canonical_from (leaf_inserted old into new l.same (alike l) refl);
-          inserted = subst (λ x. HasInserted tree point x (record { leaf_node_ptr = p; existing_leaf = Some existing; new_root = point.root; parent_node_change = NoChange }))
+          inserted = subst (λ x. HasInserted tree point x
+              (record { leaf_node_ptr = p; existing_leaf = Some existing; new_root = point.root; parent_node_change = NoChange }))
               (sym (leaf_stored_for old into new l.same (alike l) refl))
               (record { path = l.at.path; whole = refl; change = subst (λ kind. IsChange kind (parent_of l.at.path) NoChange) (sym exact) refl; root = refl });
-          replaced = ap Some (is ∙ ap (λ v. unlinked_leaf (new.0, v)) went) ∙ ap (option_map unlinked_leaf) (sym (leaf_reply old into new l.same (alike l) refl));
+          replaced =
+              ap Some (is ∙ ap (λ v. unlinked_leaf (new.0, v)) went)
+              ∙ ap (option_map unlinked_leaf) (sym (leaf_reply old into new l.same (alike l) refl));
           kept = subst (λ z. ChangesInPlace bytes s t (Some z) (Some tree)) l.at.whole (leaf_insertion_kept old into new l.same (alike l) refl);
           touches = subst (λ kind. Touches kind s t) (sym exact) (leaf_touches old into);
         }

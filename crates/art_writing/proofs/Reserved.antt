@@ -47,7 +47,8 @@ nothing_after promise = grind (arith, common_steps)
 pub taken_unasked : (kind : NodeType) (promise : Promise) → take_inner kind promise ≡ promise_after (record { leaves = 0; inner = Some kind }) promise
 taken_unasked kind promise = by_promise (leb 0 promise.leaves) (promises promise.inner kind) (le-leb 0 promise.leaves (omega arith))
   where
-    by_promise : (t u : Bool) → t ≡ true → cond u (record promise { inner = None }) no_promise ≡ cond (t && u) (cond u (record promise { inner = None }) no_promise) no_promise
+    by_promise : (t u : Bool) → t ≡ true → cond u (record promise { inner = None }) no_promise
+        ≡ cond (t && u) (cond u (record promise { inner = None }) no_promise) no_promise
     by_promise true true e = refl
     by_promise true false e = refl
     by_promise false u e = absurd cc
@@ -68,10 +69,12 @@ not_granted (Ok x) e h q = absurd cc
 not_granted (Err y) e h q = h q
 
 -- what is left of a promise when the reserved leaf and inner node are placed
-pub after_reserve : {K V Y E : Type 0} (s r : Nodes K V) (o : Option NodeType) {placed : Promise} (reserved : Result Y E) → is_err reserved ≡ false → (IsTrue (covers s.promise 1 o) → r ≡ s) →
+pub after_reserve : {K V Y E : Type 0} (s r : Nodes K V) (o : Option NodeType) {placed : Promise} (reserved : Result Y E) →
+    is_err reserved ≡ false → (IsTrue (covers s.promise 1 o) → r ≡ s) →
     (IsFalse (covers s.promise 1 o) → OnOk reserved (r.promise ≡ record { leaves = 1; inner = o })) → record { leaves = 1; inner = o } ≡ placed →
     inner_taken o (take_leaf r.promise) ≡ promise_after placed s.promise
-after_reserve s r o reserved ok kept granted placed_is = subst (λ p. inner_taken o (take_leaf r.promise) ≡ promise_after p s.promise) placed_is (go (covers s.promise 1 o) refl)
+after_reserve s r o reserved ok kept granted placed_is =
+    subst (λ p. inner_taken o (take_leaf r.promise) ≡ promise_after p s.promise) placed_is (go (covers s.promise 1 o) refl)
   where
     all_taken : (p : Option NodeType) → inner_taken p (take_leaf (record { leaves = 1; inner = p })) ≡ record { leaves = 0; inner = None }
     all_taken None = refl

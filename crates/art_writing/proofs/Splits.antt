@@ -52,16 +52,20 @@ module _ {K V : Type 0} {bytes : K × V → List ℕ} {P : ℕ} {s t : Nodes K V
     {fs : List (Frame OpaqueNodePtr (K × V))} {place : List ℕ} {m : InnerPtr} {n : LeafPtr} {part : List ℕ} {b c : ℕ} {x : LeafNode K V} {mid : Inners} where
   -- the node in the hole is a leaf
   leaf_inserted : (k : OpaqueNodePtr) (y : K × V) (node : Tree OpaqueNodePtr (K × V)) → node ≡ leaf k y →
-      IsLaidOut bytes P (node_at s) (links_at s) root pairs (plug fs node) → BranchStored bytes P s t fs place node m n part b c x mid [] → IsFront ((place ++ part) ++ b ∷ []) (least_key bytes node) →
+      IsLaidOut bytes P (node_at s) (links_at s) root pairs (plug fs node) → BranchStored bytes P s t fs place node m n part b c x mid [] →
+      IsFront ((place ++ part) ++ b ∷ []) (least_key bytes node) →
       BranchInserted bytes P (node_at s) (node_at t) (links_at s) (links_at t) fs place node node (inner_name m) (leaf_name n) part b c (pair_of x)
   leaf_inserted k y node is =
       subst (λ z. IsLaidOut bytes P (node_at s) (links_at s) root pairs (plug fs z) → BranchStored bytes P s t fs place z m n part b c x mid [] →
-      IsFront ((place ++ part) ++ b ∷ []) (least_key bytes z) → BranchInserted bytes P (node_at s) (node_at t) (links_at s) (links_at t) fs place z z (inner_name m) (leaf_name n) part b c (pair_of x))
+      IsFront ((place ++ part) ++ b ∷ []) (least_key bytes z) →
+      BranchInserted bytes P (node_at s) (node_at t) (links_at s) (links_at t) fs place z z (inner_name m)
+      (leaf_name n) part b c (pair_of x))
       (sym is) (λ old stored way. leaf_branched old stored way)
 
   -- the node in the hole is an inner node, whose prefix continues after the part with a byte and a rest
   prefix_inserted : (k : OpaqueNodePtr) (h : NodeHeader) (cs : Subtrees OpaqueNodePtr (K × V)) (rest : List ℕ) →
-      mid ≡ change s.inners (as_inner k) (with_header (record { len = length rest; stored = take P rest })) → (node : Tree OpaqueNodePtr (K × V)) → node ≡ inner k h cs →
+      mid ≡ change s.inners (as_inner k) (with_header (record { len = length rest; stored = take P rest })) →
+      (node : Tree OpaqueNodePtr (K × V)) → node ≡ inner k h cs →
       IsLaidOut bytes P (node_at s) (links_at s) root pairs (plug fs node) →
       BranchStored bytes P s t fs place node m n part b c x mid (as_inner k ∷ []) → prefix_of bytes (length place) node ≡ part ++ b ∷ rest →
       BranchInserted bytes P (node_at s) (node_at t) (links_at s) (links_at t) fs place node
@@ -74,12 +78,14 @@ module _ {K V : Type 0} {bytes : K × V → List ℕ} {P : ℕ} {s t : Nodes K V
       (sym is) (λ old stored prefix. prefix_branched rest written old stored (sym (prefix_is bytes P k h cs place stored.hole.radix) ∙ prefix))
 
 -- a prefix longer than the part, by what follows the part with a byte
-prefix_parts : (prefix part rest more : List ℕ) (b : ℕ) → prefix ++ rest ≡ part ++ b ∷ more → length part < length prefix → prefix ≡ part ++ b ∷ drop (length part + 1) prefix
+prefix_parts : (prefix part rest more : List ℕ) (b : ℕ) → prefix ++ rest ≡ part ++ b ∷ more → length part < length prefix →
+    prefix ≡ part ++ b ∷ drop (length part + 1) prefix
 prefix_parts prefix part rest more b whole long =
     let front : take (length part + 1) prefix ≡ part ++ b ∷ [] =
     sym (take-append-le (length part + 1) prefix rest (omega arith)) ∙ ap (take (length part + 1)) (whole ∙ sym (append_assoc part (b ∷ []) more)) ∙
     take_at (part ++ b ∷ []) more (length part + 1) (length-append part (b ∷ [])) in
-    sym (take-append-drop (length part + 1) prefix) ∙ ap (λ z. z ++ drop (length part + 1) prefix) front ∙ append_assoc part (b ∷ []) (drop (length part + 1) prefix)
+    sym (take-append-drop (length part + 1) prefix) ∙ ap (λ z. z ++ drop (length part + 1) prefix) front
+    ∙ append_assoc part (b ∷ []) (drop (length part + 1) prefix)
 
 module _ {K V : Type 0} {bytes : K × V → List ℕ} {P : ℕ} {s : Nodes K V} {point : InsertPoint} {pairs : List (K × V)}
     {layout : Tree OpaqueNodePtr (K × V)} {pair : K × V} (by : IsCanonicalTree bytes P s point.root pairs layout)
@@ -95,13 +101,15 @@ module _ {K V : Type 0} {bytes : K × V → List ℕ} {P : ℕ} {s : Nodes K V} 
       is.part branch.old_byte branch.new_byte (record { key = pair.0; value = pair.1; previous = branch.previous; next = branch.next }) mid.inners touched →
       Touches k s t → IsInserted bytes P s t point pair pairs layout done
   split_done kind tells placed new stored few =
-      branch_done by at is placed new (λ parent told e. subst (λ k. IsChange k (Some parent) told) (sym kind) (tells parent told e)) stored (subst (λ k. Touches k s t) (sym kind) few)
+      branch_done by at is placed new (λ parent told e. subst (λ k. IsChange k (Some parent) told) (sym kind) (tells parent told e)) stored
+      (subst (λ k. Touches k s t) (sym kind) few)
 
   module _ {p : LeafPtr} {used : ℕ} (kind : point.insert_kind ≡ SplitLeaf p used) {old : OpaqueNodePtr} (named : old ≡ leaf_name p)
       (same : SameNodes s mid) (placed : IsBranchPlaced mid t point old branch pair done) where
     leaf_stored : BranchStored bytes P s t at.path (take (depth_of at.path) (bytes pair)) at.node placed.node done.leaf_node_ptr is.part
         branch.old_byte branch.new_byte (record { key = pair.0; value = pair.1; previous = branch.previous; next = branch.next }) mid.inners []
-    leaf_stored = branch_stored by at is placed same.0 (subst (λ z. Touched s.inners z [] [] []) (sym same.1) (touched_none s.inners)) tt (λ k i. absurd i) (leaf_named by at kind ∙ sym named)
+    leaf_stored = branch_stored by at is placed same.0 (subst (λ z. Touched s.inners z [] [] []) (sym same.1) (touched_none s.inners)) tt
+        (λ k i. absurd i) (leaf_named by at kind ∙ sym named)
 
     -- the pair is inserted; two names are placed, and at most three are changed
     pub leaf_split : IsInserted bytes P s t point pair pairs layout done
@@ -129,7 +137,11 @@ module _ {K V : Type 0} {bytes : K × V → List ℕ} {P : ℕ} {s : Nodes K V} 
         branch_stored by at is placed leaves
         (subst (λ z. Touched s.inners z [] [] (p ∷ [])) (sym inners) (header_touches s (inner_name p) h (slots_of cs) header here))
         ((inner_at s (inner_name p) h (slots_of cs) here).0, tt)
-        (λ k i. elim i [ inl e ↦ subst (λ z. IsIn (inner_name z) (names_of at.node)) e (subst (λ t. IsIn (inner_name p) (names_of t)) (sym found) (inl refl)) | inr none ↦ absurd none ])
+        (λ k i. elim i [
+          | inl e ↦ subst (λ z. IsIn (inner_name z) (names_of at.node)) e
+              (subst (λ t. IsIn (inner_name p) (names_of t)) (sym found) (inl refl))
+          | inr none ↦ absurd none
+        ])
         (inner_named by at kind ∙ sym named)
 
     prefix_rest : prefix_of bytes (length (take (depth_of at.path) (bytes pair))) at.node ≡ is.part ++ branch.old_byte ∷ rest
@@ -141,7 +153,8 @@ module _ {K V : Type 0} {bytes : K × V → List ℕ} {P : ℕ} {s : Nodes K V} 
         let (more, way) = prefix_way by at kind in
         let (after, old_way) = is.old_way in
         let both : prefix ++ more ≡ is.part ++ branch.old_byte ∷ after =
-        append_cancel_left place (prefix ++ more) (is.part ++ branch.old_byte ∷ after) (sym (append_assoc place prefix more) ∙ sym way ∙ old_way ∙ simp append_assoc) in
+        append_cancel_left place (prefix ++ more) (is.part ++ branch.old_byte ∷ after)
+        (sym (append_assoc place prefix more) ∙ sym way ∙ old_way ∙ simp append_assoc) in
         ap (λ d. prefix_of bytes d at.node) (sym (end_depth by at)) ∙
         prefix_parts prefix is.part more after branch.old_byte both (subst (λ n. n < length prefix) (sym count) (prefix_inside by at kind)) ∙
         ap (λ n. is.part ++ branch.old_byte ∷ drop (n + 1) prefix) count
@@ -150,7 +163,8 @@ module _ {K V : Type 0} {bytes : K × V → List ℕ} {P : ℕ} {s : Nodes K V} 
     pub prefix_split : IsInserted bytes P s t point pair pairs layout done
     prefix_split =
         let (h, cs, found) = inner_found by at kind in
-        split_done kind (λ parent told e. e) placed (prefix_inserted (inner_name p) h cs rest written at.node found (end_laid by at) prefix_stored prefix_rest) prefix_stored
+        split_done kind (λ parent told e. e) placed
+        (prefix_inserted (inner_name p) h cs rest written at.node found (end_laid by at) prefix_stored prefix_rest) prefix_stored
         (branch_touches (end_laid by at) prefix_stored 4 (omega arith))
 
 -- the header of a node is written
@@ -167,7 +181,8 @@ module _ {K V : Type 0} {bytes : K × V → List ℕ} {P : ℕ} {s : Nodes K V} 
       (λ k up e. parent_apart (node_at s) (node_at s) at.path at.node (end_laid by at).holds (end_laid by at).distinct k up
       (subst (λ z. IsIn z (names_of at.node)) (sym (inner_name_one k (inner_name p) e)) own)))
     where
-      go : (fs : List (Frame OpaqueNodePtr (K × V))) → HasChild s.inners (parent_of fs) → ((k : OpaqueNodePtr) → IsParent fs k → as_inner k ≢ p) → HasChild after (parent_of fs)
+      go : (fs : List (Frame OpaqueNodePtr (K × V))) → HasChild s.inners (parent_of fs) →
+          ((k : OpaqueNodePtr) → IsParent fs k → as_inner k ≢ p) → HasChild after (parent_of fs)
       go [] h off = tt
       go (f ∷ fs) h off =
           subst (λ o. IsSomeAnd o (λ node. IsSome (child_at node.children f.byte)))

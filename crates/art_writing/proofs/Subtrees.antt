@@ -91,7 +91,15 @@ module _ {N A : Type 0} (bytes : A → List ℕ) (P : ℕ) where
     whole_key (leaf n y) place d h = tt
     whole_key (inner n h cs) place d (part, e, two, up, below) =
         let (y, i, same) = least_in_below cs (place ++ part) two below in (
-          (y, i, (drop (d + h.length_of) (bytes y), sym (take-append-drop (d + h.length_of) (bytes y)) ∙ ap (λ z. take (d + h.length_of) z ++ drop (d + h.length_of) (bytes y)) (sym same))),
+          (
+            y,
+            i,
+            (
+              drop (d + h.length_of) (bytes y),
+              sym (take-append-drop (d + h.length_of) (bytes y))
+                  ∙ ap (λ z. take (d + h.length_of) z ++ drop (d + h.length_of) (bytes y)) (sym same),
+            ),
+          ),
           whole_key_below cs (place ++ part) (d + h.length_of + 1) below,
         )
 
@@ -104,7 +112,8 @@ module _ {N A : Type 0} (bytes : A → List ℕ) (P : ℕ) where
         (λ e k. (k.0, in_right k.0 (pairs_of t) (pairs_below cs) k.1, k.2)) (inner_nodes_below bytes d cs) (whole_key_below cs front d h.1))
 
   -- no pair outside a hole has a key that starts with the hole's place
-  beside_off : (fs : List (Frame N A)) (place : List ℕ) → IsPath bytes P place fs → (y : A) → IsFront place (bytes y) → IsIn y (pairs_before fs ++ pairs_after fs) → ⊥
+  beside_off : (fs : List (Frame N A)) (place : List ℕ) → IsPath bytes P place fs → (y : A) → IsFront place (bytes y) →
+      IsIn y (pairs_before fs ++ pairs_after fs) → ⊥
   beside_off fs place path y front i = elim (in_either y (pairs_before fs) (pairs_after fs) i) [
     | inl j ↦ itself (each_in (λ z. Precedes (bytes z) (bytes y)) y (pairs_before fs) (path_before bytes P fs place (bytes y) path front) j)
     | inr j ↦ itself (each_in (λ z. Precedes (bytes y) (bytes z)) y (pairs_after fs) (path_after bytes P fs place (bytes y) path front) j)
@@ -115,22 +124,28 @@ module _ {N A : Type 0} (bytes : A → List ℕ) (P : ℕ) where
 
 -- ---- two changes in place, one after the other
 
-module _ {K V : Type 0} {bytes : K × V → List ℕ} (P : ℕ) {s u v : Nodes K V} (fs : List (Frame OpaqueNodePtr (K × V))) (place : List ℕ) (node : Tree OpaqueNodePtr (K × V))
+module _ {K V : Type 0} {bytes : K × V → List ℕ} (P : ℕ) {s u v : Nodes K V} (fs : List (Frame OpaqueNodePtr (K × V))) (place : List ℕ)
+    (node : Tree OpaqueNodePtr (K × V))
     (n : OpaqueNodePtr) (x : K × V) (path : IsPath bytes P place fs) (radix : IsRadix bytes P place node) (among : IsIn x (pairs_of node))
     (root : Option OpaqueNodePtr) (new : Option (Tree OpaqueNodePtr (K × V))) (is : IsRootOf bytes P v root (pairs_before fs ++ pairs_after fs) new)
     (one : ChangesInPlace bytes s u (Some (plug fs node)) (Some (plug fs (leaf n x)))) (two : ChangesInPlace bytes u v (Some (plug fs (leaf n x))) new) where
   -- a pair that is left is one of the tree with the leaf
-  left_in : (new : Option (Tree OpaqueNodePtr (K × V))) → IsRootOf bytes P v root (pairs_before fs ++ pairs_after fs) new → (y : K × V) (m : OpaqueNodePtr) → IsIn (y, m) (leaves_in new) →
+  left_in : (new : Option (Tree OpaqueNodePtr (K × V))) → IsRootOf bytes P v root (pairs_before fs ++ pairs_after fs) new →
+      (y : K × V) (m : OpaqueNodePtr) → IsIn (y, m) (leaves_in new) →
       (j : OpaqueNodePtr) × IsIn (y, j) (entries_of (plug fs (leaf n x)))
   left_in None is y m i = absurd i
   left_in (Some tree) is y m i =
       let own : IsIn y (pairs_of tree) = subst (IsIn y) (pairs_of-leaves tree) (in_map (λ (e : (K × V) × OpaqueNodePtr). e.0) (y, m) (entries_of tree) i) in
       let left : IsIn y (pairs_before fs ++ pairs_after fs) = subst (IsIn y) (pairs_are root is) own in
-      let whole : IsIn y (pairs_of (plug fs (leaf n x))) = subst (IsIn y) (sym (pairs_of-plug fs (leaf n x))) (in_around y (pairs_before fs) (x ∷ []) (pairs_after fs) left) in
-      let (e, j, same) = out_map (λ (e : (K × V) × OpaqueNodePtr). e.0) y (entries_of (plug fs (leaf n x))) (subst (IsIn y) (sym (pairs_of-leaves (plug fs (leaf n x)))) whole) in
+      let whole : IsIn y (pairs_of (plug fs (leaf n x))) =
+      subst (IsIn y) (sym (pairs_of-plug fs (leaf n x))) (in_around y (pairs_before fs) (x ∷ []) (pairs_after fs) left) in
+      let (e, j, same) =
+      out_map (λ (e : (K × V) × OpaqueNodePtr). e.0) y (entries_of (plug fs (leaf n x)))
+      (subst (IsIn y) (sym (pairs_of-leaves (plug fs (leaf n x)))) whole) in
       (e.1, subst (λ z. IsIn (z, e.1) (entries_of (plug fs (leaf n x)))) same j)
     where
-      pairs_are : (root : Option OpaqueNodePtr) → IsRootOf bytes P v root (pairs_before fs ++ pairs_after fs) (Some tree) → pairs_of tree ≡ pairs_before fs ++ pairs_after fs
+      pairs_are : (root : Option OpaqueNodePtr) → IsRootOf bytes P v root (pairs_before fs ++ pairs_after fs) (Some tree) →
+          pairs_of tree ≡ pairs_before fs ++ pairs_after fs
       pairs_are None h = absurd h
       pairs_are (Some name) h = (tree_radix h).1
 
@@ -146,13 +161,16 @@ module _ {K V : Type 0} {bytes : K × V → List ℕ} (P : ℕ) {s u v : Nodes K
         | inl j ↦ elim (in_either e (nodes_before bytes P fs place path) (inner_nodes bytes (length place) node) j) [
           | inl h ↦ inl (subst (IsIn e) (sym mid_nodes)
               (in_left e (nodes_before bytes P fs place path ++ []) (nodes_after bytes P fs place path) (in_left e (nodes_before bytes P fs place path) [] h)))
-          | inr h ↦ inr (each_in (λ (z : Entry OpaqueNodePtr). IsFront place z.1) e (inner_nodes bytes (length place) node) (whole_way bytes P node place radix) h)
+          | inr h ↦
+              inr (each_in (λ (z : Entry OpaqueNodePtr). IsFront place z.1) e (inner_nodes bytes (length place) node)
+              (whole_way bytes P node place radix) h)
         ]
         | inr j ↦ inl (subst (IsIn e) (sym mid_nodes) (in_right e (nodes_before bytes P fs place path ++ []) (nodes_after bytes P fs place path) j))
       ]
     where
       mid_nodes : inner_nodes bytes 0 (plug fs (leaf n x)) ≡ nodes_before bytes P fs place path ++ [] ++ nodes_after bytes P fs place path
-      mid_nodes = inner_nodes-plug bytes P fs place (leaf n x) path (each_in (λ y. IsFront place (bytes y)) x (pairs_of node) (radix_way bytes P node place radix) among)
+      mid_nodes = inner_nodes-plug bytes P fs place (leaf n x) path
+          (each_in (λ y. IsFront place (bytes y)) x (pairs_of node) (radix_way bytes P node place radix) among)
 
   -- and none that is left is below the node
   none_below : (new : Option (Tree OpaqueNodePtr (K × V))) → IsRootOf bytes P v root (pairs_before fs ++ pairs_after fs) new →
@@ -173,7 +191,8 @@ module _ {K V : Type 0} {bytes : K × V → List ℕ} (P : ℕ) {s u v : Nodes K
   ]
 
   module _ (fewer : (name : OpaqueNodePtr) → IsIn name (names_of (plug fs (leaf n x))) → IsIn name (names_of (plug fs node)))
-      (stays_or_goes : (name : OpaqueNodePtr) → IsIn name (names_of (plug fs node)) → IsIn name (names_of (plug fs (leaf n x))) ⊎ (IsIn name (names_of (plug fs (leaf n x))) → ⊥)) where
+      (stays_or_goes : (name : OpaqueNodePtr) → IsIn name (names_of (plug fs node)) →
+      IsIn name (names_of (plug fs (leaf n x))) ⊎ (IsIn name (names_of (plug fs (leaf n x))) → ⊥)) where
     pub both_in_place : ChangesInPlace bytes s v (Some (plug fs node)) new
     both_in_place = record {
       leaves = keeps_leaves;
@@ -190,15 +209,18 @@ module _ {K V : Type 0} {bytes : K × V → List ℕ} (P : ℕ) {s u v : Nodes K
 
 -- ---- what becomes of the parent is determined by its number of children
 
-pub same_change : {K V : Type 0} (s t : Nodes K V) (fs : List (Frame OpaqueNodePtr (K × V))) (hole other : OpaqueNodePtr) → HoldsPath (node_at s) hole fs → HoldsPath (node_at t) other fs →
+pub same_change : {K V : Type 0} (s t : Nodes K V) (fs : List (Frame OpaqueNodePtr (K × V))) (hole other : OpaqueNodePtr) →
+    HoldsPath (node_at s) hole fs → HoldsPath (node_at t) other fs →
     parent_change t (path_of fs) ≡ parent_change s (path_of fs)
 same_change s t [] hole other was is = refl
 same_change s t (f ∷ fs) hole other was is =
     let (off, a, got, head, kids) = inner_at s f.mark f.header (slots_of f.left ++ (f.byte, hole) ∷ slots_of f.right) was.0 in
     let (now_off, b, now_got, now_head, now_kids) = inner_at t f.mark f.header (slots_of f.left ++ (f.byte, other) ∷ slots_of f.right) is.0 in
     let count : length b.children ≡ length a.children =
-    ap length now_kids ∙ length-append (slots_of f.left) ((f.byte, other) ∷ slots_of f.right) ∙ sym (ap length kids ∙ length-append (slots_of f.left) ((f.byte, hole) ∷ slots_of f.right)) in
-    change_seen t (path_of (f ∷ fs)) (last_step-path_of (f ∷ fs)) now_got refl ∙ ap (change_of f.mark.kind) count ∙ sym (change_seen s (path_of (f ∷ fs)) (last_step-path_of (f ∷ fs)) got refl)
+    ap length now_kids ∙ length-append (slots_of f.left) ((f.byte, other) ∷ slots_of f.right)
+    ∙ sym (ap length kids ∙ length-append (slots_of f.left) ((f.byte, hole) ∷ slots_of f.right)) in
+    change_seen t (path_of (f ∷ fs)) (last_step-path_of (f ∷ fs)) now_got refl ∙ ap (change_of f.mark.kind) count
+    ∙ sym (change_seen s (path_of (f ∷ fs)) (last_step-path_of (f ∷ fs)) got refl)
 
 -- ---- the node of a point
 
@@ -238,7 +260,8 @@ module _ {K V : Type 0} {bytes : K × V → List ℕ} {P : ℕ} {s : Nodes K V} 
   next_there next is p e =
       let i = first_in (leaves_after at.path) (leaf_name p) (sym is ∙ ap (option_map leaf_name) e) in
       are_there s (plug at.path at.node) laid.holds p
-      (subst (IsIn (leaf_name p)) (sym (leaf_names-plug at.path at.node)) (in_right (leaf_name p) (leaves_before at.path ++ leaf_names at.node) (leaves_after at.path) i))
+      (subst (IsIn (leaf_name p)) (sym (leaf_names-plug at.path at.node))
+      (in_right (leaf_name p) (leaves_before at.path ++ leaf_names at.node) (leaves_after at.path) i))
 
 -- ---- the first leaf below it
 
@@ -254,12 +277,14 @@ pub record HasFirstBelow {K V : Type 0} (s : Nodes K V) (node : Tree OpaqueNodeP
   pub name_is : first_of (leaf_names node) ≡ Some (leaf_name n)
   pub pair_is : first_of (pairs_of node) ≡ Some (pair_of y)
 
-module _ {K V : Type 0} (s : Nodes K V) {node : Tree OpaqueNodePtr (K × V)} {n : LeafPtr} {path : TreePath} (holds : Holds (node_at s) node) (leads : LeadsToEnd node First path n) where
+module _ {K V : Type 0} (s : Nodes K V) {node : Tree OpaqueNodePtr (K × V)} {n : LeafPtr} {path : TreePath} (holds : Holds (node_at s) node)
+    (leads : LeadsToEnd node First path n) where
   -- the node is that leaf
   pub is_leaf : last_step path ≡ None → (x : K × V) × (leaf (leaf_name n) x ≡ node)
   is_leaf none = go leads.0.has.path leads.0.has.whole leads.1
     where
-      go : (gs : List (Frame OpaqueNodePtr (K × V))) → plug gs (leaf (leaf_name n) leads.0.pair) ≡ node → path ≡ path_of gs → (x : K × V) × (leaf (leaf_name n) x ≡ node)
+      go : (gs : List (Frame OpaqueNodePtr (K × V))) → plug gs (leaf (leaf_name n) leads.0.pair) ≡ node → path ≡ path_of gs →
+          (x : K × V) × (leaf (leaf_name n) x ≡ node)
       go [] whole is = (leads.0.pair, whole)
       go (g ∷ gs) whole is = let e = sym none ∙ ap last_step is ∙ last_step-path_of (g ∷ gs) in absurd cc
 
@@ -270,8 +295,11 @@ module _ {K V : Type 0} (s : Nodes K V) {node : Tree OpaqueNodePtr (K × V)} {n 
       go : (gs : List (Frame OpaqueNodePtr (K × V))) → plug gs (leaf (leaf_name n) leads.0.pair) ≡ node → path ≡ path_of gs → HasFirstBelow s node n parent byte
       go [] whole is = let e = sym step ∙ ap last_step is in absurd cc
       go (g ∷ gs) whole is =
-          let (y, here, pair) = leaf_there s n leads.0.pair (path_holds (node_at s) (g ∷ gs) (leaf (leaf_name n) leads.0.pair) (subst (Holds (node_at s)) (sym whole) holds)).1 in
-          let last : ◌≡◌ {A = InnerPtr × ℕ} (as_inner g.mark, g.byte) (parent, byte) = some_same (sym (last_step-path_of (g ∷ gs)) ∙ ap last_step (sym is) ∙ step) in
+          let (y, here, pair) =
+          leaf_there s n leads.0.pair (path_holds (node_at s) (g ∷ gs) (leaf (leaf_name n) leads.0.pair)
+          (subst (Holds (node_at s)) (sym whole) holds)).1 in
+          let last : ◌≡◌ {A = InnerPtr × ℕ} (as_inner g.mark, g.byte) (parent, byte) =
+          some_same (sym (last_step-path_of (g ∷ gs)) ∙ ap last_step (sym is) ∙ step) in
           record {
             frame = g;
             above = gs;
@@ -292,13 +320,15 @@ module _ {K V : Type 0} {bytes : K × V → List ℕ} {P : ℕ} {s : Nodes K V} 
       IsCollapsed bytes P s s root at.path (leaf (leaf_name n) x) (record { root = root; leaf = n; count = 1 })
   own_leaf x whole radix =
       let tree = plug at.path (leaf (leaf_name n) x) in
-      let same : IsLaidOut bytes P (node_at s) (links_at s) root pairs tree = subst (IsLaidOut bytes P (node_at s) (links_at s) root pairs) (sym whole) (laid_out by) in
+      let same : IsLaidOut bytes P (node_at s) (links_at s) root pairs tree =
+      subst (IsLaidOut bytes P (node_at s) (links_at s) root pairs) (sym whole) (laid_out by) in
       let leaves_kept = kept_leaves bytes P at.path (leaf (leaf_name n) x) (leaf (leaf_name n) x) same.radix same.radix (kept_leaf bytes P (leaf_name n) x x) in
       let inners_kept = kept bytes P at.path (hole by at).0 (leaf (leaf_name n) x) (leaf (leaf_name n) x) (hole by at).1 radix radix (λ e f i j. absurd j) in
       record {
         first = x;
         first_is = refl;
-        canonical = canonical_from (subst (λ ps. IsLaidOut bytes P (node_at s) (links_at s) root ps tree) (sym same.pairs_are ∙ pairs_of-plug at.path (leaf (leaf_name n) x)) same);
+        canonical = canonical_from (subst (λ ps. IsLaidOut bytes P (node_at s) (links_at s) root ps tree)
+            (sym same.pairs_are ∙ pairs_of-plug at.path (leaf (leaf_name n) x)) same);
         kept = record {
           leaves = λ a b k m i j alike. sym (leaves_kept (a, k) (b, m) i j tt (sym alike));
           inners = λ kind whole k m i j. sym (inners_kept (kind, whole, k) (kind, whole, m) i j refl refl);
@@ -323,7 +353,10 @@ module _ {K V : Type 0} {bytes : K × V → List ℕ} {P : ℕ} {s : Nodes K V} 
     old = subst (λ z. IsLaidOut bytes P (node_at s) (links_at s) root pairs (plug at.path z)) (sym first.whole) (laid by at)
 
     pub among_all : HasLeafBelow bytes P s root pairs first.frame (first.above ++ at.path) n first.y
-    among_all = record { laid = subst (IsLaidOut bytes P (node_at s) (links_at s) root pairs) (sym (collapses.plug-append first.above at.path (with_leaf_in first.frame n first.y))) old }
+    among_all = record {
+      laid = subst (IsLaidOut bytes P (node_at s) (links_at s) root pairs)
+          (sym (collapses.plug-append first.above at.path (with_leaf_in first.frame n first.y))) old;
+    }
 
     -- what is left below the node without that leaf
     abbrev pub rest : Tree OpaqueNodePtr (K × V)
@@ -331,7 +364,9 @@ module _ {K V : Type 0} {bytes : K × V → List ℕ} {P : ℕ} {s : Nodes K V} 
 
     -- it is in the store, and so is its parent
     pub first_there : IsThere s.leaves (Some n)
-    first_there p e none = let gone : ◌≡◌ {A = Option (LeafNode K V)} None (Some first.y) = sym none ∙ ap (map.get s.leaves) (sym (some_same e)) ∙ first.here in absurd cc
+    first_there p e none =
+        let gone : ◌≡◌ {A = Option (LeafNode K V)} None (Some first.y) =
+        sym none ∙ ap (map.get s.leaves) (sym (some_same e)) ∙ first.here in absurd cc
 
     pub parent_there : IsSome (map.get s.inners parent)
     parent_there =
@@ -342,7 +377,8 @@ module _ {K V : Type 0} {bytes : K × V → List ℕ} {P : ℕ} {s : Nodes K V} 
     pub up_same : (k : OpaqueNodePtr) → IsParent at.path k → map.get (change s.inners parent (without_child byte)) (as_inner k) ≡ map.get s.inners (as_inner k)
     up_same k up = inner_changed_elsewhere s.inners parent (as_inner k) (without_child byte) (λ e.
         parent_apart (node_at s) (node_at s) at.path own_node old.holds old.distinct k up
-        (subst (λ z. IsIn z (names_of own_node)) (sym (inner_name_one k first.frame.mark (e ∙ sym first.parent_is))) (collapses.mark_in at.path first.above among_all)))
+        (subst (λ z. IsIn z (names_of own_node)) (sym (inner_name_one k first.frame.mark (e ∙ sym first.parent_is)))
+        (collapses.mark_in at.path first.above among_all)))
 
     module _ (w : Nodes K V) {name : OpaqueNodePtr} (last next : Option LeafPtr) (beside : IsBeside s at.node After last next)
         (leaves : w.leaves ≡ with_links_around s.leaves (Some n) next next (Some n))
@@ -350,11 +386,13 @@ module _ {K V : Type 0} {bytes : K × V → List ℕ} {P : ℕ} {s : Nodes K V} 
       inners_are : w.inners ≡ with_child_at (parent_of at.path) (leaf_name n) (change s.inners (as_inner first.frame.mark) (without_child first.frame.byte))
       inners_are = inners ∙ ap (λ o. with_child_at o name (change s.inners parent (without_child byte))) (ap last_step at.path_is ∙ last_step-path_of at.path)
           ∙ ap (λ z. with_child_at (parent_of at.path) z (change s.inners parent (without_child byte))) name_is
-          ∙ ap₂ (λ (q : InnerPtr) (b : ℕ). with_child_at (parent_of at.path) (leaf_name n) (change s.inners q (without_child b))) (sym first.parent_is) (sym first.byte_is)
+          ∙ ap₂ (λ (q : InnerPtr) (b : ℕ). with_child_at (parent_of at.path) (leaf_name n) (change s.inners q (without_child b)))
+          (sym first.parent_is) (sym first.byte_is)
 
       -- what is left below the node can be freed
       pub rest_there : IsLayout (node_at w) point.node rest
-      rest_there = subst (λ z. IsLayout (node_at w) z rest) (ap name_of first.whole ∙ at.named) (collapses.rest_layout at.path first.above among_all w next leaves inners_are)
+      rest_there = subst (λ z. IsLayout (node_at w) z rest) (ap name_of first.whole ∙ at.named)
+          (collapses.rest_layout at.path first.above among_all w next leaves inners_are)
 
       module _ {t : Nodes K V} {new : OpaqueNodePtr} {others : ℕ} (freed : Frees (names_of rest) w t)
           (root_is : new ≡ root_with at.path root (leaf_name n)) (count : others ≡ length (leaf_names rest)) where
@@ -369,7 +407,8 @@ module _ {K V : Type 0} {bytes : K × V → List ℕ} {P : ℕ} {s : Nodes K V} 
             subst (λ z. IsCollapsed bytes P s t root at.path z (record { root = new; leaf = n; count = others + 1 })) first.whole (record {
               first = pair_of first.y;
               first_is = ap (λ z. first_of (pairs_of z)) first.whole ∙ first.pair_is;
-              canonical = subst (λ r. IsCanonicalTree bytes P t r (pairs_before at.path ++ (pair_of first.y ∷ []) ++ pairs_after at.path) (plug at.path (leaf (leaf_name n) (pair_of first.y))))
+              canonical = subst (λ r. IsCanonicalTree bytes P t r (pairs_before at.path ++ (pair_of first.y ∷ []) ++ pairs_after at.path)
+                  (plug at.path (leaf (leaf_name n) (pair_of first.y))))
                   (sym root_is) (canonical_from laid_now);
               kept = collapses.now_kept at.path first.above among_all w next leaves inners_are freed name_first follows;
               fewer = collapses.now_fewer at.path first.above among_all w next leaves inners_are freed name_first follows;
@@ -386,7 +425,8 @@ first_among [] x e = absurd cc
 first_among (y ∷ ys) x e = inl cc
 
 module _ {K V : Type 0} {bytes : K × V → List ℕ} {P : ℕ} {s u : Nodes K V} {root : OpaqueNodePtr} {pairs : List (K × V)} {layout : Tree OpaqueNodePtr (K × V)}
-    (by : IsCanonicalTree bytes P s root pairs layout) {point : SubtreeDeletePoint} (at : LeadsToNode layout point) {left : Collapsed} (c : IsCollapsed bytes P s u root at.path at.node left) where
+    (by : IsCanonicalTree bytes P s root pairs layout) {point : SubtreeDeletePoint} (at : LeadsToNode layout point) {left : Collapsed}
+    (c : IsCollapsed bytes P s u root at.path at.node left) where
   abbrev pub one_point : DeletePoint
   one_point = record { path = point.path; leaf_node_ptr = left.leaf }
 
@@ -410,9 +450,11 @@ module _ {K V : Type 0} {bytes : K × V → List ℕ} {P : ℕ} {s u : Nodes K V
       let front = each_in (λ y. IsFront place (bytes y)) c.first (pairs_of at.node) (radix_way bytes P at.node place radix) among in
       remove_key-between bytes (bytes c.first) (pairs_before at.path) (c.first ∷ []) (pairs_after at.path)
       (path_before bytes P at.path place (bytes c.first) path front) (path_after bytes P at.path place (bytes c.first) path front)
-      ∙ ap (λ z. pairs_before at.path ++ z ++ pairs_after at.path) (changes.alone bytes c.first) ∙ ap (λ z. z ++ pairs_after at.path) (append-nil (pairs_before at.path))
+      ∙ ap (λ z. pairs_before at.path ++ z ++ pairs_after at.path) (changes.alone bytes c.first)
+      ∙ ap (λ z. z ++ pairs_after at.path) (append-nil (pairs_before at.path))
 
-  module _ (v : Nodes K V) (new_root : Option OpaqueNodePtr) (gone : LeafNode K V) (told : IfSome (map.get u.leaves left.leaf) (λ leaf. gone ≡ unlinked_leaf (pair_of leaf)))
+  module _ (v : Nodes K V) (new_root : Option OpaqueNodePtr) (gone : LeafNode K V)
+      (told : IfSome (map.get u.leaves left.leaf) (λ leaf. gone ≡ unlinked_leaf (pair_of leaf)))
       (canonical : ForTree bytes P u left.root (λ pairs layout. IsCanonical bytes P v new_root (remove_key bytes (bytes (pair_of gone)) pairs))) where
     -- the pairs outside the node are left
     pub others_left : IsCanonical bytes P v new_root (pairs_beside at)
@@ -420,7 +462,9 @@ module _ {K V : Type 0} {bytes : K × V → List ℕ} {P : ℕ} {s u : Nodes K V
         let (node, here, pair) = leaf_at c.canonical leads_to_one in
         let same : gone ≡ unlinked_leaf (pair_of node) = subst (λ o. IfSome o (λ leaf. gone ≡ unlinked_leaf (pair_of leaf))) here told in
         let own : pair_of gone ≡ c.first = ap pair_of same ∙ pair in
-        subst (IsCanonical bytes P v new_root) (ap (λ z. remove_key bytes (bytes z) (pairs_before at.path ++ (c.first ∷ []) ++ pairs_after at.path)) own ∙ first_goes) (canonical _ _ c.canonical)
+        subst (IsCanonical bytes P v new_root) (ap
+        (λ z. remove_key bytes (bytes z) (pairs_before at.path ++ (c.first ∷ []) ++ pairs_after at.path)) own ∙ first_goes)
+        (canonical _ _ c.canonical)
 
     pub others_kept : ForTree bytes P u left.root (λ pairs old. ForRoot bytes P v new_root (λ after new. ChangesInPlace bytes u v (Some old) new)) →
         (after : List (K × V)) (new : Option (Tree OpaqueNodePtr (K × V))) → IsRootOf bytes P v new_root after new → ChangesInPlace bytes s v (Some layout) new
@@ -438,7 +482,8 @@ module _ {K V : Type 0} {bytes : K × V → List ℕ} {P : ℕ} {s u : Nodes K V
         same_after (Some name) None after is own = absurd is
         same_after (Some name) (Some tree) after is own = (has_one_map bytes P v name (pairs_beside at) after own.0 tree own.1 is).0
 
-module _ {K V : Type 0} {bytes : K × V → List ℕ} {P : ℕ} {s u v : Nodes K V} {root : OpaqueNodePtr} {point : SubtreeDeletePoint} {left : Collapsed} (done : DeleteResult K V) where
+module _ {K V : Type 0} {bytes : K × V → List ℕ} {P : ℕ} {s u v : Nodes K V} {root : OpaqueNodePtr} {point : SubtreeDeletePoint}
+    {left : Collapsed} (done : DeleteResult K V) where
   -- so the node is removed from the tree
   pub subtree_taken : IsSubtreePointIn bytes P s root point →
       ForTree bytes P s root (λ pairs layout. (at : LeadsToNode layout point) → IsCollapsed bytes P s u root at.path at.node left) →
@@ -451,7 +496,8 @@ module _ {K V : Type 0} {bytes : K × V → List ℕ} {P : ℕ} {s u v : Nodes K
     canonical = λ ps l b a. others_left b a (collapsed ps l b a) v done.new_root done.deleted_leaf told canonical;
     left = some;
     removed = λ ps l b a. (collapsed ps l b a).count;
-    kept = λ ps l b. subst (λ z. ForRoot bytes P v done.new_root (λ after new. ChangesInPlace bytes s v (Some z) new)) (sym (has_one_map bytes P s root pairs ps layout l by b).1)
+    kept = λ ps l b. subst (λ z. ForRoot bytes P v done.new_root (λ after new. ChangesInPlace bytes s v (Some z) new))
+        (sym (has_one_map bytes P s root pairs ps layout l by b).1)
         (others_kept by at (collapsed pairs layout by at) v done.new_root done.deleted_leaf told canonical kept);
   }
 
@@ -463,7 +509,8 @@ pub count_fits : {K V : Type 0} (t : Nodes K V) (n : LeafPtr) (y : LeafNode K V)
 count_fits {K} {V} t n y others all here total few = go others refl
   where
     some : map.len t.leaves ≢ 0
-    some z = let e : ◌≡◌ {A = Option (LeafNode K V)} None (Some y) = sym (map.get-empty leaf_cmp n) ∙ ap (λ m. map.get m n) (sym (map.empty_of_len t.leaves z)) ∙ here in absurd cc
+    some z = let e : ◌≡◌ {A = Option (LeafNode K V)} None (Some y) =
+        sym (map.get-empty leaf_cmp n) ∙ ap (λ m. map.get m n) (sym (map.empty_of_len t.leaves z)) ∙ here in absurd cc
 
     go : (k : ℕ) → others ≡ k → others + 1 < 2 ^ 64
     go zero e = omega arith
@@ -471,7 +518,8 @@ count_fits {K} {V} t n y others all here total few = go others refl
 
 -- ---- the point of a prefix
 
-module _ {A : Type 0} (bytes : A → List ℕ) (prefix : List ℕ) (layout : Tree OpaqueNodePtr A) (end : LastNode) (all : HasAllBelow bytes prefix layout end.name) where
+module _ {A : Type 0} (bytes : A → List ℕ) (prefix : List ℕ) (layout : Tree OpaqueNodePtr A) (end : LastNode)
+    (all : HasAllBelow bytes prefix layout end.name) where
   -- the pairs are those before the node, below it and after it
   split : pairs_of layout ≡ pairs_before all.at.path ++ pairs_of all.at.node ++ pairs_after all.at.path
   split = ap pairs_of (sym all.at.whole) ∙ pairs_of-plug all.at.path all.at.node
@@ -504,7 +552,8 @@ module _ {A : Type 0} (bytes : A → List ℕ) (prefix : List ℕ) (layout : Tre
         left = sym (ap (not_below bytes prefix) split ∙ simp (
           filter-append,
           stay (pairs_before all.at.path) all.at.before,
-          filter_none (λ x. not (test x)) (pairs_of all.at.node) (Each-weaker (λ x. test x ≡ true) (λ x. not (test x) ≡ false) (λ x e. ap not e) (pairs_of all.at.node) (these on)),
+          filter_none (λ x. not (test x)) (pairs_of all.at.node)
+              (Each-weaker (λ x. test x ≡ true) (λ x. not (test x) ≡ false) (λ x e. ap not e) (pairs_of all.at.node) (these on)),
           stay (pairs_after all.at.path) all.at.after,
           append-nil,
         ) refl);

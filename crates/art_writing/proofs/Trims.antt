@@ -37,7 +37,12 @@ module _ {K V : Type 0} {bytes : K × V → List ℕ} {P : ℕ} {s : Nodes K V} 
   prefix = prefix_of bytes (depth_of at.path) at.node
 
   part : IsPlaced bytes P s (inner_name p) (depth_of at.path) at.node
-  part = record { place = take (depth_of at.path) key; depth_is = sym (end_depth by at); radix = (end_hole by at).radix; layout = (end_full by at (inner_named by at kind)).0 }
+  part = record {
+    place = take (depth_of at.path) key;
+    depth_is = sym (end_depth by at);
+    radix = (end_hole by at).radix;
+    layout = (end_full by at (inner_named by at kind)).0;
+  }
 
   proper : p.kind ≢ Leaf
   proper =
@@ -57,7 +62,9 @@ module _ {K V : Type 0} {bytes : K × V → List ℕ} {P : ℕ} {s : Nodes K V} 
 
     -- without a leaf the prefix is stored whole
     stored_whole : mismatch.leaf_ptr ≡ None → old.len ≤ P
-    stored_whole none = let l = len_of_header P prefix old own in let short : length prefix ≤ P = subst (IsLeafForPrefix P prefix at.node) none (inner_least by at kind) in omega arith
+    stored_whole none = let l =
+        len_of_header P prefix old own in let short : length prefix ≤ P =
+        subst (IsLeafForPrefix P prefix at.node) none (inner_least by at kind) in omega arith
 
     pub trim_whole : mismatch.leaf_ptr ≡ None → (mismatch.matched_bytes + 1 ≤ old.len) × (old.len ≤ P)
     trim_whole none = (trim_inside, stored_whole none)
@@ -69,7 +76,8 @@ module _ {K V : Type 0} {bytes : K × V → List ℕ} {P : ℕ} {s : Nodes K V} 
     -- else it is read from the least leaf
     module _ {q : LeafPtr} (some : mismatch.leaf_ptr ≡ Some q) where
       first : HasFirstLeaf at.node (leaf_name q)
-      first = let least : (P < length prefix) × HasFirstLeaf at.node (leaf_name q) = subst (IsLeafForPrefix P prefix at.node) some (inner_least by at kind) in least.1
+      first = let least : (P < length prefix) × HasFirstLeaf at.node (leaf_name q) =
+          subst (IsLeafForPrefix P prefix at.node) some (inner_least by at kind) in least.1
 
       pub least_met : IsSome (get s.leaves q)
       least_met = leaf_is_there s part.layout.holds first.has
@@ -91,4 +99,5 @@ module _ {K V : Type 0} {bytes : K × V → List ℕ} {P : ℕ} {s : Nodes K V} 
             has : take old.len (drop point.key_bytes_used text) ≡ prefix
             has = ap (λ z. take z.len (drop point.key_bytes_used text)) read ∙
                 ap (λ d. take shown.prefix.len (drop d text)) (inner_start by at kind) ∙
-                ap (λ z. take shown.prefix.len (drop (depth_of at.path) z)) text_is ∙ prefixes.prefix_read part proper there l (λ Q all. least_is s part.layout.holds first Q all l leaf_there)
+                ap (λ z. take shown.prefix.len (drop (depth_of at.path) z)) text_is
+                ∙ prefixes.prefix_read part proper there l (λ Q all. least_is s part.layout.holds first Q all l leaf_there)

@@ -40,14 +40,17 @@ module _ {N A : Type 0} (bytes : A → List ℕ) (P : ℕ) (key : List ℕ) (end
   not_below (child b t cs) front d deep len radix long =
       Each-append (λ x. are_same key (bytes x) ≡ false) (pairs_of t) (pairs_below cs)
       (Each-weaker (λ x. IsFront (front ++ b ∷ []) (bytes x)) (λ x. are_same key (bytes x) ≡ false)
-      (λ x way. not_same key (bytes x) (λ same. longer (subst (IsFront (front ++ b ∷ [])) (sym same) way))) (pairs_of t) (radix_way bytes P t (front ++ b ∷ []) radix.0))
+      (λ x way. not_same key (bytes x) (λ same. longer (subst (IsFront (front ++ b ∷ [])) (sym same) way))) (pairs_of t)
+      (radix_way bytes P t (front ++ b ∷ []) radix.0))
       (not_below cs front d deep len radix.1 (Each-right NoLonger (places bytes d t) (places_below bytes d cs) long))
     where
       longer : IsFront (front ++ b ∷ []) key → ⊥
       longer way =
-          let own : place_of bytes d t ≡ front ++ b ∷ [] = subst (λ n. place_of bytes n t ≡ front ++ b ∷ []) (sym (len b)) (place_is bytes P t (front ++ b ∷ []) radix.0) in
+          let own : place_of bytes d t ≡ front ++ b ∷ [] =
+          subst (λ n. place_of bytes n t ≡ front ++ b ∷ []) (sym (len b)) (place_is bytes P t (front ++ b ∷ []) radix.0) in
           let short : length (front ++ b ∷ []) ≤ end =
-          subst NoLonger (ap (λ p. (p, name_of t)) own) (own_place bytes P NoLonger d t (Each-left NoLonger (places bytes d t) (places_below bytes d cs) long)) way in
+          subst NoLonger (ap (λ p. (p, name_of t)) own)
+          (own_place bytes P NoLonger d t (Each-left NoLonger (places bytes d t) (places_below bytes d cs) long)) way in
           let deep_is = len b in
           omega arith
 
@@ -60,7 +63,8 @@ module _ {K V : Type 0} {bytes : K × V → List ℕ} {P : ℕ} {s : Nodes K V} 
       ∙ with_key-hole bytes P at.path (take (depth_of at.path) key) key at.node (end_hole by at).path (end_hole by at).front ∙ none)
 
   -- an inner node at which a key ends has no pair with it
-  ends_at_inner : (name : OpaqueNodePtr) (header : NodeHeader) (cs : Subtrees OpaqueNodePtr (K × V)) → at.node ≡ inner name header cs → has_key bytes key pairs ≡ false
+  ends_at_inner : (name : OpaqueNodePtr) (header : NodeHeader) (cs : Subtrees OpaqueNodePtr (K × V)) → at.node ≡ inner name header cs →
+      has_key bytes key pairs ≡ false
   ends_at_inner name header cs is =
       let place = take (depth_of at.path) key in
       let (part, head, two, up, below) : IsRadix bytes P place (inner name header cs) = subst (IsRadix bytes P place) is (end_hole by at).radix in
@@ -75,7 +79,8 @@ module _ {K V : Type 0} {bytes : K × V → List ℕ} {P : ℕ} {s : Nodes K V} 
   pub refused_new : (is_covered (placed_for s point.insert_kind) s.promise ≡ true → ⊥) → has_key bytes key pairs ≡ false
   refused_new uncovered = go point.key_bytes_used point.insert_kind at.kind_is uncovered
     where
-      go : (used : ℕ) (kind : InsertKind) → IsKindOf bytes P key at.node (depth_of at.path) used kind → (is_covered (placed_for s kind) s.promise ≡ true → ⊥) → has_key bytes key pairs ≡ false
+      go : (used : ℕ) (kind : InsertKind) → IsKindOf bytes P key at.node (depth_of at.path) used kind →
+          (is_covered (placed_for s kind) s.promise ≡ true → ⊥) → has_key bytes key pairs ≡ false
       go used (Exact p) h off = absurd (off (leb-zero s.promise.leaves))
       go used (SplitLeaf p n) (e, (pair, is, (apart, shared))) off =
           let other = same_related key (bytes pair) apart in

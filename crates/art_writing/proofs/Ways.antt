@@ -36,7 +36,8 @@ module _ {A : Type 0} where
       down (Normal parent b grandparent c) = refl
 
 -- it is the root by what is reported of the parent
-pub root_told : (point : InsertPoint) (path : TreePath) (node : InnerPtr) (byte : ℕ) → root_with path point.root (inner_name node) ≡ root_after (record point { path = path }) (NewParent node byte)
+pub root_told : (point : InsertPoint) (path : TreePath) (node : InnerPtr) (byte : ℕ) →
+    root_with path point.root (inner_name node) ≡ root_after (record point { path = path }) (NewParent node byte)
 root_told point Root node byte = refl
 root_told point (ChildOfRoot parent b) node byte = refl
 root_told point (Normal parent b grandparent above) node byte = refl
@@ -55,7 +56,8 @@ module _ {A : Type 0} (f : Frame OpaqueNodePtr A) where
       above (Normal parent b grandparent c) = refl
 
   -- the root is another one exactly if the node is the root
-  pub root_with-up : (fs : List (Frame OpaqueNodePtr A)) (root node : OpaqueNodePtr) → root_with (up (path_of (f ∷ fs))) root node ≡ paths.root_with fs root node
+  pub root_with-up : (fs : List (Frame OpaqueNodePtr A)) (root node : OpaqueNodePtr) →
+      root_with (up (path_of (f ∷ fs))) root node ≡ paths.root_with fs root node
   root_with-up [] root node = refl
   root_with-up (g ∷ gs) root node = above (path_of gs)
     where

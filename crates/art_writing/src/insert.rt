@@ -1,11 +1,13 @@
 //! Insertion: the point at which a key is inserted into a tree.
-ghost use Rattle.std.specs.Prelude.{◌≡◌, ◌↔◌, false, IsOk, IfOk, IfErr};
+ghost use Rattle.std.specs.Prelude.{◌≡◌, ◌↔◌, false, IsOk, IfOk, IfErr, Some};
 ghost use Rattle.art_model.specs.Pairs.{is_conflict, of_key};
 ghost use Rattle.art_model.specs.Roots.{ForTree, IsCanonicalRoot};
 ghost use Rattle.art_reading.specs.Readings.{CountsToEnd};
 ghost use Rattle.art_writing.specs.Inserted.{IsPointIn};
 ghost use Rattle.art_writing.specs.Overwritten.{IsPrefixPointIn, root_of};
 ghost use Rattle.art_writing.specs.Points.{AnswersTo, IsPointFor, IsRefusedFor};
+ghost use Rattle.std.specs.Box.{boxed_slice_items};
+ghost use Rattle.art_writing.specs.Conflicts.{conflict_text, bytes_text};
 
 use art_nodes::node::{AsBytes, InnerPtr, LeafNode, LeafPtr, OpaqueNodePtr};
 use art_nodes::store::NodeStore;
@@ -34,10 +36,6 @@ pub struct InsertPrefixError {
 }
 
 impl fmt::Display for InsertPrefixError {
-    ghost use Rattle.std.specs.Prelude.{Some};
-    ghost use Rattle.std.specs.Box.{boxed_slice_items};
-    ghost use Rattle.art_writing.specs.Conflicts.{conflict_text};
-
     ghost output = { λ error. Some (conflict_text (boxed_slice_items error.byte_repr)) };
 
     fn fmt<W: fmt::Write>(&self, f: &mut fmt::Formatter<W>) -> fmt::Result {
@@ -54,9 +52,6 @@ impl fmt::Display for InsertPrefixError {
 struct ListedBytes<'a>(&'a [u8]);
 
 impl fmt::Display for ListedBytes<'_> {
-    ghost use Rattle.std.specs.Prelude.{Some};
-    ghost use Rattle.art_writing.specs.Conflicts.{bytes_text};
-
     ghost output = { λ bytes. Some (bytes_text bytes.0.now) };
 
     fn fmt<W: fmt::Write>(&self, f: &mut fmt::Formatter<W>) -> fmt::Result {
@@ -72,8 +67,6 @@ impl fmt::Display for ListedBytes<'_> {
 }
 
 impl Clone for InsertPrefixError {
-    ghost use Rattle.std.specs.Box.{boxed_slice_items};
-
     ghost is_clone = { λ error copy.
         boxed_slice_items copy.byte_repr ≡ boxed_slice_items error.byte_repr };
 

@@ -70,7 +70,8 @@ pub(crate) fn link<K: AsBytes + Drop, V: Drop, const P: usize>(
 )
     requires previous { IsThere store.old.leaves previous }
     requires next { IsThere store.old.leaves next }
-    ensures leaves { store.new.leaves ≡ with_links_around store.old.leaves previous next next previous }
+    ensures leaves { store.new.leaves
+        ≡ with_links_around store.old.leaves previous next next previous }
     ensures inners { store.new.inners ≡ store.old.inners }
     ensures promise { store.new.promise ≡ store.old.promise }
 {

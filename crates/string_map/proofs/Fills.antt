@@ -36,7 +36,8 @@ module _ {wanted left : List (List ℕ × ℕ)} {count end : ℕ} {buffer : List
         given = so.given ++ x ∷ [];
         whole = so.whole ∙ ap (λ xs. so.given ++ xs) first ∙ sym (append_assoc so.given (x ∷ []) rest);
         count_is = length_push so.given x ∙ ap (λ n. n + 1) so.count_is;
-        pairs = take_more_set written count pair room ∙ ap (λ xs. xs ++ pair ∷ []) so.pairs ∙ ap (λ it. map pair_of so.given ++ it ∷ []) pair_is ∙ sym (map-append pair_of so.given (x ∷ []));
+        pairs = take_more_set written count pair room ∙ ap (λ xs. xs ++ pair ∷ []) so.pairs
+            ∙ ap (λ it. map pair_of so.given ++ it ∷ []) pair_is ∙ sym (map-append pair_of so.given (x ∷ []));
         keys = keys ∙ ap (λ xs. xs ++ x.0) so.keys ∙ sym joined;
         end_is = ap length joined ∙ length-append (joined_keys so.given) x.0 ∙ ap (λ n. n + length x.0) so.end_is ∙ sym next_is;
         few = let h = length-set written count pair in omega (arith, room);

@@ -58,25 +58,37 @@ ends_after [] byte last (t ∷ text) is (first, bytes) = go (cases_order t byte)
     go : (t ≡ byte) ⊎ ((t < byte) ⊎ (byte < t)) → (suc byte < t) ⊎ (t ≤ suc byte) →
         is_front (byte ∷ last) (t ∷ text) ≡ (not (is_less (t ∷ text) (byte ∷ last)) && is_less (t ∷ text) (suc byte ∷ []))
     go (inl same) _ =
-        rw (same, front_first byte last text, same_first byte text last, less_first byte (suc byte) text [] (omega arith)) (all_from last text is bytes ∙ and_true (not (is_less text last)))
+        rw (same, front_first byte last text, same_first byte text last, less_first byte (suc byte) text [] (omega arith))
+        (all_from last text is bytes ∙ and_true (not (is_less text last)))
     go (inr (inl below)) _ =
         rw (other_first byte t last text (λ e. omega (arith, below, e)), less_first t byte text last below) refl
     go (inr (inr above)) (inl far) =
         rw (other_first byte t last text (λ e. omega (arith, above, e)), more_first t byte text last above, more_first t (suc byte) text [] far) refl
     go (inr (inr above)) (inr near) =
         let next : t ≡ suc byte = omega (arith, above, near) in
-        rw (next, other_first byte (suc byte) last text (λ e. omega (arith, e)), more_first (suc byte) byte text last (omega arith), same_first (suc byte) text [], none_before text) refl
+        rw (
+          next,
+          other_first byte (suc byte) last text (λ e. omega (arith, e)),
+          more_first (suc byte) byte text last (omega arith),
+          same_first (suc byte) text [],
+          none_before text,
+        ) refl
 ends_after (f ∷ front) byte last (t ∷ text) is (first, bytes) = go (ends_after front byte last text is bytes) (cases_order t f)
   where
     go : is_front (front ++ byte ∷ last) text ≡ (not (is_less text (front ++ byte ∷ last)) && is_less text (front ++ suc byte ∷ [])) →
         (t ≡ f) ⊎ ((t < f) ⊎ (f < t)) →
-        is_front (f ∷ front ++ byte ∷ last) (t ∷ text) ≡ (not (is_less (t ∷ text) (f ∷ front ++ byte ∷ last)) && is_less (t ∷ text) (f ∷ front ++ suc byte ∷ []))
+        is_front (f ∷ front ++ byte ∷ last) (t ∷ text)
+        ≡ (not (is_less (t ∷ text) (f ∷ front ++ byte ∷ last)) && is_less (t ∷ text) (f ∷ front ++ suc byte ∷ []))
     go rest (inl same) =
         rw (same, front_first f (front ++ byte ∷ last) text, same_first f text (front ++ byte ∷ last), same_first f text (front ++ suc byte ∷ [])) rest
     go rest (inr (inl below)) =
         rw (other_first f t (front ++ byte ∷ last) text (λ e. omega (arith, below, e)), less_first t f text (front ++ byte ∷ last) below) refl
     go rest (inr (inr above)) =
-        rw (other_first f t (front ++ byte ∷ last) text (λ e. omega (arith, above, e)), more_first t f text (front ++ byte ∷ last) above, more_first t f text (front ++ suc byte ∷ []) above) refl
+        rw (
+          other_first f t (front ++ byte ∷ last) text (λ e. omega (arith, above, e)),
+          more_first t f text (front ++ byte ∷ last) above,
+          more_first t f text (front ++ suc byte ∷ []) above,
+        ) refl
 
 -- if each byte is 255, there is no end
 pub has_no_end : (prefix after : List ℕ) (len : ℕ) → len ≡ 0 → Each (λ byte. byte ≡ 255) (drop len prefix) → IsPrefixEnd prefix 0 after

@@ -42,6 +42,7 @@ pub record Answers {A : Type 0} (map : Option (List (List ℕ × ℕ))) (wanted 
   pub stays : code ≢ done → after ≡ before
 
 -- A call changes the pairs of a map. If it fails, they are unchanged.
-pub record Changes (before : Option (List (List ℕ × ℕ))) (change : List (List ℕ × ℕ) → List (List ℕ × ℕ)) (code : ℕ) (after : Option (List (List ℕ × ℕ))) : Type 0 where
+pub record Changes (before : Option (List (List ℕ × ℕ))) (change : List (List ℕ × ℕ) → List (List ℕ × ℕ)) (code : ℕ)
+    (after : Option (List (List ℕ × ℕ))) : Type 0 where
   pub changed : code < no_memory → after ≡ option_map change before
   pub kept : no_memory ≤ code → after ≡ before

@@ -44,6 +44,7 @@ pub record Gives (wanted : List (List ℕ × ℕ)) (code : ℕ) (buffer : List �
   pub only : (code ≢ absent) × (code ≢ no_memory) × (code < freed)
 
 -- A call writes the first of the wanted pairs of a map. It fails if the map was freed, or if an allocation fails.
-pub record GivesPairs (map : Option (List (List ℕ × ℕ))) (wanted : List (List ℕ × ℕ) → List (List ℕ × ℕ)) (code : ℕ) (buffer : List ℕ) (written : List Pair) (before after : Given) : Type 0 where
+pub record GivesPairs (map : Option (List (List ℕ × ℕ))) (wanted : List (List ℕ × ℕ) → List (List ℕ × ℕ)) (code : ℕ) (buffer : List ℕ)
+    (written : List Pair) (before after : Given) : Type 0 where
   pub gives : MatchOption map (code ≡ freed) (λ pairs. code ≢ no_memory → Gives (wanted pairs) code buffer written after)
   pub stays : (code ≡ no_memory) ⊎ (code ≡ freed) → after ≡ before

@@ -167,7 +167,8 @@ fn take(
 
 /// Writes how many keys start with a prefix. Returns `DONE`, or `NO_MEMORY` if an allocation fails.
 pub fn count_prefix(map: &StringMap, prefix: &[u8], count: &mut usize) -> u32
-    ensures { Answers map.now (λ pairs. Some (length (strings_below (λ text. text) prefix.now pairs)))
+    ensures { Answers map.now (λ pairs.
+        Some (length (strings_below (λ text. text) prefix.now pairs)))
         result count.old count.new }
 {
     let Some(pairs) = &map.pairs else {

@@ -110,7 +110,8 @@ fn step<'a>(
     left: &mut Range<'a, Escaped, u64, 16>,
     is_backward: bool,
 ) -> Option<(&'a Escaped, &'a u64)>
-    ensures { TakesFirst (in_direction is_backward left.old) result (in_direction is_backward left.new) }
+    ensures { TakesFirst (in_direction is_backward left.old) result
+        (in_direction is_backward left.new) }
 {
     if is_backward {
         left.next_back()

@@ -15,13 +15,15 @@ front_stays : (bs : List ℕ) → without_empty_end ([] ∷ parts bs) ≡ [] ∷
 front_stays [] = refl
 front_stays (b ∷ bs) = go (eqb b 10) (parts bs)
   where
-    go : (t : Bool) (ps : List (List ℕ)) → without_empty_end ([] ∷ cond t ([] ∷ ps) (onto_first b ps)) ≡ [] ∷ without_empty_end (cond t ([] ∷ ps) (onto_first b ps))
+    go : (t : Bool) (ps : List (List ℕ)) → without_empty_end ([] ∷ cond t ([] ∷ ps) (onto_first b ps))
+        ≡ [] ∷ without_empty_end (cond t ([] ∷ ps) (onto_first b ps))
     go true ps = refl
     go false [] = refl
     go false (p ∷ ps) = refl
 
 -- a byte is added to the first part
-onto_more : (x : ℕ) (ps : List (List ℕ)) (front : List ℕ) (rest : List (List ℕ)) → without_empty_end ps ≡ front ∷ rest → without_empty_end (onto_first x ps) ≡ (x ∷ front) ∷ rest
+onto_more : (x : ℕ) (ps : List (List ℕ)) (front : List ℕ) (rest : List (List ℕ)) → without_empty_end ps ≡ front ∷ rest →
+    without_empty_end (onto_first x ps) ≡ (x ∷ front) ∷ rest
 onto_more x [] front rest e = absurd cc
 onto_more x (p ∷ []) front rest e = ap (λ t. cond t [] ((x ∷ p) ∷ [])) (ne_eqb (length (x ∷ p)) 0 (λ z. omega arith)) ∙ go (eqb (length p) 0) e
   where
@@ -47,7 +49,8 @@ ended_line (x ∷ xs) line e = go (eqb x 10) refl line e (ended_line xs)
         onto_more x (parts xs) line (lines (drop_through 10 xs)) (ih line rest) ∙ ap (λ z. (z ∷ line) ∷ lines (drop_through 10 xs)) same
 
 -- the last line, which no line feed ends, comes alone
-last_line : (text : List ℕ) → 0 < length (take_through 10 text) → ((line : List ℕ) → take_through 10 text ≡ line ++ 10 ∷ [] → ⊥) → lines text ≡ take_through 10 text ∷ lines (drop_through 10 text)
+last_line : (text : List ℕ) → 0 < length (take_through 10 text) → ((line : List ℕ) → take_through 10 text ≡ line ++ 10 ∷ [] → ⊥) →
+    lines text ≡ take_through 10 text ∷ lines (drop_through 10 text)
 last_line [] some unended = absurd (omega arith)
 last_line (x ∷ []) some unended = go (eqb x 10) refl unended
   where
@@ -66,7 +69,8 @@ last_line (x ∷ y ∷ xs) some unended = go (eqb x 10) refl unended (last_line 
 
     go : (t : Bool) → eqb x 10 ≡ t → ((line : List ℕ) → cond t (x ∷ []) (x ∷ take_through 10 (y ∷ xs)) ≡ line ++ 10 ∷ [] → ⊥) →
         (((line : List ℕ) → take_through 10 (y ∷ xs) ≡ line ++ 10 ∷ [] → ⊥) → lines (y ∷ xs) ≡ take_through 10 (y ∷ xs) ∷ lines (drop_through 10 (y ∷ xs))) →
-        without_empty_end (cond t ([] ∷ parts (y ∷ xs)) (onto_first x (parts (y ∷ xs)))) ≡ cond t (x ∷ []) (x ∷ take_through 10 (y ∷ xs)) ∷ lines (cond t (y ∷ xs) (drop_through 10 (y ∷ xs)))
+        without_empty_end (cond t ([] ∷ parts (y ∷ xs)) (onto_first x (parts (y ∷ xs))))
+        ≡ cond t (x ∷ []) (x ∷ take_through 10 (y ∷ xs)) ∷ lines (cond t (y ∷ xs) (drop_through 10 (y ∷ xs)))
     go true b h ih = absurd (h [] (ap (λ z. z ∷ []) (eqb-true x 10 b)))
     go false b h ih = onto_more x (parts (y ∷ xs)) _ _ (ih (λ line e. h (x ∷ line) (ap (λ bs. x ∷ bs) e)))
 
@@ -99,7 +103,8 @@ read_last (Some text) new empty got z is drops some unended =
       drop_through 10 text,
       drops,
       last_line text (subst (λ bs. 0 < length bs) all some)
-          (λ line e. unended (subst (λ bs. slice_get bs (length bs - 1) ≡ Some 10) (sym (all ∙ e)) (ends_not line _ (let l = length-append line (10 ∷ []) in omega arith))))
+          (λ line e. unended (subst (λ bs. slice_get bs (length bs - 1) ≡ Some 10) (sym (all ∙ e))
+          (ends_not line _ (let l = length-append line (10 ∷ []) in omega arith))))
           ∙ ap (λ bs. bs ∷ lines (drop_through 10 text)) (sym all),
     )
 
@@ -108,7 +113,8 @@ read_none None new line e = tt
 read_none (Some text) new line e = ap lines e
 
 -- the same, for what is known of the result
-pub read_as : (old new : Option (List ℕ)) (line : List ℕ) (m n : Bool) → m ≡ n → IfSome old (λ text. IsLineRead m text line new) → IfSome old (λ text. IsLineRead n text line new)
+pub read_as : (old new : Option (List ℕ)) (line : List ℕ) (m n : Bool) → m ≡ n → IfSome old (λ text. IsLineRead m text line new) →
+    IfSome old (λ text. IsLineRead n text line new)
 read_as old new line m n e h = subst (λ t. IfSome old (λ text. IsLineRead t text line new)) e h
 
 -- the test of the last byte

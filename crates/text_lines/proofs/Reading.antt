@@ -11,7 +11,8 @@ pub record IsReadTo (Holds : List (List ℕ) → Type 0) (text : List ℕ) (left
   pub number_is : number ≡ length before + 1
   pub holds : Holds before
 
-line_is_read : (left : Option (List ℕ)) (rest line : List ℕ) (next : Option (List ℕ)) → left ≡ Some rest → IfSome left (λ bs. IsLineRead true bs line next) → IsLineRead true rest line next
+line_is_read : (left : Option (List ℕ)) (rest line : List ℕ) (next : Option (List ℕ)) → left ≡ Some rest →
+    IfSome left (λ bs. IsLineRead true bs line next) → IsLineRead true rest line next
 line_is_read left rest line next e h = subst (λ (o : Option (List ℕ)). IfSome o (λ bs. IsLineRead true bs line next)) e h
 
 -- before the first line
@@ -27,8 +28,11 @@ begins Holds (Some bs) h = record {
 }
 
 -- after one more line
-pub goes_on : (Holds Then : List (List ℕ) → Type 0) (text left next : Option (List ℕ)) (number : ℕ) (line : List ℕ) → IfSome text (λ bs. IsReadTo Holds bs left number) →
-    IfSome left (λ bs. IsLineRead true bs line next) → ((before : List (List ℕ)) → number ≡ length before + 1 → Holds before → Then (before ++ line ∷ [])) → IfSome text (λ bs. IsReadTo Then bs next (number + 1))
+pub goes_on : (Holds Then : List (List ℕ) → Type 0) (text left next : Option (List ℕ)) (number : ℕ) (line : List ℕ) →
+    IfSome text (λ bs. IsReadTo Holds bs left number) →
+    IfSome left (λ bs. IsLineRead true bs line next) →
+    ((before : List (List ℕ)) → number ≡ length before + 1 → Holds before → Then (before ++ line ∷ [])) →
+    IfSome text (λ bs. IsReadTo Then bs next (number + 1))
 goes_on Holds Then None left next number line h read more = tt
 goes_on Holds Then (Some bs) left next number line h read more =
     let after = line_is_read left h.rest line next h.left_is read in
@@ -42,7 +46,8 @@ goes_on Holds Then (Some bs) left next number line h read more =
     }
 
 -- where there is no further line
-pub ends : (Holds All : List (List ℕ) → Type 0) (text left next : Option (List ℕ)) (number : ℕ) (line : List ℕ) → IfSome text (λ bs. IsReadTo Holds bs left number) →
+pub ends : (Holds All : List (List ℕ) → Type 0) (text left next : Option (List ℕ)) (number : ℕ) (line : List ℕ) →
+    IfSome text (λ bs. IsReadTo Holds bs left number) →
     IfSome left (λ bs. IsLineRead false bs line next) → ((ls : List (List ℕ)) → Holds ls → All ls) → IfSome text (λ bs. All (lines bs))
 ends Holds All None left next number line h read all = tt
 ends Holds All (Some bs) left next number line h read all =
@@ -50,8 +55,10 @@ ends Holds All (Some bs) left next number line h read all =
     subst All (sym (h.lines_are ∙ ap (λ ls. h.before ++ ls) none ∙ append-nil h.before)) (all h.before h.holds)
 
 -- at a line after which none is read
-pub stops : (Holds All : List (List ℕ) → Type 0) (text left next : Option (List ℕ)) (number : ℕ) (line : List ℕ) → IfSome text (λ bs. IsReadTo Holds bs left number) →
-    IfSome left (λ bs. IsLineRead true bs line next) → ((before after : List (List ℕ)) → number ≡ length before + 1 → Holds before → All (before ++ line ∷ after)) →
+pub stops : (Holds All : List (List ℕ) → Type 0) (text left next : Option (List ℕ)) (number : ℕ) (line : List ℕ) →
+    IfSome text (λ bs. IsReadTo Holds bs left number) →
+    IfSome left (λ bs. IsLineRead true bs line next) →
+    ((before after : List (List ℕ)) → number ≡ length before + 1 → Holds before → All (before ++ line ∷ after)) →
     IfSome text (λ bs. All (lines bs))
 stops Holds All None left next number line h read all = tt
 stops Holds All (Some bs) left next number line h read all =

@@ -34,7 +34,8 @@ number_after-bits zero number small = omega (arith, small)
 number_after-bits (suc count) number small =
     let more : suc count ≡ count + 1 = omega arith in
     let ih = number_after-bits count (number / 2) (shr_below number count 1 (subst (λ c. number < 2 ^ c) more small)) in
-    number_after-append 0 (bits count (number / 2)) (number % 2 + 1) ∙ ap (λ n. n * 2 + (number % 2 + 1 - 1)) ih ∙ (let parts = div-add-mod' number 2 in omega arith)
+    number_after-append 0 (bits count (number / 2)) (number % 2 + 1) ∙ ap (λ n. n * 2 + (number % 2 + 1 - 1)) ih
+    ∙ (let parts = div-add-mod' number 2 in omega arith)
 
 -- so no two numbers have the same
 pub bits_apart : (count a b : ℕ) → a < 2 ^ count → b < 2 ^ count → bits count a ≡ bits count b → a ≡ b

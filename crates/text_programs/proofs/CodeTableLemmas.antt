@@ -16,7 +16,8 @@ use Rattle.text_programs.specs.Entries.{code_of, entries_of, is_code, line_of}
 use Rattle.text_programs.specs.CodeRows.{HasLine, IsFaultBeside, numbered, rows_of}
 use Rattle.text_programs.specs.CodeTables.{IsCodeFault, IsFaultOf, IsFilledBy, IsRepeatedAt, IsTableOf}
 
-numbered-append : (n : ℕ) (entries : List (List ℕ × List ℕ)) (e : List ℕ × List ℕ) → numbered n (entries ++ e ∷ []) ≡ numbered n entries ++ (e.0, e.1, n + length entries) ∷ []
+numbered-append : (n : ℕ) (entries : List (List ℕ × List ℕ)) (e : List ℕ × List ℕ) →
+    numbered n (entries ++ e ∷ []) ≡ numbered n entries ++ (e.0, e.1, n + length entries) ∷ []
 numbered-append n [] e = let k : n ≡ n + 0 = omega arith in ap (λ m. (e.0, e.1, m) ∷ []) k
 numbered-append n (x ∷ entries) e =
     let k : n + 1 + length entries ≡ n + length (x ∷ entries) = omega arith in
@@ -31,7 +32,8 @@ one_entry_more rows others number line has before n h =
     record {
       entries = h.entries ++ has.entry ∷ [];
       lines_are = record {
-        are = ap (λ ls. ls ++ line ∷ []) h.lines_are.are ∙ ap (λ l. map line_of h.entries ++ l ∷ []) has.is ∙ sym (map-append line_of h.entries (has.entry ∷ []));
+        are = ap (λ ls. ls ++ line ∷ []) h.lines_are.are ∙ ap (λ l. map line_of h.entries ++ l ∷ []) has.is
+            ∙ sym (map-append line_of h.entries (has.entry ∷ []));
         codes = Each-append (λ entry. is_code (code_of entry) ≡ true) h.entries (has.entry ∷ []) h.lines_are.codes (has.code, tt);
       };
       same = subst (λ rs. IsPermutation rs others)
@@ -59,28 +61,35 @@ table_is pairs ls h = record {
 
 -- the entry whose row has this number
 same_from : (code : List ℕ) (n k : ℕ) (entries : List (List ℕ × List ℕ)) → list_any (λ row. are_same code row.0 && eqb row.2 n) (numbered k entries) ≡ true →
-    (before : List (List ℕ × List ℕ)) × (earlier : List ℕ × List ℕ) × (after : List (List ℕ × List ℕ)) × (entries ≡ before ++ earlier ∷ after) × (n ≡ length before + k) ×
+    (before : List (List ℕ × List ℕ)) × (earlier : List ℕ × List ℕ) × (after : List (List ℕ × List ℕ)) ×
+    (entries ≡ before ++ earlier ∷ after) × (n ≡ length before + k) ×
     (code ≡ code_of earlier)
 same_from code n k [] h = absurd (false≢true h)
 same_from code n k (e ∷ entries) h = go (or_cases _ _ h) (same_from code n (k + 1) entries)
   where
     go : ((are_same code e.0 && eqb k n) ≡ true) ⊎ (list_any (λ row. are_same code row.0 && eqb row.2 n) (numbered (k + 1) entries) ≡ true) →
-        (list_any (λ row. are_same code row.0 && eqb row.2 n) (numbered (k + 1) entries) ≡ true → (before : List (List ℕ × List ℕ)) × (earlier : List ℕ × List ℕ) ×
+        (list_any (λ row. are_same code row.0 && eqb row.2 n) (numbered (k + 1) entries) ≡ true →
+        (before : List (List ℕ × List ℕ)) × (earlier : List ℕ × List ℕ) ×
         (after : List (List ℕ × List ℕ)) × (entries ≡ before ++ earlier ∷ after) × (n ≡ length before + (k + 1)) × (code ≡ code_of earlier)) →
-        (before : List (List ℕ × List ℕ)) × (earlier : List ℕ × List ℕ) × (after : List (List ℕ × List ℕ)) × (e ∷ entries ≡ before ++ earlier ∷ after) × (n ≡ length before + k) ×
+        (before : List (List ℕ × List ℕ)) × (earlier : List ℕ × List ℕ) × (after : List (List ℕ × List ℕ)) ×
+        (e ∷ entries ≡ before ++ earlier ∷ after) × (n ≡ length before + k) ×
         (code ≡ code_of earlier)
-    go (inl both) ih = let parts = and_parts (are_same code e.0) (eqb k n) both in let at = eqb-true k n parts.1 in ([], e, entries, refl, omega arith, sym (same_equal code e.0 parts.0))
+    go (inl both) ih = let parts =
+        and_parts (are_same code e.0) (eqb k n) both in let at = eqb-true k n parts.1 in
+        ([], e, entries, refl, omega arith, sym (same_equal code e.0 parts.0))
     go (inr more) ih =
         let (before, earlier, after, are, is, same) = ih more in
         (e ∷ before, earlier, after, ap (λ es. e ∷ es) are, omega arith, same)
 
-repeated_at : (code : List ℕ) (n : ℕ) (entries : List (List ℕ × List ℕ)) → list_any (λ row. are_same code row.0 && eqb row.2 n) (numbered 1 entries) ≡ true → IsRepeatedAt code n entries
+repeated_at : (code : List ℕ) (n : ℕ) (entries : List (List ℕ × List ℕ)) →
+    list_any (λ row. are_same code row.0 && eqb row.2 n) (numbered 1 entries) ≡ true → IsRepeatedAt code n entries
 repeated_at code n entries h =
     let (before, earlier, after, are, is, same) = same_from code n 1 entries h in
     record { before = before; earlier = earlier; after = after; entries_are = are; number_is = is; same = same }
 
 -- a fault next to the rows of a table is one after its lines
-fault_is : (line : List ℕ) (entries : List (List ℕ × List ℕ)) (rows : List (List ℕ × List ℕ × ℕ)) (fault : LineError) → IsPermutation (numbered 1 entries) rows →
+fault_is : (line : List ℕ) (entries : List (List ℕ × List ℕ)) (rows : List (List ℕ × List ℕ × ℕ)) (fault : LineError) →
+    IsPermutation (numbered 1 entries) rows →
     IsFaultBeside line rows fault → IsFaultOf line entries fault
 fault_is line entries rows NoEntry same h = h
 fault_is line entries rows (Repeated n) same (code, name, is, any) =

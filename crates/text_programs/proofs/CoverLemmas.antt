@@ -44,7 +44,8 @@ module _ (length more a b : ℕ) (small : a < 2 ^ length) (fits : b < 2 ^ (lengt
   bits_begin h =
       let (tail, is) = bits_front length more b in
       bits_apart length a (b / 2 ^ more) small (shr_below b length more fits)
-      (front_whole (bits length a) (bits length (b / 2 ^ more)) tail (length-bits length a ∙ sym (length-bits length (b / 2 ^ more))) (ap (is_front (bits length a)) (sym is) ∙ h))
+      (front_whole (bits length a) (bits length (b / 2 ^ more)) tail (length-bits length a ∙ sym (length-bits length (b / 2 ^ more)))
+      (ap (is_front (bits length a)) (sym is) ∙ h))
 
   begin_bits : a ≡ b / 2 ^ more → is_front (bits length a) (bits (length + more) b) ≡ true
   begin_bits e =
@@ -68,7 +69,9 @@ module _ (n : Network) (a : IpAddr) (is : IsNetwork n) (fits : number_of a < 2 ^
 
   begins : is_front (string_of n) (query_of a) ≡ true → covers n a ≡ true
   begins h =
-      let parts = and_parts (eqb n.version (version_of a)) (is_front (bits n.length (n.number / 2 ^ host_bits n)) (bits (width (version_of a)) (number_of a))) h in
+      let parts =
+      and_parts (eqb n.version (version_of a))
+      (is_front (bits n.length (n.number / 2 ^ host_bits n)) (bits (width (version_of a)) (number_of a))) h in
       let v = eqb-true n.version (version_of a) parts.0 in
       let prefix = bits_begin n.length (host_bits n) (n.number / 2 ^ host_bits n) (number_of a) (prefix_fits n is) (of_version v)
       (ap (is_front (bits n.length (n.number / 2 ^ host_bits n))) (sym (same_query v)) ∙ parts.1) in
@@ -85,13 +88,16 @@ module _ (n : Network) (a : IpAddr) (is : IsNetwork n) (fits : number_of a < 2 ^
       (ap (λ m. m / 2 ^ host_bits n) number ∙ shl-shr (number_of a / 2 ^ host_bits n) (host_bits n)))
 
 -- a string is a prefix of that of an address where its network covers it
-pub front_covers : (string : List ℕ) (a : IpAddr) → IsString string → number_of a < 2 ^ width (version_of a) → is_front string (query_of a) ≡ covers (network_of string) a
+pub front_covers : (string : List ℕ) (a : IpAddr) → IsString string → number_of a < 2 ^ width (version_of a) →
+    is_front string (query_of a) ≡ covers (network_of string) a
 front_covers string a s fits =
     same_tests _ _ (λ h. begins (network_of string) a s.network_is fits (ap (λ t. is_front t (query_of a)) (sym s.is) ∙ h))
     (λ h. ap (λ t. is_front t (query_of a)) s.is ∙ covered (network_of string) a s.network_is fits h)
 
 string_length : (string : List ℕ) → IsString string → length string ≡ (network_of string).length + 1
-string_length string s = ap length s.is ∙ (let many = length-bits (network_of string).length ((network_of string).number / 2 ^ host_bits (network_of string)) in omega arith)
+string_length string s =
+    ap length s.is ∙ (let many = length-bits (network_of string).length
+    ((network_of string).number / 2 ^ host_bits (network_of string)) in omega arith)
 
 -- ---- the last of the pairs whose strings are prefixes of that of an address
 
@@ -130,7 +136,8 @@ module _ (pairs : List (List ℕ × Source)) (a : IpAddr) (strings : HaveStrings
   last_in : (xs : List (List ℕ × Source)) (x : List ℕ × Source) → last_of xs ≡ Some x → IsIn x xs
   last_in xs x last = last_each (λ y. IsIn y xs) xs x (each_from (λ y. IsIn y xs) xs (λ y i. i)) last
 
-  pub last_answers : (x : List ℕ × Source) → last_of Found ≡ Some x → Each (λ y. length y.0 ≤ length x.0) Found → IsAnswer (routes_of pairs) a (Some x.1.line.items)
+  pub last_answers : (x : List ℕ × Source) → last_of Found ≡ Some x → Each (λ y. length y.0 ≤ length x.0) Found →
+      IsAnswer (routes_of pairs) a (Some x.1.line.items)
   last_answers x last longest =
       let found = last_in Found x last in
       let there = in_filter Begins x pairs found in
@@ -143,7 +150,8 @@ module _ (pairs : List (List ℕ × Source)) (a : IpAddr) (strings : HaveStrings
               each_map route_of (λ route. covers route.network a ≡ true → route.network.length ≤ (network_of x.0).length) pairs
               (each_from _ pairs (λ y among covered'.
               let of_y = each_in (λ z. IsString z.0) y pairs strings among in
-              as_length y x of_y of_x (each_in (λ z. length z.0 ≤ length x.0) y Found longest (passes_in Begins y pairs among (front_covers y.0 a of_y fits ∙ covered')))));
+              as_length y x of_y of_x (each_in (λ z. length z.0 ≤ length x.0) y Found longest
+              (passes_in Begins y pairs among (front_covers y.0 a of_y fits ∙ covered')))));
         },
         refl,
       )
@@ -151,7 +159,8 @@ module _ (pairs : List (List ℕ × Source)) (a : IpAddr) (strings : HaveStrings
 -- the last of the strings that are prefixes of another is the longest of them
 abbrev pub LastIsLongest : Type 0
 LastIsLongest =
-    (xs : List (List ℕ × Source)) (query : List ℕ) (last : List ℕ × Source) → Pairwise (λ x y. is_before x.0 y.0 ≡ true) xs → last_of (strings_in_front (λ text. text) query xs) ≡ Some last →
+    (xs : List (List ℕ × Source)) (query : List ℕ) (last : List ℕ × Source) → Pairwise (λ x y. is_before x.0 y.0 ≡ true) xs →
+    last_of (strings_in_front (λ text. text) query xs) ≡ Some last →
     Each (λ x. length x.0 ≤ length last.0) (strings_in_front (λ text. text) query xs)
 
 -- strings that rise in their order are one before another
@@ -165,8 +174,10 @@ pub found : LastIsLongest → (pairs : List (List ℕ × Source)) (a : IpAddr) (
     Some x ≡ last_of (strings_in_front (λ text. text) string pairs) → line ≡ x.1.line.items → IsAnswer (routes_of pairs) a (Some line)
 found longest pairs a string line x strings fits is rise last l =
     let at = sym (last ∙ ap (λ q. last_of (strings_in_front (λ text. text) q pairs)) is) in
-    subst (λ bytes. IsAnswer (routes_of pairs) a (Some bytes)) (sym l) (last_answers pairs a strings fits x at (longest pairs (query_of a) x (strings_rise pairs rise) at))
+    subst (λ bytes. IsAnswer (routes_of pairs) a (Some bytes)) (sym l)
+    (last_answers pairs a strings fits x at (longest pairs (query_of a) x (strings_rise pairs rise) at))
 
-pub found_none : (pairs : List (List ℕ × Source)) (a : IpAddr) (string : List ℕ) → HaveStrings pairs → number_of a < 2 ^ width (version_of a) → string ≡ query_of a →
+pub found_none : (pairs : List (List ℕ × Source)) (a : IpAddr) (string : List ℕ) → HaveStrings pairs →
+    number_of a < 2 ^ width (version_of a) → string ≡ query_of a →
     None ≡ last_of (strings_in_front (λ text. text) string pairs) → IsAnswer (routes_of pairs) a None
 found_none pairs a string strings fits is none = none_covers pairs a strings fits (sym (none ∙ ap (λ q. last_of (strings_in_front (λ text. text) q pairs)) is))

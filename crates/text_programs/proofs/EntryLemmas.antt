@@ -38,13 +38,15 @@ pub code_spaceless : (code : List ℕ) → is_code code ≡ true → HasNoSpace 
 code_spaceless code h = digits_spaceless code (and_parts (not (eqb (length code) 0)) (list_all is_ascii_digit code) h).1
 
 -- a line whose first word is no code is none of an entry
-pub no_entry : (line first rest code name : List ℕ) → line ≡ first ++ 32 ∷ rest → HasNoSpace first → is_code first ≡ false → is_code code ≡ true → line ≡ line_of (code, name) → ⊥
+pub no_entry : (line first rest code name : List ℕ) → line ≡ first ++ 32 ∷ rest → HasNoSpace first → is_code first ≡ false →
+    is_code code ≡ true → line ≡ line_of (code, name) → ⊥
 no_entry line first rest code name is spaceless none h e =
     let both = same_words first rest code name spaceless (code_spaceless code h) (sym is ∙ e) in
     false≢true (sym none ∙ ap is_code both.0 ∙ h)
 
 -- a stored name is in the row of its code
-pub name_is_stored : (code : List ℕ) (named : Named) (pairs : List (List ℕ × Named)) → Some named ≡ value_at ended (ended code) pairs → has_code_at named.line code (rows_of pairs) ≡ true
+pub name_is_stored : (code : List ℕ) (named : Named) (pairs : List (List ℕ × Named)) → Some named ≡ value_at ended (ended code) pairs →
+    has_code_at named.line code (rows_of pairs) ≡ true
 name_is_stored code named [] h = absurd cc
 name_is_stored code named (x ∷ xs) h = go (are_same (ended code) (ended x.0)) refl h (name_is_stored code named xs)
   where
@@ -64,19 +66,22 @@ value_stored key [] = refl
 value_stored key (x ∷ xs) = go (are_same key (ended x.0)) (value_stored key xs)
   where
     go : (t : Bool) → is_some (value_at ended key xs) ≡ has_key (of_key ended) key xs →
-        is_some (option_map (λ y. y.1) (first_of (cond t (x ∷ with_key (of_key ended) key xs) (with_key (of_key ended) key xs)))) ≡ (t || has_key (of_key ended) key xs)
+        is_some (option_map (λ y. y.1) (first_of (cond t (x ∷ with_key (of_key ended) key xs) (with_key (of_key ended) key xs))))
+        ≡ (t || has_key (of_key ended) key xs)
     go true ih = refl
     go false ih = ih
 
 -- no key is equal where no name is stored
-pub none_is_stored : (code : List ℕ) (pairs : List (List ℕ × Named)) → None ≡ value_at ended (ended code) pairs → has_key (of_key ended) (ended code) pairs ≡ false
+pub none_is_stored : (code : List ℕ) (pairs : List (List ℕ × Named)) → None ≡ value_at ended (ended code) pairs →
+    has_key (of_key ended) (ended code) pairs ≡ false
 none_is_stored code pairs h = sym (value_stored (ended code) pairs) ∙ sym (ap is_some h)
 
 added : (new : List ℕ × Named) (pairs : List (List ℕ × Named)) → IsPermutation (new ∷ pairs) (add_in_order (of_key ended) new pairs)
 added new [] = IsPermutation-refl (new ∷ [])
 added new (x ∷ xs) = go (is_before (ended new.0) (ended x.0)) (added new xs)
   where
-    go : (t : Bool) → IsPermutation (new ∷ xs) (add_in_order (of_key ended) new xs) → IsPermutation (new ∷ x ∷ xs) (cond t (new ∷ x ∷ xs) (x ∷ add_in_order (of_key ended) new xs))
+    go : (t : Bool) → IsPermutation (new ∷ xs) (add_in_order (of_key ended) new xs) →
+        IsPermutation (new ∷ x ∷ xs) (cond t (new ∷ x ∷ xs) (x ∷ add_in_order (of_key ended) new xs))
     go true ih = IsPermutation-refl (new ∷ x ∷ xs)
     go false ih =
         IsPermutation-trans _ _ _ (IsPermutation-sym _ _ (IsPermutation-middle (x ∷ []) new xs)) (IsPermutation-cons x _ _ ih)
@@ -106,7 +111,8 @@ pair_comes key value pairs h =
     (subst (IsPermutation ((key, value) ∷ pairs)) (sym (put-new (of_key ended) (key, value) pairs (none_stored (key, value) pairs h)
     ∙ ap (add_in_order (of_key ended) (key, value)) (others_stay (ended key) pairs h))) (added (key, value) pairs))
 
-pub line_comes : (line code name : List ℕ) (number : ℕ) (key : List ℕ) (value : Named) (pairs : List (List ℕ × Named)) → line ≡ line_of (code, name) → is_code code ≡ true →
+pub line_comes : (line code name : List ℕ) (number : ℕ) (key : List ℕ) (value : Named) (pairs : List (List ℕ × Named)) →
+    line ≡ line_of (code, name) → is_code code ≡ true →
     key ≡ code → value.name.items ≡ name → value.line ≡ number → has_key (of_key ended) (ended code) pairs ≡ false →
     HasLine line number (rows_of pairs) (rows_of (put (of_key ended) (key, value) pairs))
 line_comes line code name number key value pairs is h k v n none = record {
@@ -126,7 +132,8 @@ last-map [] = refl
 last-map (x ∷ []) = refl
 last-map (x ∷ y ∷ xs) = last-map (y ∷ xs)
 
-matches-map : (number : List ℕ) (pairs : List (List ℕ × Named)) → match_of code_of number (entries_of pairs) ≡ map named_entry (strings_in_front (λ t. t) number pairs)
+matches-map : (number : List ℕ) (pairs : List (List ℕ × Named)) →
+    match_of code_of number (entries_of pairs) ≡ map named_entry (strings_in_front (λ t. t) number pairs)
 matches-map number [] = refl
 matches-map number (x ∷ xs) = go (is_front x.0 number) (matches-map number xs)
   where
@@ -142,7 +149,8 @@ pub match_entry : (number : List ℕ) (pairs : List (List ℕ × Named)) →
 match_entry number pairs = ap last_of (matches-map number pairs) ∙ last-map (strings_in_front (λ t. t) number pairs)
 
 -- the entries rise as the keys do
-entries_after : (x : List ℕ × Named) (xs : List (List ℕ × Named)) → Each (λ y. slice_cmp nat_cmp x.0 y.0 ≡ Less) xs → Each (λ e. is_before x.0 (code_of e) ≡ true) (entries_of xs)
+entries_after : (x : List ℕ × Named) (xs : List (List ℕ × Named)) → Each (λ y. slice_cmp nat_cmp x.0 y.0 ≡ Less) xs →
+    Each (λ e. is_before x.0 (code_of e) ≡ true) (entries_of xs)
 entries_after x [] h = tt
 entries_after x (y ∷ ys) h = (ap is_lt h.0, entries_after x ys h.1)
 
@@ -166,7 +174,8 @@ in_passes : {A : Type 0} (test : A → Bool) (x : A) (xs : List A) → IsIn x (f
 in_passes test x [] h = absurd h
 in_passes test x (y ∷ xs) h = go (test y) refl h (in_passes test x xs)
   where
-    go : (t : Bool) → test y ≡ t → IsIn x (cond t (y ∷ filter test xs) (filter test xs)) → (IsIn x (filter test xs) → IsIn x xs × (test x ≡ true)) → ((y ≡ x) ⊎ IsIn x xs) × (test x ≡ true)
+    go : (t : Bool) → test y ≡ t → IsIn x (cond t (y ∷ filter test xs) (filter test xs)) →
+        (IsIn x (filter test xs) → IsIn x xs × (test x ≡ true)) → ((y ≡ x) ⊎ IsIn x xs) × (test x ≡ true)
     go true b (inl s) ih = (inl s, ap test (sym s) ∙ b)
     go true b (inr r) ih = let k = ih r in (inr k.0, k.1)
     go false b r ih = let k = ih r in (inr k.0, k.1)
@@ -177,7 +186,8 @@ each_of Q x (y ∷ ys) (inl s) all = subst Q s all.0
 each_of Q x (y ∷ ys) (inr r) all = each_of Q x ys r all.1
 
 -- each match is no longer than the last one
-pub no_longer : (entries : List (List ℕ × List ℕ)) (number : List ℕ) (e : List ℕ × List ℕ) → TextsRise code_of entries → IsIn e entries → IsFront (code_of e) number →
+pub no_longer : (entries : List (List ℕ × List ℕ)) (number : List ℕ) (e : List ℕ × List ℕ) → TextsRise code_of entries → IsIn e entries →
+    IsFront (code_of e) number →
     IsNoLonger e (last_of (match_of code_of number entries))
 no_longer entries number e rise there front = go (last_of (match_of code_of number entries)) refl
   where
@@ -195,7 +205,8 @@ no_longer entries number e rise there front = go (last_of (match_of code_of numb
 
     go : (last : Option (List ℕ × List ℕ)) → last_of (match_of code_of number entries) ≡ last → IsNoLonger e last
     go None h = none_in (match_of code_of number entries) among h
-    go (Some last) h = each_of (λ x. length (code_of x) ≤ length (code_of last)) e (match_of code_of number entries) among (last_is_longest code_of entries number last rise h)
+    go (Some last) h = each_of (λ x. length (code_of x) ≤ length (code_of last)) e (match_of code_of number entries) among
+        (last_is_longest code_of entries number last rise h)
 
 pub last_match : (entries : List (List ℕ × List ℕ)) (number : List ℕ) (e : List ℕ × List ℕ) → last_of (match_of code_of number entries) ≡ Some e →
     IsIn e entries × IsFront (code_of e) number

@@ -17,7 +17,8 @@ pub one_line_more : (Has Then : List (List ℕ) → Type 0) (number : ℕ) (line
 one_line_more Has Then number line seen e more before n h = subst (λ l. Then (before ++ l ∷ [])) e (more before n h)
 
 -- a line that was not added has its fault after those before it
-pub refused_at : {Fault : Type 0} (Has : List (List ℕ) → Type 0) (IsFault : List (List ℕ) → List ℕ → Fault → Type 0) (number : ℕ) (line seen : List ℕ) (fault : Fault) → seen ≡ line →
+pub refused_at : {Fault : Type 0} (Has : List (List ℕ) → Type 0) (IsFault : List (List ℕ) → List ℕ → Fault → Type 0) (number : ℕ)
+    (line seen : List ℕ) (fault : Fault) → seen ≡ line →
     ((before : List (List ℕ)) → Has before → IsFault before seen fault) →
     (before after : List (List ℕ)) → number ≡ length before + 1 → Has before → IsSoAt (λ bs l. IsFault bs l fault) (before ++ line ∷ after) number
 refused_at Has IsFault number line seen fault e is before after n h = record {
@@ -45,7 +46,8 @@ module _ (IsReply : List ℕ → List ℕ → Type 0) where
   no_replies old = record { replies = []; are = tt; lines_are = refl; written = appends_none old }
 
   replies_kept : (ls : List (List ℕ)) (old now new : Option (List ℕ)) → HaveReplies IsReply ls old now → Keeps now new → HaveReplies IsReply ls old new
-  replies_kept ls old now new h keeps = record { replies = h.replies; are = h.are; lines_are = h.lines_are; written = appends_kept old now new _ h.written keeps }
+  replies_kept ls old now new h keeps =
+      record { replies = h.replies; are = h.are; lines_are = h.lines_are; written = appends_kept old now new _ h.written keeps }
 
   module _ (AsksForNothing : List ℕ → Type 0) where
     -- the reply to one more line is appended, and stays
@@ -64,7 +66,8 @@ module _ (IsReply : List ℕ → List ℕ → Type 0) where
         }
 
     -- a line that asks for nothing comes after those that got their replies
-    pub stopped_at : (number : ℕ) (line seen : List ℕ) (asks : Bool) (old now new : Option (List ℕ)) → seen ≡ line → asks ≡ false → IsTried IsReply AsksForNothing seen asks now new →
+    pub stopped_at : (number : ℕ) (line seen : List ℕ) (asks : Bool) (old now new : Option (List ℕ)) → seen ≡ line → asks ≡ false →
+        IsTried IsReply AsksForNothing seen asks now new →
         (before after : List (List ℕ)) → number ≡ length before + 1 → HaveReplies IsReply before old now →
         IsSoAt (λ bs l. HaveReplies IsReply bs old new × AsksForNothing l) (before ++ line ∷ after) number
     stopped_at number line seen asks old now new e false_is tried before after n h =

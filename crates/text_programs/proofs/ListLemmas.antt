@@ -17,7 +17,8 @@ module _ {A : Type 0} where
     passes_in [] there e = there
     passes_in (y ∷ xs) there e = go (test y) refl there (λ i. passes_in xs i e)
       where
-        go : (t : Bool) → test y ≡ t → (y ≡ x) ⊎ IsIn x xs → (IsIn x xs → IsIn x (filter test xs)) → IsIn x (if t then (y ∷ filter test xs) else (filter test xs))
+        go : (t : Bool) → test y ≡ t → (y ≡ x) ⊎ IsIn x xs → (IsIn x xs → IsIn x (filter test xs)) →
+            IsIn x (if t then (y ∷ filter test xs) else (filter test xs))
         go true b (inl same) ih = inl same
         go true b (inr i) ih = inr (ih i)
         go false b (inl same) ih = absurd (false≢true (sym b ∙ ap test same ∙ e))

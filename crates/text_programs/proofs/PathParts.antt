@@ -53,7 +53,8 @@ module _ {V : Type 0} where
       go true ih = ap (λ ks. x.0 ∷ ks) ih
       go false ih = ih
 
-  pub below_is : (prefix : List ℕ) (pairs : List (List ℕ × V)) → HasNoZero prefix → keys_of (part.below (of_key ended) prefix pairs) ≡ below prefix (keys_of pairs)
+  pub below_is : (prefix : List ℕ) (pairs : List (List ℕ × V)) → HasNoZero prefix →
+      keys_of (part.below (of_key ended) prefix pairs) ≡ below prefix (keys_of pairs)
   below_is prefix pairs h = keys_kept (λ x. is_front prefix (ended x.0)) (λ path. is_front prefix path) (λ x. ended_begins prefix x.0 h) pairs
 
   pub between_is : (from to : List ℕ) (pairs : List (List ℕ × V)) → HasNoZero from → HasNoZero to →
@@ -68,14 +69,17 @@ module _ {V : Type 0} where
   found_is_stored path (x ∷ xs) = rw (same_ended path x.0) (go (are_same path x.0) (found_is_stored path xs))
     where
       go : (t : Bool) → is_some (value_at ended (ended path) xs) ≡ is_stored path (keys_of xs) →
-          is_some (option_map (λ y. y.1) (first_of (cond t (x ∷ with_key (of_key ended) (ended path) xs) (with_key (of_key ended) (ended path) xs)))) ≡ (t || is_stored path (keys_of xs))
+          is_some (option_map (λ y. y.1) (first_of
+          (cond t (x ∷ with_key (of_key ended) (ended path) xs) (with_key (of_key ended) (ended path) xs))))
+          ≡ (t || is_stored path (keys_of xs))
       go true ih = refl
       go false ih = ih
 
   pub put_adds : (path : List ℕ) (value : V) (pairs : List (List ℕ × V)) → AddsPath path (keys_of pairs) (keys_of (put (of_key ended) (path, value) pairs))
   put_adds path value pairs other =
       sym (found_is_stored other (put (of_key ended) (path, value) pairs))
-      ∙ ap (λ xs. is_some (option_map (λ y. y.1) (first_of xs))) (put_is_found ended (ended other) (path, value) pairs) ∙ rw (same_ended other path) (go (are_same other path))
+      ∙ ap (λ xs. is_some (option_map (λ y. y.1) (first_of xs))) (put_is_found ended (ended other) (path, value) pairs)
+      ∙ rw (same_ended other path) (go (are_same other path))
     where
       or_true : (b : Bool) → true ≡ (b || true)
       or_true true = refl
@@ -102,7 +106,8 @@ module _ {V : Type 0} where
   last_key (x ∷ y ∷ xs) = last_key (y ∷ xs)
 
   -- the paths rise as their pairs do
-  each_later : (x : List ℕ × V) (xs : List (List ℕ × V)) → Each (λ y. slice_cmp nat_cmp x.0 y.0 ≡ Less) xs → Each (λ path. is_before x.0 path ≡ true) (keys_of xs)
+  each_later : (x : List ℕ × V) (xs : List (List ℕ × V)) → Each (λ y. slice_cmp nat_cmp x.0 y.0 ≡ Less) xs →
+      Each (λ path. is_before x.0 path ≡ true) (keys_of xs)
   each_later x [] h = tt
   each_later x (y ∷ ys) h = (ap is_lt h.0, each_later x ys h.1)
 

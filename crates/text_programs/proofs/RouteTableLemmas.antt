@@ -32,7 +32,8 @@ added : {A : Type 0} (bytes : A → List ℕ) (new : A) (xs : List A) → IsPerm
 added bytes new [] = IsPermutation-refl (new ∷ [])
 added bytes new (x ∷ xs) = go (is_before (bytes new) (bytes x)) (added bytes new xs)
   where
-    go : (t : Bool) → IsPermutation (new ∷ xs) (add_in_order bytes new xs) → IsPermutation (new ∷ x ∷ xs) (if t then (new ∷ x ∷ xs) else (x ∷ add_in_order bytes new xs))
+    go : (t : Bool) → IsPermutation (new ∷ xs) (add_in_order bytes new xs) →
+        IsPermutation (new ∷ x ∷ xs) (if t then (new ∷ x ∷ xs) else (x ∷ add_in_order bytes new xs))
     go true ih = IsPermutation-refl (new ∷ x ∷ xs)
     go false ih = IsPermutation-trans _ _ _ (IsPermutation-sym _ _ (IsPermutation-middle (x ∷ []) new xs)) (IsPermutation-cons x _ _ ih)
 
@@ -62,7 +63,8 @@ module _ (key : List ℕ) (pairs : List (List ℕ × Source)) where
       (none_passes HasKey pairs (first_none (with_key (of_key ended) (ended key) pairs) (no_pair Stored none)))
 
   -- and the pair is added to the others
-  pub pair_comes : (source : Source) → None ≡ value_at ended (ended key) pairs → put (of_key ended) (key, source) pairs ≡ add_in_order (of_key ended) (key, source) pairs
+  pub pair_comes : (source : Source) → None ≡ value_at ended (ended key) pairs →
+      put (of_key ended) (key, source) pairs ≡ add_in_order (of_key ended) (key, source) pairs
   pair_comes source none =
       put-new (of_key ended) (key, source) pairs (no_pair Stored none)
       ∙ ap (add_in_order (of_key ended) (key, source)) (filter_all (λ x. not (are_same (ended key) (ended x.0))) pairs
@@ -124,7 +126,8 @@ module _ (line : List ℕ) (number : ℕ) (network : Network) (key : List ℕ) (
 
 -- ---- all lines
 
-lines_more : (n : ℕ) (ls : List (List ℕ)) (routes : List Route) (line : List ℕ) (route : Route) → AreLinesFrom n ls routes → IsRouteOf line (n + length ls) route →
+lines_more : (n : ℕ) (ls : List (List ℕ)) (routes : List Route) (line : List ℕ) (route : Route) → AreLinesFrom n ls routes →
+    IsRouteOf line (n + length ls) route →
     AreLinesFrom n (ls ++ line ∷ []) (routes ++ route ∷ [])
 lines_more n [] [] line route h k = let none : n + 0 ≡ n = omega arith in (subst (λ m. IsRouteOf line m route) none k, tt)
 lines_more n [] (r ∷ rs) line route h k = absurd h
@@ -149,7 +152,8 @@ one_route_more table next number line adds before n h =
     }
 
 -- a fault next to the routes of a table is one next to those of the lines
-fault_is : (line : List ℕ) (routes table : List Route) (fault : LineError) → IsPermutation routes table → IsFaultBeside line table fault → IsFaultBeside line routes fault
+fault_is : (line : List ℕ) (routes table : List Route) (fault : LineError) → IsPermutation routes table → IsFaultBeside line table fault →
+    IsFaultBeside line routes fault
 fault_is line routes table (Why.Route error) same h = h
 fault_is line routes table (Why.Twice n) same h = record {
   network = h.network;

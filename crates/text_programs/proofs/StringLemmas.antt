@@ -14,7 +14,8 @@ whole_width width length low = omega arith
 -- the prefix of a network fits its length
 pub prefix_fits : (network : Network) → IsNetwork network → network.number / 2 ^ host_bits network < 2 ^ network.length
 prefix_fits network is =
-    shr_below network.number network.length (host_bits network) (subst (λ w. network.number < 2 ^ w) (whole_width (width network.version) network.length is.length_fits) is.number_fits)
+    shr_below network.number network.length (host_bits network)
+    (subst (λ w. network.number < 2 ^ w) (whole_width (width network.version) network.length is.length_fits) is.number_fits)
 
 -- a network is recovered from its string
 pub network_comes_back : (network : Network) → IsNetwork network → network_of (string_of network) ≡ network

@@ -47,7 +47,8 @@ next_number n =
     let k : min (unwrap_or (first_of (numbers_for n)) 0 + 1) (2 ^ 64 - 1) ≡ min (n + 1) (2 ^ 64 - 1) = omega arith in
     ap (λ k. k ∷ []) k ∙ sym (some_number (n + 1) (omega arith))
 
-value_is_first : {K : Type 0} (bytes : K → List ℕ) (key : List ℕ) (pairs : List (K × ℕ)) → value_at bytes key pairs ≡ first_of (map (λ x. x.1) (with_key (of_key bytes) key pairs))
+value_is_first : {K : Type 0} (bytes : K → List ℕ) (key : List ℕ) (pairs : List (K × ℕ)) →
+    value_at bytes key pairs ≡ first_of (map (λ x. x.1) (with_key (of_key bytes) key pairs))
 value_is_first bytes key pairs = go (with_key (of_key bytes) key pairs)
   where
     go : {K : Type 0} (xs : List (K × ℕ)) → option_map (λ x. x.1) (first_of xs) ≡ first_of (map (λ x. x.1) xs)
@@ -75,10 +76,13 @@ new_number ws word pairs none kept w =
     ap (map (λ x. x.1)) (sym (found_ended w (put (of_key ended) (word, 1) pairs)) ∙ put_is_found ended (ended w) (word, 1) pairs ∙ rw (same_ended w word) refl)
     ∙ go (are_same w word) refl ∙ sym (ap numbers_for (times_more w ws word))
   where
-    go : (t : Bool) → are_same w word ≡ t → map (λ x. x.1) (cond t (stored_for (of_key ended) (word, 1) pairs ∷ []) (with_key (of_key ended) (ended w) pairs)) ≡ numbers_for (times w ws + cond t 1 0)
+    go : (t : Bool) → are_same w word ≡ t → map (λ x. x.1)
+        (cond t (stored_for (of_key ended) (word, 1) pairs ∷ []) (with_key (of_key ended) (ended w) pairs))
+        ≡ numbers_for (times w ws + cond t 1 0)
     go true e =
         let same = same_equal w word e in
-        let v : None ≡ first_of (numbers_for (times w ws)) = sym none ∙ ap (λ b. value_at ended (ended b) pairs) same ∙ value_found w pairs ∙ ap first_of (kept.each w) in
+        let v : None ≡ first_of (numbers_for (times w ws)) =
+        sym none ∙ ap (λ b. value_at ended (ended b) pairs) same ∙ value_found w pairs ∙ ap first_of (kept.each w) in
         ap (λ n. n ∷ []) (stored_value ended (word, 1) pairs ∙ ap (λ o. min (unwrap_or o 0 + 1) (2 ^ 64 - 1)) v) ∙ next_number (times w ws)
     go false e = ap (map (λ x. x.1)) (found_ended w pairs) ∙ kept.each w ∙ ap numbers_for (omega arith)
 
@@ -86,11 +90,14 @@ new_number ws word pairs none kept w =
 
 module _ {K : Type 0} (bytes : K → List ℕ) (key : List ℕ) (value : ℕ) where
   -- where a value is written, it is found as often as there was one
-  written_here : (pairs : List (K × ℕ)) → map (λ x. x.1) (with_key (of_key bytes) key (with_value_at bytes key value pairs)) ≡ map (λ x. value) (with_key (of_key bytes) key pairs)
+  written_here : (pairs : List (K × ℕ)) → map (λ x. x.1) (with_key (of_key bytes) key (with_value_at bytes key value pairs))
+      ≡ map (λ x. value) (with_key (of_key bytes) key pairs)
   written_here [] = refl
   written_here (x ∷ xs) = go (are_same key (bytes x.0)) refl (written_here xs)
     where
-      go : (t : Bool) → are_same key (bytes x.0) ≡ t → map (λ x. x.1) (with_key (of_key bytes) key (with_value_at bytes key value xs)) ≡ map (λ x. value) (with_key (of_key bytes) key xs) →
+      go : (t : Bool) → are_same key (bytes x.0) ≡ t →
+          map (λ x. x.1) (with_key (of_key bytes) key (with_value_at bytes key value xs))
+          ≡ map (λ x. value) (with_key (of_key bytes) key xs) →
           map (λ x. x.1) (with_key (of_key bytes) key (with_value_at bytes key value (x ∷ xs))) ≡ map (λ x. value) (with_key (of_key bytes) key (x ∷ xs))
       go true e ih = rw e (rw e (ap (λ vs. value ∷ vs) ih))
       go false e ih = rw e (rw e ih)
@@ -123,26 +130,33 @@ only_number value (x ∷ y ∷ xs) n count next all first is = go (eqb n 0) all
 
 -- a word that is counted already is counted once more
 next_found : (ws : List (List ℕ)) (word : List ℕ) (count next : ℕ) (pairs : List (List ℕ × ℕ)) → value_at ended (ended word) pairs ≡ Some count →
-    next ≡ min (count + 1) (2 ^ 64 - 1) → HasTimes ws pairs → (w : List ℕ) → found w (with_value_at ended (ended word) next pairs) ≡ numbers_for (times w (ws ++ word ∷ []))
+    next ≡ min (count + 1) (2 ^ 64 - 1) → HasTimes ws pairs → (w : List ℕ) →
+    found w (with_value_at ended (ended word) next pairs) ≡ numbers_for (times w (ws ++ word ∷ []))
 next_found ws word count next pairs here number kept w =
-    ap (map (λ x. x.1)) (sym (found_ended w (with_value_at ended (ended word) next pairs))) ∙ go (are_same w word) refl ∙ sym (ap numbers_for (times_more w ws word))
+    ap (map (λ x. x.1)) (sym (found_ended w (with_value_at ended (ended word) next pairs))) ∙ go (are_same w word) refl
+    ∙ sym (ap numbers_for (times_more w ws word))
   where
-    go : (t : Bool) → are_same w word ≡ t → map (λ x. x.1) (with_key (of_key ended) (ended w) (with_value_at ended (ended word) next pairs)) ≡ numbers_for (times w ws + cond t 1 0)
+    go : (t : Bool) → are_same w word ≡ t → map (λ x. x.1) (with_key (of_key ended) (ended w) (with_value_at ended (ended word) next pairs))
+        ≡ numbers_for (times w ws + cond t 1 0)
     go true e =
-        subst (λ v. map (λ x. x.1) (with_key (of_key ended) (ended v) (with_value_at ended (ended word) next pairs)) ≡ numbers_for (times v ws + 1)) (same_equal w word e)
+        subst (λ v. map (λ x. x.1) (with_key (of_key ended) (ended v) (with_value_at ended (ended word) next pairs))
+        ≡ numbers_for (times v ws + 1)) (same_equal w word e)
         (written_here ended (ended word) next pairs ∙ ap (map (λ x. next)) (found_ended word pairs)
         ∙ only_number (λ x. x.1) (with_key (λ x. x.0) word pairs) (times word ws) count next (kept.each word) (sym (value_found word pairs) ∙ here) number)
     go false e =
-        written_elsewhere ended (ended word) next (ended w) pairs (same_ended w word ∙ e) ∙ ap (map (λ x. x.1)) (found_ended w pairs) ∙ kept.each w ∙ ap numbers_for (omega arith)
+        written_elsewhere ended (ended word) next (ended w) pairs (same_ended w word ∙ e) ∙ ap (map (λ x. x.1)) (found_ended w pairs)
+        ∙ kept.each w ∙ ap numbers_for (omega arith)
 
 -- ---- the same, under the key of the word
 
-pub counted_first : (ws : List (List ℕ)) (word key : List ℕ) (pairs : List (List ℕ × ℕ)) → key ≡ word → value_at ended (ended key) pairs ≡ None → HasTimes ws pairs →
+pub counted_first : (ws : List (List ℕ)) (word key : List ℕ) (pairs : List (List ℕ × ℕ)) → key ≡ word →
+    value_at ended (ended key) pairs ≡ None → HasTimes ws pairs →
     HasTimes (ws ++ word ∷ []) (put (of_key ended) (key, 1) pairs)
 counted_first ws word key pairs is none kept =
     subst (λ w. HasTimes (ws ++ w ∷ []) (put (of_key ended) (key, 1) pairs)) is (record { each = new_number ws key pairs none kept })
 
-pub counted_again : (ws : List (List ℕ)) (word key : List ℕ) (count next : ℕ) (pairs : List (List ℕ × ℕ)) → key ≡ word → value_at ended (ended key) pairs ≡ Some count →
+pub counted_again : (ws : List (List ℕ)) (word key : List ℕ) (count next : ℕ) (pairs : List (List ℕ × ℕ)) → key ≡ word →
+    value_at ended (ended key) pairs ≡ Some count →
     next ≡ min (count + 1) (2 ^ 64 - 1) → HasTimes ws pairs → HasTimes (ws ++ word ∷ []) (with_value_at ended (ended key) next pairs)
 counted_again ws word key count next pairs is here number kept =
     subst (λ w. HasTimes (ws ++ w ∷ []) (with_value_at ended (ended key) next pairs)) is (record { each = next_found ws key count next pairs here number kept })
@@ -162,12 +176,15 @@ abbrev Rise : List (List ℕ × ℕ) → Type 0
 Rise = Pairwise (λ x y. is_before x.0 y.0 ≡ true)
 
 earlier_apart : (a b : List ℕ) → is_before a b ≡ true → are_same a b ≡ false
-earlier_apart a b h = not_same a b (λ e. false≢true (sym (before_apart a b h) ∙ subst (λ c. is_before c a ≡ true) e (subst (λ c. is_before a c ≡ true) (sym e) h)))
+earlier_apart a b h =
+    not_same a b (λ e. false≢true (sym (before_apart a b h)
+    ∙ subst (λ c. is_before c a ≡ true) e (subst (λ c. is_before a c ≡ true) (sym e) h)))
 
 -- nothing is found under a word that is before all
 found_later : (word : List ℕ) (xs : List (List ℕ × ℕ)) → Each (λ y. is_before word y.0 ≡ true) xs → found word xs ≡ []
 found_later word xs h =
-    ap (map (λ x. x.1)) (filter_none (λ y. are_same word y.0) xs (Each-weaker (λ y. is_before word y.0 ≡ true) (λ y. are_same word y.0 ≡ false) (λ y e. earlier_apart word y.0 e) xs h))
+    ap (map (λ x. x.1)) (filter_none (λ y. are_same word y.0) xs
+    (Each-weaker (λ y. is_before word y.0 ≡ true) (λ y. are_same word y.0 ≡ false) (λ y e. earlier_apart word y.0 e) xs h))
 
 -- under the first word its number is found
 found_first : (x : List ℕ × ℕ) (xs : List (List ℕ × ℕ)) → Each (λ y. is_before x.0 y.0 ≡ true) xs → found x.0 (x ∷ xs) ≡ x.1 ∷ []
@@ -176,7 +193,8 @@ found_first x xs h = rw (front_same x.0) (ap (λ ns. x.1 ∷ ns) (found_later x.
 found_past : (word : List ℕ) (x : List ℕ × ℕ) (xs : List (List ℕ × ℕ)) → are_same word x.0 ≡ false → found word (x ∷ xs) ≡ found word xs
 found_past word x xs e = rw e refl
 
-all_later : (word : List ℕ) (y : List ℕ × ℕ) (ys : List (List ℕ × ℕ)) → is_before word y.0 ≡ true → Each (λ z. is_before y.0 z.0 ≡ true) ys → Each (λ z. is_before word z.0 ≡ true) (y ∷ ys)
+all_later : (word : List ℕ) (y : List ℕ × ℕ) (ys : List (List ℕ × ℕ)) → is_before word y.0 ≡ true →
+    Each (λ z. is_before y.0 z.0 ≡ true) ys → Each (λ z. is_before word z.0 ≡ true) (y ∷ ys)
 all_later word y ys h k = (h, Each-weaker (λ z. is_before y.0 z.0 ≡ true) (λ z. is_before word z.0 ≡ true) (λ z e. order_is_transitive word y.0 z.0 h e) ys k)
 
 one_list : (xs ys : List (List ℕ × ℕ)) → Rise xs → Rise ys → ((word : List ℕ) → found word xs ≡ found word ys) → ys ≡ xs
@@ -194,7 +212,8 @@ one_list (x ∷ xs) (y ∷ ys) h k same = go (order_is_total x.0 y.0) (one_list 
             subst (λ w. found w xs ≡ found w ys) is (found_later x.0 xs h.0 ∙ sym (ap (λ w. found w ys) e ∙ found_later y.0 ys k.0))
         by false s = sym (found_past word x xs s) ∙ same word ∙ found_past word y ys (ap (are_same word) (sym e) ∙ s)
 
-    go : (is_before x.0 y.0 ≡ true) ⊎ ((x.0 ≡ y.0) ⊎ (is_before y.0 x.0 ≡ true)) → (((word : List ℕ) → found word xs ≡ found word ys) → ys ≡ xs) → y ∷ ys ≡ x ∷ xs
+    go : (is_before x.0 y.0 ≡ true) ⊎ ((x.0 ≡ y.0) ⊎ (is_before y.0 x.0 ≡ true)) →
+        (((word : List ℕ) → found word xs ≡ found word ys) → ys ≡ xs) → y ∷ ys ≡ x ∷ xs
     go (inl b) ih = let e = sym (found_first x xs h.0) ∙ same x.0 ∙ found_later x.0 (y ∷ ys) (all_later x.0 y ys b k.0) in absurd cc
     go (inr (inr b)) ih = let e = sym (found_first y ys k.0) ∙ sym (same y.0) ∙ found_later y.0 (x ∷ xs) (all_later y.0 x xs b h.0) in absurd cc
     go (inr (inl e)) ih =

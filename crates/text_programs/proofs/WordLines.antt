@@ -40,7 +40,8 @@ pub one_line_more : (counts others : List (List ℕ × ℕ)) (number : ℕ) (lin
     ((ws : List (List ℕ)) → HasTimes ws counts → HasTimes (ws ++ words seen) others) → (before : List (List ℕ)) → number ≡ length before + 1 →
     HasTimes (flat_map words before) counts → HasTimes (flat_map words (before ++ line ∷ [])) others
 one_line_more counts others number line seen e more before n h =
-    subst (λ ws. HasTimes ws others) (ap (λ l. flat_map words before ++ words l) e ∙ sym (flat_map-append words before (line ∷ []) ∙ ap (λ ws. flat_map words before ++ ws) (append-nil (words line))))
+    subst (λ ws. HasTimes ws others) (ap (λ l. flat_map words before ++ words l) e
+    ∙ sym (flat_map-append words before (line ∷ []) ∙ ap (λ ws. flat_map words before ++ ws) (append-nil (words line))))
     (more (flat_map words before) h)
 
 pub count_is : (text : Option (List ℕ)) (counts : List (List ℕ × ℕ)) → Pairwise (λ x y. is_before x.0 y.0 ≡ true) counts →
@@ -48,7 +49,8 @@ pub count_is : (text : Option (List ℕ)) (counts : List (List ℕ × ℕ)) → 
 count_is None counts rising h = tt
 count_is (Some bs) counts rising h = record { rising = rising; numbers = subst (λ ws. HasTimes ws counts) (words_of_lines bs) h }
 
-pub reported : {E : Type 0} (counts : List (List ℕ × ℕ)) (text old now next : Option (List ℕ)) (r : Result (Unit {0}) E) → IfSome text (λ bs. IsCountOf (words bs) counts) →
+pub reported : {E : Type 0} (counts : List (List ℕ × ℕ)) (text old now next : Option (List ℕ)) (r : Result (Unit {0}) E) →
+    IfSome text (λ bs. IsCountOf (words bs) counts) →
     Appends old now (flat_map line_of counts) → Keeps now next → OnOk r (IfSome text (λ bs. AppendsCounts (words bs) old next))
 reported counts text old now next (Err e) is writes stays = tt
 reported counts None old now next (Ok u) is writes stays = tt

@@ -17,7 +17,8 @@ onto_parts : (x : ℕ) (bs : List ℕ) (qs : List (List ℕ)) → onto_first x (
 onto_parts x [] qs = refl
 onto_parts x (b ∷ bs) qs = go (is_gap b)
   where
-    go : (t : Bool) → onto_first x (cond t ([] ∷ parts bs) (onto_first b (parts bs)) ++ qs) ≡ onto_first x (cond t ([] ∷ parts bs) (onto_first b (parts bs))) ++ qs
+    go : (t : Bool) → onto_first x (cond t ([] ∷ parts bs) (onto_first b (parts bs)) ++ qs)
+        ≡ onto_first x (cond t ([] ∷ parts bs) (onto_first b (parts bs))) ++ qs
     go true = refl
     go false = onto_more x b (parts bs) qs
 
@@ -61,7 +62,8 @@ words_between front (b ∷ bs) = go (eqb b 10) refl (feeds bs) refl (words_betwe
     go true e ps is here more =
         words_around front b bs (ap is_gap (eqb-true b 10 e))
         ∙ ap₂ (λ us vs. us ++ vs) (ap words (sym (append-nil front))) (nothing_before ps (subst (λ qs. words bs ≡ flat_map words (before_first [] qs)) is here))
-    go false e ps is here more = ap words (sym (append_assoc front (b ∷ []) bs)) ∙ more ∙ ap (λ qs. flat_map words (before_first (front ++ b ∷ []) qs)) is ∙ moved ps
+    go false e ps is here more =
+        ap words (sym (append_assoc front (b ∷ []) bs)) ∙ more ∙ ap (λ qs. flat_map words (before_first (front ++ b ∷ []) qs)) is ∙ moved ps
 
 empty_end : (ps : List (List ℕ)) → flat_map words (without_empty_end ps) ≡ flat_map words ps
 empty_end [] = refl

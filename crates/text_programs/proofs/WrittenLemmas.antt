@@ -64,7 +64,8 @@ module _ (byte : ℕ) (other : IsOther byte) where
   dotted_lacks : (text octets : List ℕ) → IsDotted text octets → Lacks byte text
   dotted_lacks text octets h =
       subst (Lacks byte) (sym h.spelled)
-      (both _ _ (both _ _ (both _ _ (both _ _ (both _ _ (both _ _ (octet_lacks h.a h.fit.0) dot) (octet_lacks h.b h.fit.1)) dot) (octet_lacks h.c h.fit.2)) dot) (octet_lacks h.d h.fit.3))
+      (both _ _ (both _ _ (both _ _ (both _ _ (both _ _ (both _ _ (octet_lacks h.a h.fit.0) dot) (octet_lacks h.b h.fit.1)) dot)
+      (octet_lacks h.c h.fit.2)) dot) (octet_lacks h.d h.fit.3))
     where
       dot : Lacks byte (46 ∷ [])
       dot = one 46 other.no_dot
@@ -72,7 +73,8 @@ module _ (byte : ℕ) (other : IsOther byte) where
   groups_lack : (ipv4 : Bool) (lead text segments : List ℕ) → Lacks byte lead → IsGroupsAfter ipv4 lead text segments → Lacks byte text
   groups_lack ipv4 lead text [] l h = subst (Lacks byte) (sym h) (All-nil (λ c. c ≢ byte))
   groups_lack ipv4 lead text (s ∷ segments) l (inl (group, rest, is, is_group, more)) =
-      subst (Lacks byte) (sym is) (both _ _ (both _ _ l (digits_lack 16 group (omega arith) is_group.0.0.1)) (groups_lack ipv4 (58 ∷ []) rest segments (one 58 other.no_colon) more))
+      subst (Lacks byte) (sym is) (both _ _ (both _ _ l (digits_lack 16 group (omega arith) is_group.0.0.1))
+      (groups_lack ipv4 (58 ∷ []) rest segments (one 58 other.no_colon) more))
   groups_lack ipv4 lead text (s ∷ segments) l (inr (last, octets, can, is, dotted, value)) =
       subst (Lacks byte) (sym is) (both _ _ l (dotted_lacks last octets dotted))
 
@@ -81,7 +83,8 @@ module _ (byte : ℕ) (other : IsOther byte) where
   address_lacks text (V6 ip) (inl h) = groups_lack true [] text _ (All-nil (λ c. c ≢ byte)) h.0
   address_lacks text (V6 ip) (inr h) =
       subst (Lacks byte) (sym h.spelled)
-      (both _ _ (both _ _ (groups_lack false [] h.head_text h.head none h.head_groups) (both (58 ∷ []) (58 ∷ []) colon colon)) (groups_lack true [] h.tail_text h.tail none h.tail_groups))
+      (both _ _ (both _ _ (groups_lack false [] h.head_text h.head none h.head_groups) (both (58 ∷ []) (58 ∷ []) colon colon))
+      (groups_lack true [] h.tail_text h.tail none h.tail_groups))
     where
       none : Lacks byte []
       none = All-nil (λ c. c ≢ byte)
@@ -122,7 +125,8 @@ cut_more : (n d m : ℕ) → min (min (min n m * 10) m + d) m ≡ min (n * 10 + 
 cut_more n d m = omega arith
 
 -- a further digit
-pub length_more : (ds : List ℕ) (i j cut tens next byte digit : ℕ) → i < length ds → AllDigits 10 (take i ds) → cut ≡ min (digits_value 10 (take i ds)) (2 ^ 32 - 1) →
+pub length_more : (ds : List ℕ) (i j cut tens next byte digit : ℕ) → i < length ds → AllDigits 10 (take i ds) →
+    cut ≡ min (digits_value 10 (take i ds)) (2 ^ 32 - 1) →
     byte ≡ get_or ds i 0 → (digit_value byte < 10) × (digit ≡ digit_value byte) → tens ≡ min (cut * 10) (2 ^ 32 - 1) → next ≡ min (tens + digit) (2 ^ 32 - 1) →
     AllDigits 10 (take (i + 1) ds) × (next ≡ min (digits_value 10 (take (i + 1) ds)) (2 ^ 32 - 1))
 length_more ds i j cut tens next byte digit within all is read h t n = (
@@ -142,5 +146,6 @@ pub longer : (room wide from cut length : ℕ) → wide ≡ room → from ≡ wi
 longer room wide from cut length w f is more = omega arith
 
 -- and one within it was not cut
-pub not_cut : (room wide from cut length : ℕ) → wide ≡ room → wide ≤ 128 → from ≡ wide → cut ≡ min length (2 ^ 32 - 1) → cut ≤ from → (cut ≡ length) × (length ≤ room)
+pub not_cut : (room wide from cut length : ℕ) → wide ≡ room → wide ≤ 128 → from ≡ wide → cut ≡ min length (2 ^ 32 - 1) → cut ≤ from →
+    (cut ≡ length) × (length ≤ room)
 not_cut room wide from cut length w low f is within = (omega arith, omega arith)

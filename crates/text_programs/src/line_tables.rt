@@ -1,8 +1,8 @@
 //! Tables that are read from the lines of a text, and that answer those of another.
-ghost use Rattle.std.specs.Prelude.{◌≡◌, [], IfErr, IfOk, IfSome, OnOk};
+ghost use Rattle.std.specs.Prelude.{◌≡◌, [], IfErr, IfOk, IfSome, OnOk, ℕ, ◌+◌, List, ◌∷◌, ◌++◌, length};
 ghost use Rattle.std.specs.Io.Buffered.{reader_remaining, writer_buffer, writer_contents};
 ghost use Rattle.text_lines.specs.Lines.{lines};
-ghost use Rattle.text_programs.specs.LineTables.{AreAnswered, IsRefusedFor};
+ghost use Rattle.text_programs.specs.LineTables.{AreAnswered, IsRefusedFor, IsTried};
 
 use std::alloc::Global;
 use std::fmt::Display;
@@ -23,9 +23,6 @@ pub enum ReadError<F> {
 
 /// A table that is read from the lines of a text, and that answers those of another.
 pub trait LineTable {
-    ghost use Rattle.std.specs.Prelude.{◌≡◌, ℕ, ◌+◌, List, [], ◌∷◌, ◌++◌, length, IfErr, IfOk, OnOk};
-    ghost use Rattle.text_programs.specs.LineTables.{IsTried};
-
     /// Why a line was not added.
     type Fault;
 
@@ -131,7 +128,8 @@ pub fn serve<T: LineTable, R: Read, W: Write + Drop>(
     input: &mut BufReader<R>,
     output: &mut BufWriter<W>,
 ) -> io::Result<Option<u64>>
-    ensures answered { IfOk result (λ refused. IfSome (reader_remaining R.remaining input.old) (λ text.
+    ensures answered { IfOk result (λ refused.
+        IfSome (reader_remaining R.remaining input.old) (λ text.
         AreAnswered (T.IsReplyTo table.now) T.AsksForNothing (lines text) refused
         (writer_contents W.contents output.old) (writer_contents W.contents output.new))) }
     ensures flushed { OnOk result (writer_buffer output.new ≡ []) }

@@ -21,7 +21,8 @@ Sets key o old new = (value_of end_bytes key new ≡ o) × KeepsOtherKeys IsEndK
 
 -- ends with the same bytes are the same
 law : AreInjective IsEndKey end_bytes
-law = joins_injective (HasBytes 8) (bytes_high_first 8) (λ text. Unit {0}) escape number_of (λ bytes. 8) unescape ended_length (numbers_come_back 8) escape_comes_back
+law = joins_injective (HasBytes 8) (bytes_high_first 8) (λ text. Unit {0}) escape number_of (λ bytes. 8) unescape ended_length
+    (numbers_come_back 8) escape_comes_back
 
 -- at another time than the end nothing is listed
 no_end : (time end : ℕ) → time ≢ end → listed_at time (Some end) ≡ None
@@ -45,7 +46,8 @@ module _ (token : List ℕ) (old new : Open) (ends : Ends) (was : Agree old ends
       (λ other _ off. changes.1 other off) (rw changes.0 listed) (λ other _ off. let is = others other off in
       (is.0, λ at small. sets.1 (at, other) (small, tt) (λ same. off (ap (λ k. k.1) same)) ∙ is.1 at small)) t tt
 
-  pub opened : (end : ℕ) (after : Ends) → end_of token old ≡ None → end < 2 ^ 64 → Changes token (Some end) old new → Sets (end, token) (Some tt) ends after → Agree new after
+  pub opened : (end : ℕ) (after : Ends) → end_of token old ≡ None → end < 2 ^ 64 → Changes token (Some end) old new →
+      Sets (end, token) (Some tt) ends after → Agree new after
   opened end after none small changes lists = settled (Some end) end (Some tt) ends after changes (λ other off. was other) lists (
     small,
     λ time fits. at token end (Some tt) ends after lists time fits _ (λ same. rw (eq-eqb time end same) refl)
@@ -70,24 +72,29 @@ module _ (token : List ℕ) (old new : Open) (ends : Ends) (was : Agree old ends
               (λ other. (was token).1 time fits ∙ ap (listed_at time) is ∙ no_end time before off ∙ sym (no_end time end other))),
         )
 
-module _ (sessions : Open) (ends : Ends) (agrees : Agree sessions ends) (keys : HaveKeys IsEndKey ends) (rise : RiseBy (pair_cmp nat_cmp (slice_cmp nat_cmp)) ends) where
+module _ (sessions : Open) (ends : Ends) (agrees : Agree sessions ends) (keys : HaveKeys IsEndKey ends)
+    (rise : RiseBy (pair_cmp nat_cmp (slice_cmp nat_cmp)) ends) where
   -- what is known of the first end, and so of each later one, is known of the end of each session
-  known_of_ends : (Known : ℕ → Type 0) → ((a b : ℕ) → Known a → a ≤ b → Known b) → IfSome (first_of ends) (λ first. Known first.0.0) → (token : List ℕ) → IfSome (end_of token sessions) Known
+  known_of_ends : (Known : ℕ → Type 0) → ((a b : ℕ) → Known a → a ≤ b → Known b) → IfSome (first_of ends) (λ first. Known first.0.0) →
+      (token : List ℕ) → IfSome (end_of token sessions) Known
   known_of_ends Known later first token = go (end_of token sessions) (agrees token)
     where
       go : (o : Option ℕ) → IsListed token o ends → IfSome o Known
       go None is = tt
       go (Some end) is =
           known_from_first end_bytes IsEndKey law (end, token) tt (is.0, tt) (pair_cmp nat_cmp (slice_cmp nat_cmp)) (λ key. Known key.0)
-          (λ x y known less. later x.0 y.0 known (firsts_rise (slice_cmp nat_cmp) x y less)) ends keys rise first (is.1 end is.0 ∙ (rw (eq-eqb end end refl) refl))
+          (λ x y known less. later x.0 y.0 known (firsts_rise (slice_cmp nat_cmp) x y less)) ends keys rise first
+          (is.1 end is.0 ∙ (rw (eq-eqb end end refl) refl))
 
   pub none_is_first : first_of ends ≡ None → IsFirst None sessions
   none_is_first e = (tt, known_of_ends (λ end. ⊥) (λ a b known upto. known) (rw e tt))
 
   pub one_is_first : (token : List ℕ) (end : ℕ) → first_of ends ≡ Some ((end, token), tt) → IsFirst (Some (token, end)) sessions
   one_is_first token end e =
-      let (of_key, stored) = first_found end_bytes IsEndKey law ends ((end, token), tt) keys e in
-      (go (end_of token sessions) (sym ((agrees token).1 end of_key.0) ∙ stored), known_of_ends (λ time. end ≤ time) (λ a b known upto. omega (arith, known, upto)) (rw e (omega arith)))
+      let (of_key, stored) = first_found end_bytes IsEndKey law ends ((end, token), tt) keys e in (
+        go (end_of token sessions) (sym ((agrees token).1 end of_key.0) ∙ stored),
+        known_of_ends (λ time. end ≤ time) (λ a b known upto. omega (arith, known, upto)) (rw e (omega arith)),
+      )
     where
       go : (o : Option ℕ) → listed_at end o ≡ Some tt → o ≡ Some end
       go None listed = absurd cc

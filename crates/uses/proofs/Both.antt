@@ -9,12 +9,14 @@ use Rattle.art_operations.proofs.CallerLemmas.{both_changed, both_turned}
 
 module _ {K V : Type 0} (bytes : K × V → List ℕ) (P : ℕ) where
   -- the second tree changes
-  pub second_changed : (s t : Nodes K V) (first second new : Option OpaqueNodePtr) (pairs others after : List (K × V)) → HasBoth bytes P s first second pairs others →
+  pub second_changed : (s t : Nodes K V) (first second new : Option OpaqueNodePtr) (pairs others after : List (K × V)) →
+      HasBoth bytes P s first second pairs others →
       IsCanonical bytes P t new after → KeepsApart bytes P s t second new → HasBoth bytes P t first new pairs after
   second_changed s t first second new pairs others after h becomes kept = both_turned (both_changed (both_turned h) becomes kept)
 
   -- the first root is canonical, if there is one
-  pub first_canonical : (s : Nodes K V) (first second : Option OpaqueNodePtr) (pairs others : List (K × V)) → HasBoth bytes P s first second pairs others → IfSome first (IsCanonicalRoot bytes P s)
+  pub first_canonical : (s : Nodes K V) (first second : Option OpaqueNodePtr) (pairs others : List (K × V)) →
+      HasBoth bytes P s first second pairs others → IfSome first (IsCanonicalRoot bytes P s)
   first_canonical s None second pairs others h = tt
   first_canonical s (Some root) second pairs others h = let (layout, is) = h.one in (pairs, layout, is)
 

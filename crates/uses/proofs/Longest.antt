@@ -19,9 +19,11 @@ module _ {A : Type 0} (bytes : A → List ℕ) where
 
 module _ {K V T : Type 0} (bytes : K → List ℕ) (s : Nodes K V) where
   pub folds_longest : (t : Tree OpaqueNodePtr (K × V)) (old new : T) (out : ℕ) → Holds (node_at s) t →
-      Folds (λ old node out new. out ≡ length (bytes node.key)) (λ old kind node children out new. out ≡ children) (λ now first second out. out ≡ max first second) s t old out new →
+      Folds (λ old node out new. out ≡ length (bytes node.key)) (λ old kind node children out new. out ≡ children)
+      (λ now first second out. out ≡ max first second) s t old out new →
       out ≡ longest (of_key bytes) (pairs_of t)
-  folds_longest = folds_to (λ old node out new. out ≡ length (bytes node.key)) (λ old kind node children out new. out ≡ children) (λ now first second out. out ≡ max first second) s
+  folds_longest = folds_to (λ old node out new. out ≡ length (bytes node.key)) (λ old kind node children out new. out ≡ children)
+      (λ now first second out. out ≡ max first second) s
       (λ xs out. out ≡ longest (of_key bytes) xs)
       (λ old new node out is. omega (arith, is))
       (λ old new kind node joined out xs is whole. is ∙ whole)

@@ -1,5 +1,5 @@
 //! Sessions by their tokens and by their ends, in two maps that always agree.
-ghost use Rattle.std.specs.Prelude.{◌≡◌, length, IfOk, OnErr, OnOk};
+ghost use Rattle.std.specs.Prelude.{◌≡◌, length, IfOk, OnErr, OnOk, [], None, Some};
 ghost use Rattle.std.specs.Option.{option_map, unwrap_or};
 ghost use Rattle.uses.specs.Sessions.{Changes, Expires, IsFirst, end_of};
 
@@ -30,8 +30,6 @@ impl Model for Sessions {
 }
 
 impl Sessions {
-    ghost use Rattle.std.specs.Prelude.{[], None, Some};
-
     /// Returns no sessions.
     pub fn new(alloc: Global) -> Self
         ensures { result ≡ [] }

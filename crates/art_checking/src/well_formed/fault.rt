@@ -1,6 +1,8 @@
 //! The faults of a tree.
 
 ghost use Rattle.std.specs.Prelude.{◌≡◌};
+ghost use Rattle.art_checking.specs.Checks.{fault_of};
+ghost use Rattle.art_checking.specs.declared.well_formed.fault.MalformedTreeError.TheVariants.{OutOfMemory};
 
 use super::KeyPrefix;
 use art_nodes::node::{LeafPtr, NodeType, OpaqueNodePtr, OptionalLeafPtr};
@@ -80,8 +82,6 @@ pub enum MalformedTreeError {
 }
 
 impl Clone for MalformedTreeError {
-    ghost use Rattle.art_checking.specs.Checks.{fault_of};
-
     ghost is_clone = { λ error copy. fault_of copy ≡ fault_of error };
 
     fn clone(&self) -> Result<Self, AllocError> {
@@ -211,8 +211,6 @@ impl fmt::Display for WrongLink {
 }
 
 impl From<AllocError> for MalformedTreeError {
-    ghost use Rattle.art_checking.specs.declared.well_formed.fault.MalformedTreeError.TheVariants.{OutOfMemory};
-
     ghost from_gives = { λ _ error. error ≡ OutOfMemory };
 
     fn from(_error: AllocError) -> Self {
@@ -221,8 +219,6 @@ impl From<AllocError> for MalformedTreeError {
 }
 
 impl<T: Drop> From<AllocFailed<T>> for MalformedTreeError {
-    ghost use Rattle.art_checking.specs.declared.well_formed.fault.MalformedTreeError.TheVariants.{OutOfMemory};
-
     ghost from_gives = { λ _ error. error ≡ OutOfMemory };
 
     fn from(_error: AllocFailed<T>) -> Self {

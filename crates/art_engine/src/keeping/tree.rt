@@ -7,6 +7,7 @@ ghost use Rattle.art_operations.specs.Checks.{IsWellFormed, fault_of};
 ghost use Rattle.art_operations.specs.Runs.{IsRun};
 ghost use Rattle.art_operations.specs.declared.run.Side.{Side};
 ghost use Rattle.art_engine.specs.KeptKeys.{IsLinkedTreeIn, IsTreeIn, key_bytes};
+ghost use Rattle.art_engine.specs.KeptTrees.{IsKept, state_of, state_before};
 
 use art_nodes::node::OpaqueNodePtr;
 use art_nodes::store::NodeStore;
@@ -27,8 +28,6 @@ pub struct KeptTree {
 }
 
 impl KeptTree {
-    ghost use Rattle.art_engine.specs.KeptTrees.{IsKept, state_of, state_before};
-
     /// Returns no tree.
     pub fn new(alloc: Global) -> Self
         ensures kept { IsKept result }

@@ -101,7 +101,8 @@ fn push_below<const P: usize>(
 // Pushes children, the last one first.
 fn push_children(pending: &mut Vec<Pending>, children: Children<'_>, depth: usize)
     requires { length pending.old.items + length children ≤ vec_capacity pending.old }
-    ensures items { pending.new.items ≡ pending.old.items ++ reversed_children depth children.entry }
+    ensures items { pending.new.items
+        ≡ pending.old.items ++ reversed_children depth children.entry }
     ensures capacity { vec_capacity pending.new ≡ vec_capacity pending.old }
 {
     for (byte, name) in children.rev() {

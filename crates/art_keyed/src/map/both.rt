@@ -48,7 +48,8 @@ impl<K: NoPrefixesBytes + Drop, V: Drop, const P: usize> TreeMap<K, V, P> {
         // If it fails.
         ensures handed_back { IfErr result (λ refused.
             (refused.pair ≡ pair) × (refused.other ≡ other_pair)) }
-        ensures refused { OnErr result (IsOneNew K.bytes pair.0 self.old L.bytes other_pair.0 other.old) }
+        ensures refused { OnErr result
+            (IsOneNew K.bytes pair.0 self.old L.bytes other_pair.0 other.old) }
         ensures kept { OnErr result (self.new ≡ self.old) }
         ensures second_kept { OnErr result (other.new ≡ other.old) }
     {

@@ -1,7 +1,7 @@
 //! Insertion of the pairs of an iterator.
-ghost use Rattle.std.specs.Prelude.{◌≡◌, IfErr, OnOk};
+ghost use Rattle.std.specs.Prelude.{◌≡◌, IfErr, OnOk, []};
 ghost use Rattle.std.specs.Iterator.{IsFinite};
-ghost use Rattle.art_map.specs.MapCalls.{PutsAll};
+ghost use Rattle.art_map.specs.MapCalls.{PutsAll, put_all};
 ghost use Rattle.art_keyed.specs.KeyedRefusals.{PutsUntilRefused};
 
 use super::{PairRefused, TreeMap};
@@ -11,8 +11,6 @@ use std::alloc::{AllocError, Global};
 /// Inserts the pairs of an iterator one by one, as `insert` does. Fails only if an allocation fails: the pairs that
 /// were inserted before stay in the map, and the pair that was not is dropped.
 impl<K: NoPrefixesBytes + Drop, V: Drop, const P: usize> Extend<(K, V)> for TreeMap<K, V, P> {
-    ghost use Rattle.art_map.specs.MapCalls.{put_all};
-
     ghost extend_gives = { λ map pairs extended. extended ≡ put_all K.bytes pairs map };
 
     fn extend<I: IntoIterator<Item = (K, V)>>(&mut self, pairs: I) -> Result<(), AllocError> {
@@ -27,9 +25,6 @@ impl<K: NoPrefixesBytes + Drop, V: Drop, const P: usize> Extend<(K, V)> for Tree
 /// value. Fails only if an allocation fails.
 impl<K: NoPrefixesBytes + Drop, V: Drop, const P: usize> FromIterator<(K, V)> for TreeMap<K, V, P> {
     type Alloc = Global;
-
-    ghost use Rattle.std.specs.Prelude.{[]};
-    ghost use Rattle.art_map.specs.MapCalls.{put_all};
 
     ghost from_iter_gives = { λ pairs map. map ≡ put_all K.bytes pairs [] };
 

@@ -82,7 +82,8 @@ impl<
         first: &A,
         seconds: ops::Range<B>,
     ) -> Result<Range<'_, Joined<A, B>, V, P>, AllocError>
-        ensures pairs { IfOk result (λ part. part ≡ pairs_with_both A.bytes (A.bytes first.now) B.order
+        ensures pairs { IfOk result (λ part.
+            part ≡ pairs_with_both A.bytes (A.bytes first.now) B.order
             (Included seconds.start) (Excluded seconds.end) self.now) }
         ensures known { OnOk result (HaveKeys (AreKeys A.is_key B.is_key) self.now) }
         ensures sorted { OnOk result (IsMap (of_key (joined_bytes A.bytes B.bytes)) self.now) }

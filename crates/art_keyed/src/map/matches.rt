@@ -24,14 +24,17 @@ pub trait Nested<K: AsBytes, V> {
     /// ones are left.
     fn next_match<'q>(&self, left: &mut Option<&'q [u8]>, at_least: &mut usize) -> Option<(&K, &V)>
         ensures { TakesFirst
-            (matches_left K.bytes (option_map (λ b. b.now) left.old) at_least.old (pairs self.now)) result
-            (matches_left K.bytes (option_map (λ b. b.now) left.new) at_least.new (pairs self.now)) };
+            (matches_left K.bytes (option_map (λ b. b.now) left.old) at_least.old
+            (pairs self.now)) result
+            (matches_left K.bytes (option_map (λ b. b.now) left.new) at_least.new
+            (pairs self.now)) };
 
     /// Returns the pair with the longest string of the matches that are left, or `None` if none is left. The shorter
     /// ones are left.
     fn next_back_match<'q>(&self, left: &mut Option<&'q [u8]>, at_least: usize) -> Option<(&K, &V)>
         ensures { TakesLast
-            (matches_left K.bytes (option_map (λ b. b.now) left.old) at_least (pairs self.now)) result
+            (matches_left K.bytes (option_map (λ b. b.now) left.old) at_least
+            (pairs self.now)) result
             (matches_left K.bytes (option_map (λ b. b.now) left.new) at_least (pairs self.now)) };
 }
 

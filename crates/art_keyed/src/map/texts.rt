@@ -139,7 +139,8 @@ impl<V: Drop, const P: usize> TreeMap<Terminated, V, P> {
     pub fn longest_match_mut(&mut self, text: &[u8]) -> Option<&mut V>
         ensures* writes_back { sem 𝓛 (lends_longest V.row P.row self.entry text.now result) }
         ensures value { option_copied_mut result ≡
-            option_map (λ pair. pair.1) (last_of (strings_in_front (λ string. string) text.now self.old)) }
+            option_map (λ pair. pair.1) (last_of
+            (strings_in_front (λ string. string) text.now self.old)) }
     {
         self.len();
         let (key, _) = self.longest_match(text)?;

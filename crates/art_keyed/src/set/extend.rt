@@ -1,7 +1,7 @@
 //! Insertion of the keys of an iterator.
-ghost use Rattle.std.specs.Prelude.{◌≡◌, IfErr, OnOk};
+ghost use Rattle.std.specs.Prelude.{◌≡◌, IfErr, OnOk, []};
 ghost use Rattle.std.specs.Iterator.{IsFinite};
-ghost use Rattle.art_map.specs.SetKeys.{AddsAll};
+ghost use Rattle.art_map.specs.SetKeys.{AddsAll, add_all};
 ghost use Rattle.art_keyed.specs.KeyedRefusals.{AddsUntilRefused};
 
 use super::{KeyRefused, TreeSet};
@@ -11,8 +11,6 @@ use std::alloc::{AllocError, Global};
 /// Inserts the keys of an iterator one by one, as `insert` does. Fails only if an allocation fails: the keys that were
 /// inserted before stay in the set, and the key that was not is dropped.
 impl<K: NoPrefixesBytes + Drop, const P: usize> Extend<K> for TreeSet<K, P> {
-    ghost use Rattle.art_map.specs.SetKeys.{add_all};
-
     ghost extend_gives = { λ set keys extended. extended ≡ add_all K.bytes keys set };
 
     fn extend<I: IntoIterator<Item = K>>(&mut self, keys: I) -> Result<(), AllocError> {
@@ -27,9 +25,6 @@ impl<K: NoPrefixesBytes + Drop, const P: usize> Extend<K> for TreeSet<K, P> {
 /// allocation fails.
 impl<K: NoPrefixesBytes + Drop, const P: usize> FromIterator<K> for TreeSet<K, P> {
     type Alloc = Global;
-
-    ghost use Rattle.std.specs.Prelude.{[]};
-    ghost use Rattle.art_map.specs.SetKeys.{add_all};
 
     ghost from_iter_gives = { λ keys set. set ≡ add_all K.bytes keys [] };
 

@@ -4,6 +4,7 @@ ghost use Rattle.std.specs.Prelude.{List, map, IfOk};
 ghost use Rattle.std.specs.Borrow.{Bor};
 ghost use Rattle.std.specs.Iterator.{Drains, IsFinite};
 ghost use Rattle.art_keyed.specs.SetClones.{AreAddedClones};
+ghost use Rattle.art_map.specs.SetAlgebra.{union, intersection, difference, symmetric_difference};
 
 use super::TreeSet;
 use art_keys::laws::CloneBytes;
@@ -13,10 +14,6 @@ use std::ops::{BitAnd, BitOr, BitXor, Sub};
 /// `&a | &b`: returns a set of clones of the keys of either set; of two equal keys it clones the first set's.
 impl<'a, 'b, K: CloneBytes + Drop, const P: usize> BitOr<&'b TreeSet<K, P>> for &'a TreeSet<K, P> {
     type Output = Result<TreeSet<K, P>, AllocError>;
-
-    ghost use Rattle.std.specs.Prelude.{IfOk};
-    ghost use Rattle.art_map.specs.SetAlgebra.{union};
-    ghost use Rattle.art_keyed.specs.SetClones.{AreAddedClones};
 
     ghost bitor_gives = { λ a b result.
         IfOk result (AreAddedClones K.bytes K.is_clone (union K.bytes a.now b.now)) };
@@ -30,10 +27,6 @@ impl<'a, 'b, K: CloneBytes + Drop, const P: usize> BitOr<&'b TreeSet<K, P>> for 
 impl<'a, 'b, K: CloneBytes + Drop, const P: usize> BitAnd<&'b TreeSet<K, P>> for &'a TreeSet<K, P> {
     type Output = Result<TreeSet<K, P>, AllocError>;
 
-    ghost use Rattle.std.specs.Prelude.{IfOk};
-    ghost use Rattle.art_map.specs.SetAlgebra.{intersection};
-    ghost use Rattle.art_keyed.specs.SetClones.{AreAddedClones};
-
     ghost bitand_gives = { λ a b result.
         IfOk result (AreAddedClones K.bytes K.is_clone (intersection K.bytes a.now b.now)) };
 
@@ -45,10 +38,6 @@ impl<'a, 'b, K: CloneBytes + Drop, const P: usize> BitAnd<&'b TreeSet<K, P>> for
 /// `&a - &b`: returns a set of clones of the keys of the first set that the second one lacks.
 impl<'a, 'b, K: CloneBytes + Drop, const P: usize> Sub<&'b TreeSet<K, P>> for &'a TreeSet<K, P> {
     type Output = Result<TreeSet<K, P>, AllocError>;
-
-    ghost use Rattle.std.specs.Prelude.{IfOk};
-    ghost use Rattle.art_map.specs.SetAlgebra.{difference};
-    ghost use Rattle.art_keyed.specs.SetClones.{AreAddedClones};
 
     ghost sub_gives = { λ a b result.
         IfOk result (AreAddedClones K.bytes K.is_clone (difference K.bytes a.now b.now)) };
@@ -62,12 +51,9 @@ impl<'a, 'b, K: CloneBytes + Drop, const P: usize> Sub<&'b TreeSet<K, P>> for &'
 impl<'a, 'b, K: CloneBytes + Drop, const P: usize> BitXor<&'b TreeSet<K, P>> for &'a TreeSet<K, P> {
     type Output = Result<TreeSet<K, P>, AllocError>;
 
-    ghost use Rattle.std.specs.Prelude.{IfOk};
-    ghost use Rattle.art_map.specs.SetAlgebra.{symmetric_difference};
-    ghost use Rattle.art_keyed.specs.SetClones.{AreAddedClones};
-
     ghost bitxor_gives = { λ a b result.
-        IfOk result (AreAddedClones K.bytes K.is_clone (symmetric_difference K.bytes a.now b.now)) };
+        IfOk result (AreAddedClones K.bytes K.is_clone
+        (symmetric_difference K.bytes a.now b.now)) };
 
     fn bitxor(self, other: &'b TreeSet<K, P>) -> Result<TreeSet<K, P>, AllocError> {
         clones_of(self.set.allocator(), self.symmetric_difference(other))

@@ -113,7 +113,8 @@ impl<K: AsBytes + Drop, V: Drop, const P: usize> ByteMap<K, V, P> {
             &mut |_: &K, value: &mut V|
                 requires { F.IsAlwaysCallable f.now }
                 ensures callable { F.IsAlwaysCallable f.exit.now }
-                ensures called { CalledAtMut F.FnMut f.entry.now value.old result f.exit.now value.new }
+                ensures called { CalledAtMut F.FnMut f.entry.now value.old result f.exit.now
+                    value.new }
                 ensures same { f.exit.ghost_name ≡ f.entry.ghost_name }
             { f(value) },
         );
@@ -131,8 +132,10 @@ fn change_pairs<K: AsBytes + Drop, V: Drop, const P: usize, F: FnMut(&K, &mut V)
     requires callable { F.IsAlwaysCallable f.old }
     requires holds { HoldsPairs (of_key K.bytes) P store.old root len (pairs_at store.old root) }
     requires walk { IsRange store.old walk len }
-    ensures changed { HasChanged K.bytes P (λ f x next value. CalledOnPair F.FnMut f x tt next value)
-        f.old (pairs_between store.old walk len) (pairs_at store.old root) f.new store.new root len }
+    ensures changed { HasChanged K.bytes P (λ f x next value.
+        CalledOnPair F.FnMut f x tt next value)
+        f.old (pairs_between store.old walk len)
+        (pairs_at store.old root) f.new store.new root len }
     ensures callable { F.IsAlwaysCallable f.new }
 {
     while let Some(leaf) = walk.next(store) {

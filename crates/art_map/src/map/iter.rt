@@ -3,6 +3,7 @@ ghost use Rattle.std.specs.Prelude.{◌≡◌, ◌<◌, ◌^◌, length, IfSome,
 ghost use Rattle.std.specs.Iterator.{UpTo, at_most};
 ghost use Rattle.std.specs.Iterator.SizeHint.{IsWithinCount};
 ghost use Rattle.art_map.specs.MapItems.{CountsDown, IsRange, IsWalk, TakesFirst, TakesLast, pairs_between};
+ghost use Rattle.art_nodes.specs.Nodes.{Nodes};
 
 use art_nodes::node::AsBytes;
 use art_nodes::store::NodeStore;
@@ -13,8 +14,6 @@ use std::marker::Model;
 
 /// The leaves that an iterator reads.
 pub trait Leaves<K, V> {
-    ghost use Rattle.art_nodes.specs.Nodes.{Nodes};
-
     ghost seen: { Self → Nodes K V };
 
     /// Returns the pair of the first leaf that is left, or `None`. At most `at_most` leaves are left.

@@ -57,11 +57,13 @@ impl<K: AsBytes + Drop, V: Drop, const P: usize> ByteMap<K, V, P> {
     /// Each pair that moves costs a removal and an insertion. If an allocation fails, the error has the map with the
     /// pairs that had moved, and the next pair. The others stay: no pair is lost.
     pub fn split_off(&mut self, key_bytes: &[u8]) -> Result<Self, SplitRefused<K, V, P>>
-        ensures stay { OnOk result (self.new ≡ keys_before (of_key K.bytes) key_bytes.now self.old) }
+        ensures stay { OnOk result (self.new
+            ≡ keys_before (of_key K.bytes) key_bytes.now self.old) }
         ensures moved { IfOk result (λ moved.
             moved ≡ keys_from (of_key K.bytes) key_bytes.now self.old) }
 
-        ensures refused { IfErr result (λ refused. keys_from (of_key K.bytes) key_bytes.now self.old ≡
+        ensures refused { IfErr result (λ refused.
+            keys_from (of_key K.bytes) key_bytes.now self.old ≡
             refused.moved ++ (refused.key, refused.value) ∷
             keys_from (of_key K.bytes) key_bytes.now self.new) }
         ensures kept { OnErr result (keys_before (of_key K.bytes) key_bytes.now self.new ≡

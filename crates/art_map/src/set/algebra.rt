@@ -1,5 +1,5 @@
 //! Union, intersection and difference of two sets. All iterators are in the order of the keys' bytes.
-ghost use Rattle.std.specs.Prelude.{◌≡◌, List, length, drop, IfSome, ⊤};
+ghost use Rattle.std.specs.Prelude.{◌≡◌, List, length, drop, IfSome, ⊤, Bool};
 ghost use Rattle.std.specs.Iterator.{at_most};
 ghost use Rattle.std.specs.Set.{sorted_merge};
 ghost use Rattle.art_model.specs.Pairs.{has_key};
@@ -95,8 +95,6 @@ impl<K: AsBytes + Drop, const P: usize> ByteSet<K, P> {
 
 /// A set in which keys are looked up.
 pub trait HasKey<K> {
-    ghost use Rattle.std.specs.Prelude.{Bool};
-
     ghost has: { Self → K → Bool };
 
     /// Returns whether a key with the same bytes as this one is stored.

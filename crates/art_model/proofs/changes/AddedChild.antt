@@ -42,14 +42,21 @@ split_at (child c t cs) b up none = elim (cases_order c b) [
       let later : child_at (slots_of (child c t cs)) b ≡ child_at (slots_of cs) b = rw (ne_eqb c b (λ e. omega arith)) refl in
       let s = split_at cs b up.1 (sym later ∙ none) in
       record { left = child c t s.left; right = s.right; whole = ap (child c t) s.whole; low = (l, s.low); high = s.high }
-  | inr (inr g) ↦ record { left = no_child; right = child c t cs; whole = refl; low = tt; high = (g, Each-weaker (λ d. c < d) (λ d. b < d) (λ d l. omega arith) (bytes_of cs) up.0) }
+  | inr (inr g) ↦ record {
+    left = no_child;
+    right = child c t cs;
+    whole = refl;
+    low = tt;
+    high = (g, Each-weaker (λ d. c < d) (λ d. b < d) (λ d l. omega arith) (bytes_of cs) up.0);
+  }
 ]
 
 -- ---- the kind of a larger node
 
 -- a full node that gets a further child has the next kind
 pub kind_of-larger : (kind : NodeType) (n : ℕ) → kind ≡ kind_of n → kind ≢ Node256 → kind_capacity kind ≤ n → larger_kind kind ≡ kind_of (suc n)
-kind_of-larger kind n e not_last full = sym (kind_of-range (larger_kind kind) (suc n) (more kind (subst (λ k. IsInRange k n) (sym e) (range_of_kind n)) not_last full))
+kind_of-larger kind n e not_last full =
+    sym (kind_of-range (larger_kind kind) (suc n) (more kind (subst (λ k. IsInRange k n) (sym e) (range_of_kind n)) not_last full))
   where
     more : (k : NodeType) → IsInRange k n → k ≢ Node256 → kind_capacity k ≤ n → IsInRange (larger_kind k) (suc n)
     more Node4 h off f = (omega arith, omega arith)
@@ -62,9 +69,11 @@ kind_of-larger kind n e not_last full = sym (kind_of-range (larger_kind kind) (s
 
 -- The node in the hole has a further leaf among its children, under its old name or another: the new layout, and that the tree was changed in place.
 pub record ChildAdded {K V : Type 0} (bytes : K × V → List ℕ) (P : ℕ) (s t : Nodes K V) (root : OpaqueNodePtr) (pairs : List (K × V))
-    (fs : List (Frame OpaqueNodePtr (K × V))) (m node : OpaqueNodePtr) (h : NodeHeader) (l r : Subtrees OpaqueNodePtr (K × V)) (b : ℕ) (n : OpaqueNodePtr) (new : K × V) : Type 0 where
+    (fs : List (Frame OpaqueNodePtr (K × V))) (m node : OpaqueNodePtr) (h : NodeHeader) (l r : Subtrees OpaqueNodePtr (K × V)) (b : ℕ)
+    (n : OpaqueNodePtr) (new : K × V) : Type 0 where
   pub header : NodeHeader
-  pub laid : IsLaidOut bytes P (node_at t) (links_at t) (root_with fs root node) (replace_key bytes new pairs) (plug fs (inner node header (join l (child b (leaf n new) r))))
+  pub laid : IsLaidOut bytes P (node_at t) (links_at t) (root_with fs root node) (replace_key bytes new pairs)
+      (plug fs (inner node header (join l (child b (leaf n new) r))))
   pub kept : ChangesInPlace bytes s t (Some (plug fs (inner m h (join l r)))) (Some (plug fs (inner node header (join l (child b (leaf n new) r)))))
 
 pub child_added : {K V : Type 0} {bytes : K × V → List ℕ} {P : ℕ} {s t : Nodes K V} {root : OpaqueNodePtr} {pairs : List (K × V)}
@@ -76,5 +85,7 @@ pub child_added : {K V : Type 0} {bytes : K × V → List ℕ} {P : ℕ} {s t : 
     ((k : OpaqueNodePtr) → IsIn k changed → IsIn k (names_of (plug fs (inner m h (join l r))))) → ChildAdded bytes P s t root pairs fs m node h l r b n new
 child_added {P = P} {fs = fs} {m = m} {node} {n} {h} {l} {r} {b} {new} {placed} {freed} {changed} old is print names changed_in =
     let header = canonical_header P is.gap.hole.radix.0 (suc (length (bytes_of (join l r)))) in
-    let whole_names = names_around fs (inner m h (join l r)) (inner node header (join l (child b (leaf n new) r))) placed freed changed (names header) changed_in in
+    let whole_names =
+    names_around fs (inner m h (join l r)) (inner node header (join l (child b (leaf n new) r))) placed freed changed
+    (names header) changed_in in
     record { header = header; laid = child_inserted old is; kept = in_place print P whole_names (child_keeps_leaves old is) (child_keeps old is) }

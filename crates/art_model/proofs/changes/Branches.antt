@@ -41,11 +41,13 @@ use Rattle.art_model.proofs.stores.Writes.{parents_inner, node_at-inner, inner_a
 
 -- A leaf and a Node4 above it and the tree are placed, and the parent has the Node4 in its hole. The inner nodes were those of `mid` then, where these of the tree were touched.
 pub record BranchStored {K V : Type 0} (bytes : K × V → List ℕ) (P : ℕ) (s t : Nodes K V) (fs : List (Frame OpaqueNodePtr (K × V))) (place : List ℕ)
-    (tree : Tree OpaqueNodePtr (K × V)) (m : InnerPtr) (n : LeafPtr) (part : List ℕ) (b c : ℕ) (x : LeafNode K V) (mid : Inners) (touched : List InnerPtr) : Type 0 where
+    (tree : Tree OpaqueNodePtr (K × V)) (m : InnerPtr) (n : LeafPtr) (part : List ℕ) (b c : ℕ) (x : LeafNode K V) (mid : Inners)
+    (touched : List InnerPtr) : Type 0 where
   pub hole : IsHole bytes P fs place tree (bytes (pair_of x))
   pub front : IsFront ((place ++ part) ++ c ∷ []) (bytes (pair_of x))
   pub apart : b ≢ c
-  pub placed : LeafPlaced s t (plug fs tree) (leaves_before fs ++ cond (ltb b c) (leaf_names tree) []) (cond (ltb b c) [] (leaf_names tree) ++ leaves_after fs) n x
+  pub placed : LeafPlaced s t (plug fs tree) (leaves_before fs ++ cond (ltb b c) (leaf_names tree) [])
+      (cond (ltb b c) [] (leaf_names tree) ++ leaves_after fs) n x
   pub kind : m.kind ≡ Node4
   pub fresh : get s.inners m ≡ None
   pub touches : Touched s.inners mid [] [] touched
@@ -68,7 +70,8 @@ module _ {K V : Type 0} {bytes : K × V → List ℕ} {P : ℕ} {s t : Nodes K V
   node_was_free = node_at-inner s (inner_name m) off None is.fresh
 
   mid_free : get mid m ≡ None
-  mid_free = is.touches.others m (λ i. i) (λ i. i) (λ i. (each_in (λ k. (get s.inners k ≢ None) × (get mid k ≢ None)) m touched is.touches.are_changed i).0 is.fresh) ∙ is.fresh
+  mid_free = is.touches.others m (λ i. i) (λ i. i)
+      (λ i. (each_in (λ k. (get s.inners k ≢ None) × (get mid k ≢ None)) m touched is.touches.are_changed i).0 is.fresh) ∙ is.fresh
 
   -- the parent is another node than the new one, and was not touched
   parent_used : (k : OpaqueNodePtr) → IsParent fs k → get s.inners (as_inner k) ≢ None
@@ -80,7 +83,8 @@ module _ {K V : Type 0} {bytes : K × V → List ℕ} {P : ℕ} {s t : Nodes K V
   parent_same : (k : OpaqueNodePtr) → IsParent fs k → get (insert mid m node) (as_inner k) ≡ get s.inners (as_inner k)
   parent_same k up =
       inner_elsewhere mid m (as_inner k) node (not_new k (parent_used k up)) ∙
-      is.touches.others (as_inner k) (λ i. i) (λ i. i) (λ i. parent_apart (node_at s) (node_at t) fs tree old.holds old.distinct k up (is.in_tree (as_inner k) i))
+      is.touches.others (as_inner k) (λ i. i) (λ i. i)
+      (λ i. parent_apart (node_at s) (node_at t) fs tree old.holds old.distinct k up (is.in_tree (as_inner k) i))
 
   -- all nodes but the parent and those that were touched are the same
   pub branch_same : SameBut (node_at s) (node_at t) fs (map inner_name touched)
@@ -90,7 +94,8 @@ module _ {K V : Type 0} {bytes : K × V → List ℕ} {P : ℕ} {s t : Nodes K V
       ∙ is.touches.others (as_inner k) (λ i. i) (λ i. i) (λ i. other (in_map inner_name (as_inner k) touched i)))
 
   got : get t.inners m ≡ Some node
-  got = ap (λ z. get z m) is.inners ∙ with_child_at-elsewhere fs (inner_name m) (insert mid m node) (inner_name m) (λ up. parent_used (inner_name m) up is.fresh) ∙ inner_here mid m node
+  got = ap (λ z. get z m) is.inners ∙ with_child_at-elsewhere fs (inner_name m) (insert mid m node) (inner_name m)
+      (λ up. parent_used (inner_name m) up is.fresh) ∙ inner_here mid m node
 
   -- the new node, with the tree as it is now
   pub branch_placed : (u : Tree OpaqueNodePtr (K × V)) → name_of u ≡ name_of tree →
@@ -127,7 +132,8 @@ module _ {K V : Type 0} {bytes : K × V → List ℕ} {P : ℕ} {s t : Nodes K V
   are_inners = parents_inner bytes P s fs (name_of tree) (path_holds (node_at s) fs tree old.holds).0 touched is.are_inner
 
   -- what is placed, and what is changed
-  pub branch_print : Footprint s t (both_names (n ∷ []) (m ∷ [])) (both_names [] []) (both_names (listed x.next ++ (listed x.previous ++ [])) (parents fs ++ touched))
+  pub branch_print : Footprint s t (both_names (n ∷ []) (m ∷ [])) (both_names [] [])
+      (both_names (listed x.next ++ (listed x.previous ++ [])) (parents fs ++ touched))
   branch_print = footprint_of s t touched_leaves touched_inners (off, tt) tt are_inners
 
   -- a node of the tree that was touched is what it became then
@@ -135,7 +141,8 @@ module _ {K V : Type 0} {bytes : K × V → List ℕ} {P : ℕ} {s t : Nodes K V
   touched_is k kind i =
       ap (λ z. get z (as_inner k)) is.inners ∙ with_child_at-elsewhere fs (inner_name m) (insert mid m node) k
       (λ up. parent_apart (node_at s) (node_at t) fs tree old.holds old.distinct k up (is.in_tree (as_inner k) i))
-      ∙ inner_elsewhere mid m (as_inner k) node (not_new k (each_in (λ z. (get s.inners z ≢ None) × (get mid z ≢ None)) (as_inner k) touched is.touches.are_changed i).0)
+      ∙ inner_elsewhere mid m (as_inner k) node
+      (not_new k (each_in (λ z. (get s.inners z ≢ None) × (get mid z ≢ None)) (as_inner k) touched is.touches.are_changed i).0)
 
   -- two names are placed, and three are changed in addition to those that were touched
   pub branch_touches : (most : ℕ) → 3 + length touched ≤ most → TouchesAtMost 2 0 most s t
@@ -145,9 +152,12 @@ module _ {K V : Type 0} {bytes : K × V → List ℕ} {P : ℕ} {s t : Nodes K V
 
   changed_in : (k : OpaqueNodePtr) → IsIn k (both_names (listed x.next ++ (listed x.previous ++ [])) (parents fs ++ touched)) → IsIn k (names_of (plug fs tree))
   changed_in =
-      both_in (names_of (plug fs tree)) (listed x.next ++ (listed x.previous ++ [])) (parents fs ++ touched) (placed_beside old.holds old.distinct is.placed) (parents_in fs tree touched is.in_tree)
+      both_in (names_of (plug fs tree)) (listed x.next ++ (listed x.previous ++ [])) (parents fs ++ touched)
+      (placed_beside old.holds old.distinct is.placed) (parents_in fs tree touched is.in_tree)
 
-  module _ {u : Tree OpaqueNodePtr (K × V)} (done : BranchInserted bytes P (node_at s) (node_at t) (links_at s) (links_at t) fs place tree u (inner_name m) (leaf_name n) part b c (pair_of x)) where
+  module _ {u : Tree OpaqueNodePtr (K × V)}
+      (done : BranchInserted bytes P (node_at s) (node_at t) (links_at s) (links_at t) fs place tree u (inner_name m)
+      (leaf_name n) part b c (pair_of x)) where
     abbrev grown : Tree OpaqueNodePtr (K × V)
     grown = inner (inner_name m) (canonical_header P part 2) (two_children b u c (leaf (leaf_name n) (pair_of x)))
 
@@ -168,7 +178,9 @@ module _ {K V : Type 0} {bytes : K × V → List ℕ} {P : ℕ} {s t : Nodes K V
 
     among : (first : Bool) (k : OpaqueNodePtr) → IsIn k (NamesOf first) → IsIn k (names_of u) ⊎ IsIn k (leaf_name n ∷ inner_name m ∷ [])
     among first k (inl e) = inr (inr (inl e))
-    among true k (inr i) = elim (in_either k (names_of u) (leaf_name n ∷ []) i) [ inl own ↦ inl own | inr j ↦ elim j [ inl e ↦ inr (inl e) | inr none ↦ absurd none ] ]
+    among true k (inr i) =
+        elim (in_either k (names_of u) (leaf_name n ∷ [])
+        i) [ inl own ↦ inl own | inr j ↦ elim j [ inl e ↦ inr (inl e) | inr none ↦ absurd none ] ]
     among false k (inr (inl e)) = inr (inl e)
     among false k (inr (inr i)) = elim (in_either k (names_of u) [] i) [ inl own ↦ inl own | inr none ↦ absurd none ]
 
@@ -182,10 +194,12 @@ module _ {K V : Type 0} {bytes : K × V → List ℕ} {P : ℕ} {s t : Nodes K V
     }
 
     -- the tree became another in place
-    pub branch_in_place : ChangesInPlace bytes s t (Some (plug fs tree)) (Some (plug fs (inner (inner_name m) (canonical_header P part 2) (two_children b u c (leaf (leaf_name n) (pair_of x))))))
+    pub branch_in_place : ChangesInPlace bytes s t (Some (plug fs tree))
+        (Some (plug fs (inner (inner_name m) (canonical_header P part 2) (two_children b u c (leaf (leaf_name n) (pair_of x))))))
     branch_in_place =
         in_place branch_print P (names_around fs tree grown (leaf_name n ∷ inner_name m ∷ []) []
-        (both_names (listed x.next ++ (listed x.previous ++ [])) (parents fs ++ touched)) own_names changed_in) (branch_keeps_leaves old done) (branch_keeps old done)
+        (both_names (listed x.next ++ (listed x.previous ++ [])) (parents fs ++ touched)) own_names changed_in)
+        (branch_keeps_leaves old done) (branch_keeps old done)
 
 -- ---- what is split: a leaf, or an inner node's prefix
 
@@ -206,7 +220,8 @@ module _ {K V : Type 0} {bytes : K × V → List ℕ} {P : ℕ} {s t : Nodes K V
 
   -- an inner node, whose prefix is the part, a byte and a rest: the rest stays its prefix
   pub prefix_branched : {k : OpaqueNodePtr} {h : NodeHeader} {cs : Subtrees OpaqueNodePtr (K × V)} {mid : Inners} (rest : List ℕ) →
-      mid ≡ change s.inners (as_inner k) (with_header (record { len = length rest; stored = take P rest })) → IsLaidOut bytes P (node_at s) (links_at s) root pairs (plug fs (inner k h cs)) →
+      mid ≡ change s.inners (as_inner k) (with_header (record { len = length rest; stored = take P rest })) →
+      IsLaidOut bytes P (node_at s) (links_at s) root pairs (plug fs (inner k h cs)) →
       (is : BranchStored bytes P s t fs place (inner k h cs) m n part b c x mid (as_inner k ∷ [])) → is.hole.radix.0 ≡ part ++ b ∷ rest →
       BranchInserted bytes P (node_at s) (node_at t) (links_at s) (links_at t) fs place (inner k h cs)
       (inner k (canonical_header P rest (length (bytes_of cs))) cs) (inner_name m) (leaf_name n) part b c (pair_of x)
@@ -215,12 +230,14 @@ module _ {K V : Type 0} {bytes : K × V → List ℕ} {P : ℕ} {s t : Nodes K V
     where
       shown : (kind : NodeType) (slots : List (ℕ × OpaqueNodePtr)) → kind ≡ kind_of (length (bytes_of cs)) → slots ≡ slots_of cs →
           ◌≡◌ {A = Option (Node OpaqueNodePtr (K × V))} (Some
-          (inner_node (record { kind = kind; length_of = length rest; stored = take P rest }) slots)) (Some (inner_node (canonical_header P rest (length (bytes_of cs))) (slots_of cs)))
+          (inner_node (record { kind = kind; length_of = length rest; stored = take P rest }) slots))
+          (Some (inner_node (canonical_header P rest (length (bytes_of cs))) (slots_of cs)))
       shown kind slots e f = cc
 
       there : node_at t k ≡ Some (inner_node (canonical_header P rest (length (bytes_of cs))) (slots_of cs))
       there =
           let (off, node, found, head, below) = inner_at s k h (slots_of cs) (path_holds (node_at s) fs (inner k h cs) old.holds).1.0 in
           let f = with_header (record { len = length rest; stored = take P rest }) in
-          node_at-inner t k off (Some (f node)) (touched_is old is k off (inl refl) ∙ ap (λ z. get z (as_inner k)) written ∙ inner_changed_at s.inners (as_inner k) f ∙ ap (option_map f) found)
+          node_at-inner t k off (Some (f node)) (touched_is old is k off (inl refl) ∙ ap (λ z. get z (as_inner k)) written
+          ∙ inner_changed_at s.inners (as_inner k) f ∙ ap (option_map f) found)
           ∙ shown k.kind node.children (ap (λ z. z.kind) head ∙ ap (λ z. z.kind) is.hole.radix.1) below

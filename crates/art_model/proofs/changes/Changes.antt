@@ -53,12 +53,14 @@ module _ {N A : Type 0} (bytes : A → List ℕ) (P : ℕ) where
           )
 
   -- a node whose prefix lost its first part, a byte further down
-  pub trimmed : (place m q : List ℕ) (b : ℕ) (n : N) (h : NodeHeader) (cs : Subtrees N A) → 2 ≤ length (bytes_of cs) → BytesRise (bytes_of cs) → AreRadix bytes P (place ++ (m ++ b ∷ q)) cs →
+  pub trimmed : (place m q : List ℕ) (b : ℕ) (n : N) (h : NodeHeader) (cs : Subtrees N A) → 2 ≤ length (bytes_of cs) →
+      BytesRise (bytes_of cs) → AreRadix bytes P (place ++ (m ++ b ∷ q)) cs →
       IsRadix bytes P ((place ++ m) ++ b ∷ []) (inner n (canonical_header P q (length (bytes_of cs))) cs)
   trimmed place m q b n h cs two up below = (q, refl, two, up, subst (λ f. AreRadix bytes P f cs) (simp append_assoc) below)
 
   -- a node whose prefix got its parent's prefix and its byte prepended
-  pub merged : (place part : List ℕ) (c : ℕ) (q : List ℕ) (n : N) (cs : Subtrees N A) → 2 ≤ length (bytes_of cs) → BytesRise (bytes_of cs) → AreRadix bytes P (((place ++ part) ++ c ∷ []) ++ q) cs →
+  pub merged : (place part : List ℕ) (c : ℕ) (q : List ℕ) (n : N) (cs : Subtrees N A) → 2 ≤ length (bytes_of cs) → BytesRise (bytes_of cs) →
+      AreRadix bytes P (((place ++ part) ++ c ∷ []) ++ q) cs →
       IsRadix bytes P place (inner n (canonical_header P (part ++ c ∷ q) (length (bytes_of cs))) cs)
   merged place part c q n cs two up below = (part ++ c ∷ q, refl, two, up, subst (λ f. AreRadix bytes P f cs) (simp append_assoc) below)
 
@@ -103,7 +105,8 @@ module _ {N A : Type 0} (bytes : A → List ℕ) (P : ℕ) where
   -- a child that is a leaf is removed: what is left below
   pub without_child : (place part : List ℕ) (cs ds : Subtrees N A) (b : ℕ) (n : N) (x : A) →
       BytesRise (bytes_of (join cs (child b (leaf n x) ds))) → AreRadix bytes P (place ++ part) (join cs (child b (leaf n x) ds)) →
-      BytesRise (bytes_of (join cs ds)) × AreRadix bytes P (place ++ part) (join cs ds) × (pairs_below (join cs ds) ≡ remove_key bytes (bytes x) (pairs_below (join cs (child b (leaf n x) ds))))
+      BytesRise (bytes_of (join cs ds)) × AreRadix bytes P (place ++ part) (join cs ds) ×
+      (pairs_below (join cs ds) ≡ remove_key bytes (bytes x) (pairs_below (join cs (child b (leaf n x) ds))))
   without_child place part cs ds b n x up all =
       let front = place ++ part in
       let hl = AreRadix-left bytes P front cs (child b (leaf n x) ds) all in
@@ -128,14 +131,17 @@ module _ {N A : Type 0} (bytes : A → List ℕ) (P : ℕ) where
 
   -- a child that is a leaf is removed, and two or more stay: the node keeps its kind or shrinks
   unfoldable pub child_removed : (place part : List ℕ) (cs ds : Subtrees N A) (b : ℕ) (m n : N) (x : A) →
-      BytesRise (bytes_of (join cs (child b (leaf n x) ds))) → AreRadix bytes P (place ++ part) (join cs (child b (leaf n x) ds)) → 2 ≤ length (bytes_of (join cs ds)) →
+      BytesRise (bytes_of (join cs (child b (leaf n x) ds))) → AreRadix bytes P (place ++ part) (join cs (child b (leaf n x) ds)) →
+      2 ≤ length (bytes_of (join cs ds)) →
       let u = inner m (canonical_header P part (length (bytes_of (join cs ds)))) (join cs ds) in
       IsRadix bytes P place u × (pairs_of u ≡ remove_key bytes (bytes x) (pairs_below (join cs (child b (leaf n x) ds))))
-  child_removed place part cs ds b m n x up all two = let (rising, below, its) = without_child place part cs ds b n x up all in ((part, refl, two, rising, below), its)
+  child_removed place part cs ds b m n x up all two =
+      let (rising, below, its) = without_child place part cs ds b n x up all in ((part, refl, two, rising, below), its)
 
   -- a child that is a leaf is removed, and one is left
   pub child_left : (place part : List ℕ) (cs ds : Subtrees N A) (b c : ℕ) (n : N) (x : A) (v : Tree N A) →
-      BytesRise (bytes_of (join cs (child b (leaf n x) ds))) → AreRadix bytes P (place ++ part) (join cs (child b (leaf n x) ds)) → join cs ds ≡ child c v no_child →
+      BytesRise (bytes_of (join cs (child b (leaf n x) ds))) → AreRadix bytes P (place ++ part) (join cs (child b (leaf n x) ds)) →
+      join cs ds ≡ child c v no_child →
       IsRadix bytes P ((place ++ part) ++ c ∷ []) v × (pairs_of v ≡ remove_key bytes (bytes x) (pairs_below (join cs (child b (leaf n x) ds))))
   child_left place part cs ds b c n x v up all one =
       let (rising, below, its) = without_child place part cs ds b n x up all in

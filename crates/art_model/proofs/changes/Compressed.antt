@@ -66,11 +66,13 @@ prefix_at bytes P place (inner k head cs) radix = radix.0
 
 -- A leaf is removed from a node that has one other child, `v`, which replaces the node, with the node's prefix and its own byte prepended to its own prefix.
 pub record Compressed {K V : Type 0} (bytes : K × V → List ℕ) (P : ℕ) (s t : Nodes K V) (fs : List (Frame OpaqueNodePtr (K × V))) (place : List ℕ)
-    (m : OpaqueNodePtr) (h : NodeHeader) (l r : Subtrees OpaqueNodePtr (K × V)) (b : ℕ) (n : LeafPtr) (x : LeafNode K V) (c : ℕ) (v : Tree OpaqueNodePtr (K × V)) : Type 0 where
+    (m : OpaqueNodePtr) (h : NodeHeader) (l r : Subtrees OpaqueNodePtr (K × V)) (b : ℕ) (n : LeafPtr) (x : LeafNode K V) (c : ℕ)
+    (v : Tree OpaqueNodePtr (K × V)) : Type 0 where
   pub hole : IsHole bytes P fs place (inner m h (join l (child b (leaf (leaf_name n) (pair_of x)) r))) (bytes (pair_of x))
   pub one : join l r ≡ child c v no_child
   pub radix : IsRadix bytes P ((place ++ hole.radix.0) ++ c ∷ []) v
-  pub taken : LeafTaken s t (plug fs (inner m h (join l (child b (leaf (leaf_name n) (pair_of x)) r)))) (leaves_before fs ++ leaf_names_below l) (leaf_names_below r ++ leaves_after fs) n x
+  pub taken : LeafTaken s t (plug fs (inner m h (join l (child b (leaf (leaf_name n) (pair_of x)) r))))
+      (leaves_before fs ++ leaf_names_below l) (leaf_names_below r ++ leaves_after fs) n x
   pub inners : t.inners ≡ with_child_at (parent_of fs) (name_of v)
       (prefix_written P (hole.radix.0 ++ c ∷ prefix_at bytes P ((place ++ hole.radix.0) ++ c ∷ []) v radix) v (remove s.inners (as_inner m)))
 
@@ -87,7 +89,8 @@ module _ {A : Type 0} where
   length-rewritten (inner j head cs) = omega arith
 
   -- what holds of it
-  rewritten_each : (Q : InnerPtr → Type 0) (w : Tree OpaqueNodePtr A) → ((k : OpaqueNodePtr) → IsIn k (rewritten w) → Q (as_inner k)) → Each Q (map as_inner (rewritten w))
+  rewritten_each : (Q : InnerPtr → Type 0) (w : Tree OpaqueNodePtr A) → ((k : OpaqueNodePtr) → IsIn k (rewritten w) → Q (as_inner k)) →
+      Each Q (map as_inner (rewritten w))
   rewritten_each Q (leaf j y) h = tt
   rewritten_each Q (inner j head cs) h = (h j (inl refl), tt)
 
@@ -141,7 +144,8 @@ module _ {K V : Type 0} {bytes : K × V → List ℕ} {P : ℕ} {s t : Nodes K V
   -- ---- what the inner nodes are
 
   node_there : (m.kind ≢ Leaf) × (get s.inners (as_inner m) ≢ None)
-  node_there = let (off, node, got, head, kids) = inner_at s m h (slots_of (join l (child b (leaf (leaf_name n) (pair_of x)) r))) held.1.0 in (off, λ e. absurd (cc (got, e)))
+  node_there = let (off, node, got, head, kids) =
+      inner_at s m h (slots_of (join l (child b (leaf (leaf_name n) (pair_of x)) r))) held.1.0 in (off, λ e. absurd (cc (got, e)))
 
   rewritten_there : (k : OpaqueNodePtr) → IsIn k (rewritten v) → (k.kind ≢ Leaf) × (get s.inners (as_inner k) ≢ None)
   rewritten_there k i = go v v_held i
@@ -159,10 +163,12 @@ module _ {K V : Type 0} {bytes : K × V → List ℕ} {P : ℕ} {s t : Nodes K V
       without : get (remove s.inners (as_inner m)) (as_inner k) ≡ get s.inners (as_inner k)
       without = inner_gone_elsewhere s.inners (as_inner m) (as_inner k) (λ e. off (inner_name_one k m e))
 
-      go : (w : Tree OpaqueNodePtr (K × V)) (prefix : List ℕ) → (IsIn k (rewritten w) → ⊥) → get (prefix_written P prefix w (remove s.inners (as_inner m))) (as_inner k) ≡ get s.inners (as_inner k)
+      go : (w : Tree OpaqueNodePtr (K × V)) (prefix : List ℕ) → (IsIn k (rewritten w) → ⊥) →
+          get (prefix_written P prefix w (remove s.inners (as_inner m))) (as_inner k) ≡ get s.inners (as_inner k)
       go (leaf j y) prefix f = without
       go (inner j head cs) prefix f =
-          inner_changed_elsewhere (remove s.inners (as_inner m)) (as_inner j) (as_inner k) (with_header (headers.header_of P prefix)) (λ e. f (inl (sym (inner_name_one k j e)))) ∙ without
+          inner_changed_elsewhere (remove s.inners (as_inner m)) (as_inner j) (as_inner k) (with_header (headers.header_of P prefix))
+          (λ e. f (inl (sym (inner_name_one k j e)))) ∙ without
 
   -- the parent is still unchanged then
   pub above_same : (k : OpaqueNodePtr) → IsParent fs k → get middle (as_inner k) ≡ get s.inners (as_inner k)
@@ -176,7 +182,8 @@ module _ {K V : Type 0} {bytes : K × V → List ℕ} {P : ℕ} {s t : Nodes K V
 
   same : SameBut (node_at s) (node_at t) fs (rewritten v ++ m ∷ leaf_name n ∷ [])
   same = same_but s t fs (rewritten v ++ m ∷ leaf_name n ∷ [])
-      (λ p i used. taken_pairs old.holds old.distinct old.linked is.taken p (λ e. i (in_right (leaf_name p) (rewritten v) (m ∷ leaf_name n ∷ []) (inr (inl (ap leaf_name (sym e)))))))
+      (λ p i used. taken_pairs old.holds old.distinct old.linked is.taken p
+      (λ e. i (in_right (leaf_name p) (rewritten v) (m ∷ leaf_name n ∷ []) (inr (inl (ap leaf_name (sym e)))))))
       (λ k kind up i used. inners_elsewhere k up ∙ middle_elsewhere k (λ e. i (in_right k (rewritten v) (m ∷ leaf_name n ∷ []) (inl (sym e))))
       (λ j. i (in_left k (rewritten v) (m ∷ leaf_name n ∷ []) j)))
 
@@ -184,7 +191,8 @@ module _ {K V : Type 0} {bytes : K × V → List ℕ} {P : ℕ} {s t : Nodes K V
 
   removed : NodeRemoved bytes P (node_at s) (node_at t) (links_at s) (links_at t) fs place m (leaf_name n) h l r b c (pair_of x) v
       (with_prefix P (is.hole.radix.0 ++ c ∷ prefix_at bytes P ((place ++ is.hole.radix.0) ++ c ∷ []) v is.radix) v)
-  removed = go v is.one is.radix v_held (off_node (name_of v) (own_name v)) (inners_elsewhere (name_of v) (off_parent (name_of v) (inr (left_in (name_of v) (own_name v))))) parent_has same
+  removed = go v is.one is.radix v_held (off_node (name_of v) (own_name v))
+      (inners_elsewhere (name_of v) (off_parent (name_of v) (inr (left_in (name_of v) (own_name v))))) parent_has same
     where
       relinked : Relinked (links_at s) (links_at t) (leaves_before fs ++ leaf_names_below l) [] (leaf_names_below r ++ leaves_after fs)
       relinked = taken_relinked old.holds old.distinct old.linked is.taken
@@ -195,7 +203,8 @@ module _ {K V : Type 0} {bytes : K × V → List ℕ} {P : ℕ} {s t : Nodes K V
           (Some (inner_node (record { kind = other; length_of = length prefix; stored = take P prefix }) rest))
       shown prefix a e = cc
 
-      go : (w : Tree OpaqueNodePtr (K × V)) (one : join l r ≡ child c w no_child) (radix : IsRadix bytes P ((place ++ is.hole.radix.0) ++ c ∷ []) w) → Holds (node_at s) w → name_of w ≢ m →
+      go : (w : Tree OpaqueNodePtr (K × V)) (one : join l r ≡ child c w no_child)
+          (radix : IsRadix bytes P ((place ++ is.hole.radix.0) ++ c ∷ []) w) → Holds (node_at s) w → name_of w ≢ m →
           get t.inners (as_inner (name_of w)) ≡ get (prefix_written P
           (is.hole.radix.0 ++ c ∷ prefix_at bytes P ((place ++ is.hole.radix.0) ++ c ∷ []) w radix) w (remove s.inners (as_inner m))) (as_inner (name_of w)) →
           ParentHas (node_at t) fs (name_of w) → SameBut (node_at s) (node_at t) fs (rewritten w ++ m ∷ leaf_name n ∷ []) →
@@ -207,7 +216,8 @@ module _ {K V : Type 0} {bytes : K × V → List ℕ} {P : ℕ} {s t : Nodes K V
           let (off, node, got, head_is, kids) = inner_at s k head (slots_of cs) holds.0 in
           let there : get t.inners (as_inner k) ≡ Some (with_header (headers.header_of P prefix) node) =
           new ∙ inner_changed_at (remove s.inners (as_inner m)) (as_inner k) (with_header (headers.header_of P prefix))
-          ∙ ap (option_map (with_header (headers.header_of P prefix))) (inner_gone_elsewhere s.inners (as_inner m) (as_inner k) (λ e. apart (inner_name_one k m e)) ∙ got) in
+          ∙ ap (option_map (with_header (headers.header_of P prefix)))
+          (inner_gone_elsewhere s.inners (as_inner m) (as_inner k) (λ e. apart (inner_name_one k m e)) ∙ got) in
           merged_node old is.hole relinked c k head cs one radix (node_at-inner t k off (Some (with_header (headers.header_of P prefix) node)) there ∙
           shown prefix (ap (λ z. z.kind) (head_is ∙ radix.1)) kids) has same
 
@@ -222,20 +232,26 @@ module _ {K V : Type 0} {bytes : K × V → List ℕ} {P : ℕ} {s t : Nodes K V
   -- ---- what is touched
 
   touched_middle : Touched s.inners middle [] (as_inner m ∷ []) (map as_inner (rewritten v))
-  touched_middle = go v (is.hole.radix.0 ++ c ∷ prefix_at bytes P ((place ++ is.hole.radix.0) ++ c ∷ []) v is.radix) (λ k i. (rewritten_there k i).1) (λ k i. off_node k (rewritten_in v k i))
+  touched_middle = go v (is.hole.radix.0 ++ c ∷ prefix_at bytes P ((place ++ is.hole.radix.0) ++ c ∷ []) v is.radix)
+      (λ k i. (rewritten_there k i).1) (λ k i. off_node k (rewritten_in v k i))
     where
       freed : Touched s.inners (remove s.inners (as_inner m)) [] (as_inner m ∷ []) []
       freed = then_freed inner_cmp_total inner_cmp-IsAntisymmetric (touched_none s.inners) (as_inner m) node_there.1 (λ i. i)
 
-      go : (w : Tree OpaqueNodePtr (K × V)) (prefix : List ℕ) → ((k : OpaqueNodePtr) → IsIn k (rewritten w) → get s.inners (as_inner k) ≢ None) → ((k : OpaqueNodePtr) → IsIn k (rewritten w) → k ≢ m) →
+      go : (w : Tree OpaqueNodePtr (K × V)) (prefix : List ℕ) →
+          ((k : OpaqueNodePtr) → IsIn k (rewritten w) → get s.inners (as_inner k) ≢ None) →
+          ((k : OpaqueNodePtr) → IsIn k (rewritten w) → k ≢ m) →
           Touched s.inners (prefix_written P prefix w (remove s.inners (as_inner m))) [] (as_inner m ∷ []) (map as_inner (rewritten w))
       go (leaf j y) prefix there apart = freed
-      go (inner j head cs) prefix there apart = then_changed inner_cmp_total inner_cmp-IsAntisymmetric freed (as_inner j) (with_header (headers.header_of P prefix)) (there j (inl refl))
+      go (inner j head cs) prefix there apart =
+          then_changed inner_cmp_total inner_cmp-IsAntisymmetric freed (as_inner j) (with_header (headers.header_of P prefix))
+          (there j (inl refl))
           (λ e. there j (inl refl) (sym (inner_gone_elsewhere s.inners (as_inner m) (as_inner j) (λ f. apart j (inl refl) (inner_name_one j m f))) ∙ e))
 
   touched_inners : Touched s.inners t.inners [] (as_inner m ∷ []) (parents fs ++ map as_inner (rewritten v))
   touched_inners = subst (λ z. Touched s.inners z [] (as_inner m ∷ []) (parents fs ++ map as_inner (rewritten v))) (sym is.inners)
-      (then_parent touched_middle fs (name_of v) (λ k up. (parent_there bytes P s fs m held.0 k up).1) (λ k up e. (parent_there bytes P s fs m held.0 k up).1 (sym (above_same k up) ∙ e)))
+      (then_parent touched_middle fs (name_of v) (λ k up. (parent_there bytes P s fs m held.0 k up).1)
+      (λ k up e. (parent_there bytes P s fs m held.0 k up).1 (sym (above_same k up) ∙ e)))
 
   inner_kinds : Each IsInner (parents fs ++ map as_inner (rewritten v))
   inner_kinds = parents_inner bytes P s fs m held.0 (map as_inner (rewritten v)) (rewritten_each IsInner v (λ k i. (rewritten_there k i).0))
@@ -244,13 +260,17 @@ module _ {K V : Type 0} {bytes : K × V → List ℕ} {P : ℕ} {s t : Nodes K V
   pub compressed_touches : TouchesAtMost 0 2 4 s t
   compressed_touches =
       let beside = length-beside x.next x.previous in let above = length-parents fs (map as_inner (rewritten v)) in let own = length-rewritten v in
-      touches_at_most s t 0 2 4 (taken_touched old.holds old.distinct old.linked is.taken) touched_inners tt (node_there.0, tt) inner_kinds (omega arith) (omega arith) (omega arith)
+      touches_at_most s t 0 2 4 (taken_touched old.holds old.distinct old.linked is.taken) touched_inners tt (node_there.0, tt) inner_kinds
+      (omega arith) (omega arith) (omega arith)
 
   -- ---- what is kept
 
-  names_are : AreNames (names_of (plug fs gone)) (names_of (plug fs (with_prefix P (is.hole.radix.0 ++ c ∷ prefix_at bytes P ((place ++ is.hole.radix.0) ++ c ∷ []) v is.radix) v))) []
+  names_are : AreNames (names_of (plug fs gone))
+      (names_of (plug fs (with_prefix P (is.hole.radix.0 ++ c ∷ prefix_at bytes P ((place ++ is.hole.radix.0) ++ c ∷ []) v is.radix) v))) []
       (both_names (n ∷ []) (as_inner m ∷ [])) (both_names (listed x.next ++ (listed x.previous ++ [])) (parents fs ++ map as_inner (rewritten v)))
-  names_are = names_around fs gone kept [] (leaf_name n ∷ m ∷ []) (both_names (listed x.next ++ (listed x.previous ++ [])) (parents fs ++ map as_inner (rewritten v)))
+  names_are =
+      names_around fs gone kept [] (leaf_name n ∷ m ∷ [])
+      (both_names (listed x.next ++ (listed x.previous ++ [])) (parents fs ++ map as_inner (rewritten v)))
       (record {
         placed_in = λ k i. absurd i;
         freed_in = λ k i. elim i [ inl e ↦ inr (leaf_below l r b (leaf_name n) (pair_of x) k e) | inr (inl e) ↦ inl e | inr (inr j) ↦ absurd j ];
@@ -258,7 +278,8 @@ module _ {K V : Type 0} {bytes : K × V → List ℕ} {P : ℕ} {s t : Nodes K V
         old_stays = λ k i. elim (of_hole k i) [ inl a ↦ inl (subst (IsIn k) (sym removed.same_names) a) | inr a ↦ inr a ];
         new_comes = λ k i. inl (inr (left_in k (subst (IsIn k) removed.same_names i)));
       })
-      (both_in (names_of (plug fs gone)) (listed x.next ++ (listed x.previous ++ [])) (parents fs ++ map as_inner (rewritten v)) (beside_in old.holds old.linked is.taken.among)
+      (both_in (names_of (plug fs gone)) (listed x.next ++ (listed x.previous ++ [])) (parents fs ++ map as_inner (rewritten v))
+      (beside_in old.holds old.linked is.taken.among)
       (parents_in fs gone (map as_inner (rewritten v)) (λ p i. each_in (λ q. IsIn (inner_name q) (names_of gone)) p (map as_inner (rewritten v))
       (rewritten_each (λ q. IsIn (inner_name q) (names_of gone)) v (λ k j. inr (left_in k (rewritten_in v k j)))) i)))
     where

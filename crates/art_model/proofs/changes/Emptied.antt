@@ -40,4 +40,10 @@ module _ {K V : Type 0} {bytes : K × V → List ℕ} {P : ℕ} {s t : Nodes K V
   -- and what is outside the tree stays
   pub emptied_in_place : ChangesInPlace bytes s t (Some (leaf (leaf_name n) (pair_of x))) None
   emptied_in_place = in_place (footprint_of s t touched_leaves touched_inners tt tt tt) P
-      (record { placed_in = λ k i. absurd i; freed_in = λ k i. i; changed_in = λ k i. absurd i; old_stays = λ k i. inr i; new_comes = λ k i. absurd i }) (λ e f i j. absurd j) (λ e f i j. absurd j)
+      (record {
+        placed_in = λ k i. absurd i;
+        freed_in = λ k i. i;
+        changed_in = λ k i. absurd i;
+        old_stays = λ k i. inr i;
+        new_comes = λ k i. absurd i;
+      }) (λ e f i j. absurd j) (λ e f i j. absurd j)

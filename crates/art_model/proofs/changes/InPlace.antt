@@ -20,7 +20,14 @@ pub record AreNames {N : Type 0} (old new placed freed changed : List N) : Type 
 
 -- the other way round
 pub names_back : {N : Type 0} {old new placed freed : List N} → AreNames old new placed freed [] → AreNames new old freed placed []
-names_back names = record { placed_in = names.freed_in; freed_in = names.placed_in; changed_in = λ n i. absurd i; old_stays = names.new_comes; new_comes = names.old_stays }
+names_back names =
+    record {
+      placed_in = names.freed_in;
+      freed_in = names.placed_in;
+      changed_in = λ n i. absurd i;
+      old_stays = names.new_comes;
+      new_comes = names.old_stays;
+    }
 
 module _ {K V : Type 0} {s t : Nodes K V} {placed freed changed : List OpaqueNodePtr} (print : Footprint s t placed freed changed) where
   -- nodes outside the tree are unchanged
@@ -38,7 +45,8 @@ module _ {K V : Type 0} {s t : Nodes K V} {placed freed changed : List OpaqueNod
   }
 
   -- All of it, where the nodes that stay keep their names.
-  pub in_place : {bytes : K × V → List ℕ} (P : ℕ) {old new : Option (Tree OpaqueNodePtr (K × V))} → AreNames (names_in old) (names_in new) placed freed changed →
+  pub in_place : {bytes : K × V → List ℕ} (P : ℕ) {old new : Option (Tree OpaqueNodePtr (K × V))} →
+      AreNames (names_in old) (names_in new) placed freed changed →
       KeepLeaves bytes P (leaves_in old) (leaves_in new) → KeepNames (inners_in bytes old) (inners_in bytes new) → ChangesInPlace bytes s t old new
   in_place P names leaves inners = record {
     leaves = λ x y n m i j same. sym (leaves (x, n) (y, m) i j tt (sym same));

@@ -22,13 +22,15 @@ use Rattle.art_model.proofs.changes.Regrown.{IsBranch, branch_regrown, children_
 use Rattle.art_model.proofs.changes.Replaced.{replaced, linked_in_hole}
 
 -- The key continues from the node in the hole with a byte, and the children are on both sides of it.
-pub record IsGap {N A : Type 0} (bytes : A → List ℕ) (P : ℕ) (fs : List (Frame N A)) (place : List ℕ) (m : N) (h : NodeHeader) (l r : Subtrees N A) (b : ℕ) (key : List ℕ) : Type 0 where
+pub record IsGap {N A : Type 0} (bytes : A → List ℕ) (P : ℕ) (fs : List (Frame N A)) (place : List ℕ) (m : N) (h : NodeHeader)
+    (l r : Subtrees N A) (b : ℕ) (key : List ℕ) : Type 0 where
   pub hole : IsHole bytes P fs place (inner m h (join l r)) key
   pub front : IsFront ((place ++ hole.radix.0) ++ b ∷ []) key
   pub low : Each (λ c. c < b) (bytes_of l)
   pub high : Each (λ c. b < c) (bytes_of r)
 
-module _ {N A : Type 0} (bytes : A → List ℕ) (P : ℕ) (at to : N → Option (Node N A)) (before links : N → Option (Links N)) (fs : List (Frame N A)) (place : List ℕ) where
+module _ {N A : Type 0} (bytes : A → List ℕ) (P : ℕ) (at to : N → Option (Node N A)) (before links : N → Option (Links N))
+    (fs : List (Frame N A)) (place : List ℕ) where
   -- The tree `t` in the hole became `u`, below a new node whose other child is a new leaf: a leaf is split, or a prefix.
   pub record BranchInserted (t u : Tree N A) (m n : N) (part : List ℕ) (b c : ℕ) (new : A) : Type 0 where
     pub hole : IsHole bytes P fs place t (bytes new)
@@ -61,13 +63,15 @@ module _ {N A : Type 0} (bytes : A → List ℕ) (P : ℕ) (at to : N → Option
     pub same_kind : h.kind ≡ kind_of (suc (length (bytes_of (join l r)))) → m ≡ node
     pub leaf_was_free : at n ≡ None
     pub differ : node ≢ n
-    pub there : to node ≡ Some (inner_node (canonical_header P gap.hole.radix.0 (suc (length (bytes_of (join l r))))) (slots_of (join l (child b (leaf n new) r))))
+    pub there : to node ≡ Some (inner_node (canonical_header P gap.hole.radix.0 (suc (length (bytes_of (join l r)))))
+        (slots_of (join l (child b (leaf n new) r))))
     pub new_leaf : to n ≡ Some (leaf_node new)
     pub parent : ParentHas to fs node
     pub same : SameBut at to fs (m ∷ [])
     pub relinked : Relinked before links (leaves_before fs ++ leaf_names_below l) (n ∷ []) (leaf_names_below r ++ leaves_after fs)
 
-module _ {N A : Type 0} {bytes : A → List ℕ} {P : ℕ} {at to : N → Option (Node N A)} {before links : N → Option (Links N)} {fs : List (Frame N A)} {place : List ℕ} {root : N} {pairs : List A} where
+module _ {N A : Type 0} {bytes : A → List ℕ} {P : ℕ} {at to : N → Option (Node N A)} {before links : N → Option (Links N)}
+    {fs : List (Frame N A)} {place : List ℕ} {root : N} {pairs : List A} where
   module _ {t u : Tree N A} {m n : N} {part : List ℕ} {b c : ℕ} {new : A} (old : IsLaidOut bytes P at before root pairs (plug fs t))
       (is : BranchInserted bytes P at to before links fs place t u m n part b c new) where
     abbrev grown : Tree N A
@@ -92,37 +96,49 @@ module _ {N A : Type 0} {bytes : A → List ℕ} {P : ℕ} {at to : N → Option
         go false = ap (λ z. n ∷ z) (append-nil (leaf_names u) ∙ same_leaf_names t u is.same_entries)
 
     -- the root is canonical for the pairs with the new one
-    pub branch_inserted : IsLaidOut bytes P to links (root_with fs root m) (replace_key bytes new pairs) (plug fs (inner m (canonical_header P part 2) (two_children b u c (leaf n new))))
+    pub branch_inserted : IsLaidOut bytes P to links (root_with fs root m) (replace_key bytes new pairs)
+        (plug fs (inner m (canonical_header P part 2) (two_children b u c (leaf n new))))
     branch_inserted = replaced old (record {
       path = is.hole.path;
       radix = branched.0;
       parent = is.parent;
-      regrown = branch_regrown at to t u m n (canonical_header P part 2) b c new (path_holds at fs t old.holds).1 (hole_distinct at to fs t old.holds old.distinct) is.branch;
+      regrown = branch_regrown at to t u m n (canonical_header P part 2) b c new (path_holds at fs t old.holds).1
+          (hole_distinct at to fs t old.holds old.distinct) is.branch;
       same = is.same;
-      linked = linked_in_hole fs before links t grown (cond (ltb b c) (leaf_names t) []) [] (n ∷ []) (cond (ltb b c) [] (leaf_names t)) old.distinct old.linked old_leaves new_leaves is.relinked;
-    }) (bytes new) (replace_key bytes new) (replace_key-between bytes new) is.hole.front (branched.1 ∙ ap (replace_key bytes new) (same_pairs_of t u is.same_entries))
+      linked = linked_in_hole fs before links t grown (cond (ltb b c) (leaf_names t) []) [] (n ∷ [])
+          (cond (ltb b c) [] (leaf_names t)) old.distinct old.linked old_leaves new_leaves is.relinked;
+    }) (bytes new) (replace_key bytes new) (replace_key-between bytes new) is.hole.front
+        (branched.1 ∙ ap (replace_key bytes new) (same_pairs_of t u is.same_entries))
 
     -- inner nodes that stay keep their names
-    pub branch_keeps : KeepNames (inner_nodes bytes 0 (plug fs t)) (inner_nodes bytes 0 (plug fs (inner m (canonical_header P part 2) (two_children b u c (leaf n new)))))
-    branch_keeps = kept bytes P fs place t grown is.hole.path is.hole.radix branched.0 (kept_branch bytes P place t u m n (canonical_header P part 2) b c new branched.0 is.same_inners)
+    pub branch_keeps : KeepNames (inner_nodes bytes 0 (plug fs t))
+        (inner_nodes bytes 0 (plug fs (inner m (canonical_header P part 2) (two_children b u c (leaf n new)))))
+    branch_keeps = kept bytes P fs place t grown is.hole.path is.hole.radix branched.0
+        (kept_branch bytes P place t u m n (canonical_header P part 2) b c new branched.0 is.same_inners)
 
     -- keys that stay keep their leaves' names
-    pub branch_keeps_leaves : KeepLeaves bytes P (entries_of (plug fs t)) (entries_of (plug fs (inner m (canonical_header P part 2) (two_children b u c (leaf n new)))))
+    pub branch_keeps_leaves : KeepLeaves bytes P (entries_of (plug fs t))
+        (entries_of (plug fs (inner m (canonical_header P part 2) (two_children b u c (leaf n new)))))
     branch_keeps_leaves =
-        kept_leaves bytes P fs t grown old.radix branch_inserted.radix (kept_leaves_more bytes P t grown place branched.0 (λ e i. among e (ltb b c) (subst (IsIn e) (sym is.same_entries) i)))
+        kept_leaves bytes P fs t grown old.radix branch_inserted.radix
+        (kept_leaves_more bytes P t grown place branched.0 (λ e i. among e (ltb b c) (subst (IsIn e) (sym is.same_entries) i)))
       where
-        among : (e : A × N) (first : Bool) → IsIn e (entries_of u) → IsIn e (entries_below (cond first (child b u (child c (leaf n new) no_child)) (child c (leaf n new) (child b u no_child))))
+        among : (e : A × N) (first : Bool) → IsIn e (entries_of u) →
+            IsIn e (entries_below (cond first (child b u (child c (leaf n new) no_child)) (child c (leaf n new) (child b u no_child))))
         among e true i = in_left e (entries_of u) ((new, n) ∷ []) i
         among e false i = inr (in_left e (entries_of u) [] i)
 
   module _ {m node n : N} {h : NodeHeader} {l r : Subtrees N A} {b : ℕ} {new : A}
-      (old : IsLaidOut bytes P at before root pairs (plug fs (inner m h (join l r)))) (is : ChildInserted bytes P at to before links fs place m node n h l r b new) where
+      (old : IsLaidOut bytes P at before root pairs (plug fs (inner m h (join l r))))
+      (is : ChildInserted bytes P at to before links fs place m node n h l r b new) where
     abbrev head : NodeHeader
     head = canonical_header P is.gap.hole.radix.0 (suc (length (bytes_of (join l r))))
 
     with_leaf : IsRadix bytes P place (inner node head (join l (child b (leaf n new) r))) ×
         (pairs_of (inner node head (join l (child b (leaf n new) r))) ≡ replace_key bytes new (pairs_of (inner m h (join l r))))
-    with_leaf = let two = is.gap.hole.radix.2 in with_child bytes P place is.gap.hole.radix.0 l r b node n new is.gap.hole.radix.3 is.gap.low is.gap.high (omega arith) is.gap.hole.radix.4 is.gap.front
+    with_leaf = let two = is.gap.hole.radix.2 in
+        with_child bytes P place is.gap.hole.radix.0 l r b node n new is.gap.hole.radix.3 is.gap.low is.gap.high
+        (omega arith) is.gap.hole.radix.4 is.gap.front
 
     -- the root is canonical for the pairs with the new one
     pub child_inserted : IsLaidOut bytes P to links (root_with fs root node) (replace_key bytes new pairs)
@@ -132,18 +148,30 @@ module _ {N A : Type 0} {bytes : A → List ℕ} {P : ℕ} {at to : N → Option
       radix = with_leaf.0;
       parent = is.parent;
       regrown = children_regrown at to fs m h l no_child r old.holds old.distinct node head (child b (leaf n new) no_child)
-          (record { named = is.named; were_free = (is.leaf_was_free, tt); distinct = (tt, tt); apart = (is.differ, tt); there = is.there; below = (is.new_leaf, tt) }) is.same;
+          (record {
+            named = is.named;
+            were_free = (is.leaf_was_free, tt);
+            distinct = (tt, tt);
+            apart = (is.differ, tt);
+            there = is.there;
+            below = (is.new_leaf, tt);
+          }) is.same;
       same = λ k up out used. is.same k up (λ i. elim i [ inl e ↦ out (inl e) | inr j ↦ j ]) used;
-      linked = linked_in_hole fs before links (inner m h (join l r)) (inner node head (join l (child b (leaf n new) r))) (leaf_names_below l) [] (n ∷ []) (leaf_names_below r) old.distinct old.linked
+      linked = linked_in_hole fs before links (inner m h (join l r)) (inner node head (join l (child b (leaf n new) r)))
+          (leaf_names_below l) [] (n ∷ []) (leaf_names_below r) old.distinct old.linked
           (leaf_names_below-three l no_child r) (leaf_names_below-three l (child b (leaf n new) no_child) r) is.relinked;
     }) (bytes new) (replace_key bytes new) (replace_key-between bytes new) is.gap.hole.front with_leaf.1
 
     -- inner nodes that stay keep their names
     pub child_keeps : KeepNames (inner_nodes bytes 0 (plug fs (inner m h (join l r))))
-        (inner_nodes bytes 0 (plug fs (inner node (canonical_header P is.gap.hole.radix.0 (suc (length (bytes_of (join l r))))) (join l (child b (leaf n new) r)))))
+        (inner_nodes bytes 0 (plug fs (inner node (canonical_header P is.gap.hole.radix.0 (suc (length (bytes_of (join l r)))))
+        (join l (child b (leaf n new) r)))))
     unfolding with_leaf with_child
-    child_keeps = kept bytes P fs place (inner m h (join l r)) (inner node head (join l (child b (leaf n new) r))) is.gap.hole.path is.gap.hole.radix with_leaf.0
-        (kept_children bytes P place m node h head (join l r) (join l (child b (leaf n new) r)) is.gap.hole.radix with_leaf.0 refl (λ d. inner_nodes-leaf bytes P d l r b n new) is.same_kind)
+    child_keeps =
+        kept bytes P fs place (inner m h (join l r))
+        (inner node head (join l (child b (leaf n new) r))) is.gap.hole.path is.gap.hole.radix with_leaf.0
+        (kept_children bytes P place m node h head (join l r) (join l (child b (leaf n new) r)) is.gap.hole.radix with_leaf.0 refl
+        (λ d. inner_nodes-leaf bytes P d l r b n new) is.same_kind)
 
     -- keys that stay keep their leaves' names
     pub child_keeps_leaves : KeepLeaves bytes P (entries_of (plug fs (inner m h (join l r))))
@@ -159,7 +187,8 @@ module _ {N A : Type 0} {bytes : A → List ℕ} {P : ℕ} {at to : N → Option
     -- a leaf whose key continues after the part with another byte
     pub split_leaf : {k : N} {x : A} → IsLaidOut bytes P at before root pairs (plug fs (leaf k x)) → IsHole bytes P fs place (leaf k x) (bytes new) →
         IsFront ((place ++ part) ++ b ∷ []) (bytes x) → SameBut at to fs [] →
-        BranchPlaced bytes P at to before links fs place (leaf k x) (leaf k x) m n part b c new → BranchInserted bytes P at to before links fs place (leaf k x) (leaf k x) m n part b c new
+        BranchPlaced bytes P at to before links fs place (leaf k x) (leaf k x) m n part b c new →
+        BranchInserted bytes P at to before links fs place (leaf k x) (leaf k x) m n part b c new
     split_leaf {k} {x} old hole front same placed = record {
       hole = hole;
       radix = front;

@@ -46,8 +46,10 @@ pub record IntoFull {K V : Type 0} (bytes : K × V → List ℕ) (P : ℕ) (s t 
   pub inners : t.inners ≡ with_child_at (parent_of fs) k (insert (remove s.inners (as_inner m)) (as_inner k) (with_child b (leaf_name n) full))
 
 module _ {K V : Type 0} {bytes : K × V → List ℕ} {P : ℕ} {s t : Nodes K V} {root : OpaqueNodePtr} {pairs : List (K × V)}
-    {fs : List (Frame OpaqueNodePtr (K × V))} {place : List ℕ} {m k : OpaqueNodePtr} {h : NodeHeader} {l r : Subtrees OpaqueNodePtr (K × V)} {b : ℕ} {n : LeafPtr} {x : LeafNode K V} {full : Inner}
-    (old : IsLaidOut bytes P (node_at s) (links_at s) root pairs (plug fs (inner m h (join l r)))) (into : IntoFull bytes P s t fs place m k h l r b n x full) where
+    {fs : List (Frame OpaqueNodePtr (K × V))} {place : List ℕ} {m k : OpaqueNodePtr} {h : NodeHeader} {l r : Subtrees OpaqueNodePtr (K × V)}
+    {b : ℕ} {n : LeafPtr} {x : LeafNode K V} {full : Inner}
+    (old : IsLaidOut bytes P (node_at s) (links_at s) root pairs (plug fs (inner m h (join l r))))
+    (into : IntoFull bytes P s t fs place m k h l r b n x full) where
   abbrev grown : Inner
   grown = with_child b (leaf_name n) full
 
@@ -77,13 +79,16 @@ module _ {K V : Type 0} {bytes : K × V → List ℕ} {P : ℕ} {s t : Nodes K V
   own = inner_at s m h (slots_of (join l r)) (path_holds (node_at s) fs (inner m h (join l r)) old.holds).1.0
 
   own_head : header_at m.kind full ≡ h
-  own_head = let (off, node, got, head, kids) = own in let same : node ≡ full = let e : Some node ≡ Some full = sym got ∙ into.here in cc in ap (header_at m.kind) (sym same) ∙ head
+  own_head = let (off, node, got, head, kids) =
+      own in let same : node ≡ full = let e : Some node ≡ Some full = sym got ∙ into.here in cc in ap (header_at m.kind) (sym same) ∙ head
 
   own_slots : full.children ≡ slots_of (join l r)
-  own_slots = let (off, node, got, head, kids) = own in let same : node ≡ full = let e : Some node ≡ Some full = sym got ∙ into.here in cc in ap (λ z. z.children) (sym same) ∙ kids
+  own_slots = let (off, node, got, head, kids) =
+      own in let same : node ≡ full = let e : Some node ≡ Some full = sym got ∙ into.here in cc in ap (λ z. z.children) (sym same) ∙ kids
 
   new_there : get t.inners (as_inner k) ≡ Some grown
-  new_there = ap (λ z. get z (as_inner k)) into.inners ∙ with_child_at-elsewhere fs k before_parent k not_parent ∙ inner_here (remove s.inners (as_inner m)) (as_inner k) grown
+  new_there = ap (λ z. get z (as_inner k)) into.inners ∙ with_child_at-elsewhere fs k before_parent k not_parent
+      ∙ inner_here (remove s.inners (as_inner m)) (as_inner k) grown
 
   k_was_free : node_at s k ≡ None
   k_was_free = node_at-inner s k into.is_inner None into.was_free
@@ -112,7 +117,8 @@ module _ {K V : Type 0} {bytes : K × V → List ℕ} {P : ℕ} {s t : Nodes K V
         relinked = placed_relinked old.holds old.distinct into.placed;
       }
     where
-      grown_header : (part : List ℕ) (count other : ℕ) → header_at m.kind full ≡ canonical_header P part count → k.kind ≡ kind_of other → header_at k.kind grown ≡ canonical_header P part other
+      grown_header : (part : List ℕ) (count other : ℕ) → header_at m.kind full ≡ canonical_header P part count → k.kind ≡ kind_of other →
+          header_at k.kind grown ≡ canonical_header P part other
       grown_header part count other e kind = λ i. record { kind = kind i; length_of = (e i).length_of; stored = (e i).stored }
 
   abbrev changed : List LeafPtr
@@ -142,8 +148,10 @@ module _ {K V : Type 0} {bytes : K × V → List ℕ} {P : ℕ} {s t : Nodes K V
 
   changed_in : (q : OpaqueNodePtr) → IsIn q (both_names changed (parents fs ++ [])) → IsIn q (names_of (plug fs (inner m h (join l r))))
   changed_in =
-      both_in (names_of (plug fs (inner m h (join l r)))) changed (parents fs ++ []) (placed_beside old.holds old.distinct into.placed) (parents_in fs (inner m h (join l r)) [] (λ p i. absurd i))
+      both_in (names_of (plug fs (inner m h (join l r)))) changed (parents fs ++ []) (placed_beside old.holds old.distinct into.placed)
+      (parents_in fs (inner m h (join l r)) [] (λ p i. absurd i))
 
   -- the root is canonical for the pairs with the new one, and all nodes that stay keep their names
   pub full_added : ChildAdded bytes P s t root pairs fs m k h l r b (leaf_name n) (pair_of x)
-  full_added = child_added old full_inserted (footprint_of s t full_leaves full_inners (into.is_inner, tt) (own.0, tt) all_inner) (names_with_both l r b (leaf_name n) (pair_of x) m k h) changed_in
+  full_added = child_added old full_inserted (footprint_of s t full_leaves full_inners (into.is_inner, tt) (own.0, tt) all_inner)
+      (names_with_both l r b (leaf_name n) (pair_of x) m k h) changed_in

@@ -114,7 +114,8 @@ module _ {K V : Type 0} {bytes : K × V → List ℕ} {P : ℕ} {s u t : Nodes K
       (Each-left (λ k. Each (λ y. k ≢ y) after) before (leaf_names node) (Pairwise-across ◌≢◌ (before ++ leaf_names node) after whole_leaves))
 
   others_there : AreThere s (before ++ after)
-  others_there p i = are_there s (plug fs node) old.holds p (subst (IsIn (leaf_name p)) (sym (leaf_names-plug fs node)) (in_around (leaf_name p) before (leaf_names node) after i))
+  others_there p i = are_there s (plug fs node) old.holds p
+      (subst (IsIn (leaf_name p)) (sym (leaf_names-plug fs node)) (in_around (leaf_name p) before (leaf_names node) after i))
 
   -- the neighbours of the hole are in the store
   pub hole_previous : IsThere s.leaves x.previous
@@ -151,16 +152,20 @@ module _ {K V : Type 0} {bytes : K × V → List ℕ} {P : ℕ} {s u t : Nodes K
 
   kept_inner_at : (k : OpaqueNodePtr) → k.kind ≢ Leaf → (IsIn k (names_of node) → ⊥) → get t.inners (as_inner k) ≡ get u.inners (as_inner k)
   kept_inner_at k kind off =
-      same_inner_held K V (get t.inners (as_inner k)) (get u.inners (as_inner k)) (sym (held_in_inner t k.kind k.slot kind) ∙ into.freed.beside k off (λ z. z) ∙ held_in_inner u k.kind k.slot kind)
+      same_inner_held K V (get t.inners (as_inner k)) (get u.inners (as_inner k))
+      (sym (held_in_inner t k.kind k.slot kind) ∙ into.freed.beside k off (λ z. z) ∙ held_in_inner u k.kind k.slot kind)
 
   -- what was placed and written before that
   placed_same : SameBut (node_at s) (node_at u) fs []
-  placed_same = same_but s u fs [] (λ p off used. ap (λ z. option_map pair_of (get z p)) into.leaves ∙ with_leaf_pair s.leaves n x p (λ e. used (ap (get s.leaves) e ∙ into.fresh)))
+  placed_same = same_but s u fs [] (λ p off used. ap (λ z. option_map pair_of (get z p)) into.leaves
+      ∙ with_leaf_pair s.leaves n x p (λ e. used (ap (get s.leaves) e ∙ into.fresh)))
       (λ k kind up off used. ap (λ z. get z (as_inner k)) into.inners ∙ with_child_at-elsewhere fs (leaf_name n) s.inners k up)
 
   hole_linked : AreLinked (links_at t) None (leaf_names (plug fs (leaf (leaf_name n) new))) None
   hole_linked =
-      let comes = leaf_comes s t before after n x outer others_there into.fresh into.last into.first (λ p i. kept_leaf_at p (off p i) ∙ ap (λ z. get z p) into.leaves) in
+      let comes =
+      leaf_comes s t before after n x outer others_there into.fresh into.last into.first
+      (λ p i. kept_leaf_at p (off p i) ∙ ap (λ z. get z p) into.leaves) in
       subst (λ ks. AreLinked (links_at t) None ks None) (sym (leaf_names-plug fs (leaf (leaf_name n) new)))
       (relink (links_at s) (links_at t) before (leaf_name n ∷ []) after outer (relinked_beside comes) (leaf_names node)
       (subst (λ ks. AreLinked (links_at s) None ks None) (leaf_names-plug fs node) old.linked))
@@ -168,7 +173,11 @@ module _ {K V : Type 0} {bytes : K × V → List ℕ} {P : ℕ} {s u t : Nodes K
       off : (p : LeafPtr) → IsIn (leaf_name p) (before ++ leaf_name n ∷ after) → IsIn (leaf_name p) (names_of node) → ⊥
       off p i j = elim (in_either (leaf_name p) before (leaf_name n ∷ after) i) [
         | inl h ↦ beside_apart (leaf_name p) (in_left (leaf_name p) before after h) j
-        | inr h ↦ elim h [ inl e ↦ new_apart (subst (λ k. IsIn k (names_of node)) (sym e) j) | inr l ↦ beside_apart (leaf_name p) (in_right (leaf_name p) before after l) j ]
+        | inr h ↦ elim h [
+          | inl e ↦ new_apart (subst (λ k. IsIn k (names_of node)) (sym e) j)
+          | inr l ↦ beside_apart (leaf_name p)
+              (in_right (leaf_name p) before after l) j
+        ]
       ]
 
   hole_alone : LeafAlone bytes P (node_at s) (node_at t) (links_at t) fs place node (leaf_name n) new
@@ -176,7 +185,8 @@ module _ {K V : Type 0} {bytes : K × V → List ℕ} {P : ℕ} {s u t : Nodes K
     hole = into.hole;
     named = inr was_free;
     there = node_at-leaf t n ∙ ap (λ o. option_map leaf_node (option_map pair_of o))
-        (kept_leaf_at n new_apart ∙ ap (λ z. get z n) into.leaves ∙ with_leaf_here s.leaves n x (λ e. hole_previous n e into.fresh) (λ e. hole_next n e into.fresh));
+        (kept_leaf_at n new_apart ∙ ap (λ z. get z n) into.leaves
+        ∙ with_leaf_here s.leaves n x (λ e. hole_previous n e into.fresh) (λ e. hole_next n e into.fresh));
     parent = parent_written bytes P s t s.inners fs place (name_of node) (leaf_name n) into.hole.path above (λ k up. refl)
         (λ k up. kept_inner_at k (parent_there bytes P s fs (name_of node) above k up).0 (up_apart k up) ∙ ap (λ z. get z (as_inner k)) into.inners);
     same = λ k up off used. ap (option_map (tree_node k.kind)) (into.freed.beside k off (λ z. z)) ∙ placed_same k up (λ z. z) used;
@@ -191,7 +201,8 @@ module _ {K V : Type 0} {bytes : K × V → List ℕ} {P : ℕ} {s u t : Nodes K
   none_left : replace_related bytes new (pairs_of node) ≡ new ∷ []
   none_left =
       ap (add_in_order bytes new) (filter_none (λ y. not (are_related (bytes new) (bytes y))) (pairs_of node)
-      (Each-weaker (λ y. are_related (bytes new) (bytes y) ≡ true) (λ y. not (are_related (bytes new) (bytes y)) ≡ false) (λ y e. ap not e) (pairs_of node) into.related))
+      (Each-weaker (λ y. are_related (bytes new) (bytes y) ≡ true) (λ y. not (are_related (bytes new) (bytes y)) ≡ false) (λ y e. ap not e)
+      (pairs_of node) into.related))
 
   -- those in the hole are exactly the related ones
   pub hole_related : related_to bytes (bytes new) (pairs_of (plug fs node)) ≡ pairs_of node
@@ -199,17 +210,22 @@ module _ {K V : Type 0} {bytes : K × V → List ℕ} {P : ℕ} {s u t : Nodes K
 
   -- no pair has the key
   none_stored : first_of (with_key bytes (bytes new) pairs) ≡ None
-  none_stored = ap (λ xs. first_of (with_key bytes (bytes new) xs)) (sym old.pairs_are) ∙ ap first_of (with_key-hole bytes P fs place (bytes new) node into.hole.path into.hole.front
+  none_stored = ap (λ xs. first_of (with_key bytes (bytes new) xs)) (sym old.pairs_are)
+      ∙ ap first_of (with_key-hole bytes P fs place (bytes new) node into.hole.path into.hole.front
       ∙ filter_none (λ y. are_same (bytes new) (bytes y)) (pairs_of node)
-      (Each-weaker (λ y. bytes y ≢ bytes new) (λ y. are_same (bytes new) (bytes y) ≡ false) (λ y off. not_same (bytes new) (bytes y) (λ e. off (sym e))) (pairs_of node) into.unequal))
+      (Each-weaker (λ y. bytes y ≢ bytes new) (λ y. are_same (bytes new) (bytes y) ≡ false)
+      (λ y off. not_same (bytes new) (bytes y) (λ e. off (sym e))) (pairs_of node) into.unequal))
 
   -- so those in the hole are the removed ones
   pub hole_reply : overwrite_reply bytes new pairs ≡ only_or_count (pairs_of node)
-  hole_reply = overwrite_reply-new bytes new pairs none_stored ∙ ap (λ xs. only_or_count (related_to bytes (bytes new) xs)) (sym old.pairs_are) ∙ ap only_or_count hole_related
+  hole_reply = overwrite_reply-new bytes new pairs none_stored
+      ∙ ap (λ xs. only_or_count (related_to bytes (bytes new) xs)) (sym old.pairs_are) ∙ ap only_or_count hole_related
 
   -- the root is canonical for the pairs with the new one in their place
-  pub hole_overwritten : IsLaidOut bytes P (node_at t) (links_at t) (root_with fs root (leaf_name n)) (overwrite bytes new pairs) (plug fs (leaf (leaf_name n) new))
-  hole_overwritten = subst (λ ps. IsLaidOut bytes P (node_at t) (links_at t) (root_with fs root (leaf_name n)) ps (plug fs (leaf (leaf_name n) new))) (sym (overwrite-new bytes new pairs none_stored))
+  pub hole_overwritten : IsLaidOut bytes P (node_at t) (links_at t) (root_with fs root (leaf_name n)) (overwrite bytes new pairs)
+      (plug fs (leaf (leaf_name n) new))
+  hole_overwritten = subst (λ ps. IsLaidOut bytes P (node_at t) (links_at t) (root_with fs root (leaf_name n)) ps
+      (plug fs (leaf (leaf_name n) new))) (sym (overwrite-new bytes new pairs none_stored))
       (leaf_alone old hole_alone (replace_related bytes new) (replace_related-between bytes new) none_left)
 
   -- ---- what is touched, and what stays
@@ -223,7 +239,8 @@ module _ {K V : Type 0} {bytes : K × V → List ℕ} {P : ℕ} {s u t : Nodes K
   placed_print : Footprint s u (leaf_name n ∷ []) [] (both_names beside (parents fs ++ []))
   placed_print = footprint_of s u
       (subst (λ z. Touched s.leaves z (n ∷ []) [] beside) (sym into.leaves) (touched_with_leaf s.leaves n x hole_previous hole_next into.fresh))
-      (subst (λ z. Touched s.inners z [] [] (parents fs ++ [])) (sym into.inners) (then_parent (touched_none s.inners) fs (leaf_name n) (λ k up. parent_used k up) (λ k up. parent_used k up)))
+      (subst (λ z. Touched s.inners z [] [] (parents fs ++ [])) (sym into.inners)
+      (then_parent (touched_none s.inners) fs (leaf_name n) (λ k up. parent_used k up) (λ k up. parent_used k up)))
       tt tt (parents_inner bytes P s fs (name_of node) above [] tt)
 
   beside_changed : (p : LeafPtr) → IsIn p beside → IsIn (leaf_name p) (before ++ after)
@@ -241,12 +258,15 @@ module _ {K V : Type 0} {bytes : K × V → List ℕ} {P : ℕ} {s u t : Nodes K
   changed_apart k i j =
       each_in (λ q. IsIn q (names_of node) → ⊥) k (both_names beside (parents fs ++ []))
       (Each-append (λ q. IsIn q (names_of node) → ⊥) (map leaf_name beside) (map inner_name (parents fs ++ []))
-      (each_map leaf_name (λ q. IsIn q (names_of node) → ⊥) beside (each_from (λ p. IsIn (leaf_name p) (names_of node) → ⊥) beside (λ p h. beside_apart (leaf_name p) (beside_changed p h))))
+      (each_map leaf_name (λ q. IsIn q (names_of node) → ⊥) beside
+      (each_from (λ p. IsIn (leaf_name p) (names_of node) → ⊥) beside (λ p h. beside_apart (leaf_name p) (beside_changed p h))))
       (each_map inner_name (λ q. IsIn q (names_of node) → ⊥) (parents fs ++ [])
-      (each_from (λ p. IsIn (inner_name p) (names_of node) → ⊥) (parents fs ++ []) (λ p h l. let (q, up, e) = parents_up p h in up_apart q up (subst (λ z. IsIn z (names_of node)) e l))))) j i
+      (each_from (λ p. IsIn (inner_name p) (names_of node) → ⊥) (parents fs ++ [])
+      (λ p h l. let (q, up, e) = parents_up p h in up_apart q up (subst (λ z. IsIn z (names_of node)) e l))))) j i
 
   hole_used : Each (IsUsed s) (names_of node)
-  hole_used = Each-weaker (IsTaken (node_at s)) (IsUsed s) (λ k used e. used (ap (option_map (tree_node k.kind)) e)) (names_of node) (all_taken (node_at s) node hole_held)
+  hole_used = Each-weaker (IsTaken (node_at s)) (IsUsed s) (λ k used e. used (ap (option_map (tree_node k.kind)) e)) (names_of node)
+      (all_taken (node_at s) node hole_held)
 
   -- the leaf is placed, the names of the hole are freed
   pub hole_print : Footprint s t (leaf_name n ∷ []) (names_of node) (both_names beside (parents fs ++ []))
@@ -258,7 +278,8 @@ module _ {K V : Type 0} {bytes : K × V → List ℕ} {P : ℕ} {s u t : Nodes K
       let few = length-beside x.next x.previous in
       let up = length-parents fs [] in
       let all : length (both_names beside (parents fs ++ [])) ≡ length beside + length (parents fs ++ []) =
-      length-append (map leaf_name beside) (map inner_name (parents fs ++ [])) ∙ ap₂ (λ a b. a + b) (length-map beside leaf_name) (length-map (parents fs ++ []) inner_name) in
+      length-append (map leaf_name beside) (map inner_name (parents fs ++ []))
+      ∙ ap₂ (λ a b. a + b) (length-map beside leaf_name) (length-map (parents fs ++ []) inner_name) in
       (leaf_name n, both_names beside (parents fs ++ []), hole_print, omega arith)
 
   -- no key of the hole stays
@@ -276,5 +297,7 @@ module _ {K V : Type 0} {bytes : K × V → List ℕ} {P : ℕ} {s u t : Nodes K
   hole_kept = in_place hole_print P
       (names_around fs node (leaf (leaf_name n) new) (leaf_name n ∷ []) (names_of node) (both_names beside (parents fs ++ []))
       (record { placed_in = λ k i. i; freed_in = λ k i. i; changed_in = λ k i. absurd i; old_stays = λ k i. inr i; new_comes = λ k i. inr i })
-      (both_in (names_of (plug fs node)) beside (parents fs ++ []) (λ p i. in_before_whole (leaf_name p) (beside_changed p i)) (parents_in fs node [] (λ p i. absurd i))))
-      (leaf_alone_keeps_leaves old hole_alone (replace_related bytes new) (replace_related-between bytes new) none_left none_stay) (leaf_alone_keeps old hole_alone)
+      (both_in (names_of (plug fs node)) beside (parents fs ++ []) (λ p i. in_before_whole (leaf_name p) (beside_changed p i))
+      (parents_in fs node [] (λ p i. absurd i))))
+      (leaf_alone_keeps_leaves old hole_alone (replace_related bytes new) (replace_related-between bytes new) none_left none_stay)
+      (leaf_alone_keeps old hole_alone)

@@ -47,7 +47,8 @@ pub record IntoLeaf {K V : Type 0} (bytes : K × V → List ℕ) (P : ℕ) (s t 
 
 module _ {K V : Type 0} {bytes : K × V → List ℕ} {P : ℕ} {s t : Nodes K V} {root : OpaqueNodePtr} {pairs : List (K × V)}
     {fs : List (Frame OpaqueNodePtr (K × V))} {place : List ℕ} {p : LeafPtr} {x : LeafNode K V} {new : K × V}
-    (old : IsLaidOut bytes P (node_at s) (links_at s) root pairs (plug fs (leaf (leaf_name p) (pair_of x)))) (into : IntoLeaf bytes P s t fs place p x new) where
+    (old : IsLaidOut bytes P (node_at s) (links_at s) root pairs (plug fs (leaf (leaf_name p) (pair_of x))))
+    (into : IntoLeaf bytes P s t fs place p x new) where
   leaf_then : get t.leaves p ≡ Some (with_pair new.0 new.1 x)
   leaf_then = ap (λ z. get z p) into.leaves ∙ leaf_changed_at s.leaves p into.write ∙ ap (option_map into.write) into.here ∙ ap Some into.written
 
@@ -57,7 +58,8 @@ module _ {K V : Type 0} {bytes : K × V → List ℕ} {P : ℕ} {s t : Nodes K V
   links_same : (k : OpaqueNodePtr) → links_at t k ≡ links_at s k
   links_same k = elim (leaf_or k) [
     | inl (q, e) ↦ subst (λ (z : OpaqueNodePtr). links_at t z ≡ links_at s z) (sym e) (elim (same_leaf q p) [
-      | inl here ↦ subst (λ z. links_at t (leaf_name z) ≡ links_at s (leaf_name z)) (sym here) (links_leaf t p (Some (with_pair new.0 new.1 x)) leaf_then ∙ sym (links_leaf s p (Some x) into.here))
+      | inl here ↦ subst (λ z. links_at t (leaf_name z) ≡ links_at s (leaf_name z)) (sym here)
+          (links_leaf t p (Some (with_pair new.0 new.1 x)) leaf_then ∙ sym (links_leaf s p (Some x) into.here))
       | inr off ↦ links_leaf t q (get s.leaves q) (other_leaf q off)
     ])
     | inr off ↦ links_inner t k off ∙ sym (links_inner s k off)
@@ -71,7 +73,8 @@ module _ {K V : Type 0} {bytes : K × V → List ℕ} {P : ℕ} {s t : Nodes K V
     hole = into.hole;
     named = inl (inl refl);
     there = node_at-leaf t p ∙ ap (λ o. option_map leaf_node (option_map pair_of o)) leaf_then;
-    parent = parent_stays (node_at s) (node_at t) fs (leaf_name p) above (λ k is. same_inner s t k (parent_there bytes P s fs (leaf_name p) above k is).0 (ap (λ z. get z (as_inner k)) into.inners));
+    parent = parent_stays (node_at s) (node_at t) fs (leaf_name p) above
+        (λ k is. same_inner s t k (parent_there bytes P s fs (leaf_name p) above k is).0 (ap (λ z. get z (as_inner k)) into.inners));
     same = same_but s t fs (leaf_name p ∷ []) (λ q off used. ap (option_map pair_of) (other_leaf q (λ e. off (inl (ap leaf_name (sym e))))))
         (λ k kind up off used. ap (λ z. get z (as_inner k)) into.inners);
     linked = linked_still fs (leaf_name p) (pair_of x) new old (λ k i. links_same k);
@@ -87,7 +90,8 @@ module _ {K V : Type 0} {bytes : K × V → List ℕ} {P : ℕ} {s t : Nodes K V
   leaf_print : Footprint s t [] [] (leaf_name p ∷ [])
   leaf_print =
       let used : get s.leaves p ≢ None = λ e. absurd (cc (into.here, e)) in
-      footprint_of s t (subst (λ z. Touched s.leaves z [] [] (p ∷ [])) (sym into.leaves) (then_changed leaf_cmp_total leaf_cmp-IsAntisymmetric (touched_none s.leaves) p into.write used used))
+      footprint_of s t (subst (λ z. Touched s.leaves z [] [] (p ∷ [])) (sym into.leaves)
+      (then_changed leaf_cmp_total leaf_cmp-IsAntisymmetric (touched_none s.leaves) p into.write used used))
       (subst (λ z. Touched s.inners z [] [] []) (sym into.inners) (touched_none s.inners)) tt tt tt
 
   -- one name is changed
@@ -120,7 +124,8 @@ module _ {K V : Type 0} {bytes : K × V → List ℕ} {P : ℕ} {s t : Nodes K V
     -- the leaf's pair is the one with the key
     leaf_stored : first_of (with_key bytes (bytes handed) pairs) ≡ Some (pair_of x)
     leaf_stored = ap (λ xs. first_of (with_key bytes (bytes handed) xs)) (sym old.pairs_are)
-        ∙ ap first_of (with_key-hole bytes P fs place (bytes handed) (leaf (leaf_name p) (pair_of x)) into.hole.path (subst (IsFront place) alike into.hole.front)) ∙ rw key_same refl
+        ∙ ap first_of (with_key-hole bytes P fs place (bytes handed) (leaf (leaf_name p) (pair_of x)) into.hole.path
+        (subst (IsFront place) alike into.hole.front)) ∙ rw key_same refl
 
     -- it is what is stored for the pair
     pub leaf_stored_for : stored_for bytes handed pairs ≡ new
@@ -128,7 +133,8 @@ module _ {K V : Type 0} {bytes : K × V → List ℕ} {P : ℕ} {s t : Nodes K V
 
     -- the pair is put
     pub leaf_inserted : IsLaidOut bytes P (node_at t) (links_at t) root (put bytes handed pairs) (plug fs (leaf (leaf_name p) new))
-    leaf_inserted = subst (λ ps. IsLaidOut bytes P (node_at t) (links_at t) root ps (plug fs (leaf (leaf_name p) new))) (ap (λ z. replace_key bytes z pairs) (sym leaf_stored_for))
+    leaf_inserted = subst (λ ps. IsLaidOut bytes P (node_at t) (links_at t) root ps (plug fs (leaf (leaf_name p) new)))
+        (ap (λ z. replace_key bytes z pairs) (sym leaf_stored_for))
         (leaf_changed (replace_key bytes new) (replace_key-between bytes new) replaced_here)
 
     pub leaf_insertion_kept : ChangesInPlace bytes s t (Some (plug fs (leaf (leaf_name p) (pair_of x)))) (Some (plug fs (leaf (leaf_name p) new)))
@@ -151,7 +157,9 @@ module _ {K V : Type 0} {bytes : K × V → List ℕ} {P : ℕ} {s t : Nodes K V
 
     -- the new pair replaces the old one
     pub leaf_overwritten : IsLaidOut bytes P (node_at t) (links_at t) root (overwrite bytes new pairs) (plug fs (leaf (leaf_name p) new))
-    leaf_overwritten = subst (λ ps. IsLaidOut bytes P (node_at t) (links_at t) root ps (plug fs (leaf (leaf_name p) new))) (sym (overwrite-new bytes new pairs none_stored))
+    leaf_overwritten =
+        subst (λ ps. IsLaidOut bytes P (node_at t) (links_at t) root ps (plug fs (leaf (leaf_name p) new)))
+        (sym (overwrite-new bytes new pairs none_stored))
         (leaf_changed (replace_related bytes new) (replace_related-between bytes new) replaced_related)
 
     pub leaf_overwrite_kept : ChangesInPlace bytes s t (Some (plug fs (leaf (leaf_name p) (pair_of x)))) (Some (plug fs (leaf (leaf_name p) new)))

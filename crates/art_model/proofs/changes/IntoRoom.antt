@@ -41,10 +41,12 @@ pub record IntoRoom {K V : Type 0} (bytes : K × V → List ℕ) (P : ℕ) (s t 
   pub inners : t.inners ≡ change s.inners (as_inner m) (with_child b (leaf_name n))
 
 module _ {K V : Type 0} {bytes : K × V → List ℕ} {P : ℕ} {s t : Nodes K V} {root : OpaqueNodePtr} {pairs : List (K × V)}
-    {fs : List (Frame OpaqueNodePtr (K × V))} {place : List ℕ} {m : OpaqueNodePtr} {h : NodeHeader} {l r : Subtrees OpaqueNodePtr (K × V)} {b : ℕ} {n : LeafPtr} {x : LeafNode K V}
+    {fs : List (Frame OpaqueNodePtr (K × V))} {place : List ℕ} {m : OpaqueNodePtr} {h : NodeHeader} {l r : Subtrees OpaqueNodePtr (K × V)}
+    {b : ℕ} {n : LeafPtr} {x : LeafNode K V}
     (old : IsLaidOut bytes P (node_at s) (links_at s) root pairs (plug fs (inner m h (join l r)))) (into : IntoRoom bytes P s t fs place m h l r b n x) where
   others : (k : OpaqueNodePtr) → k ≢ m → get t.inners (as_inner k) ≡ get s.inners (as_inner k)
-  others k off = ap (λ z. get z (as_inner k)) into.inners ∙ inner_changed_elsewhere s.inners (as_inner m) (as_inner k) (with_child b (leaf_name n)) (λ e. off (inner_name_one k m e))
+  others k off = ap (λ z. get z (as_inner k)) into.inners
+      ∙ inner_changed_elsewhere s.inners (as_inner m) (as_inner k) (with_child b (leaf_name n)) (λ e. off (inner_name_one k m e))
 
   -- the node has one more child
   pub room_inserted : ChildInserted bytes P (node_at s) (node_at t) (links_at s) (links_at t) fs place m m (leaf_name n) h l r b (pair_of x)
@@ -52,7 +54,8 @@ module _ {K V : Type 0} {bytes : K × V → List ℕ} {P : ℕ} {s t : Nodes K V
       let held = path_holds (node_at s) fs (inner m h (join l r)) old.holds in
       let (off, node, got, head, kids) = inner_at s m h (slots_of (join l r)) held.1.0 in
       let is : get t.inners (as_inner m) ≡ Some (with_child b (leaf_name n) node) =
-      ap (λ z. get z (as_inner m)) into.inners ∙ inner_changed_at s.inners (as_inner m) (with_child b (leaf_name n)) ∙ ap (option_map (with_child b (leaf_name n))) got in
+      ap (λ z. get z (as_inner m)) into.inners ∙ inner_changed_at s.inners (as_inner m) (with_child b (leaf_name n))
+      ∙ ap (option_map (with_child b (leaf_name n))) got in
       let count = length (bytes_of (join l r)) in
       let kind : h.kind ≡ m.kind = sym (ap (λ z. z.kind) head) in
       let more : h.kind ≡ kind_of (suc count) = kind ∙ kind_of-room m.kind count (sym kind ∙ ap (λ z. z.kind) into.gap.hole.radix.1) into.room in
@@ -68,7 +71,8 @@ module _ {K V : Type 0} {bytes : K × V → List ℕ} {P : ℕ} {s t : Nodes K V
         new_leaf = placed_node old.holds old.distinct into.placed;
         parent = parent_stays (node_at s) (node_at t) fs m held.0 (λ k is. same_inner s t k (parent_there bytes P s fs m held.0 k is).0
             (others k (λ e. parent_apart (node_at s) (node_at t) fs (inner m h (join l r)) old.holds old.distinct k is (inl (sym e)))));
-        same = same_but s t fs (m ∷ []) (λ p i used. placed_pairs old.holds old.distinct into.placed p used) (λ k inner_kind up i used. others k (λ e. i (inl (sym e))));
+        same = same_but s t fs (m ∷ []) (λ p i used. placed_pairs old.holds old.distinct into.placed p used)
+            (λ k inner_kind up i used. others k (λ e. i (inl (sym e))));
         relinked = placed_relinked old.holds old.distinct into.placed;
       }
 
@@ -100,4 +104,5 @@ module _ {K V : Type 0} {bytes : K × V → List ℕ} {P : ℕ} {s t : Nodes K V
 
   -- the root is canonical for the pairs with the new one, and all nodes that stay keep their names
   pub room_added : ChildAdded bytes P s t root pairs fs m m h l r b (leaf_name n) (pair_of x)
-  room_added = child_added old room_inserted (footprint_of s t room_leaves room_inners tt tt (is_inner, tt)) (names_with_leaf l r b (leaf_name n) (pair_of x) m h) changed_in
+  room_added = child_added old room_inserted (footprint_of s t room_leaves room_inners tt tt (is_inner, tt))
+      (names_with_leaf l r b (leaf_name n) (pair_of x) m h) changed_in

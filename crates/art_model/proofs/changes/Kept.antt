@@ -25,16 +25,19 @@ module _ {N A : Type 0} (bytes : A → List ℕ) where
 
 module _ {N A : Type 0} (bytes : A → List ℕ) (P : ℕ) where
   -- a branch: the nodes of the subtree are among those of the branch
-  pub kept_branch : (place : List ℕ) (t u : Tree N A) (m n : N) (h : NodeHeader) (b c : ℕ) (new : A) → IsRadix bytes P place (inner m h (two_children b u c (leaf n new))) →
+  pub kept_branch : (place : List ℕ) (t u : Tree N A) (m n : N) (h : NodeHeader) (b c : ℕ) (new : A) →
+      IsRadix bytes P place (inner m h (two_children b u c (leaf n new))) →
       inner_nodes bytes (length place) t ≡ inner_nodes bytes (length place + h.length_of + 1) u →
       KeepNames (inner_nodes bytes (length place) t) (inner_nodes bytes (length place) (inner m h (two_children b u c (leaf n new))))
   kept_branch place t u m n h b c new radix same =
       let d = length place + h.length_of + 1 in
       let branch = inner m h (two_children b u c (leaf n new)) in
-      kept_among (inner_nodes bytes (length place) branch) (inner_nodes bytes (length place) t) (inner_nodes bytes (length place) branch) (whole_differ bytes P branch place radix)
+      kept_among (inner_nodes bytes (length place) branch) (inner_nodes bytes (length place) t) (inner_nodes bytes (length place) branch)
+      (whole_differ bytes P branch place radix)
       (λ e i. inr (subst (IsIn e) (sym (below d (ltb b c))) (in_left e (inner_nodes bytes d u) [] (subst (IsIn e) same i)))) (λ e i. i)
     where
-      below : (d : ℕ) (first : Bool) → inner_nodes_below bytes d (cond first (child b u (child c (leaf n new) no_child)) (child c (leaf n new) (child b u no_child))) ≡ inner_nodes bytes d u ++ []
+      below : (d : ℕ) (first : Bool) → inner_nodes_below bytes d
+          (cond first (child b u (child c (leaf n new) no_child)) (child c (leaf n new) (child b u no_child))) ≡ inner_nodes bytes d u ++ []
       below d true = refl
       below d false = refl
 
@@ -46,16 +49,20 @@ module _ {N A : Type 0} (bytes : A → List ℕ) (P : ℕ) where
   kept_children place m node h head cs ds (part, e, two, up, below) (part', e', two', up', below') same others named =
       let len : head.length_of ≡ h.length_of = ap (λ z. z.length_of) e' ∙ ap length same ∙ sym (ap (λ z. z.length_of) e) in
       let whole : take (length place + h.length_of) (least_below bytes cs) ≡ take (length place + head.length_of) (least_below bytes ds) =
-      whole_is bytes P h place part (length (bytes_of cs)) cs e two below ∙ ap (λ z. place ++ z) (sym same) ∙ sym (whole_is bytes P head place part' (length (bytes_of ds)) ds e' two' below') in
+      whole_is bytes P h place part (length (bytes_of cs)) cs e two below ∙ ap (λ z. place ++ z) (sym same)
+      ∙ sym (whole_is bytes P head place part' (length (bytes_of ds)) ds e' two' below') in
       let d = length place + h.length_of + 1 in
-      let rest : inner_nodes_below bytes (length place + head.length_of + 1) ds ≡ inner_nodes_below bytes d cs = ap (λ z. inner_nodes_below bytes (length place + z + 1) ds) len ∙ others d in
-      subst (λ xs. KeepNames (inner_nodes bytes (length place) (inner m h cs)) ((head.kind, take (length place + head.length_of) (least_below bytes ds), node) ∷ xs)) (sym rest)
+      let rest : inner_nodes_below bytes (length place + head.length_of + 1) ds ≡ inner_nodes_below bytes d cs =
+      ap (λ z. inner_nodes_below bytes (length place + z + 1) ds) len ∙ others d in
+      subst (λ xs. KeepNames (inner_nodes bytes (length place) (inner m h cs))
+      ((head.kind, take (length place + head.length_of) (least_below bytes ds), node) ∷ xs)) (sym rest)
       (kept_head (h.kind, take (length place + h.length_of) (least_below bytes cs), m)
       (head.kind, take (length place + head.length_of) (least_below bytes ds), node) (inner_nodes_below bytes d cs) whole named
       (whole_differ bytes P (inner m h cs) place (part, e, two, up, below)))
 
   -- a further leaf or one less among children makes no difference to the inner nodes below
-  pub inner_nodes-leaf : (d : ℕ) (l r : Subtrees N A) (b : ℕ) (n : N) (x : A) → inner_nodes_below bytes d (join l (child b (leaf n x) r)) ≡ inner_nodes_below bytes d (join l r)
+  pub inner_nodes-leaf : (d : ℕ) (l r : Subtrees N A) (b : ℕ) (n : N) (x : A) →
+      inner_nodes_below bytes d (join l (child b (leaf n x) r)) ≡ inner_nodes_below bytes d (join l r)
   inner_nodes-leaf d l r b n x = inner_nodes_below-join bytes d l (child b (leaf n x) r) ∙ sym (inner_nodes_below-join bytes d l r)
 
   -- The one child that is left replaces its parent: its nodes were among those of the parent.
@@ -66,8 +73,10 @@ module _ {N A : Type 0} (bytes : A → List ℕ) (P : ℕ) where
   kept_lifted place m n h l r b c x v u radix one same =
       let d = length place + h.length_of + 1 in
       let t = inner m h (join l (child b (leaf n x) r)) in
-      let below : inner_nodes_below bytes d (join l (child b (leaf n x) r)) ≡ inner_nodes bytes d v ++ [] = inner_nodes-leaf d l r b n x ∙ ap (inner_nodes_below bytes d) one in
-      kept_among (inner_nodes bytes (length place) t) (inner_nodes bytes (length place) t) (inner_nodes bytes (length place) u) (whole_differ bytes P t place radix)
+      let below : inner_nodes_below bytes d (join l (child b (leaf n x) r)) ≡ inner_nodes bytes d v ++ [] =
+      inner_nodes-leaf d l r b n x ∙ ap (inner_nodes_below bytes d) one in
+      kept_among (inner_nodes bytes (length place) t) (inner_nodes bytes (length place) t) (inner_nodes bytes (length place) u)
+      (whole_differ bytes P t place radix)
       (λ e i. i) (λ e i. inr (subst (IsIn e) (sym below) (in_left e (inner_nodes bytes d v) [] (subst (IsIn e) same i))))
 
 -- ---- leaves: a key that stays keeps its leaf's name
@@ -99,17 +108,24 @@ module _ {N A : Type 0} (bytes : A → List ℕ) (P : ℕ) where
       let was = entries_of-plug fs t in
       let is = entries_of-plug fs u in
       let R = λ (e f : A × N). bytes e.0 ≢ bytes f.0 in
-      subst (λ xs. KeepLeaves xs (entries_of (plug fs u))) (sym was) (subst (λ xs. KeepLeaves (entries_before fs ++ entries_of t ++ entries_after fs) xs) (sym is)
+      subst (λ xs. KeepLeaves xs (entries_of (plug fs u))) (sym was)
+      (subst (λ xs. KeepLeaves (entries_before fs ++ entries_of t ++ entries_after fs) xs) (sym is)
       (keep_between (λ e. bytes e.0) (λ e. e.1) (λ e f. Unit {0}) (entries_before fs) (entries_of t) (entries_of u) (entries_after fs)
       (subst (Pairwise R) was (keys_differ (plug fs t) [] rt)) (subst (Pairwise R) is (keys_differ (plug fs u) [] ru)) local))
 
   -- the leaves in the hole are among those of the new tree, or the other way round: so in each insertion and deletion
-  pub kept_leaves_more : (t u : Tree N A) (place : List ℕ) → IsRadix bytes P place u → ((e : A × N) → IsIn e (entries_of t) → IsIn e (entries_of u)) → KeepLeaves (entries_of t) (entries_of u)
-  kept_leaves_more t u place radix among = keep_among (λ e. bytes e.0) (λ e. e.1) (λ e f. Unit {0}) (entries_of u) (entries_of t) (entries_of u) (keys_differ u place radix) among (λ e i. i)
+  pub kept_leaves_more : (t u : Tree N A) (place : List ℕ) → IsRadix bytes P place u →
+      ((e : A × N) → IsIn e (entries_of t) → IsIn e (entries_of u)) → KeepLeaves (entries_of t) (entries_of u)
+  kept_leaves_more t u place radix among =
+      keep_among (λ e. bytes e.0) (λ e. e.1) (λ e f. Unit {0}) (entries_of u) (entries_of t) (entries_of u)
+      (keys_differ u place radix) among (λ e i. i)
 
   -- those of the new tree are among the old ones
-  pub kept_leaves_fewer : (t u : Tree N A) (place : List ℕ) → IsRadix bytes P place t → ((e : A × N) → IsIn e (entries_of u) → IsIn e (entries_of t)) → KeepLeaves (entries_of t) (entries_of u)
-  kept_leaves_fewer t u place radix among = keep_among (λ e. bytes e.0) (λ e. e.1) (λ e f. Unit {0}) (entries_of t) (entries_of t) (entries_of u) (keys_differ t place radix) (λ e i. i) among
+  pub kept_leaves_fewer : (t u : Tree N A) (place : List ℕ) → IsRadix bytes P place t →
+      ((e : A × N) → IsIn e (entries_of u) → IsIn e (entries_of t)) → KeepLeaves (entries_of t) (entries_of u)
+  kept_leaves_fewer t u place radix among =
+      keep_among (λ e. bytes e.0) (λ e. e.1) (λ e f. Unit {0}) (entries_of t) (entries_of t) (entries_of u)
+      (keys_differ t place radix) (λ e i. i) among
 
   -- one leaf replaces another with its name
   pub kept_leaf : (n : N) (x new : A) → KeepLeaves (entries_of (leaf n x)) (entries_of (leaf n new))

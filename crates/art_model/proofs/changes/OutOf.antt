@@ -54,7 +54,8 @@ module _ {A : Type 0} where
   pub remove_child-there : (l r : Subtrees OpaqueNodePtr A) (b : ℕ) (t : Tree OpaqueNodePtr A) → Each (λ c. c < b) (bytes_of l) →
       Each (λ c. b < c) (bytes_of r) → remove_child (slots_of (join l (child b t r))) b ≡ slots_of (join l r)
   remove_child-there no_child r b t low high = rw (eq-eqb b b refl) (remove_child-above r b high)
-  remove_child-there (child c u l) r b t low high = rw (ne_eqb c b (λ e. let h = low.0 in omega arith)) (ap (λ z. (c, name_of u) ∷ z) (remove_child-there l r b t low.1 high))
+  remove_child-there (child c u l) r b t low high =
+      rw (ne_eqb c b (λ e. let h = low.0 in omega arith)) (ap (λ z. (c, name_of u) ∷ z) (remove_child-there l r b t low.1 high))
 
 -- a node of an inner kind that has more children than the kind's minimum keeps two
 pub two_of_spare : (kind : NodeType) (n : ℕ) → kind ≢ Leaf → kind_least kind ≤ n → 2 ≤ n
@@ -74,7 +75,8 @@ two_of_larger Leaf n off h = absurd h
 
 -- with one child fewer than its kind's minimum it has the smaller kind's number
 pub kind_of-smaller : (kind : NodeType) (n : ℕ) → kind ≢ Node4 → kind ≡ kind_of (suc n) → n < kind_least kind → smaller_kind kind ≡ kind_of n
-kind_of-smaller kind n off e least = sym (kind_of-range (smaller_kind kind) n (fewer kind off (subst (λ k. IsInRange k (suc n)) (sym e) (range_of_kind (suc n))) least))
+kind_of-smaller kind n off e least =
+    sym (kind_of-range (smaller_kind kind) n (fewer kind off (subst (λ k. IsInRange k (suc n)) (sym e) (range_of_kind (suc n))) least))
   where
     fewer : (k : NodeType) → k ≢ Node4 → IsInRange k (suc n) → n < kind_least k → IsInRange (smaller_kind k) n
     fewer Node4 off h l = absurd (off refl)
@@ -147,7 +149,8 @@ pub record HasLeafBelow {K V : Type 0} (bytes : K × V → List ℕ) (P : ℕ) (
   pub laid : IsLaidOut bytes P (node_at s) (links_at s) root pairs (plug fs (with_leaf_in f n x))
 
 module _ {K V : Type 0} {bytes : K × V → List ℕ} {P : ℕ} {s : Nodes K V} {root : OpaqueNodePtr} {pairs : List (K × V)}
-    {f : Frame OpaqueNodePtr (K × V)} {fs : List (Frame OpaqueNodePtr (K × V))} {n : LeafPtr} {x : LeafNode K V} (old : HasLeafBelow bytes P s root pairs f fs n x) where
+    {f : Frame OpaqueNodePtr (K × V)} {fs : List (Frame OpaqueNodePtr (K × V))} {n : LeafPtr} {x : LeafNode K V}
+    (old : HasLeafBelow bytes P s root pairs f fs n x) where
   pub above_holds : HoldsPath (node_at s) f.mark fs
   above_holds = (path_holds (node_at s) fs (with_leaf_in f n x) old.laid.holds).0
 
@@ -183,7 +186,8 @@ module _ {K V : Type 0} {bytes : K × V → List ℕ} {P : ℕ} {s : Nodes K V} 
   -- the parent as the store has it
   pub parent_is : (f.mark.kind ≢ Leaf) × (node : Inner) × (get s.inners (as_inner f.mark) ≡ Some node) × (header_at f.mark.kind node ≡ f.header) ×
       (node.children ≡ slots_of (join f.left (child f.byte (leaf (leaf_name n) (pair_of x)) f.right)))
-  parent_is = inner_at s f.mark f.header (slots_of (join f.left (child f.byte (leaf (leaf_name n) (pair_of x)) f.right))) (path_holds (node_at s) fs (with_leaf_in f n x) old.laid.holds).1.0
+  parent_is = inner_at s f.mark f.header (slots_of (join f.left (child f.byte (leaf (leaf_name n) (pair_of x)) f.right)))
+      (path_holds (node_at s) fs (with_leaf_in f n x) old.laid.holds).1.0
 
   parent_used : get s.inners (as_inner f.mark) ≢ None
   parent_used e = let got = parent_is.2 in absurd (cc (got, e))
@@ -194,7 +198,8 @@ module _ {K V : Type 0} {bytes : K × V → List ℕ} {P : ℕ} {s : Nodes K V} 
 
   -- the header with one child fewer
   header_is : (kind : NodeType) (node : Inner) → get s.inners (as_inner f.mark) ≡ Some node →
-      kind ≡ kind_of (length (bytes_of (join f.left f.right))) → header_at kind (without_child f.byte node) ≡ canonical_header P hole.1.radix.0 (length (bytes_of (join f.left f.right)))
+      kind ≡ kind_of (length (bytes_of (join f.left f.right))) →
+      header_at kind (without_child f.byte node) ≡ canonical_header P hole.1.radix.0 (length (bytes_of (join f.left f.right)))
   header_is kind node there e =
       let same : node ≡ parent_is.1 = let both = parent_is.2 in cc in
       let head : header_at f.mark.kind node ≡ canonical_header P hole.1.radix.0 (suc (length (bytes_of (join f.left f.right)))) =
@@ -205,7 +210,11 @@ module _ {K V : Type 0} {bytes : K × V → List ℕ} {P : ℕ} {s : Nodes K V} 
 
   -- it is among those of the tree
   pub leaf_among : get s.leaves n ≡ Some x → LeafAmong s (plug fs (with_leaf_in f n x)) (leaves_before (f ∷ fs)) (leaves_after (f ∷ fs)) n x
-  leaf_among here = record { list = leaf_names-plug (f ∷ fs) (leaf (leaf_name n) (pair_of x)) ∙ append_assoc (leaves_before (f ∷ fs)) (leaf_name n ∷ []) (leaves_after (f ∷ fs)); here = here }
+  leaf_among here = record {
+    list = leaf_names-plug (f ∷ fs) (leaf (leaf_name n) (pair_of x))
+        ∙ append_assoc (leaves_before (f ∷ fs)) (leaf_name n ∷ []) (leaves_after (f ∷ fs));
+    here = here;
+  }
 
   -- and its neighbours are in the store
   pub links_there : get s.leaves n ≡ Some x → IsThere s.leaves x.previous × IsThere s.leaves x.next
@@ -216,7 +225,8 @@ module _ {K V : Type 0} {bytes : K × V → List ℕ} {P : ℕ} {s : Nodes K V} 
     taken = record { among = leaf_among goes.here; leaves = goes.leaves }
 
     -- other leaves keep their pairs
-    pairs_stay : (p : LeafPtr) → (IsIn (leaf_name p) (f.mark ∷ leaf_name n ∷ []) → ⊥) → option_map pair_of (get t.leaves p) ≡ option_map pair_of (get s.leaves p)
+    pairs_stay : (p : LeafPtr) → (IsIn (leaf_name p) (f.mark ∷ leaf_name n ∷ []) → ⊥) →
+        option_map pair_of (get t.leaves p) ≡ option_map pair_of (get s.leaves p)
     pairs_stay p off = taken_pairs old.laid.holds old.laid.distinct old.laid.linked taken p (λ e. off (inr (inl (ap leaf_name (sym e)))))
 
     beside_stay : (p : LeafPtr) → IsIn p (listed x.next ++ (listed x.previous ++ [])) → IsIn (leaf_name p) (names_of (plug fs (with_leaf_in f n x)))
@@ -229,7 +239,8 @@ module _ {K V : Type 0} {bytes : K × V → List ℕ} {P : ℕ} {s : Nodes K V} 
 
   module _ {t : Nodes K V} (stays : ParentStays s t f n x) where
     rest_stays : (k : OpaqueNodePtr) → k ≢ f.mark → get t.inners (as_inner k) ≡ get s.inners (as_inner k)
-    rest_stays k off = ap (λ z. get z (as_inner k)) stays.inners ∙ inner_changed_elsewhere s.inners (as_inner f.mark) (as_inner k) (without_child f.byte) (λ e. off (inner_name_one k f.mark e))
+    rest_stays k off = ap (λ z. get z (as_inner k)) stays.inners
+        ∙ inner_changed_elsewhere s.inners (as_inner f.mark) (as_inner k) (without_child f.byte) (λ e. off (inner_name_one k f.mark e))
 
     above_stays : (k : OpaqueNodePtr) → IsParent fs k → node_at t k ≡ node_at s k
     above_stays k is =
@@ -237,18 +248,21 @@ module _ {K V : Type 0} {bytes : K × V → List ℕ} {P : ℕ} {s : Nodes K V} 
         (rest_stays k (λ e. parent_apart (node_at s) (node_at t) fs (with_leaf_in f n x) old.laid.holds old.laid.distinct k is (inl (sym e))))
 
     -- the node has one child fewer
-    pub child_out : ChildRemoved bytes P (node_at s) (node_at t) (links_at s) (links_at t) fs hole.0 f.mark f.mark (leaf_name n) f.header f.left f.right f.byte (pair_of x)
+    pub child_out : ChildRemoved bytes P (node_at s) (node_at t) (links_at s) (links_at t) fs hole.0 f.mark f.mark
+        (leaf_name n) f.header f.left f.right f.byte (pair_of x)
     child_out =
         let (off, node, got, head, kids) = parent_is in
         let is : get t.inners (as_inner f.mark) ≡ Some (without_child f.byte node) =
-        ap (λ z. get z (as_inner f.mark)) stays.inners ∙ inner_changed_at s.inners (as_inner f.mark) (without_child f.byte) ∙ ap (option_map (without_child f.byte)) got in
+        ap (λ z. get z (as_inner f.mark)) stays.inners ∙ inner_changed_at s.inners (as_inner f.mark) (without_child f.byte)
+        ∙ ap (option_map (without_child f.byte)) got in
         record {
           hole = hole.1;
           two = two_of_spare f.mark.kind (length (bytes_of (join f.left f.right))) off stays.spare;
           named = inl refl;
           same_kind = λ e. refl;
           there = node_at-inner t f.mark off (Some (without_child f.byte node)) is ∙
-              shown (header_is f.mark.kind node got (kind_of-spare f.mark.kind (length (bytes_of (join f.left f.right))) kind_is stays.spare)) (slots_left node.children kids);
+              shown (header_is f.mark.kind node got (kind_of-spare f.mark.kind
+              (length (bytes_of (join f.left f.right))) kind_is stays.spare)) (slots_left node.children kids);
           parent = parent_stays (node_at s) (node_at t) fs f.mark above_holds above_stays;
           same = same_but s t fs (f.mark ∷ leaf_name n ∷ []) (λ p i used. pairs_stay stays.goes p i) (λ k kind up i used. rest_stays k (λ e. i (inl (sym e))));
           relinked = taken_relinked old.laid.holds old.laid.distinct old.laid.linked (taken stays.goes);
@@ -269,9 +283,13 @@ module _ {K V : Type 0} {bytes : K × V → List ℕ} {P : ℕ} {s : Nodes K V} 
         subst (λ z. Touched s.inners z [] [] (as_inner f.mark ∷ [])) (sym stays.inners)
         (then_changed inner_cmp_total inner_cmp-IsAntisymmetric (touched_none s.inners) (as_inner f.mark) (without_child f.byte) parent_used parent_used)
 
-    are_names : AreNames (names_of (plug fs (with_leaf_in f n x))) (names_of (plug fs left_out)) [] (leaf_name n ∷ []) (both_names (listed x.next ++ (listed x.previous ++ [])) (as_inner f.mark ∷ []))
-    are_names = names_around fs (with_leaf_in f n x) left_out [] (leaf_name n ∷ []) (both_names (listed x.next ++ (listed x.previous ++ [])) (as_inner f.mark ∷ []))
-        (names_back (names_with_leaf f.left f.right f.byte (leaf_name n) (pair_of x) f.mark (canonical_header P hole.1.radix.0 (length (bytes_of (join f.left f.right)))) f.header))
+    are_names : AreNames (names_of (plug fs (with_leaf_in f n x))) (names_of (plug fs left_out)) [] (leaf_name n ∷ [])
+        (both_names (listed x.next ++ (listed x.previous ++ [])) (as_inner f.mark ∷ []))
+    are_names =
+        names_around fs (with_leaf_in f n x) left_out [] (leaf_name n ∷ [])
+        (both_names (listed x.next ++ (listed x.previous ++ [])) (as_inner f.mark ∷ []))
+        (names_back (names_with_leaf f.left f.right f.byte (leaf_name n) (pair_of x) f.mark
+        (canonical_header P hole.1.radix.0 (length (bytes_of (join f.left f.right)))) f.header))
         (both_in (names_of (plug fs (with_leaf_in f n x))) (listed x.next ++ (listed x.previous ++ [])) (as_inner f.mark ∷ []) (beside_stay stays.goes)
         (λ p i. elim i [ inl e ↦ in_hole fs (with_leaf_in f n x) (inner_name p) (inl (ap inner_name e)) | inr j ↦ absurd j ]))
 
@@ -317,7 +335,8 @@ module _ {K V : Type 0} {bytes : K × V → List ℕ} {P : ℕ} {s : Nodes K V} 
     above_used k up = (parent_there bytes P s fs f.mark above_holds k up).1
 
     pub above_same : (k : OpaqueNodePtr) → IsParent fs k → get placed (as_inner k) ≡ get s.inners (as_inner k)
-    above_same k up = placed_elsewhere k (λ e. parent_apart (node_at s) (node_at t) fs (with_leaf_in f n x) old.laid.holds old.laid.distinct k up (inl (sym e))) (above_used k up)
+    above_same k up = placed_elsewhere k (λ e. parent_apart (node_at s) (node_at t) fs
+        (with_leaf_in f n x) old.laid.holds old.laid.distinct k up (inl (sym e))) (above_used k up)
 
     all_inners : (k : OpaqueNodePtr) → get t.inners (as_inner k) ≡ get (with_child_at (parent_of fs) (inner_name q) placed) (as_inner k)
     all_inners k = ap (λ z. get z (as_inner k)) shrinks.inners
@@ -326,11 +345,15 @@ module _ {K V : Type 0} {bytes : K × V → List ℕ} {P : ℕ} {s : Nodes K V} 
     got = all_inners (inner_name q) ∙ with_child_at-elsewhere fs (inner_name q) placed (inner_name q) (λ up. above_used (inner_name q) up was_free) ∙
         inner_here (remove s.inners (as_inner f.mark)) q (without_child f.byte node)
 
-    rest_same : (k : OpaqueNodePtr) → k.kind ≢ Leaf → (IsParent fs k → ⊥) → k ≢ f.mark → node_at s k ≢ None → get t.inners (as_inner k) ≡ get s.inners (as_inner k)
-    rest_same k kind up other used = all_inners k ∙ with_child_at-elsewhere fs (inner_name q) placed k up ∙ placed_elsewhere k other (λ e. used (node_at-inner s k kind None e))
+    rest_same : (k : OpaqueNodePtr) → k.kind ≢ Leaf → (IsParent fs k → ⊥) → k ≢ f.mark → node_at s k ≢ None →
+        get t.inners (as_inner k) ≡ get s.inners (as_inner k)
+    rest_same k kind up other used =
+        all_inners k ∙ with_child_at-elsewhere fs (inner_name q) placed k up
+        ∙ placed_elsewhere k other (λ e. used (node_at-inner s k kind None e))
 
     -- another node has one child fewer, in the old one's place
-    pub child_out_of_smaller : ChildRemoved bytes P (node_at s) (node_at t) (links_at s) (links_at t) fs hole.0 f.mark (inner_name q) (leaf_name n) f.header f.left f.right f.byte (pair_of x)
+    pub child_out_of_smaller : ChildRemoved bytes P (node_at s) (node_at t) (links_at s) (links_at t) fs hole.0 f.mark (inner_name q)
+        (leaf_name n) f.header f.left f.right f.byte (pair_of x)
     child_out_of_smaller =
         let (proper, own, is, head, kids) = parent_is in
         let same : node ≡ own = let there = shrinks.there in cc in
@@ -339,13 +362,17 @@ module _ {K V : Type 0} {bytes : K × V → List ℕ} {P : ℕ} {s : Nodes K V} 
         record {
           hole = hole.1;
           two = two_of_larger f.mark.kind (length (bytes_of (join f.left f.right))) shrinks.larger
-              (subst (λ k. IsInRange k (suc (length (bytes_of (join f.left f.right))))) (sym kind_is) (range_of_kind (suc (length (bytes_of (join f.left f.right))))));
+              (subst (λ k. IsInRange k (suc (length (bytes_of (join f.left f.right))))) (sym kind_is)
+              (range_of_kind (suc (length (bytes_of (join f.left f.right))))));
           named = inr node_was_free;
-          same_kind = λ e. absurd (kind_of-least f.mark.kind (length (bytes_of (join f.left f.right))) shrinks.larger shrinks.least (ap (λ z. z.kind) head ∙ e));
+          same_kind =
+              λ e. absurd (kind_of-least f.mark.kind (length (bytes_of (join f.left f.right))) shrinks.larger shrinks.least
+              (ap (λ z. z.kind) head ∙ e));
           there = node_at-inner t (inner_name q) off (Some (without_child f.byte node)) got ∙
               shown (header_is q.kind node shrinks.there smaller) (slots_left node.children (ap (λ z. z.children) same ∙ kids));
           parent = parent_written bytes P s t placed fs hole.0 f.mark (inner_name q) hole.1.path above_holds above_same (λ k up. all_inners k);
-          same = same_but s t fs (f.mark ∷ leaf_name n ∷ []) (λ p i used. pairs_stay shrinks.goes p i) (λ k kind up i used. rest_same k kind up (λ e. i (inl (sym e))) used);
+          same = same_but s t fs (f.mark ∷ leaf_name n ∷ []) (λ p i used. pairs_stay shrinks.goes p i)
+              (λ k kind up i used. rest_same k kind up (λ e. i (inl (sym e))) used);
           relinked = taken_relinked old.laid.holds old.laid.distinct old.laid.linked (taken shrinks.goes);
         }
 
@@ -354,14 +381,16 @@ module _ {K V : Type 0} {bytes : K × V → List ℕ} {P : ℕ} {s : Nodes K V} 
     shrunk = inner (inner_name q) (canonical_header P hole.1.radix.0 (length (bytes_of (join f.left f.right)))) (join f.left f.right)
 
     -- the root is canonical for the pairs without the one of the leaf
-    pub shrinks_laid_out : IsLaidOut bytes P (node_at t) (links_at t) (root_with fs root (inner_name q)) (remove_key bytes (bytes (pair_of x)) pairs) (plug fs shrunk)
+    pub shrinks_laid_out : IsLaidOut bytes P (node_at t) (links_at t) (root_with fs root (inner_name q))
+        (remove_key bytes (bytes (pair_of x)) pairs) (plug fs shrunk)
     unfolding child_out_of_smaller
     shrinks_laid_out = child_removed_from old.laid child_out_of_smaller
 
     parent_touched : Touched s.inners t.inners (q ∷ []) (as_inner f.mark ∷ []) (parents fs ++ [])
     parent_touched = subst (λ z. Touched s.inners z (q ∷ []) (as_inner f.mark ∷ []) (parents fs ++ [])) (sym shrinks.inners)
         (then_parent (then_placed inner_cmp_total inner_cmp-IsAntisymmetric
-        (then_freed inner_cmp_total inner_cmp-IsAntisymmetric (touched_none s.inners) (as_inner f.mark) parent_used (λ i. i)) q (without_child f.byte node) shrinks.fresh
+        (then_freed inner_cmp_total inner_cmp-IsAntisymmetric (touched_none s.inners) (as_inner f.mark) parent_used (λ i. i)) q
+        (without_child f.byte node) shrinks.fresh
         (λ i. elim i [ inl e ↦ not_old (sym e) | inr j ↦ j ])) fs (inner_name q) above_used (λ k up e. above_used k up (sym (above_same k up) ∙ e)))
 
     above_inner : Each IsInner (parents fs ++ [])
@@ -369,8 +398,10 @@ module _ {K V : Type 0} {bytes : K × V → List ℕ} {P : ℕ} {s : Nodes K V} 
 
     smaller_names : AreNames (names_of (plug fs (with_leaf_in f n x))) (names_of (plug fs shrunk)) (inner_name q ∷ []) (leaf_name n ∷ f.mark ∷ [])
         (both_names (listed x.next ++ (listed x.previous ++ [])) (parents fs ++ []))
-    smaller_names = names_around fs (with_leaf_in f n x) shrunk (inner_name q ∷ []) (leaf_name n ∷ f.mark ∷ []) (both_names (listed x.next ++ (listed x.previous ++ [])) (parents fs ++ []))
-        (names_back (names_with_both f.left f.right f.byte (leaf_name n) (pair_of x) (inner_name q) f.mark (canonical_header P hole.1.radix.0 (length (bytes_of (join f.left f.right)))) f.header))
+    smaller_names = names_around fs (with_leaf_in f n x) shrunk (inner_name q ∷ []) (leaf_name n ∷ f.mark ∷ [])
+        (both_names (listed x.next ++ (listed x.previous ++ [])) (parents fs ++ []))
+        (names_back (names_with_both f.left f.right f.byte (leaf_name n) (pair_of x) (inner_name q) f.mark
+        (canonical_header P hole.1.radix.0 (length (bytes_of (join f.left f.right)))) f.header))
         (both_in (names_of (plug fs (with_leaf_in f n x))) (listed x.next ++ (listed x.previous ++ [])) (parents fs ++ []) (beside_stay shrinks.goes)
         (parents_in fs (with_leaf_in f n x) [] (λ p i. absurd i)))
 

@@ -31,7 +31,8 @@ module _ {N A : Type 0} {bytes : A → List ℕ} {P : ℕ} {at to : N → Option
     {place : List ℕ} {t : Tree N A} {n : N} {new : A} {root : N} {pairs : List A}
     (old : IsLaidOut bytes P at before root pairs (plug fs t)) (is : LeafAlone bytes P at to links fs place t n new) where
   -- the root is canonical for the result of an operation that leaves only the new pair in the hole
-  pub leaf_alone : (F : List A → List A) → IsLocal bytes (bytes new) F → F (pairs_of t) ≡ new ∷ [] → IsLaidOut bytes P to links (root_with fs root n) (F pairs) (plug fs (leaf n new))
+  pub leaf_alone : (F : List A → List A) → IsLocal bytes (bytes new) F → F (pairs_of t) ≡ new ∷ [] →
+      IsLaidOut bytes P to links (root_with fs root n) (F pairs) (plug fs (leaf n new))
   leaf_alone F local its = replaced old (record {
     path = is.hole.path;
     radix = is.hole.front;
@@ -52,7 +53,8 @@ module _ {N A : Type 0} {bytes : A → List ℕ} {P : ℕ} {at to : N → Option
 
 -- ---- the chain, where a pair is replaced in its leaf
 
-module _ {N A : Type 0} {bytes : A → List ℕ} {P : ℕ} {at : N → Option (Node N A)} {before links : N → Option (Links N)} {root : N} {pairs : List A} (fs : List (Frame N A)) where
+module _ {N A : Type 0} {bytes : A → List ℕ} {P : ℕ} {at : N → Option (Node N A)} {before links : N → Option (Links N)} {root : N}
+    {pairs : List A} (fs : List (Frame N A)) where
   -- where no link of a leaf changed
   pub linked_still : (n : N) (x new : A) → IsLaidOut bytes P at before root pairs (plug fs (leaf n x)) →
       ((k : N) → IsIn k (leaf_names (plug fs (leaf n x))) → links k ≡ before k) → AreLinked links None (leaf_names (plug fs (leaf n new))) None

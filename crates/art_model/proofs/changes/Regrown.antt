@@ -32,9 +32,11 @@ module _ {N A : Type 0} (at to : N → Option (Node N A)) where
     pub new_leaf : to n ≡ Some (leaf_node new)
     pub below : Holds to u
 
-  module _ (t u : Tree N A) (m n : N) (h : NodeHeader) (b c : ℕ) (new : A) (held : Holds at t) (distinct : AreDistinct (names_of t)) (is : IsBranch t u m n h b c new) where
+  module _ (t u : Tree N A) (m n : N) (h : NodeHeader) (b c : ℕ) (new : A) (held : Holds at t) (distinct : AreDistinct (names_of t))
+      (is : IsBranch t u m n h b c new) where
     node_apart : Each (λ k. m ≢ k) (names_of u)
-    node_apart = subst (Each (λ k. m ≢ k)) (sym is.same_names) (Each-weaker (λ k. k ≢ m) (λ k. m ≢ k) (λ k f e. f (sym e)) (names_of t) (free_apart at m is.node_was_free t held))
+    node_apart = subst (Each (λ k. m ≢ k)) (sym is.same_names)
+        (Each-weaker (λ k. k ≢ m) (λ k. m ≢ k) (λ k f e. f (sym e)) (names_of t) (free_apart at m is.node_was_free t held))
 
     leaf_apart : Each (λ k. k ≢ n) (names_of u)
     leaf_apart = subst (Each (λ k. k ≢ n)) (sym is.same_names) (free_apart at n is.leaf_was_free t held)
@@ -61,14 +63,19 @@ module _ {N A : Type 0} (at to : N → Option (Node N A)) where
           (is.new_leaf, (is.below, tt)),
           (
             (is.differ, subst (Each (λ k. m ≢ k)) (sym all) node_apart),
-            (subst (Each (λ k. n ≢ k)) (sym all) (Each-weaker (λ k. k ≢ n) (λ k. n ≢ k) (λ k f e. f (sym e)) (names_of u) leaf_apart), subst AreDistinct (sym all) still_distinct),
+            (
+              subst (Each (λ k. n ≢ k)) (sym all) (Each-weaker (λ k. k ≢ n) (λ k. n ≢ k) (λ k f e. f (sym e)) (names_of u) leaf_apart),
+              subst AreDistinct (sym all) still_distinct,
+            ),
           ),
           (inr is.leaf_was_free, subst (OldOrFree at (names_of t)) (sym all) still_old),
         )
 
     -- a branch
     pub branch_regrown : Regrown at to t (inner m h (two_children b u c (leaf n new)))
-    branch_regrown = let (holds, apart, old) = below_branch (ltb b c) in record { holds = (is.node, holds); distinct = apart; old_or_free = (inr is.node_was_free, old) }
+    branch_regrown =
+        let (holds, apart, old) = below_branch (ltb b c) in
+        record { holds = (is.node, holds); distinct = apart; old_or_free = (inr is.node_was_free, old) }
 
   -- ---- other children between those on the left and those on the right
 
@@ -112,7 +119,9 @@ module _ {N A : Type 0} (at to : N → Option (Node N A)) (fs : List (Frame N A)
   -- nor are those on the right
   pub right_apart : (k : N) → IsIn k (names_below r) → IsIn k (m ∷ names_below old) → ⊥
   right_apart k i (inl e) = each_in (λ z. m ≢ z) k (names_below l ++ (names_below old ++ names_below r)) own_distinct.0 (in_right_part k i) e
-  right_apart k i (inr j) = apart_in (names_below old) (names_below r) k (Pairwise-right ◌≢◌ (names_below l) (names_below old ++ names_below r) own_distinct.1) j i
+  right_apart k i (inr j) =
+      apart_in (names_below old) (names_below r) k
+      (Pairwise-right ◌≢◌ (names_below l) (names_below old ++ names_below r) own_distinct.1) j i
 
   module _ (same : SameBut at to fs (m ∷ names_below old)) where
     still : (k : N) → IsIn k (names_below l ++ (names_below old ++ names_below r)) → (IsIn k (m ∷ names_below old) → ⊥) → to k ≡ at k
@@ -131,7 +140,8 @@ module _ {N A : Type 0} (at to : N → Option (Node N A)) (fs : List (Frame N A)
   beside_distinct =
       subst AreDistinct (ap (λ z. z ++ names_below r) (append-nil (names_below l)))
       (distinct_replaced at (names_below l) (names_below old) [] (names_below r)
-      (subst AreDistinct (sym (append_assoc (names_below l) (names_below old) (names_below r))) own_distinct.1) (all_taken_below at l own_held.0) (all_taken_below at r own_held.2) tt tt)
+      (subst AreDistinct (sym (append_assoc (names_below l) (names_below old) (names_below r))) own_distinct.1)
+      (all_taken_below at l own_held.0) (all_taken_below at r own_held.2) tt tt)
 
   module _ (node : N) (head : NodeHeader) (middle : Subtrees N A) (is : IsRefilled at to m node head l middle r) where
     middle_distinct : AreDistinct (names_below l ++ names_below middle ++ names_below r)
@@ -166,7 +176,8 @@ module _ {N A : Type 0} (at to : N → Option (Node N A)) (fs : List (Frame N A)
           );
           old_or_free = (
             elim is.named [ inl e ↦ inl (inl (sym e)) | inr free ↦ inr free ],
-            subst (Each Old) (sym refilled_names) (Each-append Old (names_below l) (names_below middle ++ names_below r) (each_from Old (names_below l) (λ k i. inl (in_hole k (in_left_part k i))))
+            subst (Each Old) (sym refilled_names) (Each-append Old (names_below l) (names_below middle ++ names_below r)
+                (each_from Old (names_below l) (λ k i. inl (in_hole k (in_left_part k i))))
                 (Each-append Old (names_below middle) (names_below r) (Each-weaker (λ k. at k ≡ None) Old (λ k f. inr f) (names_below middle)
                 is.were_free) (each_from Old (names_below r) (λ k i. inl (in_hole k (in_right_part k i)))))),
           );
@@ -175,7 +186,8 @@ module _ {N A : Type 0} (at to : N → Option (Node N A)) (fs : List (Frame N A)
   -- ---- the one child that is left replaces its parent
 
   -- the tree `u`, which has the names of the child that is left, replaces the node
-  pub lifted_regrown : (c : ℕ) (v u : Tree N A) → join l r ≡ child c v no_child → names_of u ≡ names_of v → Holds to u → Regrown at to (inner m h (join l (join old r))) u
+  pub lifted_regrown : (c : ℕ) (v u : Tree N A) → join l r ≡ child c v no_child → names_of u ≡ names_of v → Holds to u →
+      Regrown at to (inner m h (join l (join old r))) u
   lifted_regrown c v u one same_names held =
       let left : names_below l ++ names_below r ≡ names_of u = sym (names_below-join l r) ∙ ap names_below one ∙ append-nil (names_of v) ∙ sym same_names in
       let Old = λ (k : N). IsIn k (names_of (inner m h (join l (join old r)))) ⊎ (at k ≡ None) in
@@ -184,7 +196,8 @@ module _ {N A : Type 0} (at to : N → Option (Node N A)) (fs : List (Frame N A)
         distinct = subst AreDistinct left beside_distinct;
         old_or_free =
             subst (Each Old) left (Each-append Old (names_below l) (names_below r)
-            (each_from Old (names_below l) (λ k i. inl (in_hole k (in_left_part k i)))) (each_from Old (names_below r) (λ k i. inl (in_hole k (in_right_part k i)))));
+            (each_from Old (names_below l) (λ k i. inl (in_hole k (in_left_part k i))))
+            (each_from Old (names_below r) (λ k i. inl (in_hole k (in_right_part k i)))));
       }
 
   module _ (c : ℕ) (v : Tree N A) (one : join l r ≡ child c v no_child) where
@@ -201,10 +214,15 @@ module _ {N A : Type 0} (at to : N → Option (Node N A)) (fs : List (Frame N A)
 
     -- its names are among those of the hole
     pub lifted_in : (k : N) → IsIn k (names_of v) → IsIn k (names_of (inner m h (join l (join old r))))
-    lifted_in k i = elim (in_either k (names_below l) (names_below r) (subst (IsIn k) (sym left_names) i)) [ inl j ↦ in_hole k (in_left_part k j) | inr j ↦ in_hole k (in_right_part k j) ]
+    lifted_in k i = elim (in_either k (names_below l) (names_below r) (subst (IsIn k) (sym left_names) i)) [
+      | inl j ↦ in_hole k
+          (in_left_part k j)
+      | inr j ↦ in_hole k (in_right_part k j)
+    ]
 
     -- they have the same nodes as before
-    pub left_child_still : (touched : List N) → SameBut at to fs (touched ++ m ∷ names_below old) → (k : N) → IsIn k (names_of v) → (IsIn k touched → ⊥) → to k ≡ at k
+    pub left_child_still : (touched : List N) → SameBut at to fs (touched ++ m ∷ names_below old) → (k : N) → IsIn k (names_of v) →
+        (IsIn k touched → ⊥) → to k ≡ at k
     left_child_still touched same k i off = go (in_either k (names_below l) (names_below r) (subst (IsIn k) (sym left_names) i))
       where
         all : List N
@@ -222,7 +240,8 @@ module _ {N A : Type 0} (at to : N → Option (Node N A)) (fs : List (Frame N A)
     left_child_holds same = frame at to v (each_from (λ k. to k ≡ at k) (names_of v) (λ k i. left_child_still [] same k i (λ j. j))) left_child_held
 
   -- where the child is an inner node, all below it is
-  pub left_child_below : (c : ℕ) (k : N) (head : NodeHeader) (cs : Subtrees N A) → join l r ≡ child c (inner k head cs) no_child → SameBut at to fs (k ∷ m ∷ names_below old) → HoldsBelow to cs
+  pub left_child_below : (c : ℕ) (k : N) (head : NodeHeader) (cs : Subtrees N A) → join l r ≡ child c (inner k head cs) no_child →
+      SameBut at to fs (k ∷ m ∷ names_below old) → HoldsBelow to cs
   left_child_below c k head cs one same =
       let d = left_child_distinct c (inner k head cs) one in
       frame_below at to cs (each_from (λ j. to j ≡ at j) (names_below cs)

@@ -20,7 +20,8 @@ use Rattle.art_model.proofs.stores.Canonical.{IsLaidOut}
 use Rattle.art_model.proofs.changes.Regrown.{children_regrown, lifted_regrown, left_child_holds, left_child_below, lifted_in}
 use Rattle.art_model.proofs.changes.Replaced.{replaced, linked_in_hole}
 
-module _ {N A : Type 0} (bytes : A → List ℕ) (P : ℕ) (at to : N → Option (Node N A)) (before links : N → Option (Links N)) (fs : List (Frame N A)) (place : List ℕ) where
+module _ {N A : Type 0} (bytes : A → List ℕ) (P : ℕ) (at to : N → Option (Node N A)) (before links : N → Option (Links N))
+    (fs : List (Frame N A)) (place : List ℕ) where
   -- The node in the hole loses a leaf and keeps two or more children: it stays, or a smaller node replaces it.
   pub record ChildRemoved (m node n : N) (h : NodeHeader) (l r : Subtrees N A) (b : ℕ) (x : A) : Type 0 where
     pub hole : IsHole bytes P fs place (inner m h (join l (child b (leaf n x) r))) (bytes x)
@@ -46,9 +47,11 @@ module _ {N A : Type 0} (bytes : A → List ℕ) (P : ℕ) (at to : N → Option
     pub relinked : Relinked before links (leaves_before fs ++ leaf_names_below l) [] (leaf_names_below r ++ leaves_after fs)
 
 -- the leaves that are left are among the old ones
-fewer : {N A : Type 0} (l r : Subtrees N A) (b : ℕ) (n : N) (x : A) (e : A × N) → IsIn e (entries_below (join l r)) → IsIn e (entries_below (join l (child b (leaf n x) r)))
+fewer : {N A : Type 0} (l r : Subtrees N A) (b : ℕ) (n : N) (x : A) (e : A × N) → IsIn e (entries_below (join l r)) →
+    IsIn e (entries_below (join l (child b (leaf n x) r)))
 fewer l r b n x e i =
-    subst (IsIn e) (sym (entries_below-three l (child b (leaf n x) no_child) r)) (in_around e (entries_below l) ((x, n) ∷ []) (entries_below r) (subst (IsIn e) (entries_below-join l r) i))
+    subst (IsIn e) (sym (entries_below-three l (child b (leaf n x) no_child) r))
+    (in_around e (entries_below l) ((x, n) ∷ []) (entries_below r) (subst (IsIn e) (entries_below-join l r) i))
 
 module _ {N A : Type 0} {bytes : A → List ℕ} {P : ℕ} {at to : N → Option (Node N A)} {before links : N → Option (Links N)} {fs : List (Frame N A)}
     {place : List ℕ} {root : N} {pairs : List A} {m n : N} {h : NodeHeader} {l r : Subtrees N A} {b : ℕ} {x : A}
@@ -67,9 +70,14 @@ module _ {N A : Type 0} {bytes : A → List ℕ} {P : ℕ} {at to : N → Option
       path = is.hole.path;
       radix = without_leaf.0;
       parent = is.parent;
-      regrown = children_regrown at to fs m h l (child b (leaf n x) no_child) r old.holds old.distinct node (canonical_header P is.hole.radix.0 (length (bytes_of (join l r)))) no_child
+      regrown = children_regrown at to fs m h l (child b (leaf n x) no_child) r old.holds old.distinct node
+          (canonical_header P is.hole.radix.0 (length (bytes_of (join l r)))) no_child
           (record { named = is.named; were_free = tt; distinct = tt; apart = tt; there = is.there; below = tt }) is.same;
-      same = λ k up out used. is.same k up (λ i. elim i [ inl e ↦ out (inl e) | inr j ↦ elim j [ inl e ↦ out (inr (leaf_below l r b n x k e)) | inr j ↦ j ] ]) used;
+      same = λ k up out used. is.same k up (λ i. elim i [
+        | inl e ↦ out
+            (inl e)
+        | inr j ↦ elim j [ inl e ↦ out (inr (leaf_below l r b n x k e)) | inr j ↦ j ]
+      ]) used;
       linked = linked_in_hole fs before links (inner m h (join l (child b (leaf n x) r))) less (leaf_names_below l) (n ∷ []) [] (leaf_names_below r)
           old.distinct old.linked (leaf_names_below-three l (child b (leaf n x) no_child) r) (leaf_names_below-three l no_child r) is.relinked;
     }) (bytes x) (remove_key bytes (bytes x)) (remove_key-between bytes (bytes x)) is.hole.front without_leaf.1
@@ -91,7 +99,9 @@ module _ {N A : Type 0} {bytes : A → List ℕ} {P : ℕ} {at to : N → Option
 
   module _ {c : ℕ} {v u : Tree N A} (is : NodeRemoved bytes P at to before links fs place m n h l r b c x v u) where
     lifted_leaves : leaf_names u ≡ leaf_names_below l ++ [] ++ leaf_names_below r
-    lifted_leaves = same_leaf_names v u is.same_entries ∙ sym (append-nil (leaf_names v)) ∙ ap leaf_names_below (sym is.one) ∙ leaf_names_below-three l no_child r
+    lifted_leaves =
+        same_leaf_names v u is.same_entries ∙ sym (append-nil (leaf_names v)) ∙ ap leaf_names_below (sym is.one)
+        ∙ leaf_names_below-three l no_child r
 
     -- the root is canonical for the pairs without the key
     pub node_removed : IsLaidOut bytes P to links (root_with fs root (name_of u)) (remove_key bytes (bytes x) pairs) (plug fs u)
@@ -109,12 +119,14 @@ module _ {N A : Type 0} {bytes : A → List ℕ} {P : ℕ} {at to : N → Option
     -- inner nodes that stay keep their names
     pub node_removed_keeps : KeepNames (inner_nodes bytes 0 (plug fs (inner m h (join l (child b (leaf n x) r))))) (inner_nodes bytes 0 (plug fs u))
     node_removed_keeps =
-        kept bytes P fs place (inner m h (join l (child b (leaf n x) r))) u is.hole.path is.hole.radix is.radix (kept_lifted bytes P place m n h l r b c x v u is.hole.radix is.one is.same_inners)
+        kept bytes P fs place (inner m h (join l (child b (leaf n x) r))) u is.hole.path is.hole.radix is.radix
+        (kept_lifted bytes P place m n h l r b c x v u is.hole.radix is.one is.same_inners)
 
     -- keys that stay keep their leaves' names
     pub node_removed_keeps_leaves : KeepLeaves bytes P (entries_of (plug fs (inner m h (join l (child b (leaf n x) r))))) (entries_of (plug fs u))
     node_removed_keeps_leaves =
-        kept_leaves bytes P fs (inner m h (join l (child b (leaf n x) r))) u old.radix node_removed.radix (kept_leaves_fewer bytes P (inner m h (join l (child b (leaf n x) r))) u place is.hole.radix
+        kept_leaves bytes P fs (inner m h (join l (child b (leaf n x) r))) u old.radix node_removed.radix
+        (kept_leaves_fewer bytes P (inner m h (join l (child b (leaf n x) r))) u place is.hole.radix
         (λ e i. fewer l r b n x e (subst (IsIn e) (sym (ap entries_below is.one ∙ append-nil (entries_of v) ∙ sym is.same_entries)) i)))
 
   -- ---- which child is left: a leaf, which is raised, or an inner node, which gets its parent's prefix and its own byte prepended
@@ -133,7 +145,12 @@ module _ {N A : Type 0} {bytes : A → List ℕ} {P : ℕ} {at to : N → Option
       same_inners = refl;
       below = left_child_holds at to fs m h l (child b (leaf n x) no_child) r old.holds old.distinct c (leaf k y) one same;
       parent = parent;
-      same = λ j up out used. same j up (λ i. elim i [ inl e ↦ out (inl e) | inr i ↦ elim i [ inl e ↦ out (inr (leaf_below l r b n x j e)) | inr i ↦ i ] ]) used;
+      same =
+          λ j up out used. same j up (λ i. elim i [
+            | inl e ↦ out
+                (inl e)
+            | inr i ↦ elim i [ inl e ↦ out (inr (leaf_below l r b n x j e)) | inr i ↦ i ]
+          ]) used;
       relinked = relinked;
     }
 
@@ -159,7 +176,14 @@ module _ {N A : Type 0} {bytes : A → List ℕ} {P : ℕ} {at to : N → Option
           below = (there, left_child_below at to fs m h l (child b (leaf n x) no_child) r old.holds old.distinct c k head cs one same);
           parent = parent;
           same = λ j up out used. same j up (λ i.
-              elim i [ inl e ↦ out (child_in j e) | inr i ↦ elim i [ inl e ↦ out (inl e) | inr i ↦ elim i [ inl e ↦ out (inr (leaf_below l r b n x j e)) | inr i ↦ i ] ] ]) used;
+              elim i [
+                | inl e ↦ out (child_in j e)
+                | inr i ↦ elim i [
+                  | inl e ↦ out
+                      (inl e)
+                  | inr i ↦ elim i [ inl e ↦ out (inr (leaf_below l r b n x j e)) | inr i ↦ i ]
+                ]
+              ]) used;
           relinked = relinked;
         }
       where

@@ -16,7 +16,8 @@ use Rattle.art_model.proofs.places.Paths.{root_with, name_of-plug, leaf_names-pl
 use Rattle.art_model.proofs.stores.Stores.{ParentHas, SameBut, Regrown, replace}
 
 -- `t` in the hole of a path became `u`: a radix tree, held in the new store, which the parent names; the rest is unchanged, and all leaves are linked
-pub record Replaced {N A : Type 0} (bytes : A → List ℕ) (P : ℕ) (at to : N → Option (Node N A)) (links : N → Option (Links N)) (fs : List (Frame N A)) (place : List ℕ) (t u : Tree N A) : Type 0 where
+pub record Replaced {N A : Type 0} (bytes : A → List ℕ) (P : ℕ) (at to : N → Option (Node N A)) (links : N → Option (Links N))
+    (fs : List (Frame N A)) (place : List ℕ) (t u : Tree N A) : Type 0 where
   pub path : IsPath bytes P place fs
   pub radix : IsRadix bytes P place u
   pub parent : ParentHas to fs (name_of u)
@@ -46,17 +47,23 @@ module _ {N A : Type 0} {bytes : A → List ℕ} {P : ℕ} {at to : N → Option
 
 module _ {N A : Type 0} (fs : List (Frame N A)) where
   -- the leaves before, in the middle and after, where the middle is in the hole
-  pub leaf_names-parts : (t : Tree N A) (xs ms zs : List N) → leaf_names t ≡ xs ++ ms ++ zs → leaf_names (plug fs t) ≡ (leaves_before fs ++ xs) ++ ms ++ (zs ++ leaves_after fs)
+  pub leaf_names-parts : (t : Tree N A) (xs ms zs : List N) → leaf_names t ≡ xs ++ ms ++ zs →
+      leaf_names (plug fs t) ≡ (leaves_before fs ++ xs) ++ ms ++ (zs ++ leaves_after fs)
   leaf_names-parts t xs ms zs e = leaf_names-plug fs t ∙ ap (λ z. leaves_before fs ++ z ++ leaves_after fs) e ∙ simp append_assoc
 
   -- The leaves in the middle of the hole are others, and the links are updated.
-  pub linked_in_hole : (before links : N → Option (Links N)) (t u : Tree N A) (xs ms ns zs : List N) → AreDistinct (names_of (plug fs t)) → AreLinked before None (leaf_names (plug fs t)) None →
-      leaf_names t ≡ xs ++ ms ++ zs → leaf_names u ≡ xs ++ ns ++ zs → Relinked before links (leaves_before fs ++ xs) ns (zs ++ leaves_after fs) → AreLinked links None (leaf_names (plug fs u)) None
+  pub linked_in_hole : (before links : N → Option (Links N)) (t u : Tree N A) (xs ms ns zs : List N) → AreDistinct (names_of (plug fs t)) →
+      AreLinked before None (leaf_names (plug fs t)) None →
+      leaf_names t ≡ xs ++ ms ++ zs → leaf_names u ≡ xs ++ ns ++ zs →
+      Relinked before links (leaves_before fs ++ xs) ns (zs ++ leaves_after fs) → AreLinked links None (leaf_names (plug fs u)) None
   linked_in_hole before links t u xs ms ns zs distinct linked old new change =
       let left = leaves_before fs ++ xs in
       let right = zs ++ leaves_after fs in
       let was = leaf_names-parts t xs ms zs old in
       let all : AreDistinct (left ++ ms ++ right) = subst AreDistinct was (taken_distinct takes_leaves (plug fs t) distinct) in
-      let outer = Pairwise-append ◌≢◌ left right (Pairwise-left ◌≢◌ left ms (Pairwise-left ◌≢◌ (left ++ ms) right all)) (Pairwise-right ◌≢◌ (left ++ ms) right all)
+      let outer =
+      Pairwise-append ◌≢◌ left right (Pairwise-left ◌≢◌ left ms (Pairwise-left ◌≢◌ (left ++ ms) right all))
+      (Pairwise-right ◌≢◌ (left ++ ms) right all)
       (Each-left (λ x. Each (λ y. x ≢ y) right) left ms (Pairwise-across ◌≢◌ (left ++ ms) right all)) in
-      subst (λ ks. AreLinked links None ks None) (sym (leaf_names-parts u xs ns zs new)) (relink before links left ns right outer change ms (subst (λ ks. AreLinked before None ks None) was linked))
+      subst (λ ks. AreLinked links None ks None) (sym (leaf_names-parts u xs ns zs new))
+      (relink before links left ns right outer change ms (subst (λ ks. AreLinked before None ks None) was linked))

@@ -27,7 +27,8 @@ shared_whole [] b h = (b, refl)
 shared_whole (x ∷ a) [] h = absurd (omega arith)
 shared_whole (x ∷ a) (y ∷ b) h = go (λ k. shared_whole a b (omega arith)) (eqb x y) refl h
   where
-    go : (suc (length a) ≤ suc (length (common_front a b)) → IsFront a b) → (t : Bool) → eqb x y ≡ t → suc (length a) ≤ length (cond t (x ∷ common_front a b) []) → IsFront (x ∷ a) (y ∷ b)
+    go : (suc (length a) ≤ suc (length (common_front a b)) → IsFront a b) → (t : Bool) → eqb x y ≡ t →
+        suc (length a) ≤ length (cond t (x ∷ common_front a b) []) → IsFront (x ∷ a) (y ∷ b)
     go ih true e k = let (r, f) = ih k in (r, ap₂ (λ z s. z ∷ s) (sym (eqb-true x y e)) f)
     go ih false e k = absurd (omega arith)
 

@@ -39,7 +39,8 @@ before_parts [] (y ∷ b) h = inl (y, b, refl)
 before_parts (x ∷ a) [] h = absurd (false≢true h)
 before_parts (x ∷ a) (y ∷ b) h = go (before_parts a b) (first_less x y a b h)
   where
-    go : (is_before a b ≡ true → IsProperFront a b ⊎ HasSmallerByte a b) → (x < y) ⊎ ((x ≡ y) × (is_before a b ≡ true)) → IsProperFront (x ∷ a) (y ∷ b) ⊎ HasSmallerByte (x ∷ a) (y ∷ b)
+    go : (is_before a b ≡ true → IsProperFront a b ⊎ HasSmallerByte a b) → (x < y) ⊎ ((x ≡ y) × (is_before a b ≡ true)) →
+        IsProperFront (x ∷ a) (y ∷ b) ⊎ HasSmallerByte (x ∷ a) (y ∷ b)
     go ih (inl less) = inr ([], x, y, a, b, refl, refl, less)
     go ih (inr (e, k)) = longer x y a b e (ih k)
 
@@ -69,7 +70,8 @@ order_is_total [] (y ∷ b) = inl refl
 order_is_total (x ∷ a) [] = inr (inr refl)
 order_is_total (x ∷ a) (y ∷ b) = go (cases_order x y) (order_is_total a b)
   where
-    go : (x ≡ y) ⊎ ((x < y) ⊎ (y < x)) → (is_before a b ≡ true) ⊎ ((a ≡ b) ⊎ (is_before b a ≡ true)) → (is_before (x ∷ a) (y ∷ b) ≡ true) ⊎ ((x ∷ a ≡ y ∷ b) ⊎ (is_before (y ∷ b) (x ∷ a) ≡ true))
+    go : (x ≡ y) ⊎ ((x < y) ⊎ (y < x)) → (is_before a b ≡ true) ⊎ ((a ≡ b) ⊎ (is_before b a ≡ true)) →
+        (is_before (x ∷ a) (y ∷ b) ≡ true) ⊎ ((x ∷ a ≡ y ∷ b) ⊎ (is_before (y ∷ b) (x ∷ a) ≡ true))
     go (inl e) (inl h) = inl ((order_is_decided (x ∷ a) (y ∷ b)).1 (longer x y a b e ((order_is_decided a b).0 h)))
     go (inl e) (inr (inl f)) = inr (inl (ap₂ (λ z s. z ∷ s) e f))
     go (inl e) (inr (inr h)) = inr (inr ((order_is_decided (y ∷ b) (x ∷ a)).1 (longer y x b a (sym e) ((order_is_decided b a).0 h))))
@@ -77,4 +79,5 @@ order_is_total (x ∷ a) (y ∷ b) = go (cases_order x y) (order_is_total a b)
     go (inr (inr less)) h = inr (inr ((order_is_decided (y ∷ b) (x ∷ a)).1 (inr ([], y, x, b, a, refl, refl, less))))
 
 pub common_front_is_longest : CommonFrontIsLongest
-common_front_is_longest a b = (common_front_left a b, common_front_right a b, λ front (r, e) (s, f). (common_front r s, rw (e, f) (common_front-append front r s)))
+common_front_is_longest a b =
+    (common_front_left a b, common_front_right a b, λ front (r, e) (s, f). (common_front r s, rw (e, f) (common_front-append front r s)))

@@ -24,7 +24,9 @@ precedes_rest p a b h = (rw (cmp-append p a b) at h.0, rw (is_front-append p a b
 
 -- keys that differ at a byte
 pub precedes_at : (front : List ℕ) (b c : ℕ) (k l x y : List ℕ) → x ≡ front ++ b ∷ k → y ≡ front ++ c ∷ l → b < c → Precedes x y
-precedes_at front b c k l x y e f h = rw (e, f) (precedes-append front (b ∷ k) (c ∷ l) (rw (lt-ltb b c h) refl, rw (ne_eqb b c (λ p. omega arith), ne_eqb c b (λ p. omega arith)) refl))
+precedes_at front b c k l x y e f h =
+    rw (e, f) (precedes-append front (b ∷ k) (c ∷ l)
+    (rw (lt-ltb b c h) refl, rw (ne_eqb b c (λ p. omega arith), ne_eqb c b (λ p. omega arith)) refl))
 
 first_byte : (b c : ℕ) (k l : List ℕ) → Precedes (b ∷ k) (c ∷ l) → b ≤ c
 first_byte b c k l h = go (cases_order b c)

@@ -47,7 +47,9 @@ mark_ends w r t end above e = go (goes_within w end r t end e)
     go : ((t ≡ w) × (end ≡ end)) ⊎ IsFront (w ++ end ∷ []) t → t ≡ w
     go (inl (same, mark)) = same
     go (inr (s, f)) =
-        let less = (Each-right (λ byte. end < byte) w (end ∷ []) (Each-left (λ byte. end < byte) (w ++ end ∷ []) s (subst (Each (λ byte. end < byte)) f above))).0 in
+        let less =
+        (Each-right (λ byte. end < byte) w (end ∷ [])
+        (Each-left (λ byte. end < byte) (w ++ end ∷ []) s (subst (Each (λ byte. end < byte)) f above))).0 in
         absurd (omega arith)
 
 -- a prefix of a text and its end that has no end byte is a prefix of the text
@@ -75,7 +77,8 @@ pub front_short : (a k : List ℕ) → IsFront a k → length a ≤ length k
 front_short a k (r, e) = let l = ap length e in omega (arith, simp length-append at l)
 
 -- a text is after its prefixes
-pub fronts_first : (end : ℕ) (x y : List ℕ) (t u : List ℕ) → x ≡ t ++ end ∷ [] → y ≡ u ++ end ∷ [] → Each (λ byte. end < byte) t → IsFront u t → Precedes x y → ⊥
+pub fronts_first : (end : ℕ) (x y : List ℕ) (t u : List ℕ) → x ≡ t ++ end ∷ [] → y ≡ u ++ end ∷ [] → Each (λ byte. end < byte) t →
+    IsFront u t → Precedes x y → ⊥
 fronts_first end x y t u e f above ([], g) before =
     let same : x ≡ (u ++ end ∷ []) ++ [] = e ∙ ap (λ z. z ++ end ∷ []) (g ∙ append-nil u) ∙ sym (append-nil (u ++ end ∷ [])) in
     parts_left (u ++ end ∷ []) [] x y same (f ∙ sym (append-nil (u ++ end ∷ []))) before

@@ -24,17 +24,20 @@ use Rattle.art_model.proofs.leaves.Leaves.{listed, in_listed, named_leaf, joined
 
 module _ {K V : Type 0} where
   -- the links of a leaf are those that it names
-  pub links_leaf : (u : Nodes K V) (p : LeafPtr) (o : Option (LeafNode K V)) → get u.leaves p ≡ o → links_at u (leaf_name p) ≡ option_and_then links_of (option_map held_leaf o)
+  pub links_leaf : (u : Nodes K V) (p : LeafPtr) (o : Option (LeafNode K V)) → get u.leaves p ≡ o →
+      links_at u (leaf_name p) ≡ option_and_then links_of (option_map held_leaf o)
   links_leaf u p o e = ap (λ z. option_and_then links_of (option_map held_leaf z)) e
 
   -- the links of a leaf after a change
   relinks : (f : LeafNode K V → LeafNode K V) (a b c d : Option OpaqueNodePtr) →
-      ((y : LeafNode K V) → option_map leaf_name y.previous ≡ a → option_map leaf_name y.next ≡ b → links_of (held_leaf (f y)) ≡ Some (record { previous = c; next = d })) →
+      ((y : LeafNode K V) → option_map leaf_name y.previous ≡ a → option_map leaf_name y.next ≡ b →
+      links_of (held_leaf (f y)) ≡ Some (record { previous = c; next = d })) →
       (o : Option (LeafNode K V)) → option_and_then links_of (option_map held_leaf o) ≡ Some (record { previous = a; next = b }) →
       option_and_then links_of (option_map held_leaf (option_map f o)) ≡ Some (record { previous = c; next = d })
   relinks f a b c d h None e = absurd cc
   relinks f a b c d h (Some y) e =
-      let l : ◌≡◌ {A = Links OpaqueNodePtr} (record { previous = option_map leaf_name y.previous; next = option_map leaf_name y.next }) (record { previous = a; next = b }) = cc in
+      let l : ◌≡◌ {A = Links OpaqueNodePtr} (record { previous = option_map leaf_name y.previous; next = option_map leaf_name y.next })
+      (record { previous = a; next = b }) = cc in
       h y (ap (λ z. z.previous) l) (ap (λ z. z.next) l)
 
   -- an inner node has none
@@ -55,7 +58,8 @@ pub record AreBeside {K V : Type 0} (s t : Nodes K V) (xs ns zs : List OpaqueNod
   pub inside : AreLinked (links_at t) (last_or xs None) ns (first_or zs None)
   pub leaves : (p : LeafPtr) → IsIn (leaf_name p) (xs ++ zs) → get t.leaves p ≡ get (with_links_around s.leaves before after next previous) p
 
-module _ {K V : Type 0} {s t : Nodes K V} {xs ns zs : List OpaqueNodePtr} {before after next previous : Option LeafPtr} (is : AreBeside s t xs ns zs before after next previous) where
+module _ {K V : Type 0} {s t : Nodes K V} {xs ns zs : List OpaqueNodePtr} {before after next previous : Option LeafPtr}
+    (is : AreBeside s t xs ns zs before after next previous) where
   -- then they are a chain
   pub relinked_beside : Relinked (links_at s) (links_at t) xs ns zs
   relinked_beside = record {
@@ -63,17 +67,22 @@ module _ {K V : Type 0} {s t : Nodes K V} {xs ns zs : List OpaqueNodePtr} {befor
         let (p, here, e) = named_leaf before l (is.before_is ∙ last) in
         let among = in_left (leaf_name p) xs zs (subst (λ z. IsIn z xs) e (last_in xs l last)) in
         subst (λ (k : OpaqueNodePtr). links_at t k ≡ Some (record { previous = a; next = first_or ns (first_or zs None) })) (sym e)
-        (links_leaf t p (option_map (with_next next) (get s.leaves p)) (is.leaves p among ∙ joined_before s.leaves before after next previous p here (λ f. not_both p here f))
+        (links_leaf t p (option_map (with_next next) (get s.leaves p))
+        (is.leaves p among ∙ joined_before s.leaves before after next previous p here (λ f. not_both p here f))
         ∙ relinks (with_next next) a b a (first_or ns (first_or zs None)) (λ y u v. both u is.next_is) (get s.leaves p) (ap (links_at s) (sym e) ∙ old));
     on_right = λ l a b first old.
         let (p, here, e) = named_leaf after l (is.after_is ∙ first) in
         let among = in_right (leaf_name p) xs zs (subst (λ z. IsIn z zs) e (first_in zs l first)) in
         subst (λ (k : OpaqueNodePtr). links_at t k ≡ Some (record { previous = last_or ns (last_or xs None); next = b })) (sym e)
-        (links_leaf t p (option_map (with_previous previous) (get s.leaves p)) (is.leaves p among ∙ joined_after s.leaves before after next previous p here (λ f. not_both p f here))
-        ∙ relinks (with_previous previous) a b (last_or ns (last_or xs None)) b (λ y u v. both is.previous_is v) (get s.leaves p) (ap (links_at s) (sym e) ∙ old));
+        (links_leaf t p (option_map (with_previous previous) (get s.leaves p))
+        (is.leaves p among ∙ joined_after s.leaves before after next previous p here (λ f. not_both p f here))
+        ∙ relinks (with_previous previous) a b (last_or ns (last_or xs None)) b (λ y u v. both is.previous_is v) (get s.leaves p)
+        (ap (links_at s) (sym e) ∙ old));
     inside = is.inside;
     others = λ k i f g. elim (leaf_or k) [
-      | inl (p, e) ↦ subst (λ (z : OpaqueNodePtr). links_at t z ≡ links_at s z) (sym e) (links_leaf t p (get s.leaves p) (is.leaves p (subst (λ z. IsIn z (xs ++ zs)) e i)
+      | inl (p, e) ↦
+          subst (λ (z : OpaqueNodePtr). links_at t z ≡ links_at s z) (sym e)
+          (links_leaf t p (get s.leaves p) (is.leaves p (subst (λ z. IsIn z (xs ++ zs)) e i)
           ∙ joined_elsewhere s.leaves before after next previous p (λ h. f (sym is.before_is ∙ ap (option_map leaf_name) h ∙ ap Some (sym e)))
           (λ h. g (sym is.after_is ∙ ap (option_map leaf_name) h ∙ ap Some (sym e)))))
       | inr off ↦ links_inner t k off ∙ sym (links_inner s k off)
@@ -81,9 +90,12 @@ module _ {K V : Type 0} {s t : Nodes K V} {xs ns zs : List OpaqueNodePtr} {befor
   }
     where
       not_both : (p : LeafPtr) → before ≡ Some p → after ≡ Some p → ⊥
-      not_both p e f = last_not_first xs zs (leaf_name p) is.distinct (sym is.before_is ∙ ap (option_map leaf_name) e) (sym is.after_is ∙ ap (option_map leaf_name) f)
+      not_both p e f =
+          last_not_first xs zs (leaf_name p) is.distinct (sym is.before_is ∙ ap (option_map leaf_name) e)
+          (sym is.after_is ∙ ap (option_map leaf_name) f)
 
-      both : {a b c d : Option OpaqueNodePtr} → a ≡ b → c ≡ d → ◌≡◌ {A = Option (Links OpaqueNodePtr)} (Some (record { previous = a; next = c })) (Some (record { previous = b; next = d }))
+      both : {a b c d : Option OpaqueNodePtr} → a ≡ b → c ≡ d →
+          ◌≡◌ {A = Option (Links OpaqueNodePtr)} (Some (record { previous = a; next = c })) (Some (record { previous = b; next = d }))
       both e f = cc
 
 -- the leaves of the list are in the store
@@ -92,15 +104,21 @@ AreThere s ks = (p : LeafPtr) → IsIn (leaf_name p) ks → get s.leaves p ≢ N
 
 module _ {K V : Type 0} (s t : Nodes K V) (xs zs : List OpaqueNodePtr) (n : LeafPtr) (x : LeafNode K V) where
   -- A new leaf is inserted between those of `xs` and those of `zs`; others may be removed then.
-  pub leaf_comes : AreDistinct (xs ++ zs) → AreThere s (xs ++ zs) → get s.leaves n ≡ None → option_map leaf_name x.previous ≡ last_or xs None → option_map leaf_name x.next ≡ first_or zs None →
-      ((p : LeafPtr) → IsIn (leaf_name p) (xs ++ leaf_name n ∷ zs) → get t.leaves p ≡ get (with_leaf s.leaves n x) p) → AreBeside s t xs (leaf_name n ∷ []) zs x.previous x.next (Some n) (Some n)
+  pub leaf_comes : AreDistinct (xs ++ zs) → AreThere s (xs ++ zs) → get s.leaves n ≡ None →
+      option_map leaf_name x.previous ≡ last_or xs None → option_map leaf_name x.next ≡ first_or zs None →
+      ((p : LeafPtr) → IsIn (leaf_name p) (xs ++ leaf_name n ∷ zs) → get t.leaves p ≡ get (with_leaf s.leaves n x) p) →
+      AreBeside s t xs (leaf_name n ∷ []) zs x.previous x.next (Some n) (Some n)
   leaf_comes distinct are free last first leaves = record {
     distinct = distinct;
     before_is = last;
     after_is = first;
     next_is = refl;
     previous_is = refl;
-    inside = (links_leaf t n (Some x) (leaves n (in_right (leaf_name n) xs (leaf_name n ∷ zs) (inl refl)) ∙ with_leaf_here s.leaves n x not_before not_after) ∙ same last first, tt);
+    inside = (
+      links_leaf t n (Some x) (leaves n (in_right (leaf_name n) xs (leaf_name n ∷ zs) (inl refl))
+          ∙ with_leaf_here s.leaves n x not_before not_after) ∙ same last first,
+      tt,
+    );
     leaves = λ p i. leaves p (among p i) ∙ with_leaf_elsewhere s.leaves n x p (λ e. are p i (ap (get s.leaves) e ∙ free));
   }
     where
@@ -110,15 +128,21 @@ module _ {K V : Type 0} (s t : Nodes K V) (xs zs : List OpaqueNodePtr) (n : Leaf
       not_after : x.next ≡ Some n → ⊥
       not_after e = are n (in_right (leaf_name n) xs zs (first_in zs (leaf_name n) (sym first ∙ ap (option_map leaf_name) e))) free
 
-      same : {a b c d : Option OpaqueNodePtr} → a ≡ b → c ≡ d → ◌≡◌ {A = Option (Links OpaqueNodePtr)} (Some (record { previous = a; next = c })) (Some (record { previous = b; next = d }))
+      same : {a b c d : Option OpaqueNodePtr} → a ≡ b → c ≡ d →
+          ◌≡◌ {A = Option (Links OpaqueNodePtr)} (Some (record { previous = a; next = c })) (Some (record { previous = b; next = d }))
       same e f = cc
 
       among : (p : LeafPtr) → IsIn (leaf_name p) (xs ++ zs) → IsIn (leaf_name p) (xs ++ leaf_name n ∷ zs)
-      among p i = elim (in_either (leaf_name p) xs zs i) [ inl j ↦ in_left (leaf_name p) xs (leaf_name n ∷ zs) j | inr j ↦ in_right (leaf_name p) xs (leaf_name n ∷ zs) (inr j) ]
+      among p i = elim (in_either (leaf_name p) xs zs i) [
+        | inl j ↦ in_left (leaf_name p) xs (leaf_name n ∷ zs) j
+        | inr j ↦ in_right
+            (leaf_name p) xs (leaf_name n ∷ zs) (inr j)
+      ]
 
   -- The leaf between those of `xs` and those of `zs` is removed.
   pub leaf_goes : AreDistinct (xs ++ leaf_name n ∷ zs) → option_map leaf_name x.previous ≡ last_or xs None → option_map leaf_name x.next ≡ first_or zs None →
-      ((p : LeafPtr) → IsIn (leaf_name p) (xs ++ zs) → get t.leaves p ≡ get (without_leaf s.leaves n x) p) → AreBeside s t xs [] zs x.previous x.next x.next x.previous
+      ((p : LeafPtr) → IsIn (leaf_name p) (xs ++ zs) → get t.leaves p ≡ get (without_leaf s.leaves n x) p) →
+      AreBeside s t xs [] zs x.previous x.next x.next x.previous
   leaf_goes distinct last first leaves = record {
     distinct = Pairwise-without ◌≢◌ xs zs (leaf_name n) distinct;
     before_is = last;
@@ -150,7 +174,8 @@ module _ {K V : Type 0} (s : Nodes K V) where
   next_there xs zs o are e p is = are p (in_right (leaf_name p) xs zs (first_in zs (leaf_name p) (sym e ∙ ap (option_map leaf_name) is)))
 
 -- the neighbours of a place are those around it
-pub beside_place : (xs zs : List OpaqueNodePtr) (next previous : Option LeafPtr) → option_map leaf_name next ≡ first_or zs None → option_map leaf_name previous ≡ last_or xs None →
+pub beside_place : (xs zs : List OpaqueNodePtr) (next previous : Option LeafPtr) → option_map leaf_name next ≡ first_or zs None →
+    option_map leaf_name previous ≡ last_or xs None →
     (p : LeafPtr) → IsIn p (listed next ++ (listed previous ++ [])) → IsIn (leaf_name p) (xs ++ zs)
 beside_place xs zs next previous first last p i = elim (in_either p (listed next) (listed previous ++ []) i) [
   | inl j ↦ in_right (leaf_name p) xs zs (first_in zs (leaf_name p) (sym first ∙ ap (option_map leaf_name) (in_listed next p j)))

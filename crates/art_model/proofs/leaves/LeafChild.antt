@@ -15,10 +15,11 @@ module _ {N A : Type 0} (l r : Subtrees N A) (b : ℕ) (n : N) (x : A) where
 
   -- and so are the others
   pub others_below : (k : N) → IsIn k (names_below (join l r)) → IsIn k (names_below (join l (child b (leaf n x) r)))
-  others_below k i = subst (IsIn k) (sym (names_below-join l (child b (leaf n x) r))) (elim (in_either k (names_below l) (names_below r) (subst (IsIn k) (names_below-join l r) i)) [
-    | inl j ↦ in_left k (names_below l) (n ∷ names_below r) j
-    | inr j ↦ in_right k (names_below l) (n ∷ names_below r) (inr j)
-  ])
+  others_below k i = subst (IsIn k) (sym (names_below-join l (child b (leaf n x) r)))
+      (elim (in_either k (names_below l) (names_below r) (subst (IsIn k) (names_below-join l r) i)) [
+        | inl j ↦ in_left k (names_below l) (n ∷ names_below r) j
+        | inr j ↦ in_right k (names_below l) (n ∷ names_below r) (inr j)
+      ])
 
   -- there is no third
   pub leaf_or_other : (k : N) → IsIn k (names_below (join l (child b (leaf n x) r))) → IsIn k (names_below (join l r)) ⊎ (n ≡ k)
@@ -29,7 +30,8 @@ module _ {N A : Type 0} (l r : Subtrees N A) (b : ℕ) (n : N) (x : A) where
   ]
 
   -- the leaf is added
-  pub names_with_leaf : (m : N) (h g : NodeHeader) → AreNames (names_of (inner m h (join l r))) (names_of (inner m g (join l (child b (leaf n x) r)))) (n ∷ []) [] []
+  pub names_with_leaf : (m : N) (h g : NodeHeader) →
+      AreNames (names_of (inner m h (join l r))) (names_of (inner m g (join l (child b (leaf n x) r)))) (n ∷ []) [] []
   names_with_leaf m h g = record {
     placed_in = λ k i. elim i [ inl e ↦ inr (leaf_below k e) | inr j ↦ absurd j ];
     freed_in = λ k i. absurd i;
@@ -39,7 +41,8 @@ module _ {N A : Type 0} (l r : Subtrees N A) (b : ℕ) (n : N) (x : A) where
   }
 
   -- the leaf is added, and another node replaces the one above it
-  pub names_with_both : (m node : N) (h g : NodeHeader) → AreNames (names_of (inner m h (join l r))) (names_of (inner node g (join l (child b (leaf n x) r)))) (n ∷ node ∷ []) (m ∷ []) []
+  pub names_with_both : (m node : N) (h g : NodeHeader) →
+      AreNames (names_of (inner m h (join l r))) (names_of (inner node g (join l (child b (leaf n x) r)))) (n ∷ node ∷ []) (m ∷ []) []
   names_with_both m node h g = record {
     placed_in = λ k i. elim i [ inl e ↦ inr (leaf_below k e) | inr (inl e) ↦ inl e | inr (inr j) ↦ absurd j ];
     freed_in = λ k i. elim i [ inl e ↦ inl e | inr j ↦ absurd j ];

@@ -94,11 +94,21 @@ module _ {N A : Type 0} where
   first_is_there t n full e =
       let found = first_leaf t full [] in
       let same : found.name ≡ n = let f = sym found.name_is ∙ sym (first_or_of (leaf_names t)) ∙ e in cc in
-      subst (HasFirstLeaf t) same (record { name_is = found.name_is; pair = found.pair; pair_is = found.pair_is; has = record { path = found.path; whole = found.whole_is } })
+      subst (HasFirstLeaf t) same (record {
+        name_is = found.name_is;
+        pair = found.pair;
+        pair_is = found.pair_is;
+        has = record { path = found.path; whole = found.whole_is };
+      })
 
   -- and so does the last one's
   pub last_is_there : (t : Tree N A) (n : N) → HaveChildren 1 t → last_or (leaf_names t) None ≡ Some n → HasLastLeaf t n
   last_is_there t n full e =
       let found = last_leaf t full [] in
       let same : found.name ≡ n = let f = sym found.name_is ∙ sym (last_or_of (leaf_names t)) ∙ e in cc in
-      subst (HasLastLeaf t) same (record { name_is = found.name_is; pair = found.pair; pair_is = found.pair_is; has = record { path = found.path; whole = found.whole_is } })
+      subst (HasLastLeaf t) same (record {
+        name_is = found.name_is;
+        pair = found.pair;
+        pair_is = found.pair_is;
+        has = record { path = found.path; whole = found.whole_is };
+      })

@@ -33,15 +33,18 @@ named_leaf None k e = absurd cc
 named_leaf (Some p) k e = (p, refl, cc)
 
 module _ {K V : Type 0} where
-  change_some_at : (m : Leaves K V) (o : Option LeafPtr) (f : LeafNode K V → LeafNode K V) (q : LeafPtr) → o ≡ Some q → get (change_some m o f) q ≡ option_map f (get m q)
+  change_some_at : (m : Leaves K V) (o : Option LeafPtr) (f : LeafNode K V → LeafNode K V) (q : LeafPtr) → o ≡ Some q →
+      get (change_some m o f) q ≡ option_map f (get m q)
   change_some_at m None f q e = absurd cc
   change_some_at m (Some p) f q e = let s : p ≡ q = cc in ap (λ z. get (change_some m (Some z) f) q) s ∙ leaf_changed_at m q f
 
-  change_some_elsewhere : (m : Leaves K V) (o : Option LeafPtr) (f : LeafNode K V → LeafNode K V) (q : LeafPtr) → (o ≡ Some q → ⊥) → get (change_some m o f) q ≡ get m q
+  change_some_elsewhere : (m : Leaves K V) (o : Option LeafPtr) (f : LeafNode K V → LeafNode K V) (q : LeafPtr) → (o ≡ Some q → ⊥) →
+      get (change_some m o f) q ≡ get m q
   change_some_elsewhere m None f q n = refl
   change_some_elsewhere m (Some p) f q n = leaf_changed_elsewhere m p q f (λ e. n (ap Some (sym e)))
 
-  change_some-cong : (other m : Leaves K V) (o : Option LeafPtr) (f : LeafNode K V → LeafNode K V) (q : LeafPtr) → get other q ≡ get m q → get (change_some other o f) q ≡ get (change_some m o f) q
+  change_some-cong : (other m : Leaves K V) (o : Option LeafPtr) (f : LeafNode K V → LeafNode K V) (q : LeafPtr) → get other q ≡ get m q →
+      get (change_some other o f) q ≡ get (change_some m o f) q
   change_some-cong other m o f q e = elim (some_leaf o q) [
     | inl g ↦ change_some_at other o f q g ∙ ap (option_map f) e ∙ sym (change_some_at m o f q g)
     | inr n ↦ change_some_elsewhere other o f q n ∙ e ∙ sym (change_some_elsewhere m o f q n)
@@ -63,27 +66,35 @@ module _ {K V : Type 0} where
 
   module _ (m : Leaves K V) (before after next previous : Option LeafPtr) where
     -- the leaf before the place
-    pub joined_before : (q : LeafPtr) → before ≡ Some q → (after ≡ Some q → ⊥) → get (with_links_around m before after next previous) q ≡ option_map (with_next next) (get m q)
-    joined_before q e off = change_some_elsewhere (change_some m before (with_next next)) after (with_previous previous) q off ∙ change_some_at m before (with_next next) q e
+    pub joined_before : (q : LeafPtr) → before ≡ Some q → (after ≡ Some q → ⊥) →
+        get (with_links_around m before after next previous) q ≡ option_map (with_next next) (get m q)
+    joined_before q e off =
+        change_some_elsewhere (change_some m before (with_next next)) after (with_previous previous) q off
+        ∙ change_some_at m before (with_next next) q e
 
     -- the leaf after it
-    pub joined_after : (q : LeafPtr) → after ≡ Some q → (before ≡ Some q → ⊥) → get (with_links_around m before after next previous) q ≡ option_map (with_previous previous) (get m q)
+    pub joined_after : (q : LeafPtr) → after ≡ Some q → (before ≡ Some q → ⊥) →
+        get (with_links_around m before after next previous) q ≡ option_map (with_previous previous) (get m q)
     joined_after q e off =
-        change_some_at (change_some m before (with_next next)) after (with_previous previous) q e ∙ ap (option_map (with_previous previous)) (change_some_elsewhere m before (with_next next) q off)
+        change_some_at (change_some m before (with_next next)) after (with_previous previous) q e
+        ∙ ap (option_map (with_previous previous)) (change_some_elsewhere m before (with_next next) q off)
 
     -- all other leaves
     pub joined_elsewhere : (q : LeafPtr) → (before ≡ Some q → ⊥) → (after ≡ Some q → ⊥) → get (with_links_around m before after next previous) q ≡ get m q
-    joined_elsewhere q off non = change_some_elsewhere (change_some m before (with_next next)) after (with_previous previous) q non ∙ change_some_elsewhere m before (with_next next) q off
+    joined_elsewhere q off non = change_some_elsewhere (change_some m before (with_next next)) after (with_previous previous) q non
+        ∙ change_some_elsewhere m before (with_next next) q off
 
     -- what a name holds afterwards depends on what it held
     pub with_links_around-cong : (other : Leaves K V) (q : LeafPtr) → get other q ≡ get m q →
         get (with_links_around other before after next previous) q ≡ get (with_links_around m before after next previous) q
     with_links_around-cong other q e =
-        change_some-cong (change_some other before (with_next next)) (change_some m before (with_next next)) after (with_previous previous) q (change_some-cong other m before (with_next next) q e)
+        change_some-cong (change_some other before (with_next next)) (change_some m before (with_next next)) after
+        (with_previous previous) q (change_some-cong other m before (with_next next) q e)
 
     -- the pairs are unchanged
     pub joined_pair : (q : LeafPtr) → option_map pair_of (get (with_links_around m before after next previous) q) ≡ option_map pair_of (get m q)
-    joined_pair q = change_some_pair (change_some m before (with_next next)) after (with_previous previous) q (λ _. refl) ∙ change_some_pair m before (with_next next) q (λ _. refl)
+    joined_pair q = change_some_pair (change_some m before (with_next next)) after (with_previous previous) q (λ _. refl)
+        ∙ change_some_pair m before (with_next next) q (λ _. refl)
 
   -- ---- an inserted leaf, and a removed leaf
 
@@ -111,7 +122,9 @@ module _ {K V : Type 0} where
     -- pairs of other leaves
     pub without_leaf_pair : (q : LeafPtr) → q ≢ n → option_map pair_of (get (without_leaf m n x) q) ≡ option_map pair_of (get m q)
     unfolding without_leaf
-    without_leaf_pair q off = ap (option_map pair_of) (leaf_gone_elsewhere (with_links_around m x.previous x.next x.next x.previous) n q off) ∙ joined_pair m x.previous x.next x.next x.previous q
+    without_leaf_pair q off = ap (option_map pair_of)
+        (leaf_gone_elsewhere (with_links_around m x.previous x.next x.next x.previous) n q off)
+        ∙ joined_pair m x.previous x.next x.next x.previous q
 
 -- ---- what is touched
 
@@ -134,7 +147,8 @@ length-beside (Some n) (Some p) = omega arith
 
 module _ {K V : Type 0} where
   then_change_some : {old new : Leaves K V} {placed freed changed : List LeafPtr} → Touched old new placed freed changed →
-      (o : Option LeafPtr) (f : LeafNode K V → LeafNode K V) → IsThere old o → IsThere new o → Touched old (change_some new o f) placed freed (listed o ++ changed)
+      (o : Option LeafPtr) (f : LeafNode K V → LeafNode K V) → IsThere old o → IsThere new o →
+      Touched old (change_some new o f) placed freed (listed o ++ changed)
   then_change_some so_far None f was is = so_far
   then_change_some so_far (Some p) f was is = then_changed leaf_cmp_total leaf_cmp-IsAntisymmetric so_far p f (was p refl) (is p refl)
 
@@ -147,19 +161,23 @@ module _ {K V : Type 0} where
       (before after next previous : Option LeafPtr) → IsThere old before → IsThere old after → IsThere new before → IsThere new after →
       Touched old (with_links_around new before after next previous) placed freed (listed after ++ (listed before ++ changed))
   then_joined {new = new} so_far before after next previous was_b was_a is_b is_a =
-      then_change_some (then_change_some so_far before (with_next next) was_b is_b) after (with_previous previous) was_a (there_changed new before after (with_next next) is_a)
+      then_change_some (then_change_some so_far before (with_next next) was_b is_b) after (with_previous previous) was_a
+      (there_changed new before after (with_next next) is_a)
 
   module _ (m : Leaves K V) (n : LeafPtr) (x : LeafNode K V) (before : IsThere m x.previous) (after : IsThere m x.next) where
     -- an inserted leaf, and at most two that change
     pub touched_with_leaf : get m n ≡ None → Touched m (with_leaf m n x) (n ∷ []) [] (listed x.next ++ (listed x.previous ++ []))
     unfolding with_leaf
     touched_with_leaf free =
-        let still = λ (o : Option LeafPtr) (h : IsThere m o) (p : LeafPtr) (e : o ≡ Some p). still_placed leaf_cmp_total leaf_cmp-IsAntisymmetric m n p x (h p e) in
+        let still =
+        λ (o : Option LeafPtr) (h : IsThere m o) (p : LeafPtr)
+        (e : o ≡ Some p). still_placed leaf_cmp_total leaf_cmp-IsAntisymmetric m n p x (h p e) in
         then_joined (then_placed leaf_cmp_total leaf_cmp-IsAntisymmetric (touched_none m) n x free (λ i. i)) x.previous x.next (Some n) (Some n)
         before after (still x.previous before) (still x.next after)
 
     -- a removed leaf, and at most two that change
-    pub touched_without_leaf : get m n ≢ None → (x.previous ≡ Some n → ⊥) → (x.next ≡ Some n → ⊥) → Touched m (without_leaf m n x) [] (n ∷ []) (listed x.next ++ (listed x.previous ++ []))
+    pub touched_without_leaf : get m n ≢ None → (x.previous ≡ Some n → ⊥) → (x.next ≡ Some n → ⊥) →
+        Touched m (without_leaf m n x) [] (n ∷ []) (listed x.next ++ (listed x.previous ++ []))
     unfolding without_leaf
     touched_without_leaf here not_before not_after =
         then_freed leaf_cmp_total leaf_cmp-IsAntisymmetric (then_joined (touched_none m) x.previous x.next x.next x.previous before after before

@@ -43,9 +43,11 @@ module _ {N : Type 0} where
     linked_rest (x ∷ xs) ys p q h = linked_rest xs ys (Some x) q h.1
 
     -- two chains that meet
-    pub linked-append : (xs ys : List N) (p q : Option N) → AreLinked links p xs (first_or ys q) → AreLinked links (last_or xs p) ys q → AreLinked links p (xs ++ ys) q
+    pub linked-append : (xs ys : List N) (p q : Option N) → AreLinked links p xs (first_or ys q) → AreLinked links (last_or xs p) ys q →
+        AreLinked links p (xs ++ ys) q
     linked-append [] ys p q h k = k
-    linked-append (x ∷ xs) ys p q h k = (h.0 ∙ ap (λ o. Some (record { previous = p; next = o })) (sym (first_or-append xs ys q)), linked-append xs ys (Some x) q h.1 k)
+    linked-append (x ∷ xs) ys p q h k =
+        (h.0 ∙ ap (λ o. Some (record { previous = p; next = o })) (sym (first_or-append xs ys q)), linked-append xs ys (Some x) q h.1 k)
 
 -- ---- the first and the last leaf of a list
 
@@ -121,9 +123,11 @@ module _ {N : Type 0} (links to : N → Option (Links N)) (xs ns zs : List N) (d
           let own : AreDistinct (ys ++ l ∷ []) = subst AreDistinct e (Pairwise-left ◌≢◌ xs zs distinct) in
           let same = each_from (λ k. to k ≡ links k) ys (λ k i.
           let among : IsIn k xs = subst (IsIn k) (sym e) (in_left k ys (l ∷ []) i) in
-          change.others k (in_left k xs zs among) (λ f. let g : l ≡ k = cc in apart_in ys (l ∷ []) k own i (inl g)) (λ f. apart_in xs zs k distinct among (first_in zs k f))) in
+          change.others k (in_left k xs zs among) (λ f. let g : l ≡ k = cc in apart_in ys (l ∷ []) k own i (inl g))
+          (λ f. apart_in xs zs k distinct among (first_in zs k f))) in
           subst (λ z. AreLinked to None z (first_or ns (first_or zs None))) (sym e)
-          (relink_end links to ys l None o (first_or ns (first_or zs None)) same h' (change.on_left l (last_or ys None) o last (link_of links ys [] l None o h')))
+          (relink_end links to ys l None o (first_or ns (first_or zs None)) same h'
+          (change.on_left l (last_or ys None) o last (link_of links ys [] l None o h')))
 
   -- the leaves after it
   linked_after : (o : Option N) → AreLinked links o zs None → AreLinked to (last_or ns (last_or xs None)) zs None

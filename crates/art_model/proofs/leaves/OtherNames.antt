@@ -45,7 +45,9 @@ module _ {N A : Type 0} (rename : N → N) where
 
     names_below-renamed : (cs : Subtrees N A) → names_below (below_renamed cs) ≡ map rename (names_below cs)
     names_below-renamed no_child = refl
-    names_below-renamed (child b t cs) = ap₂ (λ (ns ks : List N). ns ++ ks) (names_of-renamed t) (names_below-renamed cs) ∙ sym (map-append rename (names_of t) (names_below cs))
+    names_below-renamed (child b t cs) =
+        ap₂ (λ (ns ks : List N). ns ++ ks) (names_of-renamed t) (names_below-renamed cs)
+        ∙ sym (map-append rename (names_of t) (names_below cs))
 
   mutual
     -- the leaves among them
@@ -70,7 +72,8 @@ module _ {N A : Type 0} (rename : N → N) where
 
 -- under its new name a leaf is what it was, and an inner node names its children by their new names
 module _ {N A : Type 0} (rename : N → N) (at to : N → Option (Node N A))
-    (inners : (n : N) (h : NodeHeader) (slots : List (ℕ × N)) → at n ≡ Some (inner_node h slots) → to (rename n) ≡ Some (inner_node h (slots_renamed rename slots))) where
+    (inners : (n : N) (h : NodeHeader) (slots : List (ℕ × N)) → at n ≡ Some (inner_node h slots) →
+    to (rename n) ≡ Some (inner_node h (slots_renamed rename slots))) where
   mutual
     -- the layout is held under the new names
     pub holds_renamed : (t : Tree N A) → Each (λ n. to (rename n) ≡ at n) (leaf_names t) → Holds at t → Holds to (renamed rename t)
@@ -78,11 +81,14 @@ module _ {N A : Type 0} (rename : N → N) (at to : N → Option (Node N A))
     holds_renamed (inner n h cs) same holds =
         (inners n h (slots_of cs) holds.0 ∙ ap (λ slots. Some (inner_node h slots)) (sym (slots_of-renamed rename cs)), holds_below_renamed cs same holds.1)
 
-    holds_below_renamed : (cs : Subtrees N A) → Each (λ n. to (rename n) ≡ at n) (leaf_names_below cs) → HoldsBelow at cs → HoldsBelow to (below_renamed rename cs)
+    holds_below_renamed : (cs : Subtrees N A) → Each (λ n. to (rename n) ≡ at n) (leaf_names_below cs) → HoldsBelow at cs →
+        HoldsBelow to (below_renamed rename cs)
     holds_below_renamed no_child same h = tt
     holds_below_renamed (child b t cs) same h =
-        let Q = λ (n : N). to (rename n) ≡ at n in
-        (holds_renamed t (Each-left Q (leaf_names t) (leaf_names_below cs) same) h.0, holds_below_renamed cs (Each-right Q (leaf_names t) (leaf_names_below cs) same) h.1)
+        let Q = λ (n : N). to (rename n) ≡ at n in (
+          holds_renamed t (Each-left Q (leaf_names t) (leaf_names_below cs) same) h.0,
+          holds_below_renamed cs (Each-right Q (leaf_names t) (leaf_names_below cs) same) h.1,
+        )
 
 module _ {N : Type 0} (rename : N → N) where
   -- each of these names has a new one of its own

@@ -22,7 +22,8 @@ use Rattle.art_model.proofs.leaves.Chains.{AreThere, are_there, beside_place, pr
 use Rattle.art_model.proofs.leaves.Taken.{LeafAmong, previous_is, next_is, before_there, after_there}
 
 -- A leaf is placed between those of `xs` and those of `zs`, which are all of the layout's.
-pub record LeafPlaced {K V : Type 0} (s t : Nodes K V) (layout : Tree OpaqueNodePtr (K × V)) (xs zs : List OpaqueNodePtr) (n : LeafPtr) (x : LeafNode K V) : Type 0 where
+pub record LeafPlaced {K V : Type 0} (s t : Nodes K V) (layout : Tree OpaqueNodePtr (K × V)) (xs zs : List OpaqueNodePtr) (n : LeafPtr)
+    (x : LeafNode K V) : Type 0 where
   pub list : leaf_names layout ≡ xs ++ zs
   pub last : option_map leaf_name x.previous ≡ last_or xs None
   pub first : option_map leaf_name x.next ≡ first_or zs None
@@ -30,7 +31,8 @@ pub record LeafPlaced {K V : Type 0} (s t : Nodes K V) (layout : Tree OpaqueNode
   pub leaves : t.leaves ≡ with_leaf s.leaves n x
 
 -- A leaf is removed from between those of `xs` and those of `zs`.
-pub record LeafTaken {K V : Type 0} (s t : Nodes K V) (layout : Tree OpaqueNodePtr (K × V)) (xs zs : List OpaqueNodePtr) (n : LeafPtr) (x : LeafNode K V) : Type 0 where
+pub record LeafTaken {K V : Type 0} (s t : Nodes K V) (layout : Tree OpaqueNodePtr (K × V)) (xs zs : List OpaqueNodePtr) (n : LeafPtr)
+    (x : LeafNode K V) : Type 0 where
   pub among : LeafAmong s layout xs zs n x
   pub leaves : t.leaves ≡ without_leaf s.leaves n x
 
@@ -63,15 +65,20 @@ module _ {K V : Type 0} {s t : Nodes K V} {layout : Tree OpaqueNodePtr (K × V)}
     -- they are a chain
     pub placed_relinked : Relinked (links_at s) (links_at t) xs (leaf_name n ∷ []) zs
     placed_relinked =
-        relinked_beside (leaf_comes s t xs zs n x (subst AreDistinct is.list (taken_distinct takes_leaves layout distinct)) others_there is.fresh is.last is.first (λ p i. ap (λ z. get z p) is.leaves))
+        relinked_beside (leaf_comes s t xs zs n x
+        (subst AreDistinct is.list (taken_distinct takes_leaves layout distinct)) others_there is.fresh is.last is.first
+        (λ p i. ap (λ z. get z p) is.leaves))
 
     -- its neighbours have names of the layout
     pub placed_beside : (p : LeafPtr) → IsIn p (listed x.next ++ (listed x.previous ++ [])) → IsIn (leaf_name p) (names_of layout)
-    placed_beside p i = taken_in takes_leaves layout (leaf_name p) (subst (IsIn (leaf_name p)) (sym is.list) (beside_place xs zs x.next x.previous is.first is.last p i))
+    placed_beside p i =
+        taken_in takes_leaves layout (leaf_name p)
+        (subst (IsIn (leaf_name p)) (sym is.list) (beside_place xs zs x.next x.previous is.first is.last p i))
 
     -- and at most they are changed
     pub placed_touched : Touched s.leaves t.leaves (n ∷ []) [] (listed x.next ++ (listed x.previous ++ []))
-    placed_touched = subst (λ z. Touched s.leaves z (n ∷ []) [] (listed x.next ++ (listed x.previous ++ []))) (sym is.leaves) (touched_with_leaf s.leaves n x placed_after placed_before is.fresh)
+    placed_touched = subst (λ z. Touched s.leaves z (n ∷ []) [] (listed x.next ++ (listed x.previous ++ []))) (sym is.leaves)
+        (touched_with_leaf s.leaves n x placed_after placed_before is.fresh)
 
   module _ (linked : AreLinked (links_at s) None (leaf_names layout) None) (is : LeafTaken s t layout xs zs n x) where
     list_distinct : AreDistinct (xs ++ leaf_name n ∷ zs)
@@ -83,12 +90,16 @@ module _ {K V : Type 0} {s t : Nodes K V} {layout : Tree OpaqueNodePtr (K × V)}
 
     -- they are a chain
     pub taken_relinked : Relinked (links_at s) (links_at t) xs [] zs
-    taken_relinked = relinked_beside (leaf_goes s t xs zs n x list_distinct (previous_is holds linked is.among) (next_is holds linked is.among) (λ p i. ap (λ z. get z p) is.leaves))
+    taken_relinked = relinked_beside (leaf_goes s t xs zs n x list_distinct (previous_is holds linked is.among)
+        (next_is holds linked is.among) (λ p i. ap (λ z. get z p) is.leaves))
 
     -- and at most its neighbours are changed
     pub taken_touched : Touched s.leaves t.leaves [] (n ∷ []) (listed x.next ++ (listed x.previous ++ []))
     taken_touched = subst (λ z. Touched s.leaves z [] (n ∷ []) (listed x.next ++ (listed x.previous ++ []))) (sym is.leaves)
-        (touched_without_leaf s.leaves n x (before_there holds linked is.among) (after_there holds linked is.among) (λ e. absurd (let here = is.among.here in cc))
-        (λ e. apart_in xs (leaf_name n ∷ zs) (leaf_name n) list_distinct (last_in xs (leaf_name n) (sym (previous_is holds linked is.among) ∙ ap (option_map leaf_name) e)) (inl refl))
+        (touched_without_leaf s.leaves n x (before_there holds linked is.among) (after_there holds linked is.among)
+        (λ e. absurd (let here = is.among.here in cc))
+        (λ e. apart_in xs (leaf_name n ∷ zs) (leaf_name n) list_distinct
+        (last_in xs (leaf_name n) (sym (previous_is holds linked is.among) ∙ ap (option_map leaf_name) e)) (inl refl))
         (λ e. apart_in (xs ++ leaf_name n ∷ []) zs (leaf_name n) (subst AreDistinct (sym (append_assoc xs (leaf_name n ∷ []) zs)) list_distinct)
-        (in_right (leaf_name n) xs (leaf_name n ∷ []) (inl refl)) (first_in zs (leaf_name n) (sym (next_is holds linked is.among) ∙ ap (option_map leaf_name) e))))
+        (in_right (leaf_name n) xs (leaf_name n ∷ []) (inl refl))
+        (first_in zs (leaf_name n) (sym (next_is holds linked is.among) ∙ ap (option_map leaf_name) e))))

@@ -41,7 +41,8 @@ first_or-leaves [] = refl
 first_or-leaves (p ∷ row) = refl
 
 -- the first name of a row is that of the first leaf
-pub first_named : {names : List OpaqueNodePtr} {first : LeafPtr} (row : List LeafPtr) → names ≡ map leaf_name row → first_of names ≡ Some (leaf_name first) → first_of row ≡ Some first
+pub first_named : {names : List OpaqueNodePtr} {first : LeafPtr} (row : List LeafPtr) → names ≡ map leaf_name row →
+    first_of names ≡ Some (leaf_name first) → first_of row ≡ Some first
 first_named {names} {first} row names_are is =
     optional_leaf_one (first_of row) (Some first) (sym (first_or-leaves row) ∙ first_or_of (map leaf_name row) ∙ ap first_of (sym names_are) ∙ is)
 
@@ -71,7 +72,8 @@ module _ {K V : Type 0} (s : Nodes K V) where
 
   -- one more leaf before the others
   row_from : (before : Option LeafPtr) (p : LeafPtr) (ns : List OpaqueNodePtr) →
-      links_at s (leaf_name p) ≡ Some (record { previous = option_map leaf_name before; next = first_or ns None }) → HasRow (Some p) ns → HasRow before (leaf_name p ∷ ns)
+      links_at s (leaf_name p) ≡ Some (record { previous = option_map leaf_name before; next = first_or ns None }) → HasRow (Some p) ns →
+      HasRow before (leaf_name p ∷ ns)
   row_from before p ns links rest =
       let next : first_or ns None ≡ option_map leaf_name (first_of rest.row) = ap (λ z. first_or z None) rest.names_are ∙ first_or-leaves rest.row in
       record {
@@ -103,7 +105,8 @@ inner_stays rename Node48 slot off = refl
 inner_stays rename Node256 slot off = refl
 
 -- a neighbour of a leaf has its new name
-optional_renamed : (rename : LeafPtr → LeafPtr) (o : Option LeafPtr) → option_map leaf_name (option_map rename o) ≡ option_map (child_renamed rename) (option_map leaf_name o)
+optional_renamed : (rename : LeafPtr → LeafPtr) (o : Option LeafPtr) →
+    option_map leaf_name (option_map rename o) ≡ option_map (child_renamed rename) (option_map leaf_name o)
 optional_renamed rename None = refl
 optional_renamed rename (Some p) = refl
 
@@ -132,7 +135,8 @@ module _ {K V : Type 0} {rename : LeafPtr → LeafPtr} {row : List LeafPtr} {s t
       ∙ ap (option_map leaf_node) (same_pair rename (get s.leaves p)) ∙ sym (node_at-leaf s p)
 
   -- it names its neighbours by their new names
-  links_follow : (p : LeafPtr) → IsIn p row → links_at t (child_renamed rename (leaf_name p)) ≡ option_map (links_renamed (child_renamed rename)) (links_at s (leaf_name p))
+  links_follow : (p : LeafPtr) → IsIn p row →
+      links_at t (child_renamed rename (leaf_name p)) ≡ option_map (links_renamed (child_renamed rename)) (links_at s (leaf_name p))
   links_follow p i = links_leaf t (rename p) _ (are.leaves p i) ∙ links_of-renamed rename (get s.leaves p)
 
   -- an inner node names its children so

@@ -29,15 +29,31 @@ module _ {N : Type 0} {links : N → Option (Links N)} where
 
   -- the names after the first ones
   pub segment_rest : (xs ys : List N) → IsSegment links (xs ++ ys) → IsSegment links ys
-  segment_rest xs ys is = record { distinct = Pairwise-right ◌≢◌ xs ys is.distinct; before = last_or xs is.before; after = is.after; linked = linked_rest links xs ys is.before is.after is.linked }
+  segment_rest xs ys is = record {
+    distinct = Pairwise-right ◌≢◌ xs ys is.distinct;
+    before = last_or xs is.before;
+    after = is.after;
+    linked = linked_rest links xs ys is.before is.after is.linked;
+  }
 
   -- the first names
   pub segment_front : (xs ys : List N) → IsSegment links (xs ++ ys) → IsSegment links xs
-  segment_front xs ys is = record { distinct = Pairwise-left ◌≢◌ xs ys is.distinct; before = is.before; after = first_or ys is.after; linked = linked_front links xs ys is.before is.after is.linked }
+  segment_front xs ys is = record {
+    distinct = Pairwise-left ◌≢◌ xs ys is.distinct;
+    before = is.before;
+    after = first_or ys is.after;
+    linked = linked_front links xs ys is.before is.after is.linked;
+  }
 
   -- a segment stays one where its links stay
   pub segment-frame : (to : N → Option (Links N)) (xs : List N) → Each (λ n. to n ≡ links n) xs → IsSegment links xs → IsSegment to xs
-  segment-frame to xs same is = record { distinct = is.distinct; before = is.before; after = is.after; linked = linked-frame links to xs is.before is.after same is.linked }
+  segment-frame to xs same is =
+      record {
+        distinct = is.distinct;
+        before = is.before;
+        after = is.after;
+        linked = linked-frame links to xs is.before is.after same is.linked;
+      }
 
   -- the leaves of a tree, all of which are linked
   pub tree_segment : {A : Type 0} (t : Tree N A) → AreDistinct (names_of t) → AreLinked links None (leaf_names t) None → IsSegment links (leaf_names t)

@@ -38,7 +38,8 @@ module _ {K V : Type 0} (s : Nodes K V) where
     ]
 
 -- a radix tree has leaves
-pub some_leaf_name : {N A : Type 0} (bytes : A → List ℕ) (P : ℕ) (t : Tree N A) (place : List ℕ) → IsRadix bytes P place t → (k : N) × (ks : List N) × (leaf_names t ≡ k ∷ ks)
+pub some_leaf_name : {N A : Type 0} (bytes : A → List ℕ) (P : ℕ) (t : Tree N A) (place : List ℕ) → IsRadix bytes P place t →
+    (k : N) × (ks : List N) × (leaf_names t ≡ k ∷ ks)
 some_leaf_name bytes P (leaf n x) place h = (n, [], refl)
 some_leaf_name bytes P (inner n head no_child) place (part, e, two, up, below) = absurd (omega arith)
 some_leaf_name bytes P (inner n head (child b t cs)) place (part, e, two, up, below) =
@@ -51,14 +52,17 @@ last_of_some k [] o = (k, refl, inl refl)
 last_of_some k (l ∷ ks) o = let (j, e, i) = last_of_some l ks (Some k) in (j, e, inr i)
 
 -- The leaf is between those of `xs` and those of `zs`, which with it are all of the layout's.
-pub record LeafAmong {K V : Type 0} (s : Nodes K V) (layout : Tree OpaqueNodePtr (K × V)) (xs zs : List OpaqueNodePtr) (n : LeafPtr) (x : LeafNode K V) : Type 0 where
+pub record LeafAmong {K V : Type 0} (s : Nodes K V) (layout : Tree OpaqueNodePtr (K × V)) (xs zs : List OpaqueNodePtr) (n : LeafPtr)
+    (x : LeafNode K V) : Type 0 where
   pub list : leaf_names layout ≡ xs ++ leaf_name n ∷ zs
   pub here : get s.leaves n ≡ Some x
 
 module _ {K V : Type 0} {s : Nodes K V} {layout : Tree OpaqueNodePtr (K × V)} {xs zs : List OpaqueNodePtr} {n : LeafPtr} {x : LeafNode K V}
     (holds : Holds (node_at s) layout) (linked : AreLinked (links_at s) None (leaf_names layout) None) (is : LeafAmong s layout xs zs n x) where
-  own : ◌≡◌ {A = Links OpaqueNodePtr} (record { previous = option_map leaf_name x.previous; next = option_map leaf_name x.next }) (record { previous = last_or xs None; next = first_or zs None })
-  own = let e = sym (links_leaf s n (Some x) is.here) ∙ link_of (links_at s) xs zs (leaf_name n) None None (subst (λ ks. AreLinked (links_at s) None ks None) is.list linked) in cc
+  own : ◌≡◌ {A = Links OpaqueNodePtr} (record { previous = option_map leaf_name x.previous; next = option_map leaf_name x.next })
+      (record { previous = last_or xs None; next = first_or zs None })
+  own = let e = sym (links_leaf s n (Some x) is.here)
+      ∙ link_of (links_at s) xs zs (leaf_name n) None None (subst (λ ks. AreLinked (links_at s) None ks None) is.list linked) in cc
 
   -- the leaf before it is the last of those before
   pub previous_is : option_map leaf_name x.previous ≡ last_or xs None

@@ -27,7 +27,8 @@ module _ {E N : Type 0} (told : E → List ℕ) (name : E → N) (Alike : E → 
   keep_among xs old new d one two e f i j alike same = ap name (same_entry xs d e f (one e i) (two f j) same)
 
   -- Names are kept in the whole where they are in the middle.
-  pub keep_between : (xs old new zs : List E) → Pairwise ToldApart (xs ++ old ++ zs) → Pairwise ToldApart (xs ++ new ++ zs) → Keep old new → Keep (xs ++ old ++ zs) (xs ++ new ++ zs)
+  pub keep_between : (xs old new zs : List E) → Pairwise ToldApart (xs ++ old ++ zs) → Pairwise ToldApart (xs ++ new ++ zs) → Keep old new →
+      Keep (xs ++ old ++ zs) (xs ++ new ++ zs)
   keep_between xs old new zs d_old d_new local e f i j alike same = go (parts old e i) (parts new f j)
     where
       Outside : E → Type 0

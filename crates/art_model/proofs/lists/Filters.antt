@@ -41,7 +41,8 @@ module _ {A : Type 0} where
   none_passes test [] h = tt
   none_passes test (x ∷ xs) h = go (none_passes test xs) (test x) refl h
     where
-      go : (filter test xs ≡ [] → Each (λ y. test y ≡ false) xs) → (t : Bool) → test x ≡ t → cond t (x ∷ filter test xs) (filter test xs) ≡ [] → Each (λ y. test y ≡ false) (x ∷ xs)
+      go : (filter test xs ≡ [] → Each (λ y. test y ≡ false) xs) → (t : Bool) → test x ≡ t →
+          cond t (x ∷ filter test xs) (filter test xs) ≡ [] → Each (λ y. test y ≡ false) (x ∷ xs)
       go ih true e k = absurd cc
       go ih false e k = (e, ih k)
 
@@ -91,7 +92,8 @@ module _ {A : Type 0} (bytes : A → List ℕ) where
   length-add new [] = refl
   length-add new (x ∷ xs) = go (length-add new xs) (is_before (bytes new) (bytes x))
     where
-      go : length (add_in_order bytes new xs) ≡ length xs + 1 → (t : Bool) → length (cond t (new ∷ x ∷ xs) (x ∷ add_in_order bytes new xs)) ≡ length (x ∷ xs) + 1
+      go : length (add_in_order bytes new xs) ≡ length xs + 1 → (t : Bool) →
+          length (cond t (new ∷ x ∷ xs) (x ∷ add_in_order bytes new xs)) ≡ length (x ∷ xs) + 1
       go ih true = omega arith
       go ih false = omega arith
 
@@ -100,12 +102,14 @@ module _ {A : Type 0} (bytes : A → List ℕ) where
   filter_add test new [] e = rw e refl
   filter_add test new (x ∷ xs) e = go (filter_add test new xs e) (is_before (bytes new) (bytes x))
     where
-      go : filter test (add_in_order bytes new xs) ≡ filter test xs → (t : Bool) → filter test (cond t (new ∷ x ∷ xs) (x ∷ add_in_order bytes new xs)) ≡ filter test (x ∷ xs)
+      go : filter test (add_in_order bytes new xs) ≡ filter test xs → (t : Bool) →
+          filter test (cond t (new ∷ x ∷ xs) (x ∷ add_in_order bytes new xs)) ≡ filter test (x ∷ xs)
       go ih true = rw e refl
       go ih false = rw ih refl
 
   -- an element that passes alone
-  pub filter_add_alone : (test : A → Bool) (new : A) (xs : List A) → test new ≡ true → Each (λ x. test x ≡ false) xs → filter test (add_in_order bytes new xs) ≡ new ∷ []
+  pub filter_add_alone : (test : A → Bool) (new : A) (xs : List A) → test new ≡ true → Each (λ x. test x ≡ false) xs →
+      filter test (add_in_order bytes new xs) ≡ new ∷ []
   filter_add_alone test new [] e h = rw e refl
   filter_add_alone test new (x ∷ xs) e h = go (filter_add_alone test new xs e h.1) (is_before (bytes new) (bytes x))
     where

@@ -29,12 +29,14 @@ module _ {X : Type 0} (R : X → X → Type 0) where
   -- one element less
   pub Pairwise-without : (xs ys : List X) (b : X) → Pairwise R (xs ++ b ∷ ys) → Pairwise R (xs ++ ys)
   Pairwise-without [] ys b h = h.1
-  Pairwise-without (x ∷ xs) ys b h = (Each-append (R x) xs ys (Each-left (R x) xs (b ∷ ys) h.0) (Each-right (R x) xs (b ∷ ys) h.0).1, Pairwise-without xs ys b h.1)
+  Pairwise-without (x ∷ xs) ys b h =
+      (Each-append (R x) xs ys (Each-left (R x) xs (b ∷ ys) h.0) (Each-right (R x) xs (b ∷ ys) h.0).1, Pairwise-without xs ys b h.1)
 
   -- one more element, in its place
   pub Pairwise-with : (xs ys : List X) (b : X) → Each (λ x. R x b) xs → Each (R b) ys → Pairwise R (xs ++ ys) → Pairwise R (xs ++ b ∷ ys)
   Pairwise-with [] ys b l r h = (r, h)
-  Pairwise-with (x ∷ xs) ys b l r h = (Each-append (R x) xs (b ∷ ys) (Each-left (R x) xs ys h.0) (l.0, Each-right (R x) xs ys h.0), Pairwise-with xs ys b l.1 r h.1)
+  Pairwise-with (x ∷ xs) ys b l r h =
+      (Each-append (R x) xs (b ∷ ys) (Each-left (R x) xs ys h.0) (l.0, Each-right (R x) xs ys h.0), Pairwise-with xs ys b l.1 r h.1)
 
   -- those before an element are related to it
   pub Pairwise-before : (xs ys : List X) (b : X) → Pairwise R (xs ++ b ∷ ys) → Each (λ x. R x b) xs

@@ -18,12 +18,14 @@ module _ {A : Type 0} (bytes : A → List ℕ) where
   add_in_order_first new (y ∷ ys) h = rw h.0.0
 
   -- all before the place stay before
-  pub add_in_order-after : (new : A) (xs ys : List A) → Each (λ x. Precedes (bytes x) (bytes new)) xs → add_in_order bytes new (xs ++ ys) ≡ xs ++ add_in_order bytes new ys
+  pub add_in_order-after : (new : A) (xs ys : List A) → Each (λ x. Precedes (bytes x) (bytes new)) xs →
+      add_in_order bytes new (xs ++ ys) ≡ xs ++ add_in_order bytes new ys
   add_in_order-after new [] ys h = refl
   add_in_order-after new (x ∷ xs) ys h = rw (precedes_apart (bytes x) (bytes new) h.0) (ap (λ l. x ∷ l) (add_in_order-after new xs ys h.1))
 
   -- all after the place stay after
-  pub add_in_order-before : (new : A) (ys zs : List A) → Each (λ x. Precedes (bytes new) (bytes x)) zs → add_in_order bytes new (ys ++ zs) ≡ add_in_order bytes new ys ++ zs
+  pub add_in_order-before : (new : A) (ys zs : List A) → Each (λ x. Precedes (bytes new) (bytes x)) zs →
+      add_in_order bytes new (ys ++ zs) ≡ add_in_order bytes new ys ++ zs
   add_in_order-before new [] zs h = add_in_order_first new zs h
   add_in_order-before new (y ∷ ys) zs h = go (add_in_order-before new ys zs h) (is_before (bytes new) (bytes y))
     where
@@ -38,7 +40,8 @@ module _ {A : Type 0} (bytes : A → List ℕ) where
       (λ x. not (are_same key (bytes x)) ≡ true) (λ x e. ap not (same_related key (bytes x) e)) xs h)
 
   unrelated : (key : List ℕ) (xs : List A) → Each (λ x. are_related key (bytes x) ≡ false) xs → remove_related bytes key xs ≡ xs
-  unrelated key xs h = filter_all (λ x. not (are_related key (bytes x))) xs (Each-weaker (λ x. are_related key (bytes x) ≡ false) (λ x. not (are_related key (bytes x)) ≡ true) (λ x e. ap not e) xs h)
+  unrelated key xs h = filter_all (λ x. not (are_related key (bytes x))) xs
+      (Each-weaker (λ x. are_related key (bytes x) ≡ false) (λ x. not (are_related key (bytes x)) ≡ true) (λ x e. ap not e) xs h)
 
   module _ (key : List ℕ) (xs ys zs : List A) (low : Each (λ x. Precedes (bytes x) key) xs) (high : Each (λ x. Precedes key (bytes x)) zs) where
     low_apart : Each (λ x. are_related key (bytes x) ≡ false) xs
@@ -61,8 +64,12 @@ module _ {A : Type 0} (bytes : A → List ℕ) where
 
     -- a replacement is one in the middle
     pub replace_key-between : replace_key bytes new (xs ++ ys ++ zs) ≡ xs ++ replace_key bytes new ys ++ zs
-    replace_key-between = ap (add_in_order bytes new) (remove_key-between (bytes new) xs ys zs low high) ∙ add_in_order-between (remove_key bytes (bytes new) ys)
+    replace_key-between =
+        ap (add_in_order bytes new) (remove_key-between (bytes new) xs ys zs low high)
+        ∙ add_in_order-between (remove_key bytes (bytes new) ys)
 
     -- of related keys too
     pub replace_related-between : replace_related bytes new (xs ++ ys ++ zs) ≡ xs ++ replace_related bytes new ys ++ zs
-    replace_related-between = ap (add_in_order bytes new) (remove_related-between (bytes new) xs ys zs low high) ∙ add_in_order-between (remove_related bytes (bytes new) ys)
+    replace_related-between =
+        ap (add_in_order bytes new) (remove_related-between (bytes new) xs ys zs low high)
+        ∙ add_in_order-between (remove_related bytes (bytes new) ys)

@@ -87,26 +87,32 @@ module _ {A : Type 0} (bytes : A → List ℕ) where
   -- ---- a map
 
   -- where two that pass are never related, at most one of a map passes
-  few_pass : (test : A → Bool) → ((x y : A) → test x ≡ true → test y ≡ true → are_related (bytes x) (bytes y) ≡ true) → (xs : List A) → IsMap bytes xs → length (filter test xs) ≤ 1
+  few_pass : (test : A → Bool) → ((x y : A) → test x ≡ true → test y ≡ true → are_related (bytes x) (bytes y) ≡ true) → (xs : List A) →
+      IsMap bytes xs → length (filter test xs) ≤ 1
   few_pass test f [] h = omega arith
   few_pass test f (x ∷ xs) h = go (few_pass test f xs h.1) (test x) refl
     where
       go : length (filter test xs) ≤ 1 → (t : Bool) → test x ≡ t → length (cond t (x ∷ filter test xs) (filter test xs)) ≤ 1
       go ih true e =
-          rw (filter_none test xs (Each-weaker (λ y. Precedes (bytes x) (bytes y)) (λ y. test y ≡ false) (λ y p. fails (test y) (λ g. true≢false (sym (f x y e g) ∙ p.1))) xs h.0)) (omega arith)
+          rw (filter_none test xs (Each-weaker (λ y. Precedes (bytes x) (bytes y)) (λ y. test y ≡ false)
+          (λ y p. fails (test y) (λ g. true≢false (sym (f x y e g) ∙ p.1))) xs h.0)) (omega arith)
       go ih false e = ih
 
   pub keys_are_once : KeysAreOnce bytes
-  keys_are_once key pairs map = few_pass (λ x. are_same key (bytes x)) (λ x y e g. equal_related (bytes x) (bytes y) (same_equal key (bytes x) e ∙ sym (same_equal key (bytes y) g))) pairs map
+  keys_are_once key pairs map = few_pass (λ x. are_same key (bytes x))
+      (λ x y e g. equal_related (bytes x) (bytes y) (same_equal key (bytes x) e ∙ sym (same_equal key (bytes y) g))) pairs map
 
   pub matches_are_one : MatchesAreOne bytes
-  matches_are_one query pairs map = few_pass (λ x. is_front (bytes x) query) (λ x y e g. both_fronts (bytes x) (bytes y) query (front_from (bytes x) query e) (front_from (bytes y) query g)) pairs map
+  matches_are_one query pairs map = few_pass (λ x. is_front (bytes x) query)
+      (λ x y e g. both_fronts (bytes x) (bytes y) query (front_from (bytes x) query e) (front_from (bytes y) query g)) pairs map
 
-  none_any : (test : A → Bool) (P : A → Type 0) → ((x : A) → test x ≡ false → P x) → ((x : A) → P x → test x ≡ false) → (xs : List A) → Decides (not (list_any test xs)) (Each P xs)
+  none_any : (test : A → Bool) (P : A → Type 0) → ((x : A) → test x ≡ false → P x) → ((x : A) → P x → test x ≡ false) → (xs : List A) →
+      Decides (not (list_any test xs)) (Each P xs)
   none_any test P f g [] = ((λ h. tt), (λ h. refl))
   none_any test P f g (x ∷ xs) =
       let ih = none_any test P f g xs in (
-        (λ h. let (first, rest) = or_false (test x) (list_any test xs) (not_true (test x || list_any test xs) h) in (f x first, ih.0 (not_false (list_any test xs) rest))),
+        (λ h. let (first, rest) = or_false (test x) (list_any test xs) (not_true (test x || list_any test xs) h) in
+            (f x first, ih.0 (not_false (list_any test xs) rest))),
         (λ k. rw (g x k.0) (ih.1 k.1)),
       )
 
@@ -115,7 +121,8 @@ module _ {A : Type 0} (bytes : A → List ℕ) where
       (λ x e same. true≢false (sym ((sameness_is_decided key (bytes x)).1 same) ∙ e)) (λ x apart. not_same key (bytes x) apart) pairs
 
   pub conflicts_are_decided : ConflictsAreDecided bytes
-  conflicts_are_decided key pairs = none_any (λ x. are_related key (bytes x) && not (are_same key (bytes x))) (λ x. are_related key (bytes x) ≡ true → key ≡ bytes x)
+  conflicts_are_decided key pairs =
+      none_any (λ x. are_related key (bytes x) && not (are_same key (bytes x))) (λ x. are_related key (bytes x) ≡ true → key ≡ bytes x)
       (λ x e related. equal (bytes x) (rw related at e)) (λ x f. harmless (bytes x) (are_related key (bytes x)) f) pairs
     where
       equal : (k : List ℕ) → not (are_same key k) ≡ false → key ≡ k
@@ -135,9 +142,16 @@ module _ {A : Type 0} (bytes : A → List ℕ) where
       R : A → A → Type 0
       R y z = Precedes (bytes y) (bytes z)
 
-      go : IsMap bytes (add_in_order bytes new xs) → (t : Bool) → is_before (bytes new) (bytes x) ≡ t → IsMap bytes (cond t (new ∷ x ∷ xs) (x ∷ add_in_order bytes new xs))
-      go ih true e =
-          (((e, apart.0), Each-both (R x) (λ y. are_related (bytes new) (bytes y) ≡ false) (R new) (λ y p a. (order_is_transitive (bytes new) (bytes x) (bytes y) e p.0, a)) xs map.0 apart.1), map)
+      go : IsMap bytes (add_in_order bytes new xs) → (t : Bool) → is_before (bytes new) (bytes x) ≡ t →
+          IsMap bytes (cond t (new ∷ x ∷ xs) (x ∷ add_in_order bytes new xs))
+      go ih true e = (
+        (
+          (e, apart.0),
+          Each-both (R x) (λ y. are_related (bytes new) (bytes y) ≡ false) (R new)
+              (λ y p a. (order_is_transitive (bytes new) (bytes x) (bytes y) e p.0, a)) xs map.0 apart.1,
+        ),
+        map,
+      )
       go ih false e = (Each-add bytes (R x) new xs (other_way (bytes new) (bytes x) e apart.0) map.0, ih)
 
   left_unrelated : (key : List ℕ) (xs : List A) → is_conflict bytes key xs ≡ false → Unrelated key (remove_key bytes key xs)
@@ -146,7 +160,8 @@ module _ {A : Type 0} (bytes : A → List ℕ) where
       let parts = or_false (are_related key (bytes x) && not (are_same key (bytes x))) (is_conflict bytes key xs) h in
       go (left_unrelated key xs parts.1) (are_same key (bytes x)) parts.0
     where
-      go : Unrelated key (remove_key bytes key xs) → (t : Bool) → (are_related key (bytes x) && not t) ≡ false → Unrelated key (cond (not t) (x ∷ remove_key bytes key xs) (remove_key bytes key xs))
+      go : Unrelated key (remove_key bytes key xs) → (t : Bool) → (are_related key (bytes x) && not t) ≡ false →
+          Unrelated key (cond (not t) (x ∷ remove_key bytes key xs) (remove_key bytes key xs))
       go ih true e = ih
       go ih false e = (and_true (are_related key (bytes x)) e, ih)
 
@@ -183,17 +198,20 @@ module _ {A : Type 0} (bytes : A → List ℕ) where
       go true e = filter_none (λ x. are_same key (bytes x)) (remove_key bytes gone pairs) (none_same key gone pairs (sym (same_equal key gone e)))
       go false e = filter_filter (λ x. are_same key (bytes x)) (λ x. not (are_same gone (bytes x))) (λ x h. not_key key gone x e h) pairs
 
-  replaced_is_found : (key : List ℕ) (new : A) (pairs : List A) → with_key bytes key (replace_key bytes new pairs) ≡ cond (are_same key (bytes new)) (new ∷ []) (with_key bytes key pairs)
+  replaced_is_found : (key : List ℕ) (new : A) (pairs : List A) →
+      with_key bytes key (replace_key bytes new pairs) ≡ cond (are_same key (bytes new)) (new ∷ []) (with_key bytes key pairs)
   replaced_is_found key new pairs = go (are_same key (bytes new)) refl
     where
       go : (t : Bool) → are_same key (bytes new) ≡ t → with_key bytes key (replace_key bytes new pairs) ≡ cond t (new ∷ []) (with_key bytes key pairs)
-      go true e = filter_add_alone bytes (λ x. are_same key (bytes x)) new (remove_key bytes (bytes new) pairs) e (none_same key (bytes new) pairs (sym (same_equal key (bytes new) e)))
+      go true e = filter_add_alone bytes (λ x. are_same key (bytes x)) new (remove_key bytes (bytes new) pairs) e
+          (none_same key (bytes new) pairs (sym (same_equal key (bytes new) e)))
       go false e =
           filter_add bytes (λ x. are_same key (bytes x)) new (remove_key bytes (bytes new) pairs) e ∙
           filter_filter (λ x. are_same key (bytes x)) (λ x. not (are_same (bytes new) (bytes x))) (λ x h. not_key key (bytes new) x e h) pairs
 
   related_replaced_is_found : (key : List ℕ) (new : A) (pairs : List A) →
-      with_key bytes key (replace_related bytes new pairs) ≡ cond (are_same key (bytes new)) (new ∷ []) (cond (are_related key (bytes new)) [] (with_key bytes key pairs))
+      with_key bytes key (replace_related bytes new pairs)
+      ≡ cond (are_same key (bytes new)) (new ∷ []) (cond (are_related key (bytes new)) [] (with_key bytes key pairs))
   related_replaced_is_found key new pairs = go (are_same key (bytes new)) (are_related key (bytes new)) refl refl
     where
       -- what is left has no key that is related to the new one
@@ -205,13 +223,15 @@ module _ {A : Type 0} (bytes : A → List ℕ) where
       go : (s t : Bool) → are_same key (bytes new) ≡ s → are_related key (bytes new) ≡ t →
           with_key bytes key (replace_related bytes new pairs) ≡ cond s (new ∷ []) (cond t [] (with_key bytes key pairs))
       go true t e r =
-          filter_add_alone bytes (λ x. are_same key (bytes x)) new (remove_related bytes (bytes new) pairs) e (other key (equal_related key (bytes new) (sym (same_equal key (bytes new) e))))
+          filter_add_alone bytes (λ x. are_same key (bytes x)) new (remove_related bytes (bytes new) pairs) e
+          (other key (equal_related key (bytes new) (sym (same_equal key (bytes new) e))))
       go false true e r =
           filter_add bytes (λ x. are_same key (bytes x)) new (remove_related bytes (bytes new) pairs) e ∙
           filter_none (λ x. are_same key (bytes x)) (remove_related bytes (bytes new) pairs) (other key r)
       go false false e r = filter_add bytes (λ x. are_same key (bytes x)) new (remove_related bytes (bytes new) pairs) e
           ∙ filter_filter (λ x. are_same key (bytes x)) (λ x. not (are_related (bytes new) (bytes x)))
-          (λ x h. not_false (are_related (bytes new) (bytes x)) (subst (λ z. are_related (bytes new) z ≡ false) (sym (same_equal key (bytes x) h)) (related_sym (bytes new) key ∙ r))) pairs
+          (λ x h. not_false (are_related (bytes new) (bytes x))
+          (subst (λ z. are_related (bytes new) z ≡ false) (sym (same_equal key (bytes x) h)) (related_sym (bytes new) key ∙ r))) pairs
 
   -- ---- maps with the same answers
 
@@ -219,9 +239,13 @@ module _ {A : Type 0} (bytes : A → List ℕ) where
   own x xs = rw (front_same (bytes x)) refl
 
   -- nothing is found under a key that is before all
-  none_before : (key : List ℕ) (y : A) (ys : List A) → is_before key (bytes y) ≡ true → Each (λ z. Precedes (bytes y) (bytes z)) ys → with_key bytes key (y ∷ ys) ≡ []
-  none_before key y ys h map = filter_none (λ x. are_same key (bytes x)) (y ∷ ys)
-      (apart (bytes y) h, Each-weaker (λ z. Precedes (bytes y) (bytes z)) (λ z. are_same key (bytes z) ≡ false) (λ z p. apart (bytes z) (order_is_transitive key (bytes y) (bytes z) h p.0)) ys map)
+  none_before : (key : List ℕ) (y : A) (ys : List A) → is_before key (bytes y) ≡ true → Each (λ z. Precedes (bytes y) (bytes z)) ys →
+      with_key bytes key (y ∷ ys) ≡ []
+  none_before key y ys h map = filter_none (λ x. are_same key (bytes x)) (y ∷ ys) (
+    apart (bytes y) h,
+    Each-weaker (λ z. Precedes (bytes y) (bytes z)) (λ z. are_same key (bytes z) ≡ false)
+        (λ z p. apart (bytes z) (order_is_transitive key (bytes y) (bytes z) h p.0)) ys map,
+  )
     where
       apart : (k : List ℕ) → is_before key k ≡ true → are_same key k ≡ false
       apart k b = not_same key k (λ e. true≢false (sym (subst (λ z. is_before key z ≡ true) (sym e) b) ∙ order_is_strict key))
@@ -257,7 +281,8 @@ module _ {A : Type 0} (bytes : A → List ℕ) where
       let apart : Precedes (bytes x) (bytes z) = last_each (λ w. Precedes (bytes x) (bytes w)) (y ∷ xs) z map.0 e in
       rw (same_related (bytes z) (bytes x) (related_sym (bytes z) (bytes x) ∙ apart.1)) (ap (λ l. x ∷ l) (last_is_removed_by_key z (y ∷ xs) map.1 e))
 
-  replacement_is_undone : (new : A) (pairs : List A) → related_to bytes (bytes new) pairs ≡ [] → remove_key bytes (bytes new) (replace_key bytes new pairs) ≡ pairs
+  replacement_is_undone : (new : A) (pairs : List A) → related_to bytes (bytes new) pairs ≡ [] →
+      remove_key bytes (bytes new) (replace_key bytes new pairs) ≡ pairs
   replacement_is_undone new pairs none =
       let stays = all_stay (bytes new) pairs (none_passes (λ x. are_related (bytes new) (bytes x)) pairs none) in
       filter_add bytes (λ x. not (are_same (bytes new) (bytes x))) new (remove_key bytes (bytes new) pairs) (rw (front_same (bytes new)) refl)
@@ -282,12 +307,15 @@ module _ {A : Type 0} (bytes : A → List ℕ) where
   removal_counts key pairs = length-filter_both (λ x. not (are_same key (bytes x))) (λ x. are_same key (bytes x)) (λ x. double (are_same key (bytes x))) pairs
 
   pub replacement_counts : (new : A) (pairs : List A) → length (replace_key bytes new pairs) + length (with_key bytes (bytes new) pairs) ≡ length pairs + 1
-  replacement_counts new pairs = let more = length-add bytes new (remove_key bytes (bytes new) pairs) in let rest = removal_counts (bytes new) pairs in omega arith
+  replacement_counts new pairs =
+      let more = length-add bytes new (remove_key bytes (bytes new) pairs) in let rest = removal_counts (bytes new) pairs in omega arith
 
-  related_replacement_counts : (new : A) (pairs : List A) → length (replace_related bytes new pairs) + length (related_to bytes (bytes new) pairs) ≡ length pairs + 1
+  related_replacement_counts : (new : A) (pairs : List A) →
+      length (replace_related bytes new pairs) + length (related_to bytes (bytes new) pairs) ≡ length pairs + 1
   related_replacement_counts new pairs =
       let more = length-add bytes new (remove_related bytes (bytes new) pairs) in
-      let rest = length-filter_both (λ x. not (are_related (bytes new) (bytes x))) (λ x. are_related (bytes new) (bytes x)) (λ x. double (are_related (bytes new) (bytes x))) pairs in omega arith
+      let rest = length-filter_both (λ x. not (are_related (bytes new) (bytes x))) (λ x. are_related (bytes new) (bytes x))
+      (λ x. double (are_related (bytes new) (bytes x))) pairs in omega arith
 
 -- ---- puts and overwrites of pairs of key and value
 
@@ -313,7 +341,8 @@ module _ {K V : Type 0} (bytes : K → List ℕ) where
           let free = stored_is_free Of (bytes new.0) pairs map has in
           let rest = (same_rest Of new (bytes new.0) pairs (free_unrelated Of new (bytes new.0) pairs free)).0 in
           overwrite-put Of new pairs has
-          ∙ ap (add_in_order Of (stored new pairs)) (ap (λ k. remove_key Of k pairs) (alike new pairs) ∙ sym rest ∙ ap (λ k. remove_related Of k pairs) (sym (alike new pairs)))
+          ∙ ap (add_in_order Of (stored new pairs))
+          (ap (λ k. remove_key Of k pairs) (alike new pairs) ∙ sym rest ∙ ap (λ k. remove_related Of k pairs) (sym (alike new pairs)))
 
   stays_map : (change : Change (K × V)) (pairs : List (K × V)) → IsMap Of pairs → IsMap Of (changed Of change pairs)
   stays_map (put_pair new) pairs map = go (is_conflict Of (bytes new.0) pairs) refl
@@ -332,7 +361,9 @@ module _ {K V : Type 0} (bytes : K → List ℕ) where
   maps_stay_maps (change ∷ changes) pairs map = maps_stay_maps changes (changed Of change pairs) (stays_map change pairs map)
 
   pub put_is_found : PutIsFound V bytes
-  put_is_found key new pairs = replaced_is_found Of key (stored new pairs) pairs ∙ ap (λ k. cond (are_same key k) (stored new pairs ∷ []) (with_key Of key pairs)) (alike new pairs)
+  put_is_found key new pairs =
+      replaced_is_found Of key (stored new pairs) pairs
+      ∙ ap (λ k. cond (are_same key k) (stored new pairs ∷ []) (with_key Of key pairs)) (alike new pairs)
 
   pub overwrite_is_found : OverwriteIsFound V bytes
   overwrite_is_found key new pairs map = ap (with_key Of key) (overwrite_is new pairs map) ∙ related_replaced_is_found Of key (stored new pairs) pairs
@@ -340,7 +371,8 @@ module _ {K V : Type 0} (bytes : K → List ℕ) where
 
   pub put_is_undone : PutIsUndone V bytes
   put_is_undone new pairs none =
-      ap (λ k. remove_key Of k (put Of new pairs)) (sym (alike new pairs)) ∙ replacement_is_undone Of (stored new pairs) pairs (ap (λ k. related_to Of k pairs) (alike new pairs) ∙ none)
+      ap (λ k. remove_key Of k (put Of new pairs)) (sym (alike new pairs))
+      ∙ replacement_is_undone Of (stored new pairs) pairs (ap (λ k. related_to Of k pairs) (alike new pairs) ∙ none)
 
   -- ---- which key is stored
 
@@ -363,14 +395,17 @@ module _ {K V : Type 0} (bytes : K → List ℕ) where
   keys_stay new [] old ordered e same = absurd cc
   keys_stay new (x ∷ xs) old ordered e same = go (are_same (bytes new.0) (bytes x.0)) refl e (λ f. keys_stay new xs old ordered.1 f same)
     where
-      go : (b : Bool) → are_same (bytes new.0) (bytes x.0) ≡ b → first_of (cond b (x ∷ with_key Of (bytes new.0) xs) (with_key Of (bytes new.0) xs)) ≡ Some old →
+      go : (b : Bool) → are_same (bytes new.0) (bytes x.0) ≡ b →
+          first_of (cond b (x ∷ with_key Of (bytes new.0) xs) (with_key Of (bytes new.0) xs)) ≡ Some old →
           (first_of (with_key Of (bytes new.0) xs) ≡ Some old → map (λ x. x.0) (replace_key Of new xs) ≡ map (λ x. x.0) xs) →
           map (λ x. x.0) (add_in_order Of new (cond (not b) (x ∷ remove_key Of (bytes new.0) xs) (remove_key Of (bytes new.0) xs))) ≡ x.0 ∷ map (λ x. x.0) xs
       go true is f ih =
           let here : x ≡ old = cc in
-          let after : Each (λ y. Precedes (bytes new.0) (bytes y.0)) xs = subst (λ k. Each (λ y. Precedes k (bytes y.0)) xs) (same_equal (bytes new.0) (bytes x.0) is) ordered.0 in
+          let after : Each (λ y. Precedes (bytes new.0) (bytes y.0)) xs =
+          subst (λ k. Each (λ y. Precedes k (bytes y.0)) xs) (same_equal (bytes new.0) (bytes x.0) is) ordered.0 in
           let rest = all_stay Of (bytes new.0) xs (after_is_unrelated Of new xs after) in
-          ap (λ l. map (λ x. x.0) (add_in_order Of new l)) rest ∙ ap (map (λ x. x.0)) (add_in_order_first Of new xs after) ∙ ap (λ k. k ∷ map (λ x. x.0) xs) (same ∙ ap (λ z. z.0) (sym here))
+          ap (λ l. map (λ x. x.0) (add_in_order Of new l)) rest ∙ ap (map (λ x. x.0)) (add_in_order_first Of new xs after)
+          ∙ ap (λ k. k ∷ map (λ x. x.0) xs) (same ∙ ap (λ z. z.0) (sym here))
       go false is f ih =
           let before : Precedes (bytes x.0) (bytes old.0) =
           first_has (λ y. Precedes (bytes x.0) (bytes y.0)) (with_key Of (bytes new.0) xs) old
@@ -405,11 +440,14 @@ module _ {K V : Type 0} (bytes : K → List ℕ) where
     where
       go : (o : Option (K × V)) → first_of (with_key Of (bytes new.0) pairs) ≡ o → is_some (first_of (with_key Of (bytes new.0) pairs)) ≡ false →
           Tells (overwrite_reply Of new pairs) (related_to Of (bytes new.0) pairs)
-      go None e h = subst (λ told. Tells told (related_to Of (bytes new.0) pairs)) (sym (overwrite_reply-new Of new pairs e)) (went_tells Of (related_to Of (bytes new.0) pairs))
+      go None e h = subst (λ told. Tells told (related_to Of (bytes new.0) pairs)) (sym (overwrite_reply-new Of new pairs e))
+          (went_tells Of (related_to Of (bytes new.0) pairs))
       go (Some old) e h = absurd (true≢false (ap is_some (sym e) ∙ h))
 
   pub put_counts : PutCounts V bytes
-  put_counts new pairs = ap (λ k. length (put Of new pairs) + length (with_key Of k pairs)) (sym (alike new pairs)) ∙ replacement_counts Of (stored new pairs) pairs
+  put_counts new pairs =
+      ap (λ k. length (put Of new pairs) + length (with_key Of k pairs)) (sym (alike new pairs))
+      ∙ replacement_counts Of (stored new pairs) pairs
 
   pub overwrite_counts : OverwriteCounts V bytes
   overwrite_counts new pairs map =

@@ -30,9 +30,14 @@ module _ {A : Type 0} (bytes : A → List ℕ) (new : A) where
       weaker (y ∷ ys) h = (h.0.1, weaker ys h.1)
 
       go : (b : Bool) → IsMap bytes (cond b (new ∷ x ∷ xs) (x ∷ add_in_order bytes new xs)) →
-          (IsMap bytes (add_in_order bytes new xs) → Each (λ y. are_related (bytes new) (bytes y) ≡ false) xs) → Each (λ y. are_related (bytes new) (bytes y) ≡ false) (x ∷ xs)
+          (IsMap bytes (add_in_order bytes new xs) → Each (λ y. are_related (bytes new) (bytes y) ≡ false) xs) →
+          Each (λ y. are_related (bytes new) (bytes y) ≡ false) (x ∷ xs)
       go true h ih = weaker (x ∷ xs) h.0
-      go false h ih = (related_sym (bytes new) (bytes x) ∙ (each_in (λ y. Precedes (bytes x) (bytes y)) new (add_in_order bytes new xs) h.0 (added xs)).1, ih h.1)
+      go false h ih = (
+        related_sym (bytes new) (bytes x) ∙ (each_in (λ y. Precedes (bytes x) (bytes y)) new (add_in_order bytes new xs) h.0
+            (added xs)).1,
+        ih h.1,
+      )
 
   module _ (key : List ℕ) where
     -- so those with related keys are those with equal ones
@@ -43,9 +48,11 @@ module _ {A : Type 0} (bytes : A → List ℕ) (new : A) where
       where
         go : (b c : Bool) → are_same key (bytes x) ≡ b → are_related key (bytes x) ≡ c →
             Each (λ y. are_related key (bytes y) ≡ false) (cond (not b) (x ∷ remove_key bytes key xs) (remove_key bytes key xs)) →
-            (Each (λ y. are_related key (bytes y) ≡ false) (remove_key bytes key xs) → (remove_related bytes key xs ≡ remove_key bytes key xs) × (related_to bytes key xs ≡ with_key bytes key xs)) →
+            (Each (λ y. are_related key (bytes y) ≡ false) (remove_key bytes key xs) →
+            (remove_related bytes key xs ≡ remove_key bytes key xs) × (related_to bytes key xs ≡ with_key bytes key xs)) →
             (cond (not c) (x ∷ remove_related bytes key xs) (remove_related bytes key xs) ≡ cond (not b) (x ∷ remove_key bytes key xs)
-            (remove_key bytes key xs)) × (cond c (x ∷ related_to bytes key xs) (related_to bytes key xs) ≡ cond b (x ∷ with_key bytes key xs) (with_key bytes key xs))
+            (remove_key bytes key xs)) × (cond c (x ∷ related_to bytes key xs) (related_to bytes key xs)
+            ≡ cond b (x ∷ with_key bytes key xs) (with_key bytes key xs))
         go true true e f k ih = let r = ih k in (r.0, ap (λ z. x ∷ z) r.1)
         go false false e f k ih = let r = ih k.1 in (ap (λ z. x ∷ z) r.0, r.1)
         go false true e f k ih = absurd (true≢false (sym f ∙ k.0))
@@ -70,7 +77,8 @@ module _ {A : Type 0} (bytes : A → List ℕ) (new : A) where
     one_went (x ∷ xs) map = go (are_same key (bytes x)) refl (one_went xs map.1)
       where
         go : (b : Bool) → are_same key (bytes x) ≡ b → only_or_count (with_key bytes key xs) ≡ (first_of (with_key bytes key xs), 0) →
-            only_or_count (cond b (x ∷ with_key bytes key xs) (with_key bytes key xs)) ≡ (first_of (cond b (x ∷ with_key bytes key xs) (with_key bytes key xs)), 0)
+            only_or_count (cond b (x ∷ with_key bytes key xs) (with_key bytes key xs))
+            ≡ (first_of (cond b (x ∷ with_key bytes key xs) (with_key bytes key xs)), 0)
         go false e ih = ih
         go true e ih =
             let own : bytes x ≡ key = same_equal key (bytes x) e in
@@ -94,7 +102,8 @@ module _ {A : Type 0} (bytes : A → List ℕ) where
       earlier [] h e = absurd (false≢true e)
       earlier (y ∷ ys) h e = here (are_same key (bytes y)) refl e (λ g. earlier ys h.1 g)
         where
-          here : (b : Bool) → are_same key (bytes y) ≡ b → (b || has_key bytes key ys) ≡ true → (has_key bytes key ys ≡ true → are_related key (bytes x) ≡ false) → are_related key (bytes x) ≡ false
+          here : (b : Bool) → are_same key (bytes y) ≡ b → (b || has_key bytes key ys) ≡ true →
+              (has_key bytes key ys ≡ true → are_related key (bytes x) ≡ false) → are_related key (bytes x) ≡ false
           here true f g ih = related_sym key (bytes x) ∙ ap (are_related (bytes x)) (sym (same_equal key (bytes y) f)) ∙ h.0.1
           here false f g ih = ih g
 
@@ -102,19 +111,22 @@ module _ {A : Type 0} (bytes : A → List ℕ) where
       and_false true = refl
       and_false false = refl
 
-      go : (b : Bool) → are_same key (bytes x) ≡ b → (b || has_key bytes key xs) ≡ true → (has_key bytes key xs ≡ true → is_conflict bytes key xs ≡ false) → is_conflict bytes key (x ∷ xs) ≡ false
+      go : (b : Bool) → are_same key (bytes x) ≡ b → (b || has_key bytes key xs) ≡ true →
+          (has_key bytes key xs ≡ true → is_conflict bytes key xs ≡ false) → is_conflict bytes key (x ∷ xs) ≡ false
       go true e h ih =
           rw (
             e,
             none xs
-                (Each-weaker (λ y. Precedes (bytes x) (bytes y)) (λ y. are_related key (bytes y) ≡ false) (λ y p. ap (λ k. are_related k (bytes y)) (sym (same_equal key (bytes x) e)) ∙ p.1) xs map.0),
+                (Each-weaker (λ y. Precedes (bytes x) (bytes y)) (λ y. are_related key (bytes y) ≡ false)
+                (λ y p. ap (λ k. are_related k (bytes y)) (sym (same_equal key (bytes x) e)) ∙ p.1) xs map.0),
           ) (and_false (are_related key (bytes x)))
       go false e h ih = rw (earlier xs map.0 h) (ih h)
 
 module _ {K V : Type 0} (bytes : K × V → List ℕ) (new : K × V) (pairs : List (K × V)) where
   -- where no unequal key is related
   module _ (apart : Each (λ y. are_related (bytes new) (bytes y) ≡ false) (remove_key bytes (bytes new) pairs)) where
-    parts : (remove_related bytes (bytes new) pairs ≡ remove_key bytes (bytes new) pairs) × (related_to bytes (bytes new) pairs ≡ with_key bytes (bytes new) pairs)
+    parts : (remove_related bytes (bytes new) pairs ≡ remove_key bytes (bytes new) pairs) ×
+        (related_to bytes (bytes new) pairs ≡ with_key bytes (bytes new) pairs)
     parts = same_rest bytes new (bytes new) pairs apart
 
     -- the pairs are the same

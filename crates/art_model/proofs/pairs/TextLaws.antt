@@ -39,10 +39,12 @@ module _ {A : Type 0} (text : A → List ℕ) where
       (λ y r p. either y (front_from (text y) query p) of_last r) (match_of text query xs)
       (last_related (λ x y. is_before (text x) (text y) ≡ true) (match_of text query xs) last rise_in e) passes
     where
-      either : (y : A) → IsFront (text y) query → IsFront (text last) query → (is_before (text y) (text last) ≡ true) ⊎ (y ≡ last) → IsFront (text y) (text last)
+      either : (y : A) → IsFront (text y) query → IsFront (text last) query → (is_before (text y) (text last) ≡ true) ⊎ (y ≡ last) →
+          IsFront (text y) (text last)
       either y f g (inl before) = front_if_before (text y) (text last) query before f g
       either y f g (inr same) = ([], ap text (sym same) ∙ sym (append-nil (text y)))
 
   pub last_is_longest : LastIsLongest text
   last_is_longest xs query last rise e =
-      Each-weaker (λ x. IsFront (text x) (text last)) (λ x. length (text x) ≤ length (text last)) (λ x f. front_short (text x) (text last) f) (match_of text query xs) (last_has_all xs query last rise e)
+      Each-weaker (λ x. IsFront (text x) (text last)) (λ x. length (text x) ≤ length (text last))
+      (λ x f. front_short (text x) (text last) f) (match_of text query xs) (last_has_all xs query last rise e)

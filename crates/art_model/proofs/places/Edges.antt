@@ -51,7 +51,8 @@ last_of-append (y ∷ z ∷ xs) x = last_of-append (z ∷ xs) x
 
 -- ---- the children at the edges
 module _ {N A : Type 0} where
-  pub first_child : (cs : Subtrees N A) (r : ℕ × N) → slice_get (slots_of cs) 0 ≡ Some r → (t : Tree N A) × (ds : Subtrees N A) × (cs ≡ join no_child (child r.0 t ds)) × (name_of t ≡ r.1)
+  pub first_child : (cs : Subtrees N A) (r : ℕ × N) → slice_get (slots_of cs) 0 ≡ Some r →
+      (t : Tree N A) × (ds : Subtrees N A) × (cs ≡ join no_child (child r.0 t ds)) × (name_of t ≡ r.1)
   first_child no_child r e = absurd cc
   first_child (child b t cs) r e =
       let is : ◌≡◌ {A = ℕ × N} (b, name_of t) r = cc in
@@ -81,7 +82,8 @@ module _ {N A : Type 0} where
 -- ---- a descent that keeps to an edge
 
 -- a node of a full tree, where the frames above it keep to a side
-pub record IsAtEdge {K V : Type 0} (side : List (Frame OpaqueNodePtr (K × V)) → Type 0) (s : Nodes K V) (tree : Tree OpaqueNodePtr (K × V)) (name : OpaqueNodePtr) : Type 0 where
+pub record IsAtEdge {K V : Type 0} (side : List (Frame OpaqueNodePtr (K × V)) → Type 0) (s : Nodes K V) (tree : Tree OpaqueNodePtr (K × V))
+    (name : OpaqueNodePtr) : Type 0 where
   pub path : List (Frame OpaqueNodePtr (K × V))
   pub node : Tree OpaqueNodePtr (K × V)
   pub whole : plug path node ≡ tree
@@ -93,7 +95,16 @@ pub record IsAtEdge {K V : Type 0} (side : List (Frame OpaqueNodePtr (K × V)) �
 
 module _ {K V : Type 0} (side : List (Frame OpaqueNodePtr (K × V)) → Type 0) (s : Nodes K V) (tree : Tree OpaqueNodePtr (K × V)) where
   pub edge_start : {root : OpaqueNodePtr} → IsFullTree s root tree → side [] → IsAtEdge side s tree root
-  edge_start (is, full) along = record { path = []; node = tree; whole = refl; named = is.named; holds = is.holds; full = full; enough = enough_steps s tree is.holds is.distinct; along = along }
+  edge_start (is, full) along = record {
+    path = [];
+    node = tree;
+    whole = refl;
+    named = is.named;
+    holds = is.holds;
+    full = full;
+    enough = enough_steps s tree is.holds is.distinct;
+    along = along;
+  }
 
   module _ {name : OpaqueNodePtr} (d : IsAtEdge side s tree name) where
     pub edge_inner_there : {p : InnerPtr} → p.kind ≢ Leaf → inner_name p ≡ name → None ≡ map.get s.inners p → ⊥
@@ -116,7 +127,8 @@ module _ {K V : Type 0} (side : List (Frame OpaqueNodePtr (K × V)) → Type 0) 
           next (record { mark = inner_name p; header = header_at p.kind shown; left = l; byte = b; right = r } ∷ d.path) →
           IsAtEdge next s tree to × (height (node_at s) (map.len s.inners) to < height (node_at s) (map.len s.inners) name)
       edge_down next l b t r {to} split named along =
-          let is : d.node ≡ inner (inner_name p) (header_at p.kind shown) (join l (child b t r)) = at.is ∙ ap (inner (inner_name p) (header_at p.kind shown)) split in
+          let is : d.node ≡ inner (inner_name p) (header_at p.kind shown) (join l (child b t r)) =
+          at.is ∙ ap (inner (inner_name p) (header_at p.kind shown)) split in
           let held = subst (Holds (node_at s)) is d.holds in
           let below = HoldsBelow-right (node_at s) l (child b t r) held.1 in
           let full = subst (HaveChildren 1) is d.full in
@@ -143,7 +155,8 @@ module _ {K V : Type 0} (side : List (Frame OpaqueNodePtr (K × V)) → Type 0) 
 -- at a leaf the path ends
 module _ {K V : Type 0} {side : List (Frame OpaqueNodePtr (K × V)) → Type 0} {s : Nodes K V} {tree : Tree OpaqueNodePtr (K × V)}
     {name : OpaqueNodePtr} {p : LeafPtr} (is : leaf_name p ≡ name) (d : IsAtEdge side s tree name) where
-  pub first_leaf : AreFirst d.path → (first_of (leaf_names tree) ≡ Some (leaf_name p)) × ((x : K × V) × (first_of (pairs_of tree) ≡ Some x) × (plug d.path (leaf (leaf_name p) x) ≡ tree))
+  pub first_leaf : AreFirst d.path → (first_of (leaf_names tree) ≡ Some (leaf_name p)) ×
+      ((x : K × V) × (first_of (pairs_of tree) ≡ Some x) × (plug d.path (leaf (leaf_name p) x) ≡ tree))
   first_leaf first =
       let (x, at) = leaf_named s p d.node (d.named ∙ sym is) d.holds in
       let whole = ap (plug d.path) (sym at) ∙ d.whole in (
@@ -157,12 +170,16 @@ module _ {K V : Type 0} {side : List (Frame OpaqueNodePtr (K × V)) → Type 0} 
         ),
       )
 
-  pub last_leaf : AreLast d.path → (last_of (leaf_names tree) ≡ Some (leaf_name p)) × ((x : K × V) × (last_of (pairs_of tree) ≡ Some x) × (plug d.path (leaf (leaf_name p) x) ≡ tree))
+  pub last_leaf : AreLast d.path → (last_of (leaf_names tree) ≡ Some (leaf_name p)) ×
+      ((x : K × V) × (last_of (pairs_of tree) ≡ Some x) × (plug d.path (leaf (leaf_name p) x) ≡ tree))
   last_leaf last =
       let (x, at) = leaf_named s p d.node (d.named ∙ sym is) d.holds in
       let whole = ap (plug d.path) (sym at) ∙ d.whole in
-      let names = ap leaf_names (sym whole) ∙ leaf_names-plug d.path (leaf (leaf_name p) x) ∙ ap (λ ns. leaves_before d.path ++ leaf_name p ∷ [] ++ ns) (none_after d.path last).0 in
-      let pairs = ap pairs_of (sym whole) ∙ pairs_of-plug d.path (leaf (leaf_name p) x) ∙ ap (λ xs. pairs_before d.path ++ x ∷ [] ++ xs) (none_after d.path last).1 in (
+      let names = ap leaf_names (sym whole) ∙ leaf_names-plug d.path (leaf (leaf_name p) x)
+      ∙ ap (λ ns. leaves_before d.path ++ leaf_name p ∷ [] ++ ns) (none_after d.path last).0 in
+      let pairs =
+      ap pairs_of (sym whole) ∙ pairs_of-plug d.path (leaf (leaf_name p) x)
+      ∙ ap (λ xs. pairs_before d.path ++ x ∷ [] ++ xs) (none_after d.path last).1 in (
         ap last_of names ∙ rw append-nil (last_of-append (leaves_before d.path) (leaf_name p)),
         (x, ap last_of pairs ∙ rw append-nil (last_of-append (pairs_before d.path) x), whole),
       )

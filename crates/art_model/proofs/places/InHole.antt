@@ -22,11 +22,15 @@ use Rattle.art_model.proofs.stores.Writes.{parents}
 module _ {N A : Type 0} (fs : List (Frame N A)) where
   -- a name in the hole is one of the whole
   pub in_hole : (t : Tree N A) (k : N) → IsIn k (names_of t) → IsIn k (names_of (plug fs t))
-  in_hole t k i = subst (IsIn k) (sym (names_of-plug fs t)) (in_left k (names_before fs ++ names_of t) (names_after fs) (in_right k (names_before fs) (names_of t) i))
+  in_hole t k i =
+      subst (IsIn k) (sym (names_of-plug fs t))
+      (in_left k (names_before fs ++ names_of t) (names_after fs) (in_right k (names_before fs) (names_of t) i))
 
   -- and so is one before the hole
   in_before : (t : Tree N A) (k : N) → IsIn k (names_before fs) → IsIn k (names_of (plug fs t))
-  in_before t k i = subst (IsIn k) (sym (names_of-plug fs t)) (in_left k (names_before fs ++ names_of t) (names_after fs) (in_left k (names_before fs) (names_of t) i))
+  in_before t k i =
+      subst (IsIn k) (sym (names_of-plug fs t))
+      (in_left k (names_before fs ++ names_of t) (names_after fs) (in_left k (names_before fs) (names_of t) i))
 
   in_after : (t : Tree N A) (k : N) → IsIn k (names_after fs) → IsIn k (names_of (plug fs t))
   in_after t k i = subst (IsIn k) (sym (names_of-plug fs t)) (in_right k (names_before fs ++ names_of t) (names_after fs) i)
@@ -39,7 +43,8 @@ module _ {N A : Type 0} (fs : List (Frame N A)) where
   ]
 
   -- the names of the whole differ as those in the hole do
-  pub names_around : (t u : Tree N A) (placed freed changed : List N) → AreNames (names_of t) (names_of u) placed freed [] → ((n : N) → IsIn n changed → IsIn n (names_of (plug fs t))) →
+  pub names_around : (t u : Tree N A) (placed freed changed : List N) → AreNames (names_of t) (names_of u) placed freed [] →
+      ((n : N) → IsIn n changed → IsIn n (names_of (plug fs t))) →
       AreNames (names_of (plug fs t)) (names_of (plug fs u)) placed freed changed
   names_around t u placed freed changed own changed_in = record {
     placed_in = λ n i. in_hole u n (own.placed_in n i);
@@ -67,16 +72,19 @@ module _ {N A : Type 0} (fs : List (Frame N A)) where
 
 -- the parent, and inner nodes of the hole
 pub parents_in : {A : Type 0} (fs : List (Frame OpaqueNodePtr A)) (t : Tree OpaqueNodePtr A) (touched : List InnerPtr) →
-    ((p : InnerPtr) → IsIn p touched → IsIn (inner_name p) (names_of t)) → (p : InnerPtr) → IsIn p (parents fs ++ touched) → IsIn (inner_name p) (names_of (plug fs t))
+    ((p : InnerPtr) → IsIn p touched → IsIn (inner_name p) (names_of t)) → (p : InnerPtr) → IsIn p (parents fs ++ touched) →
+    IsIn (inner_name p) (names_of (plug fs t))
 parents_in [] t touched own p i = own p i
-parents_in (f ∷ fs) t touched own p (inl e) = in_before (f ∷ fs) t (inner_name p) (in_right (inner_name p) (names_before fs) (f.mark ∷ names_below f.left) (inl (ap inner_name e)))
+parents_in (f ∷ fs) t touched own p (inl e) =
+    in_before (f ∷ fs) t (inner_name p) (in_right (inner_name p) (names_before fs) (f.mark ∷ names_below f.left) (inl (ap inner_name e)))
 parents_in (f ∷ fs) t touched own p (inr i) = in_hole (f ∷ fs) t (inner_name p) (own p i)
 
 -- leaves and inner nodes together
 pub both_in : (names : List OpaqueNodePtr) (leaves : List LeafPtr) (inners : List InnerPtr) →
     ((p : LeafPtr) → IsIn p leaves → IsIn (leaf_name p) names) → ((p : InnerPtr) → IsIn p inners → IsIn (inner_name p) names) →
     (k : OpaqueNodePtr) → IsIn k (both_names leaves inners) → IsIn k names
-both_in names leaves inners of_leaves of_inners k i = each_in (λ n. IsIn n names) k (both_names leaves inners) (Each-append (λ n. IsIn n names) (map leaf_name leaves) (map inner_name inners)
+both_in names leaves inners of_leaves of_inners k i =
+    each_in (λ n. IsIn n names) k (both_names leaves inners) (Each-append (λ n. IsIn n names) (map leaf_name leaves) (map inner_name inners)
     (each_map leaf_name (λ n. IsIn n names) leaves (each_from (λ p. IsIn (leaf_name p) names) leaves of_leaves))
     (each_map inner_name (λ n. IsIn n names) inners (each_from (λ p. IsIn (inner_name p) names) inners of_inners))) i
 
@@ -92,5 +100,6 @@ with_key-hole bytes P fs place key t path front =
     (λ x h. same_related key (bytes x) (related_sym key (bytes x) ∙ h.1)) (pairs_before fs) (path_before bytes P fs place key path front)) in
     let after =
     filter_none (λ x. are_same key (bytes x)) (pairs_after fs)
-    (Each-weaker (λ x. Precedes key (bytes x)) (λ x. are_same key (bytes x) ≡ false) (λ x h. same_related key (bytes x) h.1) (pairs_after fs) (path_after bytes P fs place key path front)) in
+    (Each-weaker (λ x. Precedes key (bytes x)) (λ x. are_same key (bytes x) ≡ false) (λ x h. same_related key (bytes x) h.1)
+    (pairs_after fs) (path_after bytes P fs place key path front)) in
     rw pairs_of-plug (simp (filter-append, before, after) (append-nil (with_key bytes key (pairs_of t))))

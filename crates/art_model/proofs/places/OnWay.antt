@@ -29,7 +29,9 @@ module _ {A : Type 0} (bytes : A → List ℕ) (key : List ℕ) where
 
   pub none_match : (xs : List A) → Each IsOff xs → match_of bytes key xs ≡ []
   none_match xs off =
-      filter_none (λ x. is_front (bytes x) key) xs (Each-weaker IsOff (λ x. is_front (bytes x) key ≡ false) (λ x o. is_false (is_front (bytes x) key) (λ e. o (front_from (bytes x) key e))) xs off)
+      filter_none (λ x. is_front (bytes x) key) xs
+      (Each-weaker IsOff (λ x. is_front (bytes x) key ≡ false)
+      (λ x o. is_false (is_front (bytes x) key) (λ e. o (front_from (bytes x) key e))) xs off)
 
   -- nothing outside the middle matches
   pub match_between : (xs ys zs : List A) → Each IsOff xs → Each IsOff zs → match_of bytes key (xs ++ ys ++ zs) ≡ match_of bytes key ys
@@ -56,7 +58,8 @@ AreAside front key cs = Each (λ b. IsFront (front ++ b ∷ []) key → ⊥) (by
 module _ {N A : Type 0} (front key : List ℕ) where
   -- each of the bytes is another than the key's
   pub aside_others : (cs : Subtrees N A) → Each (λ b. b ≢ get_or key (length front) 0) (bytes_of cs) → AreAside front key cs
-  aside_others cs others = Each-weaker (λ b. b ≢ get_or key (length front) 0) (λ b. IsFront (front ++ b ∷ []) key → ⊥) (λ b o f. o (sym (byte_after front key b f))) (bytes_of cs) others
+  aside_others cs others = Each-weaker (λ b. b ≢ get_or key (length front) 0) (λ b. IsFront (front ++ b ∷ []) key → ⊥)
+      (λ b o f. o (sym (byte_after front key b f))) (bytes_of cs) others
 
   -- any bytes will do if the prefix itself differs
   aside_all : (cs : Subtrees N A) → ((b : ℕ) → IsFront (front ++ b ∷ []) key → ⊥) → AreAside front key cs
@@ -80,18 +83,22 @@ module _ {N A : Type 0} (bytes : A → List ℕ) (P : ℕ) (front key : List ℕ
       (off_front bytes key (front ++ b ∷ []) aside.0 (pairs_of t) (radix_way bytes P t (front ++ b ∷ []) radix.0))
       (aside_pairs cs radix.1 aside.1)
 
-  pub aside_places : (d : ℕ) (cs : Subtrees N A) → d ≡ length front + 1 → AreRadix bytes P front cs → AreAside front key cs → Each (IsOff (λ (node : List ℕ × N). node.0) key) (places_below bytes d cs)
+  pub aside_places : (d : ℕ) (cs : Subtrees N A) → d ≡ length front + 1 → AreRadix bytes P front cs → AreAside front key cs →
+      Each (IsOff (λ (node : List ℕ × N). node.0) key) (places_below bytes d cs)
   aside_places d no_child deep radix aside = tt
   aside_places d (child b t cs) deep radix aside =
-      let begin = subst (λ z. Each (λ node. IsFront (front ++ b ∷ []) node.0) (places bytes z t)) (length-append front (b ∷ []) ∙ sym deep) (places_way bytes P t (front ++ b ∷ []) radix.0) in
+      let begin = subst (λ z. Each (λ node. IsFront (front ++ b ∷ []) node.0) (places bytes z t)) (length-append front (b ∷ []) ∙ sym deep)
+      (places_way bytes P t (front ++ b ∷ []) radix.0) in
       Each-append (IsOff (λ (node : List ℕ × N). node.0) key) (places bytes d t) (places_below bytes d cs)
       (off_front (λ (node : List ℕ × N). node.0) key (front ++ b ∷ []) aside.0 (places bytes d t) begin)
       (aside_places d cs deep radix.1 aside.1)
 
-places_below-join : {N A : Type 0} (bytes : A → List ℕ) (d : ℕ) (cs ds : Subtrees N A) → places_below bytes d (join cs ds) ≡ places_below bytes d cs ++ places_below bytes d ds
+places_below-join : {N A : Type 0} (bytes : A → List ℕ) (d : ℕ) (cs ds : Subtrees N A) →
+    places_below bytes d (join cs ds) ≡ places_below bytes d cs ++ places_below bytes d ds
 places_below-join bytes d no_child ds = refl
 places_below-join bytes d (child b t cs) ds =
-    ap (λ l. places bytes d t ++ l) (places_below-join bytes d cs ds) ∙ sym (append_assoc (places bytes d t) (places_below bytes d cs) (places_below bytes d ds))
+    ap (λ l. places bytes d t ++ l) (places_below-join bytes d cs ds)
+    ∙ sym (append_assoc (places bytes d t) (places_below bytes d cs) (places_below bytes d ds))
 
 -- all that is on the key's path is below the child between
 module _ {N A : Type 0} (bytes : A → List ℕ) (P : ℕ) (front key : List ℕ) (l : Subtrees N A) (b : ℕ) (t : Tree N A) (r : Subtrees N A)
@@ -105,11 +112,14 @@ module _ {N A : Type 0} (bytes : A → List ℕ) (P : ℕ) (front key : List ℕ
   pub pairs_between : match_of bytes key (pairs_below (join l (child b t r))) ≡ match_of bytes key (pairs_of t)
   pairs_between =
       ap (match_of bytes key) (pairs_below-join l (child b t r) ∙ sym (append_assoc (pairs_below l) (pairs_of t) (pairs_below r)))
-      ∙ match_between bytes key (pairs_below l) (pairs_of t) (pairs_below r) (aside_pairs bytes P front key l left low) (aside_pairs bytes P front key r right high)
+      ∙ match_between bytes key (pairs_below l) (pairs_of t) (pairs_below r) (aside_pairs bytes P front key l left low)
+      (aside_pairs bytes P front key r right high)
 
-  pub places_between : (d : ℕ) → d ≡ length front + 1 → match_of (λ node. node.0) key (places_below bytes d (join l (child b t r))) ≡ match_of (λ node. node.0) key (places bytes d t)
+  pub places_between : (d : ℕ) → d ≡ length front + 1 →
+      match_of (λ node. node.0) key (places_below bytes d (join l (child b t r))) ≡ match_of (λ node. node.0) key (places bytes d t)
   places_between d deep =
-      ap (match_of (λ node. node.0) key) (places_below-join bytes d l (child b t r) ∙ sym (append_assoc (places_below bytes d l) (places bytes d t) (places_below bytes d r)))
+      ap (match_of (λ node. node.0) key) (places_below-join bytes d l (child b t r)
+      ∙ sym (append_assoc (places_below bytes d l) (places bytes d t) (places_below bytes d r)))
       ∙ match_between (λ node. node.0) key (places_below bytes d l) (places bytes d t) (places_below bytes d r)
       (aside_places bytes P front key d l deep left low) (aside_places bytes P front key d r deep right high)
 
@@ -124,11 +134,13 @@ pub record IsUnder {A : Type 0} (cs : Subtrees OpaqueNodePtr A) (b : ℕ) (name 
   pub others_right : Each (λ c. c ≢ b) (bytes_of right)
 
 module _ {A : Type 0} where
-  pub child_under : (cs : Subtrees OpaqueNodePtr A) (b : ℕ) (name : OpaqueNodePtr) → BytesRise (bytes_of cs) → child_at (slots_of cs) b ≡ Some name → IsUnder cs b name
+  pub child_under : (cs : Subtrees OpaqueNodePtr A) (b : ℕ) (name : OpaqueNodePtr) → BytesRise (bytes_of cs) →
+      child_at (slots_of cs) b ≡ Some name → IsUnder cs b name
   child_under no_child b name up e = absurd cc
   child_under (child c t cs) b name up e = go (child_under cs b name up.1) (eqb c b) refl e
     where
-      go : (child_at (slots_of cs) b ≡ Some name → IsUnder cs b name) → (q : Bool) → eqb c b ≡ q → cond q (Some (name_of t)) (child_at (slots_of cs) b) ≡ Some name → IsUnder (child c t cs) b name
+      go : (child_at (slots_of cs) b ≡ Some name → IsUnder cs b name) → (q : Bool) → eqb c b ≡ q →
+          cond q (Some (name_of t)) (child_at (slots_of cs) b) ≡ Some name → IsUnder (child c t cs) b name
       go ih true is e =
           let same : c ≡ b = eqb-true c b is in
           record {

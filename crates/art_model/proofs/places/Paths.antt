@@ -33,20 +33,25 @@ module _ {N A : Type 0} where
   -- names of joined children's leaves
   pub leaf_names_below-join : (cs ds : Subtrees N A) → leaf_names_below (join cs ds) ≡ leaf_names_below cs ++ leaf_names_below ds
   leaf_names_below-join no_child ds = refl
-  leaf_names_below-join (child b t cs) ds = ap (λ l. leaf_names t ++ l) (leaf_names_below-join cs ds) ∙ sym (append_assoc (leaf_names t) (leaf_names_below cs) (leaf_names_below ds))
+  leaf_names_below-join (child b t cs) ds =
+      ap (λ l. leaf_names t ++ l) (leaf_names_below-join cs ds)
+      ∙ sym (append_assoc (leaf_names t) (leaf_names_below cs) (leaf_names_below ds))
 
   -- entries of joined children
   pub entries_below-join : (cs ds : Subtrees N A) → entries_below (join cs ds) ≡ entries_below cs ++ entries_below ds
   entries_below-join no_child ds = refl
-  entries_below-join (child b t cs) ds = ap (λ l. entries_of t ++ l) (entries_below-join cs ds) ∙ sym (append_assoc (entries_of t) (entries_below cs) (entries_below ds))
+  entries_below-join (child b t cs) ds =
+      ap (λ l. entries_of t ++ l) (entries_below-join cs ds) ∙ sym (append_assoc (entries_of t) (entries_below cs) (entries_below ds))
 
   -- entries on the left, in the middle and on the right
   pub entries_below-three : (l middle r : Subtrees N A) → entries_below (join l (join middle r)) ≡ entries_below l ++ entries_below middle ++ entries_below r
   entries_below-three l middle r =
-      entries_below-join l (join middle r) ∙ ap (λ z. entries_below l ++ z) (entries_below-join middle r) ∙ sym (append_assoc (entries_below l) (entries_below middle) (entries_below r))
+      entries_below-join l (join middle r) ∙ ap (λ z. entries_below l ++ z) (entries_below-join middle r)
+      ∙ sym (append_assoc (entries_below l) (entries_below middle) (entries_below r))
 
   -- the names of the leaves on the left, in the middle and on the right
-  pub leaf_names_below-three : (l middle r : Subtrees N A) → leaf_names_below (join l (join middle r)) ≡ leaf_names_below l ++ leaf_names_below middle ++ leaf_names_below r
+  pub leaf_names_below-three : (l middle r : Subtrees N A) →
+      leaf_names_below (join l (join middle r)) ≡ leaf_names_below l ++ leaf_names_below middle ++ leaf_names_below r
   leaf_names_below-three l middle r =
       leaf_names_below-join l (join middle r) ∙ ap (λ z. leaf_names_below l ++ z) (leaf_names_below-join middle r) ∙
       sym (append_assoc (leaf_names_below l) (leaf_names_below middle) (leaf_names_below r))
@@ -96,7 +101,8 @@ module _ {N A : Type 0} where
     length-leaf_names_below : (cs : Subtrees N A) → length (leaf_names_below cs) ≡ length (pairs_below cs)
     length-leaf_names_below no_child = refl
     length-leaf_names_below (child b t cs) =
-        length-append (leaf_names t) (leaf_names_below cs) ∙ ap₂ ◌+◌ (length-leaf_names t) (length-leaf_names_below cs) ∙ sym (length-append (pairs_of t) (pairs_below cs))
+        length-append (leaf_names t) (leaf_names_below cs) ∙ ap₂ ◌+◌ (length-leaf_names t) (length-leaf_names_below cs)
+        ∙ sym (length-append (pairs_of t) (pairs_below cs))
 
   -- trees with the same entries have the same pairs and the same leaves
   pub same_pairs_of : (t u : Tree N A) → entries_of u ≡ entries_of t → pairs_of u ≡ pairs_of t
@@ -153,10 +159,12 @@ module _ {N A : Type 0} (bytes : A → List ℕ) (P : ℕ) where
   -- a radix tree in the hole of a path makes a radix tree
   pub plug_radix : (fs : List (Frame N A)) (place : List ℕ) (t : Tree N A) → IsPath bytes P place fs → IsRadix bytes P place t → IsRadix bytes P [] (plug fs t)
   plug_radix [] place t e h = subst (λ w. IsRadix bytes P w t) e h
-  plug_radix (f ∷ fs) place t (outer, part, e, head, two, up, l, r, path) h = plug_radix fs outer (fill f t) path (fill_radix f fs place t (outer, part, e, head, two, up, l, r, path) h)
+  plug_radix (f ∷ fs) place t (outer, part, e, head, two, up, l, r, path) h =
+      plug_radix fs outer (fill f t) path (fill_radix f fs place t (outer, part, e, head, two, up, l, r, path) h)
 
   -- one step down
-  pub path_down : (fs : List (Frame N A)) (place : List ℕ) (f : Frame N A) (t : Tree N A) → IsPath bytes P place fs → (radix : IsRadix bytes P place (fill f t)) →
+  pub path_down : (fs : List (Frame N A)) (place : List ℕ) (f : Frame N A) (t : Tree N A) → IsPath bytes P place fs →
+      (radix : IsRadix bytes P place (fill f t)) →
       IsPath bytes P ((place ++ radix.0) ++ f.byte ∷ []) (f ∷ fs) × IsRadix bytes P ((place ++ radix.0) ++ f.byte ∷ []) t
   path_down fs place f t path (part, head, two, up, all) =
       let bs = bytes_of-join f.left (child f.byte t f.right) in
@@ -167,7 +175,8 @@ module _ {N A : Type 0} (bytes : A → List ℕ) (P : ℕ) where
       ((place, part, refl, head ∙ ap (λ z. canonical_header P part (length z)) bs, omega arith, subst BytesRise bs up, l, r.1, path), r.0)
 
   -- keys before and after a place
-  pub path_before : (fs : List (Frame N A)) (place key : List ℕ) → IsPath bytes P place fs → IsFront place key → Each (λ x. Precedes (bytes x) key) (pairs_before fs)
+  pub path_before : (fs : List (Frame N A)) (place key : List ℕ) → IsPath bytes P place fs → IsFront place key →
+      Each (λ x. Precedes (bytes x) key) (pairs_before fs)
   path_before [] place key path k = tt
   path_before (f ∷ fs) place key (outer, part, e, head, two, up, l, r, path) k =
       let k' : IsFront ((outer ++ part) ++ f.byte ∷ []) key = subst (λ w. IsFront w key) e k in
@@ -178,7 +187,8 @@ module _ {N A : Type 0} (bytes : A → List ℕ) (P : ℕ) where
       (all_below bytes P (outer ++ part) f.byte f.left l (Pairwise-before ◌<◌ (bytes_of f.left) (bytes_of f.right) f.byte up)))
 
   -- and keys after it
-  pub path_after : (fs : List (Frame N A)) (place key : List ℕ) → IsPath bytes P place fs → IsFront place key → Each (λ x. Precedes key (bytes x)) (pairs_after fs)
+  pub path_after : (fs : List (Frame N A)) (place key : List ℕ) → IsPath bytes P place fs → IsFront place key →
+      Each (λ x. Precedes key (bytes x)) (pairs_after fs)
   path_after [] place key path k = tt
   path_after (f ∷ fs) place key (outer, part, e, head, two, up, l, r, path) k =
       let k' : IsFront ((outer ++ part) ++ f.byte ∷ []) key = subst (λ w. IsFront w key) e k in
@@ -194,14 +204,16 @@ module _ {N A : Type 0} (bytes : A → List ℕ) (P : ℕ) where
   related_at fs place key t path front =
       let before =
       filter_none (λ x. are_related key (bytes x)) (pairs_before fs)
-      (Each-weaker (λ x. Precedes (bytes x) key) (λ x. are_related key (bytes x) ≡ false) (λ x h. related_sym key (bytes x) ∙ h.1) (pairs_before fs) (path_before fs place key path front)) in
+      (Each-weaker (λ x. Precedes (bytes x) key) (λ x. are_related key (bytes x) ≡ false) (λ x h. related_sym key (bytes x) ∙ h.1)
+      (pairs_before fs) (path_before fs place key path front)) in
       let after =
       filter_none (λ x. are_related key (bytes x)) (pairs_after fs)
       (Each-weaker (λ x. Precedes key (bytes x)) (λ x. are_related key (bytes x) ≡ false) (λ x h. h.1) (pairs_after fs) (path_after fs place key path front)) in
       rw pairs_of-plug (simp (filter-append, before, after) (append-nil (related_to bytes key (pairs_of t))))
 
   -- what such a tree is: a radix tree in the hole of a path
-  pub radix_plug : (fs : List (Frame N A)) (t : Tree N A) → IsRadix bytes P [] (plug fs t) → (place : List ℕ) × IsPath bytes P place fs × IsRadix bytes P place t
+  pub radix_plug : (fs : List (Frame N A)) (t : Tree N A) → IsRadix bytes P [] (plug fs t) →
+      (place : List ℕ) × IsPath bytes P place fs × IsRadix bytes P place t
   radix_plug [] t h = ([], refl, h)
   radix_plug (f ∷ fs) t h =
       let (outer, path, node) = radix_plug fs (fill f t) h in
@@ -222,11 +234,18 @@ hole_of bytes P fs t x radix i =
     (place, record { path = path; radix = own; front = each_in (λ y. IsFront place (bytes y)) x (pairs_of t) (radix_way bytes P t place own) i })
 
 -- A change in the hole of a path is a change of the whole, where it is a local one at a key that continues from the hole.
-module _ {N A : Type 0} (bytes : A → List ℕ) (P : ℕ) (fs : List (Frame N A)) (place : List ℕ) (path : IsPath bytes P place fs) (t u : Tree N A) (radix : IsRadix bytes P place u) where
+module _ {N A : Type 0} (bytes : A → List ℕ) (P : ℕ) (fs : List (Frame N A)) (place : List ℕ) (path : IsPath bytes P place fs)
+    (t u : Tree N A) (radix : IsRadix bytes P place u) where
   -- the tree is a radix tree again, and its pairs are those of the change
   pub changed_at : (key : List ℕ) (F : List A → List A) → IsLocal bytes key F → IsFront place key → pairs_of u ≡ F (pairs_of t) →
       IsRadix bytes P [] (plug fs u) × (pairs_of (plug fs u) ≡ F (pairs_of (plug fs t)))
   changed_at key F local k e = (
     plug_radix bytes P fs place u path radix,
-    rw (pairs_of-plug fs u, pairs_of-plug fs t, local (pairs_before fs) (pairs_of t) (pairs_after fs) (path_before bytes P fs place key path k) (path_after bytes P fs place key path k), e) refl,
+    rw (
+      pairs_of-plug fs u,
+      pairs_of-plug fs t,
+      local (pairs_before fs) (pairs_of t) (pairs_after fs) (path_before bytes P fs place key path k)
+          (path_after bytes P fs place key path k),
+      e,
+    ) refl,
   )

@@ -51,13 +51,15 @@ module _ {N A : Type 0} (bytes : A → List ℕ) (P : ℕ) where
   abbrev GoesOn : List ℕ → (ℕ → Type 0) → (List ℕ × N) → Type 0
   GoesOn front Q p = (c : ℕ) × Q c × IsFront (front ++ c ∷ []) p.0
 
-  under : (front : List ℕ) (d b : ℕ) (t : Tree N A) → d ≡ length (front ++ b ∷ []) → IsRadix bytes P (front ++ b ∷ []) t → Each (λ p. IsFront (front ++ b ∷ []) p.0) (places bytes d t)
+  under : (front : List ℕ) (d b : ℕ) (t : Tree N A) → d ≡ length (front ++ b ∷ []) → IsRadix bytes P (front ++ b ∷ []) t →
+      Each (λ p. IsFront (front ++ b ∷ []) p.0) (places bytes d t)
   under front d b t e h = subst (λ z. Each (λ p. IsFront (front ++ b ∷ []) p.0) (places bytes z t)) (sym e) (places_way bytes P t (front ++ b ∷ []) h)
 
   all_go_on : (Q : ℕ → Type 0) (cs : Subtrees N A) (front : List ℕ) (d : ℕ) → ((b : ℕ) → d ≡ length (front ++ b ∷ [])) → AreRadix bytes P front cs →
       Each Q (bytes_of cs) → Each (GoesOn front Q) (places_below bytes d cs)
   all_go_on Q cs front d e h q =
-      Each-weaker (Under (λ (p : List ℕ × N). p.0) front cs) (GoesOn front Q) (λ p u. (u.0, each_in Q u.0 (bytes_of cs) q u.1, u.2)) (places_below bytes d cs) (places_under bytes P cs front d e h)
+      Each-weaker (Under (λ (p : List ℕ × N). p.0) front cs) (GoesOn front Q) (λ p u. (u.0, each_in Q u.0 (bytes_of cs) q u.1, u.2))
+      (places_below bytes d cs) (places_under bytes P cs front d e h)
 
   before_below : (place part : List ℕ) (p q : List ℕ × N) → p.0 ≡ place → GoesOn (place ++ part) (λ c. Unit {0}) q → Before p q
   before_below place part p q e (c, u, (r, f)) = (order_is_decided p.0 q.0).1 (inl (first part refl))
@@ -67,7 +69,8 @@ module _ {N A : Type 0} (bytes : A → List ℕ) (P : ℕ) where
       first (b ∷ bs) g = (b, bs ++ c ∷ r, rw (e, f, ← g) (simp append_assoc))
 
   before_beside : (front : List ℕ) (b : ℕ) (p q : List ℕ × N) → IsFront (front ++ b ∷ []) p.0 → GoesOn front (λ c. b < c) q → Before p q
-  before_beside front b p q (r, e) (c, less, (s, f)) = (order_is_decided p.0 q.0).1 (inr (front, b, c, r, s, e ∙ append_assoc front (b ∷ []) r, f ∙ append_assoc front (c ∷ []) s, less))
+  before_beside front b p q (r, e) (c, less, (s, f)) =
+      (order_is_decided p.0 q.0).1 (inr (front, b, c, r, s, e ∙ append_assoc front (b ∷ []) r, f ∙ append_assoc front (c ∷ []) s, less))
 
   mutual
     rise : (t : Tree N A) (place : List ℕ) → IsRadix bytes P place t → Pairwise Before (places bytes (length place) t)
@@ -100,7 +103,8 @@ module _ {N A : Type 0} (bytes : A → List ℕ) (P : ℕ) where
   one_name [] h = tt
   one_name (p ∷ ps) h = (
     ((λ e. refl), Each-weaker (Before p) (HaveOneName p) (λ q b e. absurd (differ p q b e)) ps h.0),
-    Each-both (Before p) (λ q. Each (HaveOneName q) ps) (λ q. Each (HaveOneName q) (p ∷ ps)) (λ q b k. ((λ e. absurd (differ p q b (sym e))), k)) ps h.0 (one_name ps h.1),
+    Each-both (Before p) (λ q. Each (HaveOneName q) ps) (λ q. Each (HaveOneName q) (p ∷ ps))
+        (λ q b k. ((λ e. absurd (differ p q b (sym e))), k)) ps h.0 (one_name ps h.1),
   )
     where
       differ : (p q : List ℕ × N) → Before p q → q.0 ≡ p.0 → ⊥
@@ -122,7 +126,8 @@ module _ {N A : Type 0} (bytes : A → List ℕ) (P : ℕ) where
       record {
         whole = refl;
         is_front = subst (λ w. IsFront w key) (sym (ap (λ d. place_of bytes d t) depth ∙ place_is bytes P t place radix)) front;
-        is_longest = subst (λ d. Each (NoLonger key d) (places bytes 0 (plug fs t))) (sym depth) (ended bytes P fs place key t (length place) path radix front (omega arith) below);
+        is_longest = subst (λ d. Each (NoLonger key d) (places bytes 0 (plug fs t))) (sym depth)
+            (ended bytes P fs place key t (length place) path radix front (omega arith) below);
       }
 
   abbrev End : List ℕ → Tree N A → Type 0
@@ -138,15 +143,18 @@ module _ {N A : Type 0} (bytes : A → List ℕ) (P : ℕ) where
 
   mutual
     -- a node on the key's path: its end node is there or below
-    from_node : (key : List ℕ) (t : Tree N A) (fs : List (Frame N A)) (place : List ℕ) → IsPath bytes P place fs → IsRadix bytes P place t → IsFront place key → End key (plug fs t)
+    from_node : (key : List ℕ) (t : Tree N A) (fs : List (Frame N A)) (place : List ℕ) → IsPath bytes P place fs → IsRadix bytes P place t →
+        IsFront place key → End key (plug fs t)
     from_node key (leaf n x) fs place path radix front =
         (fs, leaf n x, ends_at key fs place (leaf n x) path radix front ((λ g. rw (place_is bytes P (leaf n x) place radix) (omega arith)), tt))
     from_node key (inner n h cs) fs place path (part, e, two, up, below) front =
         from_children key n h cs no_child cs refl fs place path part e two up below front tt
 
     -- the key continues with none of the children on the left
-    from_children : (key : List ℕ) (n : N) (h : NodeHeader) (all left cs : Subtrees N A) → join left cs ≡ all → (fs : List (Frame N A)) (place : List ℕ) → IsPath bytes P place fs →
-        (part : List ℕ) → h ≡ canonical_header P part (length (bytes_of all)) → 2 ≤ length (bytes_of all) → BytesRise (bytes_of all) → AreRadix bytes P (place ++ part) all →
+    from_children : (key : List ℕ) (n : N) (h : NodeHeader) (all left cs : Subtrees N A) → join left cs ≡ all →
+        (fs : List (Frame N A)) (place : List ℕ) → IsPath bytes P place fs →
+        (part : List ℕ) → h ≡ canonical_header P part (length (bytes_of all)) → 2 ≤ length (bytes_of all) → BytesRise (bytes_of all) →
+        AreRadix bytes P (place ++ part) all →
         IsFront place key → Each (λ b. IsFront ((place ++ part) ++ b ∷ []) key → ⊥) (bytes_of left) → End key (plug fs (inner n h all))
     from_children key n h all left no_child eq fs place path part e two up below front off =
         let radix : IsRadix bytes P place (inner n h all) = (part, e, two, up, below) in
@@ -156,7 +164,8 @@ module _ {N A : Type 0} (bytes : A → List ℕ) (P : ℕ) where
           inner n h all,
           ends_at key fs place (inner n h all) path radix front (
             (λ g. rw (place_is bytes P (inner n h all) place radix) (omega arith)),
-            beside bytes P all (place ++ part) key (length place + h.length_of + 1) (length place) (λ b. deeper place part b h.length_of (ap (λ z. z.length_of) e)) below none,
+            beside bytes P all (place ++ part) key (length place + h.length_of + 1) (length place)
+                (λ b. deeper place part b h.length_of (ap (λ z. z.length_of) e)) below none,
           ),
         )
     from_children key n h all left (child b t cs) eq fs place path part e two up below front off =
@@ -173,9 +182,12 @@ module _ {N A : Type 0} (bytes : A → List ℕ) (P : ℕ) where
           subst (AreRadix bytes P (place ++ part)) back below,
         ) in
         let (longer, under_it) = path_down bytes P fs place f t path radix in
-        subst (λ c. End key (plug fs (inner n h c))) eq (from_node key t (f ∷ fs) ((place ++ part) ++ b ∷ []) longer under_it ((fronts_are_decided ((place ++ part) ++ b ∷ []) key).0 goes)))
+        subst (λ c. End key (plug fs (inner n h c))) eq
+        (from_node key t (f ∷ fs) ((place ++ part) ++ b ∷ []) longer under_it
+        ((fronts_are_decided ((place ++ part) ++ b ∷ []) key).0 goes)))
         (λ stops. from_children key n h all (join left (child b t no_child)) cs (join_one left cs b t ∙ eq) fs place path part e two up below front
-        (off_both (λ c. IsFront ((place ++ part) ++ c ∷ []) key → ⊥) left b t off (λ g. true≢false (sym ((fronts_are_decided ((place ++ part) ++ b ∷ []) key).1 g) ∙ stops))))
+        (off_both (λ c. IsFront ((place ++ part) ++ c ∷ []) key → ⊥) left b t off
+        (λ g. true≢false (sym ((fronts_are_decided ((place ++ part) ++ b ∷ []) key).1 g) ∙ stops))))
 
   -- ---- end nodes of a key have the same place
 
@@ -184,7 +196,8 @@ module _ {N A : Type 0} (bytes : A → List ℕ) (P : ℕ) where
   places_left Q d (child b t cs) ds h = places_left Q d cs ds (Each-right Q (places bytes d t) (places_below bytes d (join cs ds)) h)
 
   -- what holds of all places of a tree holds of those below a path
-  pub places_at : (Q : (List ℕ × N) → Type 0) (fs : List (Frame N A)) (t : Tree N A) → Each Q (places bytes 0 (plug fs t)) → Each Q (places bytes (depth_of fs) t)
+  pub places_at : (Q : (List ℕ × N) → Type 0) (fs : List (Frame N A)) (t : Tree N A) → Each Q (places bytes 0 (plug fs t)) →
+      Each Q (places bytes (depth_of fs) t)
   places_at Q [] t h = h
   places_at Q (f ∷ fs) t h =
       let d = depth_of fs + f.header.length_of + 1 in
@@ -195,7 +208,8 @@ module _ {N A : Type 0} (bytes : A → List ℕ) (P : ℕ) where
   own_place Q d (leaf n x) h = h.0
   own_place Q d (inner n h cs) k = k.0
 
-  place_long : (tree : Tree N A) (fs : List (Frame N A)) (t : Tree N A) → plug fs t ≡ tree → IsRadix bytes P [] tree → length (place_of bytes (depth_of fs) t) ≡ depth_of fs
+  place_long : (tree : Tree N A) (fs : List (Frame N A)) (t : Tree N A) → plug fs t ≡ tree → IsRadix bytes P [] tree →
+      length (place_of bytes (depth_of fs) t) ≡ depth_of fs
   place_long tree fs t whole h =
       let (place, path, node) = radix_plug bytes P fs t (subst (IsRadix bytes P []) (sym whole) h) in
       let depth = depth_is fs place path in
@@ -203,10 +217,13 @@ module _ {N A : Type 0} (bytes : A → List ℕ) (P : ℕ) where
 
   -- the place of an end node is no longer than that of another
   no_longer : (tree : Tree N A) (key : List ℕ) (path road : List (Frame N A)) (node other : Tree N A) → IsRadix bytes P [] tree →
-      IsEndNode bytes tree key path node → IsEndNode bytes tree key road other → length (place_of bytes (depth_of path) node) ≤ length (place_of bytes (depth_of road) other)
+      IsEndNode bytes tree key path node → IsEndNode bytes tree key road other →
+      length (place_of bytes (depth_of path) node) ≤ length (place_of bytes (depth_of road) other)
   no_longer tree key path road node other h one two =
       let Q = λ (p : List ℕ × N). IsFront p.0 key → length p.0 ≤ depth_of road in
-      let least = own_place Q (depth_of path) node (places_at Q path node (subst (λ t. Each Q (places bytes 0 t)) (sym one.whole) two.is_longest)) one.is_front in
+      let least =
+      own_place Q (depth_of path) node (places_at Q path node
+      (subst (λ t. Each Q (places bytes 0 t)) (sym one.whole) two.is_longest)) one.is_front in
       let long = place_long tree road other two.whole h in
       omega arith
 
@@ -229,7 +246,8 @@ module _ {N A : Type 0} where
       let names = one_name bytes P (places bytes 0 tree) (rise bytes P tree [] h) in
       let of_node : Each (R (a, name_of node)) (places bytes 0 tree) =
       own_place bytes P (λ p. Each (R p) (places bytes 0 tree)) (depth_of path) node
-      (places_at bytes P (λ p. Each (R p) (places bytes 0 tree)) path node (subst (λ t. Each (λ p. Each (R p) (places bytes 0 tree)) (places bytes 0 t)) (sym one.whole) names)) in
+      (places_at bytes P (λ p. Each (R p) (places bytes 0 tree)) path node
+      (subst (λ t. Each (λ p. Each (R p) (places bytes 0 tree)) (places bytes 0 t)) (sym one.whole) names)) in
       let of_both : R (a, name_of node) (b, name_of other) =
       own_place bytes P (R (a, name_of node)) (depth_of road) other
       (places_at bytes P (R (a, name_of node)) road other (subst (λ t. Each (R (a, name_of node)) (places bytes 0 t)) (sym two.whole) of_node)) in

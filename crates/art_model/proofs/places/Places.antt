@@ -33,10 +33,12 @@ module _ {N A E : Type 0} (way : E → List ℕ) where
   -- bytes that lead below a node start with its place
   pub under_front : (place part : List ℕ) (cs : Subtrees N A) (es : List E) → Each (Under (place ++ part) cs) es → Each (λ e. IsFront place (way e)) es
   under_front place part cs es below =
-      Each-weaker (Under (place ++ part) cs) (λ e. IsFront place (way e)) (λ e u. front_cut place part (way e) (front_cut (place ++ part) (u.0 ∷ []) (way e) u.2)) es below
+      Each-weaker (Under (place ++ part) cs) (λ e. IsFront place (way e))
+      (λ e u. front_cut place part (way e) (front_cut (place ++ part) (u.0 ∷ []) (way e) u.2)) es below
 
   -- bytes that lead below a first child, and below the others
-  pub under_child : (front : List ℕ) (b : ℕ) (t : Tree N A) (cs : Subtrees N A) (own others : List E) → Each (λ e. IsFront (front ++ b ∷ []) (way e)) own → Each (Under front cs) others →
+  pub under_child : (front : List ℕ) (b : ℕ) (t : Tree N A) (cs : Subtrees N A) (own others : List E) →
+      Each (λ e. IsFront (front ++ b ∷ []) (way e)) own → Each (Under front cs) others →
       Each (Under front (child b t cs)) (own ++ others)
   under_child front b t cs own others first rest = Each-append (Under front (child b t cs)) own others
       (Each-weaker (λ e. IsFront (front ++ b ∷ []) (way e)) (Under front (child b t cs)) (λ e f. (b, inl refl, f)) own first)
@@ -62,7 +64,8 @@ module _ {N A : Type 0} (bytes : A → List ℕ) (P : ℕ) where
   place_is t place h = taken place (least_key bytes t) (least_way t place h)
 
   -- the whole prefix, read off the least key
-  pub prefix_is : (n : N) (h : NodeHeader) (cs : Subtrees N A) (place : List ℕ) (radix : IsRadix bytes P place (inner n h cs)) → prefix_of bytes (length place) (inner n h cs) ≡ radix.0
+  pub prefix_is : (n : N) (h : NodeHeader) (cs : Subtrees N A) (place : List ℕ) (radix : IsRadix bytes P place (inner n h cs)) →
+      prefix_of bytes (length place) (inner n h cs) ≡ radix.0
   prefix_is n h cs place (part, e, two, up, below) =
       let (r, f) = least_way_below cs (place ++ part) two below in
       let len : h.length_of ≡ length part = ap (λ z. z.length_of) e in
@@ -73,7 +76,11 @@ module _ {N A : Type 0} (bytes : A → List ℕ) (P : ℕ) where
     pub places_way : (t : Tree N A) (place : List ℕ) → IsRadix bytes P place t → Each (λ p. IsFront place p.0) (places bytes (length place) t)
     places_way (leaf n x) place h = (([], place_is (leaf n x) place h ∙ sym (append-nil place)), tt)
     places_way (inner n h cs) place (part, e, two, up, below) = (
-      ([], taken place (least_below bytes cs) (front_cut place part (least_below bytes cs) (least_way_below cs (place ++ part) two below)) ∙ sym (append-nil place)),
+      (
+        [],
+        taken place (least_below bytes cs) (front_cut place part (least_below bytes cs) (least_way_below cs (place ++ part) two below))
+            ∙ sym (append-nil place),
+      ),
       under_front (λ (p : List ℕ × N). p.0) place part cs (places_below bytes (length place + h.length_of + 1) cs)
           (places_under cs (place ++ part) (length place + h.length_of + 1) (λ b. deeper place part b h.length_of (ap (λ z. z.length_of) e)) below),
     )
@@ -82,7 +89,8 @@ module _ {N A : Type 0} (bytes : A → List ℕ) (P : ℕ) where
         Each (Under (λ (p : List ℕ × N). p.0) front cs) (places_below bytes d cs)
     places_under no_child front d e h = tt
     places_under (child b t cs) front d e h = under_child (λ (p : List ℕ × N). p.0) front b t cs (places bytes d t) (places_below bytes d cs)
-        (subst (λ z. Each (λ p. IsFront (front ++ b ∷ []) p.0) (places bytes z t)) (sym (e b)) (places_way t (front ++ b ∷ []) h.0)) (places_under cs front d e h.1)
+        (subst (λ z. Each (λ p. IsFront (front ++ b ∷ []) p.0) (places bytes z t)) (sym (e b)) (places_way t (front ++ b ∷ []) h.0))
+        (places_under cs front d e h.1)
 
   -- children whose bytes the key does not continue with
   pub beside : (cs : Subtrees N A) (front key : List ℕ) (d n : ℕ) → ((b : ℕ) → d ≡ length (front ++ b ∷ [])) → AreRadix bytes P front cs →
@@ -91,7 +99,8 @@ module _ {N A : Type 0} (bytes : A → List ℕ) (P : ℕ) where
       (λ p u k. absurd (each_in (λ b. IsFront (front ++ b ∷ []) key → ⊥) u.0 (bytes_of cs) off u.1 (front_trans (front ++ u.0 ∷ []) p.0 key u.2 k)))
       (places_below bytes d cs) (places_under cs front d e h)
 
-  places_join : (cs ds : Subtrees N A) (Q : (List ℕ × N) → Type 0) (d : ℕ) → Each Q (places_below bytes d cs) → Each Q (places_below bytes d ds) → Each Q (places_below bytes d (join cs ds))
+  places_join : (cs ds : Subtrees N A) (Q : (List ℕ × N) → Type 0) (d : ℕ) → Each Q (places_below bytes d cs) →
+      Each Q (places_below bytes d ds) → Each Q (places_below bytes d (join cs ds))
   places_join no_child ds Q d h k = k
   places_join (child b t cs) ds Q d h k =
       Each-append Q (places bytes d t) (places_below bytes d (join cs ds)) (Each-left Q (places bytes d t) (places_below bytes d cs) h)
@@ -113,8 +122,10 @@ module _ {N A : Type 0} (bytes : A → List ℕ) (P : ℕ) where
         (λ g. rw (place_is (fill f t) outer node) short),
         places_join f.left (child f.byte t f.right) (NoLonger key n) d
             (beside f.left front key d n depth hl (Each-weaker (λ c. c < f.byte) (λ c. IsFront (front ++ c ∷ []) key → ⊥)
-            (λ c o g. let p = one_way front c f.byte key g k' in absurd (omega arith)) (bytes_of f.left) (Pairwise-before ◌<◌ (bytes_of f.left) (bytes_of f.right) f.byte up)))
+            (λ c o g. let p = one_way front c f.byte key g k' in absurd (omega arith)) (bytes_of f.left)
+            (Pairwise-before ◌<◌ (bytes_of f.left) (bytes_of f.right) f.byte up)))
             (Each-append (NoLonger key n) (places bytes d t) (places_below bytes d f.right) own
             (beside f.right front key d n depth hr (Each-weaker (λ c. f.byte < c) (λ c. IsFront (front ++ c ∷ []) key → ⊥)
-            (λ c o g. let p = one_way front c f.byte key g k' in absurd (omega arith)) (bytes_of f.right) (Pairwise-after ◌<◌ (bytes_of f.left) (bytes_of f.right) f.byte up)))),
+            (λ c o g. let p = one_way front c f.byte key g k' in absurd (omega arith)) (bytes_of f.right)
+            (Pairwise-after ◌<◌ (bytes_of f.left) (bytes_of f.right) f.byte up)))),
       )

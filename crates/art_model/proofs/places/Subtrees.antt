@@ -37,7 +37,8 @@ module _ {A : Type 0} (at : OpaqueNodePtr → Option (Node OpaqueNodePtr A)) (by
     descent_front (inner n h cs) place ns x holds radix d e = front_cut place radix.0 (bytes x) (prefix_front n h cs place ns x holds radix d e)
 
     pub prefix_front : (n : OpaqueNodePtr) (h : NodeHeader) (cs : Subtrees OpaqueNodePtr A) (place : List ℕ) (ns : List OpaqueNodePtr) (x : A) →
-        Holds at (inner n h cs) → (radix : IsRadix bytes P place (inner n h cs)) → IsDescent at n ns → at (bottom_of n ns) ≡ Some (leaf_node x) → IsFront (place ++ radix.0) (bytes x)
+        Holds at (inner n h cs) → (radix : IsRadix bytes P place (inner n h cs)) → IsDescent at n ns →
+        at (bottom_of n ns) ≡ Some (leaf_node x) → IsFront (place ++ radix.0) (bytes x)
     prefix_front n h cs place [] x holds radix d e = let f = holds.0 in absurd cc
     prefix_front n h no_child place (m ∷ ms) x holds radix d e = let l = radix.2 in absurd (omega arith)
     prefix_front n h (child b t cs) place (m ∷ ms) x holds radix d e =
@@ -69,7 +70,15 @@ module _ {A : Type 0} (at : OpaqueNodePtr → Option (Node OpaqueNodePtr A)) (by
   -- a trail from the root of a tree ends at a part of it, and is read as the place of that
   pub trail_sub : (t : Tree OpaqueNodePtr A) (front place : List ℕ) (steps : List (ℕ × OpaqueNodePtr)) → Holds at t → IsRadix bytes P front t →
       IsTrail at (name_of t) steps → IsReadAs at bytes P front (name_of t) steps place → IsSub t place (end_of (name_of t) steps)
-  trail_sub t front place [] holds radix trail read = record { tree = t; named = refl; holds = holds; radix = subst (λ p. IsRadix bytes P p t) (sym read) radix; within = λ k i. i; apart = λ d. d }
+  trail_sub t front place [] holds radix trail read =
+      record {
+        tree = t;
+        named = refl;
+        holds = holds;
+        radix = subst (λ p. IsRadix bytes P p t) (sym read) radix;
+        within = λ k i. i;
+        apart = λ d. d;
+      }
   trail_sub (leaf n x) front place (s ∷ ss) holds radix ((h, slots, there, under), trail) read = absurd cc
   trail_sub (inner n h cs) front place (s ∷ ss) holds radix ((k, slots, there, under), trail) (part, has, read) =
       let f = holds.0 in
@@ -80,14 +89,16 @@ module _ {A : Type 0} (at : OpaqueNodePtr → Option (Node OpaqueNodePtr A)) (by
       let below = AreRadix-right bytes P (front ++ radix.0) c.left (child s.0 c.tree c.right) (subst (AreRadix bytes P (front ++ radix.0)) c.whole radix.4) in
       let sub =
       trail_sub c.tree ((front ++ radix.0) ++ s.0 ∷ []) place ss held.0 below.0 (subst (λ m. IsTrail at m ss) (sym c.named) trail)
-      (subst (λ m. IsReadAs at bytes P ((front ++ radix.0) ++ s.0 ∷ []) m ss place) (sym c.named) (subst (λ p. IsReadAs at bytes P ((front ++ p) ++ s.0 ∷ []) s.1 ss place) whole read)) in
+      (subst (λ m. IsReadAs at bytes P ((front ++ radix.0) ++ s.0 ∷ []) m ss place) (sym c.named)
+      (subst (λ p. IsReadAs at bytes P ((front ++ p) ++ s.0 ∷ []) s.1 ss place) whole read)) in
       record {
         tree = sub.tree;
         named = sub.named ∙ ap (λ m. end_of m ss) c.named;
         holds = sub.holds;
         radix = sub.radix;
         apart = λ d. sub.apart (Pairwise-left ◌≢◌ (names_of c.tree) (names_below c.right)
-            (Pairwise-right ◌≢◌ (names_below c.left) (names_below (child s.0 c.tree c.right)) (subst AreDistinct (ap names_below c.whole ∙ names_below-join c.left (child s.0 c.tree c.right)) d.1)));
+            (Pairwise-right ◌≢◌ (names_below c.left) (names_below (child s.0 c.tree c.right))
+            (subst AreDistinct (ap names_below c.whole ∙ names_below-join c.left (child s.0 c.tree c.right)) d.1)));
         within = λ m i. inr (subst (λ ds. IsIn m (names_below ds)) (sym c.whole)
             (subst (IsIn m) (sym (names_below-join c.left (child s.0 c.tree c.right)))
             (in_right m (names_below c.left) (names_below (child s.0 c.tree c.right)) (in_left m (names_of c.tree) (names_below c.right) (sub.within m i)))));
@@ -101,7 +112,8 @@ module _ {A : Type 0} (at : OpaqueNodePtr → Option (Node OpaqueNodePtr A)) (by
 
   -- a descent from the root of a tree ends at a part of it
   pub descent_sub : (t : Tree OpaqueNodePtr A) (place : List ℕ) (ns : List OpaqueNodePtr) → Holds at t → IsRadix bytes P place t →
-      IsDescent at (name_of t) ns → (deeper : List ℕ) × (u : Tree OpaqueNodePtr A) × (name_of u ≡ bottom_of (name_of t) ns) × Holds at u × IsRadix bytes P deeper u
+      IsDescent at (name_of t) ns → (deeper : List ℕ) × (u : Tree OpaqueNodePtr A) × (name_of u ≡ bottom_of (name_of t) ns) × Holds at u ×
+      IsRadix bytes P deeper u
   descent_sub t place [] holds radix d = (place, t, refl, holds, radix)
   descent_sub (leaf n x) place (m ∷ ms) holds radix d = let h = d.0.3 in absurd cc
   descent_sub (inner n h no_child) place (m ∷ ms) holds radix d = let l = radix.2 in absurd (omega arith)
@@ -114,7 +126,8 @@ module _ {A : Type 0} (at : OpaqueNodePtr → Option (Node OpaqueNodePtr A)) (by
       (deeper, u, named ∙ ap (λ k. bottom_of k ms) (sym same), held, own)
 
   -- all its names are names of the tree
-  descent_in : (t : Tree OpaqueNodePtr A) (ns : List OpaqueNodePtr) → Holds at t → IsDescent at (name_of t) ns → Each (λ k. IsIn k (names_of t)) (name_of t ∷ ns)
+  descent_in : (t : Tree OpaqueNodePtr A) (ns : List OpaqueNodePtr) → Holds at t → IsDescent at (name_of t) ns →
+      Each (λ k. IsIn k (names_of t)) (name_of t ∷ ns)
   descent_in (leaf n x) [] holds d = (inl refl, tt)
   descent_in (inner n h cs) [] holds d = (inl refl, tt)
   descent_in (leaf n x) (m ∷ ms) holds d = let h = d.0.3 in absurd cc
@@ -131,7 +144,8 @@ module _ {A : Type 0} (at : OpaqueNodePtr → Option (Node OpaqueNodePtr A)) (by
       )
 
   -- none of which it meets twice
-  pub descent_apart : (t : Tree OpaqueNodePtr A) (ns : List OpaqueNodePtr) → Holds at t → AreDistinct (names_of t) → IsDescent at (name_of t) ns → AreDistinct (name_of t ∷ ns)
+  pub descent_apart : (t : Tree OpaqueNodePtr A) (ns : List OpaqueNodePtr) → Holds at t → AreDistinct (names_of t) →
+      IsDescent at (name_of t) ns → AreDistinct (name_of t ∷ ns)
   descent_apart t [] holds apart d = (tt, tt)
   descent_apart (leaf n x) (m ∷ ms) holds apart d = let h = d.0.3 in absurd cc
   descent_apart (inner n h no_child) (m ∷ ms) holds apart d = let f = holds.0 in let g = d.0.3 in absurd cc

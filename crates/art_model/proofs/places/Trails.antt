@@ -30,7 +30,8 @@ module _ {A : Type 0} (at : OpaqueNodePtr → Option (Node OpaqueNodePtr A)) whe
         go (inl (l, e)) (inl (m, f)) = e ∙ sym f
         go (inl (l, e)) (inr (m, f)) = absurd (omega arith)
         go (inr (l, e)) (inl (m, f)) = absurd (omega arith)
-        go (inr (l, (x, (ns, d1, e1), long, e))) (inr (m, (y, (ms, d2, e2), long2, f))) = e ∙ ap (λ z. take h.length_of (drop d (bytes z))) (same_leaf name ns ms x y d1 e1 d2 e2) ∙ sym f
+        go (inr (l, (x, (ns, d1, e1), long, e))) (inr (m, (y, (ms, d2, e2), long2, f))) =
+            e ∙ ap (λ z. take h.length_of (drop d (bytes z))) (same_leaf name ns ms x y d1 e1 d2 e2) ∙ sym f
 
     -- a path is read in one manner
     same_read : (front : List ℕ) (name : OpaqueNodePtr) (steps others : List (ℕ × OpaqueNodePtr)) (p q : List ℕ) → IsTrail at name steps →
@@ -38,15 +39,18 @@ module _ {A : Type 0} (at : OpaqueNodePtr → Option (Node OpaqueNodePtr A)) whe
     same_read front name [] [] p q t r u v e = r ∙ sym v
     same_read front name [] (o ∷ os) p q t r u v e = absurd cc
     same_read front name (s ∷ ss) [] p q t r u v e = absurd cc
-    same_read front name (s ∷ ss) (o ∷ os) p q ((h, slots, there, child), trail) (part, has, read) ((k, more, here, child_too), trail_too) (part_too, has_too, read_too) e =
+    same_read front name (s ∷ ss) (o ∷ os) p q ((h, slots, there, child), trail) (part, has, read) ((k, more, here, child_too), trail_too)
+        (part_too, has_too, read_too) e =
         let byte : o.0 ≡ s.0 = cc in
         let rest : way_of ss ≡ way_of os = cc in
         let slots_are : more ≡ slots = cc in
         let name_is : o.1 ≡ s.1 = let c = sym child_too ∙ ap₂ child_at slots_are byte ∙ child in cc in
         let part_is : part_too ≡ part = same_prefix (length front) name part_too part has_too has in
         same_read (front ++ part ++ s.0 ∷ []) s.1 ss os p q trail read (subst (λ n. IsTrail at n os) name_is trail_too)
-        (subst (λ n. IsReadAs at bytes P (front ++ part ++ s.0 ∷ []) n os q) name_is (subst (λ f. IsReadAs at bytes P f o.1 os q) (ap₂ (λ z b. front ++ z ++ b ∷ []) part_is byte) read_too)) rest
+        (subst (λ n. IsReadAs at bytes P (front ++ part ++ s.0 ∷ []) n os q) name_is
+        (subst (λ f. IsReadAs at bytes P f o.1 os q) (ap₂ (λ z b. front ++ z ++ b ∷ []) part_is byte) read_too)) rest
 
     -- where the places differ the paths do
-    pub other_way : (root n m : OpaqueNodePtr) (p q : List ℕ) (one : IsReached at bytes P root p n) (other : IsReached at bytes P root q m) → p ≢ q → way_of one.steps ≢ way_of other.steps
+    pub other_way : (root n m : OpaqueNodePtr) (p q : List ℕ) (one : IsReached at bytes P root p n)
+        (other : IsReached at bytes P root q m) → p ≢ q → way_of one.steps ≢ way_of other.steps
     other_way root n m p q one other off e = off (same_read [] root one.steps other.steps p q one.is_trail one.is_read other.is_trail other.is_read e)

@@ -44,9 +44,20 @@ module _ {A : Type 0} where
   add_groups byte x [] h up low = (refl, (omega arith, (refl, tt), tt), (tt, tt))
   add_groups byte x ((c, group) ∷ others) h up low = go (eqb (byte x) c) refl
     where
-      go : (t : Bool) → eqb (byte x) c ≡ t → Groups byte (cond t ((byte x, x ∷ group) ∷ others) ((byte x, x ∷ []) ∷ (c, group) ∷ others)) (x ∷ (group ++ joined others))
+      go : (t : Bool) → eqb (byte x) c ≡ t → Groups byte (cond t ((byte x, x ∷ group) ∷ others) ((byte x, x ∷ []) ∷ (c, group) ∷ others))
+          (x ∷ (group ++ joined others))
       go true e = let p = eqb-true (byte x) c e in (refl, (omega arith, (refl, subst (λ z. Each (λ y. byte y ≡ z) group) (sym p) h.1), h.2), rw p up)
-      go false e = let p = eqb-false (byte x) c e in (refl, (omega arith, (refl, tt), h), ((omega arith, Each-weaker (λ d. c < d) (λ d. byte x < d) (λ d l. omega arith) (bytes_in others) up.0), up))
+      go false e = let p = eqb-false (byte x) c e in (
+        refl,
+        (omega arith, (refl, tt), h),
+        (
+          (
+            omega arith,
+            Each-weaker (λ d. c < d) (λ d. byte x < d) (λ d l. omega arith) (bytes_in others) up.0,
+          ),
+          up,
+        ),
+      )
 
   pub groups_are : (byte : A → ℕ) (xs : List A) → IsSortedAt byte xs → Groups byte (groups byte xs) xs
   groups_are byte [] h = (refl, tt, tt)
@@ -68,18 +79,21 @@ module _ {A : Type 0} (bytes : A → List ℕ) where
   later front x y o (r, e) ([], f) = absurd (parts_right front r (bytes x) (bytes y) e f o)
   later front x y o g (c ∷ s, f) = (c, s, f)
 
-  all_later : (front : List ℕ) (x : A) (ys : List A) → Each (λ y. Precedes (bytes x) (bytes y)) ys → IsFront front (bytes x) → Each (λ y. IsFront front (bytes y)) ys → Each (GoesOn front) ys
+  all_later : (front : List ℕ) (x : A) (ys : List A) → Each (λ y. Precedes (bytes x) (bytes y)) ys → IsFront front (bytes x) →
+      Each (λ y. IsFront front (bytes y)) ys → Each (GoesOn front) ys
   all_later front x [] o e f = tt
   all_later front x (y ∷ ys) o e f = (later front x y o.0 e f.0, all_later front x ys o.1 e f.1)
 
   -- two or more keys of a map continue after every common prefix
-  pub go_on : (front : List ℕ) (x y : A) (xs : List A) → IsMap bytes (x ∷ y ∷ xs) → Each (λ z. IsFront front (bytes z)) (x ∷ y ∷ xs) → Each (GoesOn front) (x ∷ y ∷ xs)
+  pub go_on : (front : List ℕ) (x y : A) (xs : List A) → IsMap bytes (x ∷ y ∷ xs) → Each (λ z. IsFront front (bytes z)) (x ∷ y ∷ xs) →
+      Each (GoesOn front) (x ∷ y ∷ xs)
   go_on front x y xs h f = (sooner front x y h.0.0 f.0 f.1.0, all_later front x (y ∷ xs) h.0 f.0 f.1)
 
   pub at_byte : (front : List ℕ) (x : A) (b : ℕ) (r : List ℕ) → bytes x ≡ front ++ b ∷ r → byte_at bytes (length front) x ≡ b
   at_byte front x b r e = byte_after bytes front b x (r, e ∙ sym (append_assoc front (b ∷ []) r))
 
-  byte_order : (front : List ℕ) (x y : A) → Precedes (bytes x) (bytes y) → GoesOn front x → GoesOn front y → byte_at bytes (length front) x ≤ byte_at bytes (length front) y
+  byte_order : (front : List ℕ) (x y : A) → Precedes (bytes x) (bytes y) → GoesOn front x → GoesOn front y →
+      byte_at bytes (length front) x ≤ byte_at bytes (length front) y
   byte_order front x y o (b, r, e) (c, s, f) = rw (at_byte front x b r e, at_byte front y c s f) (precedes_byte front b c r s (bytes x) (bytes y) e f o)
 
   bytes_order : (front : List ℕ) (x : A) (ys : List A) → Each (λ y. Precedes (bytes x) (bytes y)) ys → GoesOn front x → Each (GoesOn front) ys →
@@ -92,7 +106,8 @@ module _ {A : Type 0} (bytes : A → List ℕ) where
   sorted_at front (x ∷ xs) h f = (bytes_order front x xs h.0 f.0 f.1, sorted_at front xs h.1 f.1)
 
   -- a group's keys start with the prefix and its byte
-  pub with_byte : (front : List ℕ) (b : ℕ) (xs : List A) → Each (GoesOn front) xs → Each (λ x. byte_at bytes (length front) x ≡ b) xs → Each (λ x. IsFront (front ++ b ∷ []) (bytes x)) xs
+  pub with_byte : (front : List ℕ) (b : ℕ) (xs : List A) → Each (GoesOn front) xs → Each (λ x. byte_at bytes (length front) x ≡ b) xs →
+      Each (λ x. IsFront (front ++ b ∷ []) (bytes x)) xs
   with_byte front b [] f g = tt
   with_byte front b (x ∷ xs) f g =
       let (c, r, e) = f.0 in
@@ -145,15 +160,20 @@ module _ {A : Type 0} (bytes : A → List ℕ) (P : ℕ) where
 
   build_below : (turns : ℕ) → Builds turns → (front : List ℕ) (gs : List (ℕ × List A)) → AreGroups (byte_at bytes (length front)) gs →
       Each (GoesOn bytes front) (joined gs) → IsMap bytes (joined gs) → length (joined gs) + 1 ≤ turns + length gs →
-      (cs : Subtrees (Unit {0}) A) × (children_of (tree_within bytes turns P (length front + 1)) gs ≡ cs) × AreRadix bytes P front cs × (bytes_of cs ≡ bytes_in gs) × (pairs_below cs ≡ joined gs)
+      (cs : Subtrees (Unit {0}) A) × (children_of (tree_within bytes turns P (length front + 1)) gs ≡ cs) × AreRadix bytes P front cs ×
+      (bytes_of cs ≡ bytes_in gs) × (pairs_below cs ≡ joined gs)
   build_below turns ih front [] are on map enough = (no_child, refl, tt, refl, refl)
   build_below turns ih front ((b, g) ∷ gs) are on map enough =
       let long = groups_long bytes (byte_at bytes (length front)) gs are.2 in
       let sum = length-append g (joined gs) in
       let one : 1 ≤ length g = are.0 in
-      let (cs, made, below, heads, pairs) = build_below turns ih front gs are.2 (Each-right (GoesOn bytes front) g (joined gs) on) (IsMap-right bytes g (joined gs) map) (omega arith) in
-      let (t, is, radix, its) = ih (front ++ b ∷ []) g (IsMap-left bytes g (joined gs) map) (with_byte bytes front b g (Each-left (GoesOn bytes front) g (joined gs) on) are.1) one (omega arith) in
-      let is' : tree_within bytes turns P (length front + 1) g ≡ Some t = subst (λ d. tree_within bytes turns P d g ≡ Some t) (length-append front (b ∷ [])) is in
+      let (cs, made, below, heads, pairs) =
+      build_below turns ih front gs are.2 (Each-right (GoesOn bytes front) g (joined gs) on)
+      (IsMap-right bytes g (joined gs) map) (omega arith) in
+      let (t, is, radix, its) = ih (front ++ b ∷ []) g (IsMap-left bytes g (joined gs) map)
+      (with_byte bytes front b g (Each-left (GoesOn bytes front) g (joined gs) on) are.1) one (omega arith) in
+      let is' : tree_within bytes turns P (length front + 1) g ≡ Some t =
+      subst (λ d. tree_within bytes turns P d g ≡ Some t) (length-append front (b ∷ [])) is in
       (child b t cs, rw (is', made) refl, (radix, below), ap (λ l. b ∷ l) heads, rw (its, pairs) refl)
 
   pub build : (turns : ℕ) → Builds turns
@@ -177,7 +197,8 @@ module _ {A : Type 0} (bytes : A → List ℕ) (P : ℕ) where
       (t, same, (part, refl, rw (← count) two, subst BytesRise (sym heads) up, below), pairs ∙ e)
 
   -- the tree of a map: grouping gives a radix tree of these pairs
-  pub build_root : (xs : List A) → IsMap bytes xs → 1 ≤ length xs → (t : Tree (Unit {0}) A) × (tree_of bytes xs P 0 ≡ Some t) × IsRadix bytes P [] t × (pairs_of t ≡ xs)
+  pub build_root : (xs : List A) → IsMap bytes xs → 1 ≤ length xs →
+      (t : Tree (Unit {0}) A) × (tree_of bytes xs P 0 ≡ Some t) × IsRadix bytes P [] t × (pairs_of t ≡ xs)
   build_root xs sorted some = build (length xs) [] xs sorted (no_way xs) some (omega arith)
     where
       no_way : (ys : List A) → Each (λ x. IsFront [] (bytes x)) ys

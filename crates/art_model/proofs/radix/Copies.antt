@@ -12,7 +12,8 @@ use Rattle.art_model.specs.Clones.{IsCopy, AreCopies}
 use Rattle.art_model.specs.Gains.{Gains}
 use Rattle.art_model.proofs.stores.Canonical.{tree_radix, canonical_from}
 
-AllZip-append : {A B : Type 0} (R : A → B → Type 0) (xs : List A) (ys : List B) (zs : List A) (ws : List B) → AllZip R xs ys → AllZip R zs ws → AllZip R (xs ++ zs) (ys ++ ws)
+AllZip-append : {A B : Type 0} (R : A → B → Type 0) (xs : List A) (ys : List B) (zs : List A) (ws : List B) → AllZip R xs ys →
+    AllZip R zs ws → AllZip R (xs ++ zs) (ys ++ ws)
 AllZip-append R [] [] zs ws h k = k
 AllZip-append R [] (y ∷ ys) zs ws h k = absurd h
 AllZip-append R (x ∷ xs) [] zs ws h k = absurd h
@@ -27,7 +28,8 @@ module _ {N A : Type 0} (IsClone : A → A → Type 0) where
   copied_bytes (child b t cs) (child c u ds) (e, f, h) = rw (e, copied_bytes cs ds h) refl
 
   -- children and then others
-  pub copies_joined : (cs ds others more : Subtrees N A) → AreCopies IsClone cs ds → AreCopies IsClone others more → AreCopies IsClone (join cs others) (join ds more)
+  pub copies_joined : (cs ds others more : Subtrees N A) → AreCopies IsClone cs ds → AreCopies IsClone others more →
+      AreCopies IsClone (join cs others) (join ds more)
   copies_joined no_child no_child others more h k = k
   copies_joined no_child (child c u ds) others more h k = absurd h
   copies_joined (child b t cs) no_child others more h k = absurd h
@@ -45,7 +47,8 @@ module _ {N A : Type 0} (IsClone : A → A → Type 0) where
     copied_pairs_below no_child no_child h = tt
     copied_pairs_below no_child (child c u ds) h = absurd h
     copied_pairs_below (child b t cs) no_child h = absurd h
-    copied_pairs_below (child b t cs) (child c u ds) (e, f, h) = AllZip-append IsClone (pairs_of t) (pairs_of u) (pairs_below cs) (pairs_below ds) (copied_pairs t u f) (copied_pairs_below cs ds h)
+    copied_pairs_below (child b t cs) (child c u ds) (e, f, h) =
+        AllZip-append IsClone (pairs_of t) (pairs_of u) (pairs_below cs) (pairs_below ds) (copied_pairs t u f) (copied_pairs_below cs ds h)
 
   module _ (bytes : A → List ℕ) (P : ℕ) (keep : (x y : A) → IsClone x y → bytes y ≡ bytes x) where
     mutual

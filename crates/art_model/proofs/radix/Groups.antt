@@ -43,5 +43,6 @@ module _ {A : Type 0} (bytes : A → List ℕ) where
       let r = common_front_right (drop d (bytes x)) (shared_part bytes d (y ∷ xs)) in (
         common_front_left (drop d (bytes x)) (shared_part bytes d (y ∷ xs)),
         Each-weaker (λ z. IsFront (shared_part bytes d (y ∷ xs)) (drop d (bytes z)))
-            (λ z. IsFront (shared_part bytes d (x ∷ y ∷ xs)) (drop d (bytes z))) (λ z h. front_trans _ (shared_part bytes d (y ∷ xs)) _ r h) (y ∷ xs) (shared_part_shared d (y ∷ xs)),
+            (λ z. IsFront (shared_part bytes d (x ∷ y ∷ xs)) (drop d (bytes z))) (λ z h. front_trans _ (shared_part bytes d (y ∷ xs)) _ r h)
+            (y ∷ xs) (shared_part_shared d (y ∷ xs)),
       )

@@ -43,21 +43,26 @@ module _ {A : Type 0} (bytes : A → List ℕ) where
   parts front b c x y (r, e) (s, f) h = precedes_at front b c r s x y (e ∙ append_assoc front (b ∷ []) r) (f ∙ append_assoc front (c ∷ []) s) h
 
 module _ {A : Type 0} where
-  pub each_pair : (R : A → A → Type 0) (Q S : A → Type 0) → ((x y : A) → Q x → S y → R x y) → (xs ys : List A) → Each Q xs → Each S ys → Each (λ x. Each (λ y. R x y) ys) xs
+  pub each_pair : (R : A → A → Type 0) (Q S : A → Type 0) → ((x y : A) → Q x → S y → R x y) → (xs ys : List A) → Each Q xs → Each S ys →
+      Each (λ x. Each (λ y. R x y) ys) xs
   each_pair R Q S f [] ys h k = tt
   each_pair R Q S f (x ∷ xs) ys h k = (Each-weaker S (λ y. R x y) (λ y s. f x y h.0 s) ys k, each_pair R Q S f xs ys h.1 k)
 
 module _ {N A : Type 0} (bytes : A → List ℕ) (P : ℕ) where
-  pub all_above : (front : List ℕ) (b : ℕ) (cs : Subtrees N A) → AreRadix bytes P front cs → Each (λ c. b < c) (bytes_of cs) → Each (PartsAbove bytes front b) (pairs_below cs)
+  pub all_above : (front : List ℕ) (b : ℕ) (cs : Subtrees N A) → AreRadix bytes P front cs → Each (λ c. b < c) (bytes_of cs) →
+      Each (PartsAbove bytes front b) (pairs_below cs)
   all_above front b no_child h up = tt
   all_above front b (child c t cs) h up = Each-append (PartsAbove bytes front b) (pairs_of t) (pairs_below cs)
-      (Each-weaker (λ x. IsFront (front ++ c ∷ []) (bytes x)) (PartsAbove bytes front b) (λ x f. (c, up.0, f)) (pairs_of t) (radix_way bytes P t (front ++ c ∷ []) h.0))
+      (Each-weaker (λ x. IsFront (front ++ c ∷ []) (bytes x)) (PartsAbove bytes front b) (λ x f. (c, up.0, f)) (pairs_of t)
+      (radix_way bytes P t (front ++ c ∷ []) h.0))
       (all_above front b cs h.1 up.1)
 
-  pub all_below : (front : List ℕ) (b : ℕ) (cs : Subtrees N A) → AreRadix bytes P front cs → Each (λ c. c < b) (bytes_of cs) → Each (PartsBelow bytes front b) (pairs_below cs)
+  pub all_below : (front : List ℕ) (b : ℕ) (cs : Subtrees N A) → AreRadix bytes P front cs → Each (λ c. c < b) (bytes_of cs) →
+      Each (PartsBelow bytes front b) (pairs_below cs)
   all_below front b no_child h up = tt
   all_below front b (child c t cs) h up = Each-append (PartsBelow bytes front b) (pairs_of t) (pairs_below cs)
-      (Each-weaker (λ x. IsFront (front ++ c ∷ []) (bytes x)) (PartsBelow bytes front b) (λ x f. (c, up.0, f)) (pairs_of t) (radix_way bytes P t (front ++ c ∷ []) h.0))
+      (Each-weaker (λ x. IsFront (front ++ c ∷ []) (bytes x)) (PartsBelow bytes front b) (λ x f. (c, up.0, f)) (pairs_of t)
+      (radix_way bytes P t (front ++ c ∷ []) h.0))
       (all_below front b cs h.1 up.1)
 
   -- the pairs of a radix tree are a map
@@ -68,9 +73,11 @@ module _ {N A : Type 0} (bytes : A → List ℕ) (P : ℕ) where
 
     pub radix_map_below : (cs : Subtrees N A) (front : List ℕ) → BytesRise (bytes_of cs) → AreRadix bytes P front cs → IsMap bytes (pairs_below cs)
     radix_map_below no_child front up h = tt
-    radix_map_below (child b t cs) front up h = IsMap-append bytes (pairs_of t) (pairs_below cs) (radix_map t (front ++ b ∷ []) h.0) (radix_map_below cs front up.1 h.1)
+    radix_map_below (child b t cs) front up h =
+        IsMap-append bytes (pairs_of t) (pairs_below cs) (radix_map t (front ++ b ∷ []) h.0) (radix_map_below cs front up.1 h.1)
         (each_pair (λ x y. Precedes (bytes x) (bytes y)) (λ x. IsFront (front ++ b ∷ []) (bytes x)) (PartsAbove bytes front b)
-        (λ x y f g. parts bytes front b g.0 (bytes x) (bytes y) f g.2 g.1) (pairs_of t) (pairs_below cs) (radix_way bytes P t (front ++ b ∷ []) h.0) (all_above front b cs h.1 up.0))
+        (λ x y f g. parts bytes front b g.0 (bytes x) (bytes y) f g.2 g.1) (pairs_of t) (pairs_below cs)
+        (radix_way bytes P t (front ++ b ∷ []) h.0) (all_above front b cs h.1 up.0))
 
 -- children of which there is one
 pub only_child : {N A : Type 0} (cs : Subtrees N A) → length (bytes_of cs) ≡ 1 → (c : ℕ) × (t : Tree N A) × (cs ≡ child c t no_child)

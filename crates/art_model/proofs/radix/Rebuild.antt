@@ -19,12 +19,14 @@ module _ {N A : Type 0} (bytes : A → List ℕ) (P : ℕ) where
     pub radix_way : (t : Tree N A) (place : List ℕ) → IsRadix bytes P place t → Each (λ x. IsFront place (bytes x)) (pairs_of t)
     radix_way (leaf n x) place h = (h, tt)
     radix_way (inner n h cs) place (part, e, two, up, below) =
-        Each-weaker (λ x. IsFront (place ++ part) (bytes x)) (λ x. IsFront place (bytes x)) (λ x f. front_cut place part (bytes x) f) (pairs_below cs) (radix_below cs (place ++ part) below)
+        Each-weaker (λ x. IsFront (place ++ part) (bytes x)) (λ x. IsFront place (bytes x)) (λ x f. front_cut place part (bytes x) f)
+        (pairs_below cs) (radix_below cs (place ++ part) below)
 
     pub radix_below : (cs : Subtrees N A) (front : List ℕ) → AreRadix bytes P front cs → Each (λ x. IsFront front (bytes x)) (pairs_below cs)
     radix_below no_child front h = tt
     radix_below (child b t cs) front h = Each-append (λ x. IsFront front (bytes x)) (pairs_of t) (pairs_below cs)
-        (Each-weaker (λ x. IsFront (front ++ b ∷ []) (bytes x)) (λ x. IsFront front (bytes x)) (λ x f. front_cut front (b ∷ []) (bytes x) f) (pairs_of t) (radix_way t (front ++ b ∷ []) h.0))
+        (Each-weaker (λ x. IsFront (front ++ b ∷ []) (bytes x)) (λ x. IsFront front (bytes x)) (λ x f. front_cut front (b ∷ []) (bytes x) f)
+        (pairs_of t) (radix_way t (front ++ b ∷ []) h.0))
         (radix_below cs front h.1)
 
   -- a radix tree has a pair
@@ -33,9 +35,11 @@ module _ {N A : Type 0} (bytes : A → List ℕ) (P : ℕ) where
     radix_some (leaf n x) place h = (x, [], refl)
     radix_some (inner n h cs) place (part, e, two, up, below) = radix_some_below cs (place ++ part) two below
 
-    pub radix_some_below : (cs : Subtrees N A) (front : List ℕ) → 2 ≤ length (bytes_of cs) → AreRadix bytes P front cs → (x : A) × (xs : List A) × (pairs_below cs ≡ x ∷ xs)
+    pub radix_some_below : (cs : Subtrees N A) (front : List ℕ) → 2 ≤ length (bytes_of cs) → AreRadix bytes P front cs →
+        (x : A) × (xs : List A) × (pairs_below cs ≡ x ∷ xs)
     radix_some_below no_child front two h = absurd (omega arith)
-    radix_some_below (child b t cs) front two h = let r = radix_some t (front ++ b ∷ []) h.0 in (r.0, r.1 ++ pairs_below cs, ap (λ xs. xs ++ pairs_below cs) r.2)
+    radix_some_below (child b t cs) front two h =
+        let r = radix_some t (front ++ b ∷ []) h.0 in (r.0, r.1 ++ pairs_below cs, ap (λ xs. xs ++ pairs_below cs) r.2)
 
   radix_long : (cs : Subtrees N A) (front : List ℕ) → AreRadix bytes P front cs → length (bytes_of cs) ≤ length (pairs_below cs)
   radix_long no_child front h = omega arith
@@ -57,13 +61,16 @@ module _ {N A : Type 0} (bytes : A → List ℕ) (P : ℕ) where
   apart_from b no_child h = tt
   apart_from b (child c t cs) h = ne_eqb b c (λ e. omega arith)
 
-  groups_below : (cs : Subtrees N A) (front : List ℕ) → AreRadix bytes P front cs → BytesRise (bytes_of cs) → groups (byte_at bytes (length front)) (pairs_below cs) ≡ groups_of cs
+  groups_below : (cs : Subtrees N A) (front : List ℕ) → AreRadix bytes P front cs → BytesRise (bytes_of cs) →
+      groups (byte_at bytes (length front)) (pairs_below cs) ≡ groups_of cs
   groups_below no_child front h up = refl
   groups_below (child b t cs) front h up =
       let r = radix_some t (front ++ b ∷ []) h.0 in
       let place : Each (λ x. byte_at bytes (length front) x ≡ b) (pairs_of t) =
-      Each-weaker (λ x. IsFront (front ++ b ∷ []) (bytes x)) (λ x. byte_at bytes (length front) x ≡ b) (byte_after bytes front b) (pairs_of t) (radix_way t (front ++ b ∷ []) h.0) in
-      rw r.2 (groups-block (byte_at bytes (length front)) b r.0 r.1 (pairs_below cs) (groups_of cs) (rw r.2 at place) (groups_below cs front h.1 up.1) (apart_from b cs up.0))
+      Each-weaker (λ x. IsFront (front ++ b ∷ []) (bytes x)) (λ x. byte_at bytes (length front) x ≡ b) (byte_after bytes front b)
+      (pairs_of t) (radix_way t (front ++ b ∷ []) h.0) in
+      rw r.2 (groups-block (byte_at bytes (length front)) b r.0 r.1 (pairs_below cs) (groups_of cs) (rw r.2 at place)
+      (groups_below cs front h.1 up.1) (apart_from b cs up.0))
 
 module _ {A : Type 0} (bytes : A → List ℕ) (P : ℕ) where
   pub tree_two : (turns d : ℕ) (xs : List A) → 2 ≤ length xs → tree_within bytes (suc turns) P d xs ≡ node_of bytes (tree_within bytes turns P) P d xs
@@ -106,7 +113,8 @@ module _ {N A : Type 0} (bytes : A → List ℕ) (P : ℕ) where
 
   -- a radix tree is what grouping its pairs gives
   mutual
-    pub rebuild : (t : Tree N A) (place : List ℕ) (turns : ℕ) → IsRadix bytes P place t → length (pairs_of t) ≤ turns → tree_within bytes turns P (length place) (pairs_of t) ≡ Some (unmarked t)
+    pub rebuild : (t : Tree N A) (place : List ℕ) (turns : ℕ) → IsRadix bytes P place t → length (pairs_of t) ≤ turns →
+        tree_within bytes turns P (length place) (pairs_of t) ≡ Some (unmarked t)
     rebuild (leaf n x) place zero h enough = absurd (omega arith)
     rebuild (leaf n x) place (suc turns) h enough = refl
     rebuild (inner n h cs) place zero (part, e, two, up, below) enough = let more = radix_long bytes P cs (place ++ part) below in absurd (omega arith)
@@ -118,7 +126,8 @@ module _ {N A : Type 0} (bytes : A → List ℕ) (P : ℕ) where
         tree_two bytes P turns (length place) (pairs_below cs) (omega arith) ∙ rw (s, ← length-append place part, g, length-groups_of bytes P cs, ih, e) refl
 
     pub rebuild_below : (cs : Subtrees N A) (front : List ℕ) (turns : ℕ) → AreRadix bytes P front cs →
-        length (pairs_below cs) + 1 ≤ turns + length (bytes_of cs) → children_of (tree_within bytes turns P (length front + 1)) (groups_of bytes P cs) ≡ all_unmarked cs
+        length (pairs_below cs) + 1 ≤ turns + length (bytes_of cs) →
+        children_of (tree_within bytes turns P (length front + 1)) (groups_of bytes P cs) ≡ all_unmarked cs
     rebuild_below no_child front turns h enough = refl
     rebuild_below (child b t cs) front turns h enough =
         let some = radix_some bytes P t (front ++ b ∷ []) h.0 in
@@ -128,10 +137,12 @@ module _ {N A : Type 0} (bytes : A → List ℕ) (P : ℕ) where
         rw (← length-append front (b ∷ []), rebuild t (front ++ b ∷ []) turns h.0 (omega arith), rebuild_below cs front turns h.1 (omega arith)) refl
 
   -- the same without a bound on the recursion
-  rebuild_each : (cs : Subtrees N A) (front : List ℕ) → AreRadix bytes P front cs → children_of (λ group. tree_of bytes group P (length front + 1)) (groups_of bytes P cs) ≡ all_unmarked cs
+  rebuild_each : (cs : Subtrees N A) (front : List ℕ) → AreRadix bytes P front cs →
+      children_of (λ group. tree_of bytes group P (length front + 1)) (groups_of bytes P cs) ≡ all_unmarked cs
   rebuild_each no_child front h = refl
   rebuild_each (child b t cs) front h =
-      let own : tree_of bytes (pairs_of t) P (length front + 1) ≡ Some (unmarked t) = rw (← length-append front (b ∷ [])) (rebuild t (front ++ b ∷ []) (length (pairs_of t)) h.0 (omega arith)) in
+      let own : tree_of bytes (pairs_of t) P (length front + 1) ≡ Some (unmarked t) =
+      rw (← length-append front (b ∷ [])) (rebuild t (front ++ b ∷ []) (length (pairs_of t)) h.0 (omega arith)) in
       rw (own, rebuild_each cs front h.1) refl
 
   pub rebuild_node : (n : N) (h : NodeHeader) (cs : Subtrees N A) (place : List ℕ) → IsRadix bytes P place (inner n h cs) →

@@ -51,7 +51,8 @@ module _ {N A : Type 0} where
 
 module _ {K V : Type 0} where
   same_inner : (kind : NodeType) (o : Option Inner) (h : NodeHeader) (slots : List (ℕ × OpaqueNodePtr)) →
-      option_map (tree_node {K = K} {V = V} kind) (option_map held_inner o) ≡ Some (inner_node h slots) → option_map (inner_seen {A = Unit {0}} kind) o ≡ Some (inner_node h slots)
+      option_map (tree_node {K = K} {V = V} kind) (option_map held_inner o) ≡ Some (inner_node h slots) →
+      option_map (inner_seen {A = Unit {0}} kind) o ≡ Some (inner_node h slots)
   same_inner kind None h slots e = absurd cc
   same_inner kind (Some node) h slots e =
       let head : header_at kind node ≡ h = cc in
@@ -60,7 +61,8 @@ module _ {K V : Type 0} where
 
   module _ (s : Nodes K V) where
     -- where a tree sees a leaf, the shape has an end
-    end_seen : (kind : NodeType) (slot : ℕ) (x : K × V) → option_map (tree_node kind) (content_in s kind slot) ≡ Some (leaf_node x) → shape_in s kind slot ≡ Some (leaf_node tt)
+    end_seen : (kind : NodeType) (slot : ℕ) (x : K × V) → option_map (tree_node kind) (content_in s kind slot) ≡ Some (leaf_node x) →
+        shape_in s kind slot ≡ Some (leaf_node tt)
     end_seen Leaf slot x e = refl
     end_seen Node4 slot x e = absurd (seen_no_leaf Node4 (map.get s.inners (record { kind = Node4; slot = slot })) x e)
     end_seen Node16 slot x e = absurd (seen_no_leaf Node16 (map.get s.inners (record { kind = Node16; slot = slot })) x e)
@@ -90,7 +92,11 @@ module _ {K V : Type 0} where
 
   pub has_shape : HasShape K V
   has_shape s root layout is = (
-    record { named = name_of-shape layout ∙ is.named; holds = shape_held s layout is.holds; distinct = subst AreDistinct (sym (names_of-shape layout)) is.distinct },
+    record {
+      named = name_of-shape layout ∙ is.named;
+      holds = shape_held s layout is.holds;
+      distinct = subst AreDistinct (sym (names_of-shape layout)) is.distinct;
+    },
     leaf_names-shape layout,
     inner_names-shape layout,
   )

@@ -38,7 +38,8 @@ module _ {A : Type 0} (bytes : A → List ℕ) where
         let (t, made, radix, its) = build bytes P (length (x ∷ y ∷ rest)) place (x ∷ y ∷ rest) map fronts (omega arith) (omega arith) in
         made ∙ go t radix its
       where
-        go : (t : Tree (Unit {0}) A) → IsRadix bytes P place t → pairs_of t ≡ x ∷ y ∷ rest → Some t ≡ node_of bytes (λ d group. tree_of bytes group P d) P (length place) (x ∷ y ∷ rest)
+        go : (t : Tree (Unit {0}) A) → IsRadix bytes P place t → pairs_of t ≡ x ∷ y ∷ rest →
+            Some t ≡ node_of bytes (λ d group. tree_of bytes group P d) P (length place) (x ∷ y ∷ rest)
         go (leaf u z) radix its = absurd cc
         go (inner u h cs) radix its =
             sym (subst (λ xs. node_of bytes (λ d group. tree_of bytes group P d) P (length place) xs ≡ Some (inner tt h cs)) its

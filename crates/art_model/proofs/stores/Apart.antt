@@ -21,7 +21,8 @@ use Rattle.art_model.proofs.stores.Stores.{frame}
 module _ {K V : Type 0} {bytes : K × V → List ℕ} {P : ℕ} {s : Nodes K V} {root : OpaqueNodePtr} {pairs : List (K × V)} {layout : Tree OpaqueNodePtr (K × V)}
     (by : IsCanonicalTree bytes P s root pairs layout) where
   -- a canonical root stays one where the nodes of its own tree hold what they held
-  pub tree_kept : {t : Nodes K V} → ((k : OpaqueNodePtr) → IsIn k (names_of layout) → content_at t k ≡ content_at s k) → IsCanonicalTree bytes P t root pairs layout
+  pub tree_kept : {t : Nodes K V} → ((k : OpaqueNodePtr) → IsIn k (names_of layout) → content_at t k ≡ content_at s k) →
+      IsCanonicalTree bytes P t root pairs layout
   tree_kept {t} same = record {
     is_map = by.is_map;
     tree = by.tree;
@@ -76,7 +77,8 @@ module _ {K V : Type 0} {bytes : K × V → List ℕ} {P : ℕ} {s t : Nodes K V
       IsCanonical bytes P t new after → KeepsApart bytes P s t first new → HasBoth bytes P t new second after others
   both_changed {first} {new} {second} {pairs} {after} {others} h becomes kept = go second h.two h.apart
     where
-      go : (second : Option OpaqueNodePtr) → IsCanonical bytes P s second others → ((k : OpaqueNodePtr) → IsNodeOf bytes P s first k → IsNodeOf bytes P s second k → ⊥) →
+      go : (second : Option OpaqueNodePtr) → IsCanonical bytes P s second others →
+          ((k : OpaqueNodePtr) → IsNodeOf bytes P s first k → IsNodeOf bytes P s second k → ⊥) →
           HasBoth bytes P t new second after others
       go None two apart = record { one = becomes; two = two; apart = λ k n m. m }
       go (Some other) (layout, is) apart =
@@ -117,12 +119,16 @@ module _ {K V : Type 0} (bytes : K × V → List ℕ) (P : ℕ) (s t : Nodes K V
   tree_apart root new pairs after old fresh is becomes kept =
       others_apart (names_in old) (names_in fresh) (of_tree root pairs old is) (in_tree new after fresh becomes) kept
 
-module _ {K V : Type 0} (bytes : K × V → List ℕ) (P : ℕ) (s t : Nodes K V) (root : OpaqueNodePtr) {pairs : List (K × V)} {layout : Tree OpaqueNodePtr (K × V)} where
+module _ {K V : Type 0} (bytes : K × V → List ℕ) (P : ℕ) (s t : Nodes K V) (root : OpaqueNodePtr) {pairs : List (K × V)}
+    {layout : Tree OpaqueNodePtr (K × V)} where
   -- and so does one that leaves a root that is canonical for other pairs, or none
   pub root_apart : (new : Option OpaqueNodePtr) (after : List (K × V)) → IsCanonicalTree bytes P s root pairs layout → IsCanonical bytes P t new after →
       ForTree bytes P s root (λ ps old. ForRoot bytes P t new (λ left tree. ChangesInPlace bytes s t (Some old) tree)) → KeepsApart bytes P s t (Some root) new
-  root_apart None after by none kept = tree_apart bytes P s t (Some root) None pairs after (Some layout) None by none (kept pairs layout by after None none).others
-  root_apart (Some name) after by (tree, is) kept = tree_apart bytes P s t (Some root) (Some name) pairs after (Some layout) (Some tree) by is (kept pairs layout by after (Some tree) is).others
+  root_apart None after by none kept =
+      tree_apart bytes P s t (Some root) None pairs after (Some layout) None by none (kept pairs layout by after None none).others
+  root_apart (Some name) after by (tree, is) kept =
+      tree_apart bytes P s t (Some root) (Some name) pairs after (Some layout) (Some tree) by is
+      (kept pairs layout by after (Some tree) is).others
 
 -- either of two trees may be the first
 pub both_turned : {K V : Type 0} {bytes : K × V → List ℕ} {P : ℕ} {s : Nodes K V} {first second : Option OpaqueNodePtr} {pairs others : List (K × V)} →
@@ -130,7 +136,8 @@ pub both_turned : {K V : Type 0} {bytes : K × V → List ℕ} {P : ℕ} {s : No
 both_turned h = record { one = h.two; two = h.one; apart = λ k n m. h.apart k m n }
 
 -- the first of two roots, where there is one, is canonical
-pub root_of_first : {K V : Type 0} {bytes : K × V → List ℕ} {P : ℕ} {s : Nodes K V} {first second : Option OpaqueNodePtr} {root : OpaqueNodePtr} {pairs others : List (K × V)} →
+pub root_of_first : {K V : Type 0} {bytes : K × V → List ℕ} {P : ℕ} {s : Nodes K V} {first second : Option OpaqueNodePtr}
+    {root : OpaqueNodePtr} {pairs others : List (K × V)} →
     HasBoth bytes P s first second pairs others → first ≡ Some root → IsCanonicalRoot bytes P s root
 root_of_first {bytes = bytes} {P} {s} {pairs = pairs} h e =
     let (layout, is) = subst (λ r. IsCanonical bytes P s r pairs) e h.one in
@@ -141,7 +148,8 @@ module _ {K V : Type 0} (bytes : K × V → List ℕ) (P : ℕ) (s t : Nodes K V
   same_held k = ap₂ (λ l i. content_at (record t { leaves = l; inners = i }) k) leaves inners
 
   -- the same nodes, with another promise, are the same tree
-  pub same_tree : {root : OpaqueNodePtr} {pairs : List (K × V)} {layout : Tree OpaqueNodePtr (K × V)} → IsCanonicalTree bytes P s root pairs layout → IsCanonicalTree bytes P t root pairs layout
+  pub same_tree : {root : OpaqueNodePtr} {pairs : List (K × V)} {layout : Tree OpaqueNodePtr (K × V)} →
+      IsCanonicalTree bytes P s root pairs layout → IsCanonicalTree bytes P t root pairs layout
   same_tree by = tree_kept by (λ k i. same_held k)
 
   same_node : (root : Option OpaqueNodePtr) (k : OpaqueNodePtr) → IsNodeOf bytes P t root k → IsNodeOf bytes P s root k
@@ -157,7 +165,8 @@ module _ {K V : Type 0} (bytes : K × V → List ℕ) (P : ℕ) (s t : Nodes K V
   same_root (Some root) pairs (layout, is) = (layout, same_tree is)
 
   -- and so do two trees
-  pub both_same : (first second : Option OpaqueNodePtr) {pairs others : List (K × V)} → HasBoth bytes P s first second pairs others → HasBoth bytes P t first second pairs others
+  pub both_same : (first second : Option OpaqueNodePtr) {pairs others : List (K × V)} → HasBoth bytes P s first second pairs others →
+      HasBoth bytes P t first second pairs others
   both_same first second {pairs} {others} h = record {
     one = same_root first pairs h.one;
     two = same_root second others h.two;

@@ -31,8 +31,13 @@ module _ {N A : Type 0} (bytes : A → List ℕ) (P : ℕ) where
     pub radix_unmarked : (t : Tree N A) (place : List ℕ) → IsRadix bytes P place (unmarked t) → IsRadix bytes P place t
     radix_unmarked (leaf n x) place h = h
     radix_unmarked (inner n h cs) place (part, e, two, up, below) =
-        let bs = bytes_of-unmarked cs in
-        (part, e ∙ ap (λ l. canonical_header P part (length l)) bs, subst (λ l. 2 ≤ length l) bs two, subst BytesRise bs up, radix_below_unmarked cs (place ++ part) below)
+        let bs = bytes_of-unmarked cs in (
+          part,
+          e ∙ ap (λ l. canonical_header P part (length l)) bs,
+          subst (λ l. 2 ≤ length l) bs two,
+          subst BytesRise bs up,
+          radix_below_unmarked cs (place ++ part) below,
+        )
 
     pub radix_below_unmarked : (cs : Subtrees N A) (front : List ℕ) → AreRadix bytes P front (all_unmarked cs) → AreRadix bytes P front cs
     radix_below_unmarked no_child front h = tt
@@ -56,7 +61,8 @@ module _ {N A : Type 0} (bytes : A → List ℕ) (P : ℕ) where
     pub distinct : AreDistinct (names_of layout)
     pub linked : AreLinked links None (leaf_names layout) None
 
-module _ {K V : Type 0} {bytes : K × V → List ℕ} {P : ℕ} {s : Nodes K V} {root : OpaqueNodePtr} {pairs : List (K × V)} {layout : Tree OpaqueNodePtr (K × V)} where
+module _ {K V : Type 0} {bytes : K × V → List ℕ} {P : ℕ} {s : Nodes K V} {root : OpaqueNodePtr} {pairs : List (K × V)}
+    {layout : Tree OpaqueNodePtr (K × V)} where
   -- a canonical root's layout is a radix tree with its pairs
   pub tree_radix : IsCanonicalTree bytes P s root pairs layout → IsRadix bytes P [] layout × (pairs_of layout ≡ pairs)
   tree_radix by = radix_from bytes P pairs by.tree layout by.is_map by.is_tree by.stands.1

@@ -74,7 +74,12 @@ module _ {A : Type 0} (at : OpaqueNodePtr → Option (Node OpaqueNodePtr A)) whe
     below_split no_child k x holds i there = absurd i
     below_split (child b t cs) k x holds i there = elim (in_either k (names_of t) (names_below cs) i) [
       | inl j ↦ let (before, after, e) =
-          leaf_split t k x holds.0 j there in (before, after ++ entries_below cs, ap (λ l. l ++ entries_below cs) e ∙ append_assoc before ((x, k) ∷ after) (entries_below cs))
+          leaf_split t k x holds.0 j there in (
+            before,
+            after ++ entries_below cs,
+            ap (λ l. l ++ entries_below cs) e
+                ∙ append_assoc before ((x, k) ∷ after) (entries_below cs),
+          )
       | inr j ↦ let (before, after, e) = below_split cs k x holds.1 j there in
           (entries_of t ++ before, after, ap (λ l. entries_of t ++ l) e ∙ sym (append_assoc (entries_of t) before ((x, k) ∷ after)))
     ]
@@ -86,7 +91,8 @@ module _ {A : Type 0} where
   IsUnderByte b k no_child = ⊥
   IsUnderByte b k (child d t ds) = ((d ≡ b) × IsIn k (names_of t)) ⊎ IsUnderByte b k ds
 
-  under_there : (l : Subtrees OpaqueNodePtr A) (b : ℕ) (u : Tree OpaqueNodePtr A) (r : Subtrees OpaqueNodePtr A) (k : OpaqueNodePtr) → IsIn k (names_of u) → IsUnderByte b k (join l (child b u r))
+  under_there : (l : Subtrees OpaqueNodePtr A) (b : ℕ) (u : Tree OpaqueNodePtr A) (r : Subtrees OpaqueNodePtr A) (k : OpaqueNodePtr) →
+      IsIn k (names_of u) → IsUnderByte b k (join l (child b u r))
   under_there no_child b u r k i = inl (refl, i)
   under_there (child d t ds) b u r k i = inr (under_there ds b u r k i)
 
@@ -122,7 +128,9 @@ module _ {A : Type 0} where
         let same : slots ≡ slots_of cs = cc in
         let c = child_under cs step.0 step.1 radix.3 (subst (λ l. child_at l step.0 ≡ Some step.1) same under) in
         let held = HoldsBelow-right at c.left (child step.0 c.tree c.right) (subst (HoldsBelow at) c.whole holds.1) in
-        let below = AreRadix-right bytes P (place ++ radix.0) c.left (child step.0 c.tree c.right) (subst (AreRadix bytes P (place ++ radix.0)) c.whole radix.4) in
+        let below =
+        AreRadix-right bytes P (place ++ radix.0) c.left (child step.0 c.tree c.right)
+        (subst (AreRadix bytes P (place ++ radix.0)) c.whole radix.4) in
         record {
           tree = c.tree;
           left = c.left;
@@ -150,25 +158,31 @@ module _ {A : Type 0} where
 
     -- below an inner node, under the byte of its first step
     trail_under : (n : OpaqueNodePtr) (h : NodeHeader) (cs : Subtrees OpaqueNodePtr A) (place : List ℕ) (s : ℕ × OpaqueNodePtr)
-        (ss : List (ℕ × OpaqueNodePtr)) → Holds at (inner n h cs) → IsRadix bytes P place (inner n h cs) → IsTrail at n (s ∷ ss) → IsUnderByte s.0 (end_of s.1 ss) cs
+        (ss : List (ℕ × OpaqueNodePtr)) → Holds at (inner n h cs) → IsRadix bytes P place (inner n h cs) → IsTrail at n (s ∷ ss) →
+        IsUnderByte s.0 (end_of s.1 ss) cs
     trail_under n h cs place s ss holds radix trail =
         let c = first_step n h cs place s holds radix trail.0 in
         let i = trail_in c.tree ((place ++ radix.0) ++ s.0 ∷ []) ss c.holds c.radix (subst (λ m. IsTrail at m ss) (sym c.named) trail.1) in
-        subst (IsUnderByte s.0 (end_of s.1 ss)) (sym c.whole) (under_there c.left s.0 c.tree c.right (end_of s.1 ss) (subst (λ m. IsIn (end_of m ss) (names_of c.tree)) c.named i))
+        subst (IsUnderByte s.0 (end_of s.1 ss)) (sym c.whole)
+        (under_there c.left s.0 c.tree c.right (end_of s.1 ss) (subst (λ m. IsIn (end_of m ss) (names_of c.tree)) c.named i))
 
     -- trails in a tree that end at one name have one path
     one_way : (t : Tree OpaqueNodePtr A) (place : List ℕ) (steps others : List (ℕ × OpaqueNodePtr)) → Holds at t → IsRadix bytes P place t →
-        AreDistinct (names_of t) → IsTrail at (name_of t) steps → IsTrail at (name_of t) others → end_of (name_of t) steps ≡ end_of (name_of t) others → way_of steps ≡ way_of others
+        AreDistinct (names_of t) → IsTrail at (name_of t) steps → IsTrail at (name_of t) others →
+        end_of (name_of t) steps ≡ end_of (name_of t) others → way_of steps ≡ way_of others
     one_way t place [] [] holds radix apart one two e = refl
     one_way (leaf n x) place (s ∷ ss) others holds radix apart ((h, slots, there, under), trail) two e = absurd cc
     one_way (leaf n x) place [] (o ∷ os) holds radix apart one ((h, slots, there, under), trail) e = absurd cc
     one_way (inner n h cs) place [] (o ∷ os) holds radix apart one two e =
-        absurd (each_in (λ k. n ≢ k) (end_of o.1 os) (names_below cs) apart.0 (under_below cs o.0 (end_of o.1 os) (trail_under n h cs place o os holds radix two)) e)
+        absurd (each_in (λ k. n ≢ k) (end_of o.1 os) (names_below cs) apart.0
+        (under_below cs o.0 (end_of o.1 os) (trail_under n h cs place o os holds radix two)) e)
     one_way (inner n h cs) place (s ∷ ss) [] holds radix apart one two e =
-        absurd (each_in (λ k. n ≢ k) (end_of s.1 ss) (names_below cs) apart.0 (under_below cs s.0 (end_of s.1 ss) (trail_under n h cs place s ss holds radix one)) (sym e))
+        absurd (each_in (λ k. n ≢ k) (end_of s.1 ss) (names_below cs) apart.0
+        (under_below cs s.0 (end_of s.1 ss) (trail_under n h cs place s ss holds radix one)) (sym e))
     one_way (inner n h cs) place (s ∷ ss) (o ∷ os) holds radix apart one two e =
         let byte : s.0 ≡ o.0 =
-        one_byte cs s.0 o.0 (end_of s.1 ss) apart.1 (trail_under n h cs place s ss holds radix one) (subst (λ k. IsUnderByte o.0 k cs) (sym e) (trail_under n h cs place o os holds radix two)) in
+        one_byte cs s.0 o.0 (end_of s.1 ss) apart.1 (trail_under n h cs place s ss holds radix one)
+        (subst (λ k. IsUnderByte o.0 k cs) (sym e) (trail_under n h cs place o os holds radix two)) in
         let c = first_step n h cs place s holds radix one.0 in
         let (k, slots, there, under) = one.0 in
         let (l, more, here, beside) = two.0 in
@@ -186,7 +200,8 @@ module _ {K V : Type 0} (bytes : K × V → List ℕ) (P : ℕ) (s : Nodes K V) 
   reached_sub {place} {name} reach =
       subst (IsSub (node_at s) bytes P layout place) (ap (λ n. end_of n reach.steps) laid.named ∙ reach.ends)
       (trail_sub (node_at s) bytes P layout [] place reach.steps laid.holds laid.radix
-      (subst (λ n. IsTrail (node_at s) n reach.steps) (sym laid.named) reach.is_trail) (subst (λ n. IsReadAs (node_at s) bytes P [] n reach.steps place) (sym laid.named) reach.is_read))
+      (subst (λ n. IsTrail (node_at s) n reach.steps) (sym laid.named) reach.is_trail)
+      (subst (λ n. IsReadAs (node_at s) bytes P [] n reach.steps place) (sym laid.named) reach.is_read))
 
   -- An inner node that is reached, with its children.
   record IsInner (place : List ℕ) (name : OpaqueNodePtr) (h : NodeHeader) (slots : List (ℕ × OpaqueNodePtr)) : Type 0 where
@@ -227,7 +242,8 @@ module _ {K V : Type 0} (bytes : K × V → List ℕ) (P : ℕ) (s : Nodes K V) 
   stores_no_others place stored actual (name, h, slots, (reach, there), more, (part, has, is, own, off)) =
       let node = reached_inner reach there in
       let part_is : part ≡ node.radix.0 =
-      read_whole (node_at s) bytes P node.mark h node.children place part node.holds node.radix (subst (λ m. HasPrefix (node_at s) bytes P (length place) m part) (sym node.named) has) in
+      read_whole (node_at s) bytes P node.mark h node.children place part node.holds node.radix
+      (subst (λ m. HasPrefix (node_at s) bytes P (length place) m part) (sym node.named) has) in
       let long : length node.radix.0 ≡ h.length_of = sym (ap (λ z. z.length_of) node.radix.1) in
       let kept : stored ≡ take P node.radix.0 = sym is ∙ ap (λ z. z.stored) node.radix.1 in
       let count : length stored ≡ P = ap length kept ∙ length-take-le P node.radix.0 (omega (arith, long, more)) in
@@ -235,11 +251,13 @@ module _ {K V : Type 0} (bytes : K × V → List ℕ) (P : ℕ) (s : Nodes K V) 
 
   pub no_wrong_links : (key : List ℕ) (expected actual : Links OpaqueNodePtr) → HasWrongLinks bytes P s root key expected actual → ⊥
   no_wrong_links key expected actual (other, before, after, name, x, is, names, there, key_is, wanted, own, off) =
-      let same : other ≡ layout = has_one_layout (node_at s) root layout other (record { named = laid.named; holds = laid.holds; distinct = laid.distinct }) is in
+      let same : other ≡ layout =
+      has_one_layout (node_at s) root layout other (record { named = laid.named; holds = laid.holds; distinct = laid.distinct }) is in
       let linked = subst (λ ns. AreLinked (links_at s) None ns None) (sym (ap leaf_names same) ∙ names) laid.linked in
       let links = link_of (links_at s) before after name None None linked in
       let found : Some actual ≡ Some expected =
-      sym own ∙ links ∙ ap₂ (λ p n. let l : Links OpaqueNodePtr = record { previous = p; next = n } in Some l) (last_or_of before) (first_or_of after) ∙ ap Some (sym wanted) in
+      sym own ∙ links ∙ ap₂ (λ p n. let l : Links OpaqueNodePtr = record { previous = p; next = n } in Some l) (last_or_of before)
+      (first_or_of after) ∙ ap Some (sym wanted) in
       off cc
 
   -- a node has at least its kind's minimum of children
@@ -260,7 +278,8 @@ module _ {K V : Type 0} (bytes : K × V → List ℕ) (P : ℕ) (s : Nodes K V) 
       go sub.tree sub.named sub.holds sub.radix (sub.apart laid.distinct) (subst (λ n. IsDescent (node_at s) n ns) (sym sub.named) descent)
       (subst (λ n. EndsBadly bytes P s root n ns (length place + h.length_of)) (sym sub.named) bad)
     where
-      childless : (h : NodeHeader) (u : Tree OpaqueNodePtr (K × V)) (deeper : List ℕ) → Holds (node_at s) u → IsRadix bytes P deeper u → node_at s (name_of u) ≡ Some (inner_node h []) → ⊥
+      childless : (h : NodeHeader) (u : Tree OpaqueNodePtr (K × V)) (deeper : List ℕ) → Holds (node_at s) u → IsRadix bytes P deeper u →
+          node_at s (name_of u) ≡ Some (inner_node h []) → ⊥
       childless h (leaf n x) deeper holds radix e = absurd cc
       childless h (inner n k cs) deeper holds radix e =
           let f = holds.0 in
@@ -272,7 +291,8 @@ module _ {K V : Type 0} (bytes : K × V → List ℕ) (P : ℕ) (s : Nodes K V) 
       go : (t : Tree OpaqueNodePtr (K × V)) → name_of t ≡ name → Holds (node_at s) t → IsRadix bytes P place t → AreDistinct (names_of t) →
           IsDescent (node_at s) (name_of t) ns → EndsBadly bytes P s root (name_of t) ns (length place + h.length_of) → ⊥
       go t named holds radix apart down (inl gone) =
-          let (deeper, u, is, held, own) = descent_sub (node_at s) bytes P t place ns holds radix down in is_held (node_at s) bytes P u held (ap (node_at s) is ∙ gone)
+          let (deeper, u, is, held, own) =
+          descent_sub (node_at s) bytes P t place ns holds radix down in is_held (node_at s) bytes P u held (ap (node_at s) is ∙ gone)
       go t named holds radix apart down (inr (inl (k, e))) =
           let (deeper, u, is, held, own) = descent_sub (node_at s) bytes P t place ns holds radix down in childless k u deeper held own (ap (node_at s) is ∙ e)
       go t named holds radix apart down (inr (inr (inl loop))) = loop (descent_apart (node_at s) bytes P t ns holds apart down)
@@ -297,11 +317,15 @@ module _ {K V : Type 0} (bytes : K × V → List ℕ) (P : ℕ) (s : Nodes K V) 
       Reaches bytes P s root place name → node_at s name ≡ Some (leaf_node x) → HasSibling bytes P s root name order sibling → IsBeside x order sibling
   siblings {place} {name} {x} order sibling reach there (links, own, side) =
       let sub = reached_sub reach in
-      let (before, after, parts) = leaf_split (node_at s) layout name x laid.holds (sub.within name (subst (λ n. IsIn n (names_of sub.tree)) sub.named (own_name sub.tree))) there in
+      let (before, after, parts) =
+      leaf_split (node_at s) layout name x laid.holds
+      (sub.within name (subst (λ n. IsIn n (names_of sub.tree)) sub.named (own_name sub.tree))) there in
       let names : leaf_names layout ≡ map (λ e. e.1) before ++ name ∷ map (λ e. e.1) after =
       sym (leaf_names-leaves layout) ∙ ap (map (λ e. e.1)) parts ∙ map-append (λ e. e.1) before ((x, name) ∷ after) in
-      let xs : pairs_of layout ≡ map (λ e. e.0) before ++ x ∷ map (λ e. e.0) after = sym (pairs_of-leaves layout) ∙ ap (map (λ e. e.0)) parts ∙ map-append (λ e. e.0) before ((x, name) ∷ after) in
-      let linked = link_of (links_at s) (map (λ e. e.1) before) (map (λ e. e.1) after) name None None (subst (λ ns. AreLinked (links_at s) None ns None) names laid.linked) in
+      let xs : pairs_of layout ≡ map (λ e. e.0) before ++ x ∷ map (λ e. e.0) after =
+      sym (pairs_of-leaves layout) ∙ ap (map (λ e. e.0)) parts ∙ map-append (λ e. e.0) before ((x, name) ∷ after) in
+      let linked = link_of (links_at s) (map (λ e. e.1) before) (map (λ e. e.1) after) name None None
+      (subst (λ ns. AreLinked (links_at s) None ns None) names laid.linked) in
       let is : links ≡ record { previous = last_or (map (λ e. e.1) before) None; next = first_or (map (λ e. e.1) after) None } = cc in
       let held = subst (Each (IsHeldAs (node_at s))) parts (leaves_held (node_at s) layout laid.holds) in
       let order_is = subst (IsMap bytes) xs (radix_map bytes P layout [] laid.radix) in
@@ -314,7 +338,8 @@ module _ {K V : Type 0} (bytes : K × V → List ℕ) (P : ℕ) (s : Nodes K V) 
               inl (
                 o,
                 each_in (λ z. Precedes (bytes z) (bytes x)) k.0 (map (λ z. z.0) before)
-                    (Pairwise-before (λ a b. Precedes (bytes a) (bytes b)) (map (λ z. z.0) before) (map (λ z. z.0) after) x order_is) (in_map (λ z. z.0) k before i),
+                    (Pairwise-before (λ a b. Precedes (bytes a) (bytes b)) (map (λ z. z.0) before) (map (λ z. z.0) after) x order_is)
+                    (in_map (λ z. z.0) k before i),
               ),
             )
         | inr (o, e) ↦
@@ -325,7 +350,8 @@ module _ {K V : Type 0} (bytes : K × V → List ℕ) (P : ℕ) (s : Nodes K V) 
               inr (
                 o,
                 each_in (λ z. Precedes (bytes x) (bytes z)) k.0 (map (λ z. z.0) after)
-                    (Pairwise-after (λ a b. Precedes (bytes a) (bytes b)) (map (λ z. z.0) before) (map (λ z. z.0) after) x order_is) (in_map (λ z. z.0) k after i),
+                    (Pairwise-after (λ a b. Precedes (bytes a) (bytes b)) (map (λ z. z.0) before) (map (λ z. z.0) after) x order_is)
+                    (in_map (λ z. z.0) k after i),
               ),
             )
       ]
@@ -345,13 +371,15 @@ module _ {K V : Type 0} (bytes : K × V → List ℕ) (P : ℕ) (s : Nodes K V) 
       let keys : slice_cmp nat_cmp (bytes e.0) (bytes x) ≡ actual = ap₂ (slice_cmp nat_cmp) (ap bytes z ∙ own) its ∙ compared in
       elim side [
         | inl (o, before) ↦ off (sym keys ∙ before_less (slice_cmp nat_cmp (bytes e.0) (bytes x)) before.0 ∙ sym o)
-        | inr (o, after) ↦ off (sym keys ∙ nat_list_cmp_total.antisymm (bytes e.0) (bytes x) ∙ ap ordering_reverse (before_less (slice_cmp nat_cmp (bytes x) (bytes e.0)) after.0) ∙ sym o)
+        | inr (o, after) ↦ off (sym keys ∙ nat_list_cmp_total.antisymm (bytes e.0) (bytes x)
+            ∙ ap ordering_reverse (before_less (slice_cmp nat_cmp (bytes x) (bytes e.0)) after.0) ∙ sym o)
       ]
 
   pub no_loop : (name : OpaqueNodePtr) (first later : List ℕ) → IsLoop bytes P s root name first later → ⊥
   no_loop name first later (one, other, off) =
       off (one_way (node_at s) bytes P layout [] one.steps other.steps laid.holds laid.radix laid.distinct
-      (subst (λ n. IsTrail (node_at s) n one.steps) (sym laid.named) one.is_trail) (subst (λ n. IsTrail (node_at s) n other.steps) (sym laid.named) other.is_trail)
+      (subst (λ n. IsTrail (node_at s) n one.steps) (sym laid.named) one.is_trail)
+      (subst (λ n. IsTrail (node_at s) n other.steps) (sym laid.named) other.is_trail)
       (ap (λ n. end_of n one.steps) laid.named ∙ one.ends ∙ sym other.ends ∙ ap (λ n. end_of n other.steps) (sym laid.named)))
 
   -- the only fault that is true of a canonical root is out of memory, which reports nothing

@@ -52,14 +52,17 @@ same_name : (n k : OpaqueNodePtr) → as_inner n ≡ as_inner k → n ≡ k
 same_name n k e = ap (λ p. let r : OpaqueNodePtr = record { kind = p.kind; slot = p.slot } in r) e
 
 -- a map is one longer than without a key that it has
-pub one_less : {Key X : Type 0} {cmp : Key → Key → Ordering} → IsTotalOrder cmp → (m : map.FinMap cmp X) (p : Key) → is_some (map.get m p) ≡ true → suc (map.len (map.remove m p)) ≡ map.len m
+pub one_less : {Key X : Type 0} {cmp : Key → Key → Ordering} → IsTotalOrder cmp → (m : map.FinMap cmp X) (p : Key) →
+    is_some (map.get m p) ≡ true → suc (map.len (map.remove m p)) ≡ map.len m
 one_less {cmp = cmp} total m p there =
     let e : map.len (map.remove m p) ≡ map.len m - 1 = map.len-remove total m p ∙ ap (λ b. cond b (map.len m - 1) (map.len m)) there in
-    let some : map.len m ≢ 0 = λ z. false≢true (sym (ap is_some (map.get-empty cmp p)) ∙ ap (λ n. is_some (map.get n p)) (sym (map.empty_of_len m z)) ∙ there) in
+    let some : map.len m ≢ 0 =
+    λ z. false≢true (sym (ap is_some (map.get-empty cmp p)) ∙ ap (λ n. is_some (map.get n p)) (sym (map.empty_of_len m z)) ∙ there) in
     omega arith
 
 -- so a map has at least as many keys as there are distinct names that have keys of their own in it
-pub enough_keys : {Key X : Type 0} {cmp : Key → Key → Ordering} → IsTotalOrder cmp → map.IsAntisymmetric cmp → (key : OpaqueNodePtr → Key) (IsProper : OpaqueNodePtr → Type 0) →
+pub enough_keys : {Key X : Type 0} {cmp : Key → Key → Ordering} → IsTotalOrder cmp → map.IsAntisymmetric cmp →
+    (key : OpaqueNodePtr → Key) (IsProper : OpaqueNodePtr → Type 0) →
     ((n k : OpaqueNodePtr) → IsProper n → IsProper k → key n ≡ key k → n ≡ k) → (ns : List OpaqueNodePtr) (m : map.FinMap cmp X) → AreDistinct ns →
     Each (λ n. IsProper n × (is_some (map.get m (key n)) ≡ true)) ns → length ns ≤ map.len m
 enough_keys total same key IsProper own [] m d h = omega arith
@@ -75,7 +78,8 @@ enough_keys {X = X} {cmp = cmp} total same key IsProper own (n ∷ ns) m d h =
     go (k ∷ ks) o is = ((is.0.0, ap is_some (gone_elsewhere total same m (key n) (key k) (λ e. o.0 (own n k h.0.0 is.0.0 (sym e)))) ∙ is.0.1), go ks o.1 is.1)
 
 -- and a map of inner nodes at least as many as a layout
-pub enough_inners : (ns : List OpaqueNodePtr) (m : map.FinMap inner_cmp Inner) → AreDistinct ns → Each (λ n. is_some (map.get m (as_inner n)) ≡ true) ns → length ns ≤ map.len m
+pub enough_inners : (ns : List OpaqueNodePtr) (m : map.FinMap inner_cmp Inner) → AreDistinct ns →
+    Each (λ n. is_some (map.get m (as_inner n)) ≡ true) ns → length ns ≤ map.len m
 enough_inners ns m d h =
     enough_keys inner_cmp_total inner_cmp-IsAntisymmetric as_inner (λ n. Unit {0}) (λ n k _ _ e. same_name n k e) ns m d
     (Each-weaker (λ n. is_some (map.get m (as_inner n)) ≡ true) (λ n. Unit {0} × (is_some (map.get m (as_inner n)) ≡ true)) (λ n there. (tt, there)) ns h)
@@ -86,9 +90,12 @@ module _ {K V : Type 0} (s : Nodes K V) where
     inners_held (leaf n x) h = tt
     inners_held (inner n h cs) holds = (inner_is_used s n h (slots_of cs) holds.0, inners_held_below cs holds.1)
 
-    inners_held_below : (cs : Subtrees OpaqueNodePtr (K × V)) → HoldsBelow (node_at s) cs → Each (λ n. is_some (map.get s.inners (as_inner n)) ≡ true) (inner_names_below cs)
+    inners_held_below : (cs : Subtrees OpaqueNodePtr (K × V)) → HoldsBelow (node_at s) cs →
+        Each (λ n. is_some (map.get s.inners (as_inner n)) ≡ true) (inner_names_below cs)
     inners_held_below no_child h = tt
-    inners_held_below (child b t cs) h = Each-append (λ n. is_some (map.get s.inners (as_inner n)) ≡ true) (inner_names t) (inner_names_below cs) (inners_held t h.0) (inners_held_below cs h.1)
+    inners_held_below (child b t cs) h =
+        Each-append (λ n. is_some (map.get s.inners (as_inner n)) ≡ true) (inner_names t) (inner_names_below cs) (inners_held t h.0)
+        (inners_held_below cs h.1)
 
   -- the steps that a store's count of inner nodes gives are enough
   pub enough_steps : (t : Tree OpaqueNodePtr (K × V)) → Holds (node_at s) t → AreDistinct (names_of t) → tree_height t ≤ map.len s.inners
@@ -100,4 +107,5 @@ module _ {K V : Type 0} (s : Nodes K V) where
 -- the height of a tree, read off its store
 pub height_of_layout : {K V : Type 0} (s : Nodes K V) (root : OpaqueNodePtr) (tree : Tree OpaqueNodePtr (K × V)) → IsLayout (node_at s) root tree →
     height (node_at s) (map.len s.inners) root ≡ tree_height tree
-height_of_layout s root tree is = ap (height (node_at s) (map.len s.inners)) (sym is.named) ∙ height_is (node_at s) tree (map.len s.inners) is.holds (enough_steps s tree is.holds is.distinct)
+height_of_layout s root tree is = ap (height (node_at s) (map.len s.inners)) (sym is.named)
+    ∙ height_is (node_at s) tree (map.len s.inners) is.holds (enough_steps s tree is.holds is.distinct)

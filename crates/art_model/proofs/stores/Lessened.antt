@@ -31,14 +31,16 @@ lessened_twice p q r h k = go p.inner q.inner r.inner h k
     go a None (Some c) h k = absurd (let e = (both (leb r.leaves q.leaves) false k).1 in cc)
     go None (Some b) None h k = absurd (let e = (both (leb q.leaves p.leaves) false h).1 in cc)
     go (Some a) (Some b) None h k =
-        let l = leb-true q.leaves p.leaves (both (leb q.leaves p.leaves) (eqb (kind_index a) (kind_index b)) h).0 in let m = leb-true r.leaves q.leaves k in le-leb r.leaves p.leaves (omega arith)
+        let l = leb-true q.leaves p.leaves (both (leb q.leaves p.leaves) (eqb (kind_index a) (kind_index b)) h).0 in let m =
+        leb-true r.leaves q.leaves k in le-leb r.leaves p.leaves (omega arith)
     go None (Some b) (Some c) h k = absurd (let e = (both (leb q.leaves p.leaves) false h).1 in cc)
     go (Some a) (Some b) (Some c) h k =
         let (l, e) = both (leb q.leaves p.leaves) (eqb (kind_index a) (kind_index b)) h in
         let (m, f) = both (leb r.leaves q.leaves) (eqb (kind_index b) (kind_index c)) k in
         let first = leb-true q.leaves p.leaves l in
         let second = leb-true r.leaves q.leaves m in
-        rw (le-leb r.leaves p.leaves (omega arith)) (eq-eqb (kind_index a) (kind_index c) (eqb-true (kind_index a) (kind_index b) e ∙ eqb-true (kind_index b) (kind_index c) f))
+        rw (le-leb r.leaves p.leaves (omega arith))
+        (eq-eqb (kind_index a) (kind_index c) (eqb-true (kind_index a) (kind_index b) e ∙ eqb-true (kind_index b) (kind_index c) f))
 
 -- what a placement leaves of a promise
 pub lessened_leaf : (p : Promise) → IsLessened p (take_leaf p)

@@ -35,7 +35,12 @@ module _ {N A : Type 0} {part : Tree N A → List N} {parts : Subtrees N A → L
     -- what holds of each name holds of those that are taken
     pub among : (Q : N → Type 0) (t : Tree N A) → Each Q (names_of t) → Each Q (part t)
     among Q (leaf n x) h = elim (takes.of_leaf n x) [ inl e ↦ subst (Each Q) (sym e) tt | inr e ↦ subst (Each Q) (sym e) h ]
-    among Q (inner n h cs) k = elim (takes.of_inner n h cs) [ inl e ↦ subst (Each Q) (sym e) (among_below Q cs k.1) | inr e ↦ subst (Each Q) (sym e) (k.0, among_below Q cs k.1) ]
+    among Q (inner n h cs) k =
+        elim (takes.of_inner n h cs) [
+          | inl e ↦ subst (Each Q) (sym e) (among_below Q cs k.1)
+          | inr e ↦ subst (Each Q) (sym e)
+              (k.0, among_below Q cs k.1)
+        ]
 
     pub among_below : (Q : N → Type 0) (cs : Subtrees N A) → Each Q (names_below cs) → Each Q (parts cs)
     among_below Q no_child h = subst (Each Q) (sym takes.of_none) tt
@@ -45,7 +50,9 @@ module _ {N A : Type 0} {part : Tree N A → List N} {parts : Subtrees N A → L
 
   -- so those that are taken are names of the tree
   pub taken_in : (t : Tree N A) (k : N) → IsIn k (part t) → IsIn k (names_of t)
-  taken_in t k i = each_in (λ n. IsIn n (names_of t)) k (part t) (among (λ n. IsIn n (names_of t)) t (each_from (λ n. IsIn n (names_of t)) (names_of t) (λ n j. j))) i
+  taken_in t k i =
+      each_in (λ n. IsIn n (names_of t)) k (part t)
+      (among (λ n. IsIn n (names_of t)) t (each_from (λ n. IsIn n (names_of t)) (names_of t) (λ n j. j))) i
 
   mutual
     -- of distinct names those that are taken are distinct
@@ -100,7 +107,8 @@ module _ {N A : Type 0} (at : N → Option (Node N A)) where
   OldOrFree old new = Each (λ k. IsIn k old ⊎ (at k ≡ None)) new
 
   -- such names in place of the old ones leave all names distinct
-  pub distinct_replaced : (xs old new zs : List N) → AreDistinct (xs ++ old ++ zs) → Each IsTaken xs → Each IsTaken zs → AreDistinct new → OldOrFree old new → AreDistinct (xs ++ new ++ zs)
+  pub distinct_replaced : (xs old new zs : List N) → AreDistinct (xs ++ old ++ zs) → Each IsTaken xs → Each IsTaken zs → AreDistinct new →
+      OldOrFree old new → AreDistinct (xs ++ new ++ zs)
   distinct_replaced xs old new zs all used_x used_z d on =
       let xo = Pairwise-left ◌≢◌ (xs ++ old) zs all in
       let cross = Pairwise-across ◌≢◌ (xs ++ old) zs all in

@@ -60,7 +60,8 @@ module _ {K V : Type 0} (s : Nodes K V) where
     pub no_inner_gone : (t : Tree OpaqueNodePtr (K × V)) → name_of t ≡ inner_name p → Holds (node_at s) t → None ≡ map.get s.inners p → ⊥
     no_inner_gone t named held gone = subst (InnerIs t) (sym gone) (inner_is t named held)
 
-    pub inner_shown : (t : Tree OpaqueNodePtr (K × V)) → name_of t ≡ inner_name p → Holds (node_at s) t → (shown : Inner) → Some shown ≡ map.get s.inners p → IsShown t p shown
+    pub inner_shown : (t : Tree OpaqueNodePtr (K × V)) → name_of t ≡ inner_name p → Holds (node_at s) t → (shown : Inner) →
+        Some shown ≡ map.get s.inners p → IsShown t p shown
     inner_shown t named held shown there = subst (InnerIs t) (sym there) (inner_is t named held)
 
 -- A node that is in the store under its name.

@@ -31,7 +31,8 @@ module _ {A : Type 0} where
   child_at-there no_child b name rest h = rw (eq-eqb b b refl) refl
   child_at-there (child c t cs) b name rest h = rw (ne_eqb c b (λ e. let l = h.0 in omega arith)) (child_at-there cs b name rest h.1)
 
-  put_child-first : (cs : Subtrees OpaqueNodePtr A) (b : ℕ) (t : Tree OpaqueNodePtr A) → Each (λ c. b < c) (bytes_of cs) → put_child (slots_of cs) b (name_of t) ≡ (b, name_of t) ∷ slots_of cs
+  put_child-first : (cs : Subtrees OpaqueNodePtr A) (b : ℕ) (t : Tree OpaqueNodePtr A) → Each (λ c. b < c) (bytes_of cs) →
+      put_child (slots_of cs) b (name_of t) ≡ (b, name_of t) ∷ slots_of cs
   put_child-first no_child b t h = refl
   put_child-first (child c u cs) b t h = rw (le-ltb c b (let l = h.0 in omega arith), ne_eqb c b (λ e. let l = h.0 in omega arith)) refl
 

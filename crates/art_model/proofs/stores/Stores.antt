@@ -51,11 +51,14 @@ module _ {N A : Type 0} where
 
       pub frame_below : (cs : Subtrees N A) → Each (λ n. to n ≡ at n) (names_below cs) → HoldsBelow at cs → HoldsBelow to cs
       frame_below no_child same h = tt
-      frame_below (child b t cs) same h =
-          (frame t (Each-left (λ n. to n ≡ at n) (names_of t) (names_below cs) same) h.0, frame_below cs (Each-right (λ n. to n ≡ at n) (names_of t) (names_below cs) same) h.1)
+      frame_below (child b t cs) same h = (
+        frame t (Each-left (λ n. to n ≡ at n) (names_of t) (names_below cs) same) h.0,
+        frame_below cs (Each-right (λ n. to n ≡ at n) (names_of t) (names_below cs) same) h.1,
+      )
 
     -- a path
-    pub frame_path : (fs : List (Frame N A)) (hole : N) → Each (λ n. to n ≡ at n) (names_before fs) → Each (λ n. to n ≡ at n) (names_after fs) → HoldsPath at hole fs → HoldsPath to hole fs
+    pub frame_path : (fs : List (Frame N A)) (hole : N) → Each (λ n. to n ≡ at n) (names_before fs) →
+        Each (λ n. to n ≡ at n) (names_after fs) → HoldsPath at hole fs → HoldsPath to hole fs
     frame_path [] hole l r h = tt
     frame_path (f ∷ fs) hole l r (e, hl, hr, path) =
         let Q = λ (n : N). to n ≡ at n in
@@ -89,7 +92,8 @@ module _ {N A : Type 0} where
     pub distinct : AreDistinct (names_of u)
     pub old_or_free : OldOrFree at (names_of t) (names_of u)
 
-module _ {N A : Type 0} (at to : N → Option (Node N A)) (fs : List (Frame N A)) (t : Tree N A) (holds : Holds at (plug fs t)) (distinct : AreDistinct (names_of (plug fs t))) where
+module _ {N A : Type 0} (at to : N → Option (Node N A)) (fs : List (Frame N A)) (t : Tree N A) (holds : Holds at (plug fs t))
+    (distinct : AreDistinct (names_of (plug fs t))) where
   -- the names before the hole, in it and after it are distinct
   pub all_distinct : AreDistinct (names_before fs ++ names_of t ++ names_after fs)
   all_distinct = subst AreDistinct (names_of-plug fs t) distinct
@@ -109,7 +113,9 @@ module _ {N A : Type 0} (at to : N → Option (Node N A)) (fs : List (Frame N A)
 
   -- names of the hole are in use
   pub hole_taken : (k : N) → IsIn k (names_of t) → at k ≡ None → ⊥
-  hole_taken k i = each_in (IsTaken at) k (names_of t) (Each-right (IsTaken at) (names_before fs) (names_of t) (Each-left (IsTaken at) (names_before fs ++ names_of t) (names_after fs) every_taken)) i
+  hole_taken k i = each_in (IsTaken at) k (names_of t)
+      (Each-right (IsTaken at) (names_before fs) (names_of t)
+      (Each-left (IsTaken at) (names_before fs ++ names_of t) (names_after fs) every_taken)) i
 
   -- no name of the hole is on the path or before the hole
   pub before_apart : (k : N) → IsIn k (names_before fs) → IsIn k (names_of t) → ⊥
@@ -138,7 +144,8 @@ module _ {N A : Type 0} (at to : N → Option (Node N A)) (g : Frame N A) (gs : 
       Pairwise-left ◌≢◌ (names_before (g ∷ gs)) (names_of t) (Pairwise-left ◌≢◌ (names_before (g ∷ gs) ++ names_of t) (names_after (g ∷ gs)) all)
 
   kept_before : (k : N) → IsIn k (names_before (g ∷ gs)) → k ≢ g.mark → to k ≡ at k
-  kept_before k i off = same k off (before_apart at to (g ∷ gs) t holds distinct k i) (each_in (IsTaken at) k (names_before (g ∷ gs)) (before_taken at to (g ∷ gs) t holds distinct) i)
+  kept_before k i off = same k off (before_apart at to (g ∷ gs) t holds distinct k i)
+      (each_in (IsTaken at) k (names_before (g ∷ gs)) (before_taken at to (g ∷ gs) t holds distinct) i)
 
   same_above : Each (λ k. to k ≡ at k) (names_before gs)
   same_above =
@@ -179,7 +186,8 @@ module _ {N A : Type 0} (at to : N → Option (Node N A)) where
       let fs = g ∷ gs in (
         plug_holds to fs u (path_replaced at to g gs t holds distinct same (name_of u) parent) new.holds,
         subst AreDistinct (sym (names_of-plug fs u)) (distinct_replaced at (names_before fs) (names_of t) (names_of u) (names_after fs)
-            (all_distinct at to fs t holds distinct) (before_taken at to fs t holds distinct) (after_taken at to fs t holds distinct) new.distinct new.old_or_free),
+            (all_distinct at to fs t holds distinct) (before_taken at to fs t holds distinct)
+            (after_taken at to fs t holds distinct) new.distinct new.old_or_free),
       )
 
   -- names of the hole that are not touched have the same nodes as before

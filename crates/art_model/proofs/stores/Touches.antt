@@ -88,7 +88,8 @@ module _ {N X : Type 0} {R : N → N → Ordering} (order : IsTotalOrder R) (sam
     pub then_changed : (n : N) (g : X → X) → get old n ≢ None → get new n ≢ None → Touched old (change new n g) placed freed (n ∷ changed)
     then_changed n g was is = record {
       are_placed =
-          Each-weaker (λ k. (get old k ≡ None) × (get new k ≢ None)) (λ k. (get old k ≡ None) × (get (change new n g) k ≢ None)) (λ k h. (h.0, still_changed new n k g h.1)) placed so_far.are_placed;
+          Each-weaker (λ k. (get old k ≡ None) × (get new k ≢ None)) (λ k. (get old k ≡ None) × (get (change new n g) k ≢ None))
+          (λ k h. (h.0, still_changed new n k g h.1)) placed so_far.are_placed;
       are_freed =
           Each-weaker (λ k. (get old k ≢ None) × (get new k ≡ None)) (λ k. (get old k ≢ None) × (get (change new n g) k ≡ None))
           (λ k h. (h.0, changed_elsewhere order same new n k g (λ e. is (ap (get new) (sym e) ∙ h.1)) ∙ h.1)) freed so_far.are_freed;
@@ -147,7 +148,10 @@ module _ {K V : Type 0} (s t : Nodes K V) where
         Each (λ n. P Inner (get s.inners n) × Q Inner (get t.inners n)) inners → Each IsInner inners → Each Listed (both_names leaves inners)
     both_held leaves inners l i k = Each-append Listed (map leaf_name leaves) (map inner_name inners)
         (each_map leaf_name Listed leaves (Each-weaker (λ n. P (LeafNode K V) (get s.leaves n) × Q (LeafNode K V) (get t.leaves n))
-        (λ n. Listed (leaf_name n)) (λ n h. (p_held (LeafNode K V) held_leaf (get s.leaves n) h.0, q_held (LeafNode K V) held_leaf (get t.leaves n) h.1)) leaves l))
+        (λ n. Listed (leaf_name n)) (λ n h. (
+          p_held (LeafNode K V) held_leaf (get s.leaves n) h.0,
+          q_held (LeafNode K V) held_leaf (get t.leaves n) h.1,
+        )) leaves l))
         (each_map inner_name Listed inners (each_from (λ n. Listed (inner_name n)) inners (λ n j.
         let h = each_in (λ n. P Inner (get s.inners n) × Q Inner (get t.inners n)) n inners i j in
         let kind = each_in IsInner n inners k j in (
@@ -194,4 +198,6 @@ module _ {K V : Type 0} (s t : Nodes K V) where
   )
     where
       long : (leaves : List LeafPtr) (inners : List InnerPtr) → length (both_names leaves inners) ≡ length leaves + length inners
-      long leaves inners = length-append (map leaf_name leaves) (map inner_name inners) ∙ ap₂ (λ a b. a + b) (length-map leaves leaf_name) (length-map inners inner_name)
+      long leaves inners =
+          length-append (map leaf_name leaves) (map inner_name inners)
+          ∙ ap₂ (λ a b. a + b) (length-map leaves leaf_name) (length-map inners inner_name)

@@ -16,12 +16,14 @@ use Rattle.art_model.specs.Layouts.{Node, leaf_node, inner_node}
 use Rattle.art_model.specs.Stores.{Held, held_leaf, held_inner, content_in, tree_node, node_at, header_at, pair_of}
 
 module _ {K V : Type 0} where
-  seen_leaf : (o : Option (LeafNode K V)) (x : K × V) → option_map (tree_node Leaf) (option_map held_leaf o) ≡ Some (leaf_node x) → (leaf : LeafNode K V) × (o ≡ Some leaf) × (pair_of leaf ≡ x)
+  seen_leaf : (o : Option (LeafNode K V)) (x : K × V) → option_map (tree_node Leaf) (option_map held_leaf o) ≡ Some (leaf_node x) →
+      (leaf : LeafNode K V) × (o ≡ Some leaf) × (pair_of leaf ≡ x)
   seen_leaf None x e = absurd cc
   seen_leaf (Some leaf) x e = (leaf, refl, cc)
 
   -- a leaf is seen as no inner node
-  pub seen_no_inner : (o : Option (LeafNode K V)) (h : NodeHeader) (slots : List (ℕ × OpaqueNodePtr)) → option_map (tree_node Leaf) (option_map held_leaf o) ≡ Some (inner_node h slots) → ⊥
+  pub seen_no_inner : (o : Option (LeafNode K V)) (h : NodeHeader) (slots : List (ℕ × OpaqueNodePtr)) →
+      option_map (tree_node Leaf) (option_map held_leaf o) ≡ Some (inner_node h slots) → ⊥
   seen_no_inner None h slots e = cc
   seen_no_inner (Some leaf) h slots e = cc
 
@@ -55,7 +57,8 @@ same_inner_held K V (Some a) (Some b) e = ap Some cc
 
 module _ {K V : Type 0} (s : Nodes K V) where
   -- what is held under an inner kind
-  pub held_in_inner : (kind : NodeType) (slot : ℕ) → kind ≢ Leaf → content_in s kind slot ≡ option_map held_inner (map.get s.inners (record { kind = kind; slot = slot }))
+  pub held_in_inner : (kind : NodeType) (slot : ℕ) → kind ≢ Leaf →
+      content_in s kind slot ≡ option_map held_inner (map.get s.inners (record { kind = kind; slot = slot }))
   held_in_inner Leaf slot n = absurd (n refl)
   held_in_inner Node4 slot n = refl
   held_in_inner Node16 slot n = refl
@@ -63,7 +66,8 @@ module _ {K V : Type 0} (s : Nodes K V) where
   held_in_inner Node256 slot n = refl
 
   -- a leaf's name that stands for a leaf
-  pub leaf_there : (p : LeafPtr) (x : K × V) → node_at s (leaf_name p) ≡ Some (leaf_node x) → (leaf : LeafNode K V) × (map.get s.leaves p ≡ Some leaf) × (pair_of leaf ≡ x)
+  pub leaf_there : (p : LeafPtr) (x : K × V) → node_at s (leaf_name p) ≡ Some (leaf_node x) →
+      (leaf : LeafNode K V) × (map.get s.leaves p ≡ Some leaf) × (pair_of leaf ≡ x)
   leaf_there p x e = seen_leaf (map.get s.leaves p) x e
 
   -- a leaf's name stands for no inner node
@@ -72,7 +76,8 @@ module _ {K V : Type 0} (s : Nodes K V) where
 
   -- an inner node's name that stands for an inner node
   pub inner_there : (p : InnerPtr) (h : NodeHeader) (slots : List (ℕ × OpaqueNodePtr)) → p.kind ≢ Leaf →
-      node_at s (inner_name p) ≡ Some (inner_node h slots) → (node : Inner) × (map.get s.inners p ≡ Some node) × (header_at p.kind node ≡ h) × (node.children ≡ slots)
+      node_at s (inner_name p) ≡ Some (inner_node h slots) →
+      (node : Inner) × (map.get s.inners p ≡ Some node) × (header_at p.kind node ≡ h) × (node.children ≡ slots)
   inner_there p h slots n e = seen_inner p.kind (map.get s.inners p) h slots (ap (option_map (tree_node p.kind)) (sym (held_in_inner p.kind p.slot n)) ∙ e)
 
   -- an inner node's name stands for no leaf

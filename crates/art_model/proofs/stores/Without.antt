@@ -44,7 +44,8 @@ module _ {N X : Type 0} {R : N → N → Ordering} (order : IsTotalOrder R) (sam
   without_off m (n ∷ ns) q off = without_off (remove m n) ns q (λ i. off (inr i)) ∙ gone_elsewhere order same m n q (λ e. off (inl (sym e)))
 
   -- the map that has nothing under the names, and under the others the same
-  pub is_without : (m k : FinMap R X) (ns : List N) → ((q : N) → IsIn q ns → get k q ≡ None) → ((q : N) → (IsIn q ns → ⊥) → get k q ≡ get m q) → k ≡ without m ns
+  pub is_without : (m k : FinMap R X) (ns : List N) → ((q : N) → IsIn q ns → get k q ≡ None) →
+      ((q : N) → (IsIn q ns → ⊥) → get k q ≡ get m q) → k ≡ without m ns
   is_without m k ns none rest = same_map order same k (without m ns) (λ q. elim (in_or order same ns q) [
     | inl i ↦ none q i ∙ sym (without_in m ns q i)
     | inr off ↦ rest q off ∙ sym (without_off m ns q off)
@@ -57,7 +58,8 @@ module _ {N X : Type 0} {R : N → N → Ordering} (order : IsTotalOrder R) (sam
         | inl j ↦ ap (λ z. get z q) e ∙ without_in b ns q j
         | inr j ↦ ap (λ z. get z q) e ∙ still_none b ns q (ap (λ z. get z q) f ∙ without_in c ks q j)
       ])
-      (λ q off. ap (λ z. get z q) e ∙ without_off b ns q (λ i. off (in_left q ns ks i)) ∙ ap (λ z. get z q) f ∙ without_off c ks q (λ i. off (in_right q ns ks i)))
+      (λ q off. ap (λ z. get z q) e ∙ without_off b ns q (λ i. off (in_left q ns ks i)) ∙ ap (λ z. get z q) f
+      ∙ without_off c ks q (λ i. off (in_right q ns ks i)))
 
   -- a new name
   pub without_new : (m : FinMap R X) (n : N) (x : X) → get m n ≡ None → m ≡ without (insert m n x) (n ∷ [])

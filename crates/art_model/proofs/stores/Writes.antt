@@ -44,7 +44,8 @@ module _ {K V : Type 0} (s : Nodes K V) where
       go (Some leaf) = refl
 
   -- the node under a name of an inner kind
-  pub node_at-inner : (k : OpaqueNodePtr) → k.kind ≢ Leaf → (o : Option Inner) → get s.inners (as_inner k) ≡ o → node_at s k ≡ option_map (tree_node k.kind) (option_map held_inner o)
+  pub node_at-inner : (k : OpaqueNodePtr) → k.kind ≢ Leaf → (o : Option Inner) → get s.inners (as_inner k) ≡ o →
+      node_at s k ≡ option_map (tree_node k.kind) (option_map held_inner o)
   node_at-inner k off o e = ap (option_map (tree_node k.kind)) (held_in_inner s k.kind k.slot off ∙ ap (option_map held_inner) e)
 
   -- the inner node of the store where a tree sees one
@@ -53,7 +54,8 @@ module _ {K V : Type 0} (s : Nodes K V) where
   inner_at k h slots e = elim (leaf_or k) [
     | inl (p, is) ↦ absurd (seen_no_inner (get s.leaves p) h slots (ap (node_at s) (sym is) ∙ e))
     | inr off ↦ let (node, there, head, below) =
-        seen_inner k.kind (get s.inners (as_inner k)) h slots (sym (node_at-inner k off (get s.inners (as_inner k)) refl) ∙ e) in (off, node, there, head, below)
+        seen_inner k.kind (get s.inners (as_inner k)) h slots (sym (node_at-inner k off (get s.inners (as_inner k)) refl) ∙ e) in
+        (off, node, there, head, below)
   ]
 
 -- an inner node as a tree sees it, by parts
@@ -79,7 +81,8 @@ module _ {K V : Type 0} (s t : Nodes K V) where
   ]
 
 -- a header with the kind for another number of children
-pub header_with : (P : ℕ) (part : List ℕ) (n count : ℕ) (h : NodeHeader) → h ≡ canonical_header P part n → h.kind ≡ kind_of count → h ≡ canonical_header P part count
+pub header_with : (P : ℕ) (part : List ℕ) (n count : ℕ) (h : NodeHeader) → h ≡ canonical_header P part n → h.kind ≡ kind_of count →
+    h ≡ canonical_header P part count
 header_with P part n count h e kind = λ i. record { kind = kind i; length_of = (e i).length_of; stored = (e i).stored }
 
 -- ---- the parent's child
@@ -89,7 +92,8 @@ module _ {A : Type 0} where
   pub with_child_at-elsewhere : (fs : List (Frame OpaqueNodePtr A)) (name : OpaqueNodePtr) (m : Inners) (k : OpaqueNodePtr) → (IsParent fs k → ⊥) →
       get (with_child_at (parent_of fs) name m) (as_inner k) ≡ get m (as_inner k)
   with_child_at-elsewhere [] name m k off = refl
-  with_child_at-elsewhere (f ∷ fs) name m k off = inner_changed_elsewhere m (as_inner f.mark) (as_inner k) (with_child f.byte name) (λ e. off (inner_name_one k f.mark e))
+  with_child_at-elsewhere (f ∷ fs) name m k off =
+      inner_changed_elsewhere m (as_inner f.mark) (as_inner k) (with_child f.byte name) (λ e. off (inner_name_one k f.mark e))
 
   -- the parent, if there is one
   abbrev pub parents : List (Frame OpaqueNodePtr A) → List InnerPtr
@@ -102,11 +106,14 @@ module _ {A : Type 0} where
   length-parents (f ∷ fs) touched = omega arith
 
   -- the parent is changed
-  pub then_parent : {old new : Inners} {placed freed changed : List InnerPtr} → Touched old new placed freed changed → (fs : List (Frame OpaqueNodePtr A)) (name : OpaqueNodePtr) →
+  pub then_parent : {old new : Inners} {placed freed changed : List InnerPtr} → Touched old new placed freed changed →
+      (fs : List (Frame OpaqueNodePtr A)) (name : OpaqueNodePtr) →
       ((k : OpaqueNodePtr) → IsParent fs k → get old (as_inner k) ≢ None) → ((k : OpaqueNodePtr) → IsParent fs k → get new (as_inner k) ≢ None) →
       Touched old (with_child_at (parent_of fs) name new) placed freed (parents fs ++ changed)
   then_parent so_far [] name was is = so_far
-  then_parent so_far (f ∷ fs) name was is = then_changed inner_cmp_total inner_cmp-IsAntisymmetric so_far (as_inner f.mark) (with_child f.byte name) (was f.mark refl) (is f.mark refl)
+  then_parent so_far (f ∷ fs) name was is =
+      then_changed inner_cmp_total inner_cmp-IsAntisymmetric so_far (as_inner f.mark) (with_child f.byte name)
+      (was f.mark refl) (is f.mark refl)
 
 module _ {K V : Type 0} (bytes : K × V → List ℕ) (P : ℕ) (s : Nodes K V) where
   -- the parent is in the store, and has a child under its byte
@@ -130,22 +137,27 @@ module _ {K V : Type 0} (bytes : K × V → List ℕ) (P : ℕ) (s : Nodes K V) 
   parent_ready (f ∷ fs) place hole (outer, part, e, head, two, up, l, r, path) holds =
       let (off, node, there, header, below) = inner_at s f.mark f.header (slots_of f.left ++ (f.byte, hole) ∷ slots_of f.right) holds.0 in
       subst (λ z. IsSomeAnd z (λ node. child_at node.children f.byte ≡ Some hole)) (sym there)
-      (ap (λ z. child_at z f.byte) below ∙ child_at-there f.left f.byte hole (slots_of f.right) (Pairwise-before ◌<◌ (bytes_of f.left) (bytes_of f.right) f.byte up))
+      (ap (λ z. child_at z f.byte) below ∙ child_at-there f.left f.byte hole (slots_of f.right)
+      (Pairwise-before ◌<◌ (bytes_of f.left) (bytes_of f.right) f.byte up))
 
   -- after the write the parent has the new name in its hole
-  pub parent_written : (t : Nodes K V) (m : Inners) (fs : List (Frame OpaqueNodePtr (K × V))) (place : List ℕ) (hole name : OpaqueNodePtr) → IsPath bytes P place fs → HoldsPath (node_at s) hole fs →
+  pub parent_written : (t : Nodes K V) (m : Inners) (fs : List (Frame OpaqueNodePtr (K × V))) (place : List ℕ) (hole name : OpaqueNodePtr) →
+      IsPath bytes P place fs → HoldsPath (node_at s) hole fs →
       ((k : OpaqueNodePtr) → IsParent fs k → get m (as_inner k) ≡ get s.inners (as_inner k)) →
       ((k : OpaqueNodePtr) → IsParent fs k → get t.inners (as_inner k) ≡ get (with_child_at (parent_of fs) name m) (as_inner k)) → ParentHas (node_at t) fs name
   parent_written t m [] place hole name path holds before after = tt
   parent_written t m (f ∷ fs) place hole name (outer, part, e, head, two, up, l, r, path) holds before after =
       let (off, node, there, header, below) = inner_at s f.mark f.header (slots_of f.left ++ (f.byte, hole) ∷ slots_of f.right) holds.0 in
       let put : put_child node.children f.byte name ≡ slots_of f.left ++ (f.byte, name) ∷ slots_of f.right =
-      ap (λ z. put_child z f.byte name) below ∙ put_child-there f.left f.byte hole name (slots_of f.right) (Pairwise-before ◌<◌ (bytes_of f.left) (bytes_of f.right) f.byte up) in
+      ap (λ z. put_child z f.byte name) below ∙ put_child-there f.left f.byte hole name (slots_of f.right)
+      (Pairwise-before ◌<◌ (bytes_of f.left) (bytes_of f.right) f.byte up) in
       let got : get t.inners (as_inner f.mark) ≡ Some (with_child f.byte name node) =
-      after f.mark refl ∙ inner_changed_at m (as_inner f.mark) (with_child f.byte name) ∙ ap (option_map (with_child f.byte name)) (before f.mark refl ∙ there) in
+      after f.mark refl ∙ inner_changed_at m (as_inner f.mark) (with_child f.byte name)
+      ∙ ap (option_map (with_child f.byte name)) (before f.mark refl ∙ there) in
       node_at-inner t f.mark off (Some (with_child f.byte name node)) got ∙ shown header put
 
 -- a parent that is not written has the same name in its hole
-pub parent_stays : {N A : Type 0} (at to : N → Option (Node N A)) (fs : List (Frame N A)) (hole : N) → HoldsPath at hole fs → ((k : N) → IsParent fs k → to k ≡ at k) → ParentHas to fs hole
+pub parent_stays : {N A : Type 0} (at to : N → Option (Node N A)) (fs : List (Frame N A)) (hole : N) → HoldsPath at hole fs →
+    ((k : N) → IsParent fs k → to k ≡ at k) → ParentHas to fs hole
 parent_stays at to [] hole holds same = tt
 parent_stays at to (f ∷ fs) hole holds same = same f.mark refl ∙ holds.0

@@ -36,7 +36,8 @@ fn place_behind<K: AsBytes + Drop, V: Drop, const P: usize>(
     node: LeafNode<K, V>,
 ) -> Result<LeafPtr, (LeafNode<K, V>, AllocError)>
     requires { IsSome (map.get store.old.leaves last) }
-    ensures placed { IfOk result (λ name. map.get store.new.leaves name ≡ Some (with_links (Some last) None node)) }
+    ensures placed { IfOk result (λ name.
+        map.get store.new.leaves name ≡ Some (with_links (Some last) None node)) }
     ensures kept { map.get store.new.leaves last ≡ map.get store.old.leaves last }
     ensures inners { store.new.inners ≡ store.old.inners }
 {

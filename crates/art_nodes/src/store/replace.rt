@@ -1,13 +1,17 @@
 //! Replaces an inner node by a larger or a smaller one, or by the other of its two children.
-ghost use Rattle.std.specs.Prelude.{◌≡◌, ◌≢◌, ◌≤◌, [], ◌∷◌, IsTrue, IsSome, IsSomeAnd, IfSome};
-ghost use Rattle.std.specs.Prelude.{Option, Some, None, length};
+ghost use Rattle.std.specs.Prelude.{◌≡◌, ◌≢◌, ◌≤◌, [], ◌∷◌, IsTrue, IsSome, IsSomeAnd, IfSome, Option, Some, None, length};
 ghost use Rattle.slab.specs.Slab as slab;
 ghost use Rattle.slab.specs.Slab.{ContainsKey, HasRoomFor, Updates};
-ghost use Rattle.art_parts.specs.Kinds.{kind_capacity};
+ghost use Rattle.art_parts.specs.Kinds.{kind_capacity, larger_kind, smaller_kind};
 ghost use Rattle.art_inner.specs.InnerChanges.{with_child, without_child};
-ghost use Rattle.art_inner.specs.Inner.{HasPlace, remove_child};
+ghost use Rattle.art_inner.specs.Inner.{HasPlace, remove_child, childless};
 ghost use Rattle.art_inner.specs.Views.{ref_view};
 ghost use Rattle.art_nodes.specs.Replacing.{IsMadeOf, IsOneFewer, IsOneMore};
+ghost use Rattle.std.specs.FinMap as map;
+ghost use Rattle.art_nodes.specs.StoreView.{HasInnerRoom, inners_of};
+ghost use Rattle.art_parts.specs.declared.names.NodeType.{NodeType};
+ghost use Rattle.art_parts.specs.declared.names.NodeType.TheVariants.{Node4, Node16, Node48, Node256};
+ghost use Rattle.art_nodes.specs.Nodes.{take_inner};
 
 use super::{InnerSlabs, NodeStore, is_promised};
 use crate::node::{AsBytes, Header, InnerNode, InnerPtr, InnerRef, NodeType, OpaqueNodePtr};
@@ -15,12 +19,6 @@ use art_inner::resized::{Grows, Shrinks};
 use slab::Slab;
 
 impl<const P: usize> InnerSlabs<P> {
-    ghost use Rattle.std.specs.FinMap as map;
-    ghost use Rattle.art_parts.specs.Kinds.{larger_kind, smaller_kind};
-    ghost use Rattle.art_nodes.specs.StoreView.{HasInnerRoom, inners_of};
-    ghost use Rattle.art_parts.specs.declared.names.NodeType.{NodeType};
-    ghost use Rattle.art_parts.specs.declared.names.NodeType.TheVariants.{Node4, Node16, Node48, Node256};
-
     // Replaces a node by one of the next larger kind, with a further child.
     pub(super) fn put_larger(&mut self, name: InnerPtr, byte: u8, child: OpaqueNodePtr) -> InnerPtr
         requires kind { name.kind ≢ Node256 }
@@ -144,12 +142,6 @@ fn drop_from<T: Drop>(slab: &mut Slab<T>, slot: usize)
 }
 
 impl<K: AsBytes + Drop, V: Drop, const P: usize> NodeStore<K, V, P> {
-    ghost use Rattle.std.specs.FinMap as map;
-    ghost use Rattle.art_inner.specs.Inner.{childless};
-    ghost use Rattle.art_parts.specs.Kinds.{smaller_kind};
-    ghost use Rattle.art_nodes.specs.Nodes.{take_inner};
-    ghost use Rattle.art_parts.specs.declared.names.NodeType.TheVariants.{Node4};
-
     /// Replaces an inner node by one of the next smaller kind, without the child under a byte. It never fails: the
     /// store keeps a slot for it, as it does for each larger node. A promise of another kind is void afterwards, as
     /// after a placement.

@@ -8,8 +8,12 @@ ghost use Rattle.art_inner.specs.NewNames.{new_name};
 ghost use Rattle.art_nodes.specs.Moves.{AreMoved};
 ghost use Rattle.art_nodes.specs.Renamed.{AreRenamed, IsRow, leaf_renamed};
 ghost use Rattle.art_parts.specs.Lists.{first_of};
-ghost use Rattle.art_nodes.specs.StoreView.{leaves_of};
+ghost use Rattle.art_nodes.specs.StoreView.{leaves_of, HasInnerRoom, inners_of};
 ghost use Rattle.art_parts.specs.declared.names.LeafPtr.{LeafPtr};
+ghost use Rattle.art_nodes.specs.Nodes.{no_promise};
+ghost use Rattle.std.specs.FinMap as map;
+ghost use Rattle.art_parts.specs.declared.names.InnerPtr.{InnerPtr};
+ghost use Rattle.art_parts.specs.declared.names.NodeType.{NodeType};
 
 use super::{InnerSlabs, NodeStore};
 use crate::node::{AsBytes, InnerNode, LeafNode, LeafPtr};
@@ -18,8 +22,6 @@ use slab::Slab;
 use std::alloc::AllocError;
 
 impl<K: AsBytes + Drop, V: Drop, const P: usize> NodeStore<K, V, P> {
-    ghost use Rattle.art_nodes.specs.Nodes.{no_promise};
-
     /// Moves the leaves of a row, from its first one on, to new slots in its order, and updates their names in all
     /// nodes. Leaves that are not in the row are freed. Promises are void afterwards. It allocates slots for all leaves
     /// and a table of the new slots; if an allocation fails, the store is unchanged. It costs a step for each leaf and
@@ -49,11 +51,6 @@ impl<K: AsBytes + Drop, V: Drop, const P: usize> NodeStore<K, V, P> {
 }
 
 impl<const P: usize> InnerSlabs<P> {
-    ghost use Rattle.std.specs.FinMap as map;
-    ghost use Rattle.art_nodes.specs.StoreView.{HasInnerRoom, inners_of};
-    ghost use Rattle.art_parts.specs.declared.names.InnerPtr.{InnerPtr};
-    ghost use Rattle.art_parts.specs.declared.names.NodeType.{NodeType};
-
     // Renames the leaves among the children of all nodes by a table.
     fn rename_leaves(&mut self, table: &[usize])
         ensures nodes { (name : InnerPtr) → map.get (inners_of self.new) name ≡

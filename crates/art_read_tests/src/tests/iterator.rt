@@ -91,7 +91,8 @@ fn from_the_back<const P: usize>(
 // The same leaves once more, by the names of the first and the last of them.
 fn again<const P: usize>(leaves: RawIterator, store: &NodeStore<Key, u32, P>) -> Option<RawIterator>
     requires { (names : List OpaqueNodePtr) × IsIteratorOf store.now leaves names }
-    ensures { IfSome result (λ same. (names : List OpaqueNodePtr) × IsIteratorOf store.now same names) }
+    ensures { IfSome result (λ same.
+        (names : List OpaqueNodePtr) × IsIteratorOf store.now same names) }
 {
     let mut from_front = leaves;
     let first = from_front.next(store)?;
@@ -106,7 +107,8 @@ fn between<const P: usize>(
     root: OpaqueNodePtr,
 ) -> Option<RawIterator>
     requires { IsCanonicalRoot (λ pair. pair.0.items) P store.now root }
-    ensures { IfSome result (λ leaves. (names : List OpaqueNodePtr) × IsIteratorOf store.now leaves names) }
+    ensures { IfSome result (λ leaves.
+        (names : List OpaqueNodePtr) × IsIteratorOf store.now leaves names) }
 {
     let mut inner = whole(store, root);
     front(&mut inner, store);

@@ -1,8 +1,11 @@
 //! What a table of codes has of a text, and how it answers numbers.
 ghost use Rattle.std.specs.Prelude.{◌≡◌, OnOk, Some};
 ghost use Rattle.std.specs.Io.KnownBytes.{Appends};
-ghost use Rattle.text_programs.specs.CodeReplies.{reply_of, reply_with};
-ghost use Rattle.text_programs.specs.Entries.{entries_of};
+ghost use Rattle.text_programs.specs.CodeReplies.{reply_of, reply_with, IsCodeReply, IsNoNumber};
+ghost use Rattle.text_programs.specs.Entries.{entries_of, code_of};
+ghost use Rattle.art_model.specs.Texts.{TextsRise};
+ghost use Rattle.text_programs.specs.CodeRows.{rows_of};
+ghost use Rattle.text_programs.specs.CodeTables.{IsCodeFault, IsFilledBy, IsTableOf};
 
 use crate::dial_codes::entry::is_code;
 use crate::dial_codes::table::{LineError, Table, add_line, find};
@@ -15,12 +18,6 @@ use std::io::Write;
 /// A line of the table is that of an entry, and no two have equal codes. A line that is a number gets the entry with the
 /// longest code that it starts with, or `none`.
 impl LineTable for Table {
-    ghost use Rattle.art_model.specs.Texts.{TextsRise};
-    ghost use Rattle.text_programs.specs.CodeReplies.{IsCodeReply, IsNoNumber};
-    ghost use Rattle.text_programs.specs.CodeRows.{rows_of};
-    ghost use Rattle.text_programs.specs.CodeTables.{IsCodeFault, IsFilledBy, IsTableOf};
-    ghost use Rattle.text_programs.specs.Entries.{code_of};
-
     type Fault = LineError;
 
     ghost HasLines = { λ table ls. IsFilledBy (rows_of table) ls };

@@ -2,7 +2,8 @@
 ghost use Rattle.std.specs.Prelude.{OnOk};
 ghost use Rattle.std.specs.Io.KnownBytes.{Appends};
 ghost use Rattle.std.specs.Option.{option_map};
-ghost use Rattle.text_programs.specs.RouteReplies.{reply_with};
+ghost use Rattle.text_programs.specs.RouteReplies.{reply_with, IsNoAddress, IsRouteReply};
+ghost use Rattle.text_programs.specs.RouteTables.{IsRouteFault, IsTableOf};
 
 use crate::ip_routes::table::{LineError, Table};
 use crate::line_tables::LineTable;
@@ -14,9 +15,6 @@ use std::net::IpAddr;
 /// A line of the table is that of a route, and no two have the same network. A line that is an address gets the line of
 /// the longest route that covers it, or `none`.
 impl LineTable for Table {
-    ghost use Rattle.text_programs.specs.RouteReplies.{IsNoAddress, IsRouteReply};
-    ghost use Rattle.text_programs.specs.RouteTables.{IsRouteFault, IsTableOf};
-
     type Fault = LineError;
 
     ghost HasLines = { λ table ls. IsTableOf ls table };

@@ -2,8 +2,9 @@
 ghost use Rattle.std.specs.Prelude.{OnOk, option_copied};
 ghost use Rattle.std.specs.Io.KnownBytes.{Appends};
 ghost use Rattle.art_operations.specs.MapItems.{keys_of};
-ghost use Rattle.text_programs.specs.PathReplies.{found_line, path_line, path_lines, reply_to, told_line};
+ghost use Rattle.text_programs.specs.PathReplies.{found_line, path_line, path_lines, reply_to, told_line, IsNoRequest, IsPathReply};
 ghost use Rattle.text_programs.specs.Requests.{IsRequest};
+ghost use Rattle.text_programs.specs.Paths.{ArePathsOf, IsIndexOf, IsPathFault};
 
 use crate::line_tables::LineTable;
 use crate::path_indexes::index::{Index, PathError, add_path};
@@ -19,9 +20,6 @@ use std::io::Write;
 
 /// A line of the index is a path. One that occurs again is stored once. A line that is a request gets its reply.
 impl LineTable for Index {
-    ghost use Rattle.text_programs.specs.PathReplies.{IsNoRequest, IsPathReply};
-    ghost use Rattle.text_programs.specs.Paths.{ArePathsOf, IsIndexOf, IsPathFault};
-
     type Fault = PathError;
 
     ghost HasLines = { λ index ls. ArePathsOf (keys_of index) ls };

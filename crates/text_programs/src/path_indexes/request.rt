@@ -1,5 +1,7 @@
 //! What a line asks of an index.
 ghost use Rattle.std.specs.Prelude.{◌≡◌, ◌≢◌, IfNone, IfSome};
+ghost use Rattle.text_programs.specs.Requests.{IsRequest, line_of};
+ghost use Rattle.text_programs.specs.declared.path_indexes.request.Request.{Request};
 
 use art_operations::keys::has_zero;
 use text_lines::words::{split_word, strip};
@@ -16,9 +18,6 @@ pub enum Request<'a> {
 }
 
 impl<'a> Request<'a> {
-    ghost use Rattle.text_programs.specs.Requests.{IsRequest, line_of};
-    ghost use Rattle.text_programs.specs.declared.path_indexes.request.Request.{Request};
-
     /// Returns what a line without its line feed asks for, or `None` if it is no valid request.
     pub fn parse(line: &'a [u8]) -> Option<Self>
         ensures line { IfSome result (λ request. line.now ≡ line_of request) }

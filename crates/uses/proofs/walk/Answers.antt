@@ -12,8 +12,14 @@ maximum_unchecked-last-requires g c = let (pairs, layout, by) = c.requires in (s
 pub new-requires : goal.new-requires
 new-requires g c =
     let (pairs, layout, by) = c.requires in
-    let full = has_children _ _ _ _ _ layout by in
-    (search rules, (leaf_names layout, walks_whole _ _ _ _ pairs layout _ _ by (c.minimum_unchecked-first.ensures layout full) (c.maximum_unchecked-last.ensures layout full)))
+    let full = has_children _ _ _ _ _ layout by in (
+      search rules,
+      (
+        leaf_names layout,
+        walks_whole _ _ _ _ pairs layout _ _ by (c.minimum_unchecked-first.ensures layout full)
+            (c.maximum_unchecked-last.ensures layout full),
+      ),
+    )
 
 pub returns : goal.returns
 returns g c pairs layout by =

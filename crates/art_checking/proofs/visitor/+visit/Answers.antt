@@ -30,7 +30,8 @@ pub unreachable-requires : goal.unreachable-requires
 unreachable-requires g t c =
     let (layout, full) = c.requires in
     full_some c.args.store.now full c.in-Inner.inner c.in-Inner.ensures.proper c.in-Inner.ensures.name (ref_kind c.inner_at-node.result)
-    (ref_view c.inner_at-node.result) (sym c.inner_at-node.ensures.view) c.inner_at-node.ensures.kind (sym c.iter-children.ensures.children ∙ c.in_default.ensures.steps.0)
+    (ref_view c.inner_at-node.result) (sym c.inner_at-node.ensures.view) c.inner_at-node.ensures.kind
+    (sym c.iter-children.ensures.children ∙ c.in_default.ensures.steps.0)
 
 pub visit-joined-requires : goal.visit-joined-requires
 visit-joined-requires g t c κs within =
@@ -40,7 +41,8 @@ visit-joined-requires g t c κs within =
     (ref_view c.inner_at-node.result) (sym c.inner_at-node.ensures.view) c.inner_at-node.ensures.kind in
     let (below, lower) =
     first_child g.T.Visitor.of_leaf g.T.Visitor.of_inner g.T.Visitor.combines c.args.store.now full (ref_kind c.inner_at-node.result)
-    (ref_view c.inner_at-node.result) cs (c.in-Some.field-0-0, c.in-Some.first) c.next.new.self is (sym slots ∙ sym c.iter-children.ensures.children ∙ c.in-Some.ensures.steps) in
+    (ref_view c.inner_at-node.result) cs (c.in-Some.field-0-0, c.in-Some.first) c.next.new.self is
+    (sym slots ∙ sym c.iter-children.ensures.children ∙ c.in-Some.ensures.steps) in
     (falls c.decreases lower, (within.0, (within.1.0, (within.1.1.0, (search rules, (within.1.1.1, (search rules, below)))))))
 
 pub visit-output-requires : goal.visit-output-requires
@@ -50,7 +52,8 @@ visit-output-requires g t c κs within =
     subst (λ left. HasJoined g.T.Visitor.of_leaf g.T.Visitor.of_inner g.T.Visitor.combines c.args.store.now layout c.args.name
     (ref_kind c.inner_at-node.result) (ref_view c.inner_at-node.result) left c.args.visitor.now c.loop-child.joined c.loop-child.visitor)
     c.in-Some-2.ensures.steps (c.loop-child.invariant.2 layout full) in
-    let (below, lower) = more_child g.T.Visitor.of_leaf g.T.Visitor.of_inner g.T.Visitor.combines c.args.store.now full (ref_kind c.inner_at-node.result) (ref_view c.inner_at-node.result) has in
+    let (below, lower) = more_child g.T.Visitor.of_leaf g.T.Visitor.of_inner g.T.Visitor.combines c.args.store.now full
+    (ref_kind c.inner_at-node.result) (ref_view c.inner_at-node.result) has in
     (falls c.decreases lower, (within.0, (within.1.0, (within.1.1.0, (search rules, (within.1.1.1, (search rules, below)))))))
 
 pub returns : goal.returns
@@ -77,7 +80,8 @@ loop-child-init g t c = (
       (sym c.into_iter-child-iterator.ensures.into_iter_gives)
       (started g.T.Visitor.of_leaf g.T.Visitor.of_inner g.T.Visitor.combines c.args.store.now full (ref_kind c.inner_at-node.result)
       (ref_view c.inner_at-node.result) cs (c.in-Some.field-0-0, c.in-Some.first) c.next.new.self is
-      (sym slots ∙ sym c.iter-children.ensures.children ∙ c.in-Some.ensures.steps) c.args.visitor.now c.visit-joined.new.visitor c.visit-joined.result c.visit-joined.ensures),
+      (sym slots ∙ sym c.iter-children.ensures.children ∙ c.in-Some.ensures.steps)
+      c.args.visitor.now c.visit-joined.new.visitor c.visit-joined.result c.visit-joined.ensures),
 )
 
 pub loop-child-preserved : goal.loop-child-preserved
@@ -90,5 +94,6 @@ loop-child-preserved g t c = (
       (ref_kind c.inner_at-node.result) (ref_view c.inner_at-node.result) left c.args.visitor.now c.loop-child.joined c.loop-child.visitor)
       c.in-Some-2.ensures.steps (c.loop-child.invariant.2 layout full) in
       stepped g.T.Visitor.of_leaf g.T.Visitor.of_inner g.T.Visitor.combines c.args.store.now full (ref_kind c.inner_at-node.result)
-      (ref_view c.inner_at-node.result) has c.visit-output.new.visitor c.visit-output.result c.combine_output-joined.result c.visit-output.ensures c.combine_output-joined.ensures,
+      (ref_view c.inner_at-node.result) has c.visit-output.new.visitor c.visit-output.result c.combine_output-joined.result
+      c.visit-output.ensures c.combine_output-joined.ensures,
 )

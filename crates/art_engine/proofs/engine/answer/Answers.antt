@@ -10,4 +10,5 @@ returns-in-Err-clause-replied g c =
 pub returns-in-Ok-clause-replied : goal.returns-in-Ok-clause-replied
 returns-in-Ok-clause-replied g c =
     run_replied _ c.args.request c.args.tree.now c.answer.new.self (g.W.Write.contents c.args.output.now) (g.W.Write.contents c.write_reply.new.output)
-    c.in-Ok-Some.command c.in-Ok.reply c.write_reply.result (rw c.in-Ok-Some.field-0-is at c.in-Ok-Some.ensures.command) c.in-Ok.ensures.run c.write_reply.ensures
+    c.in-Ok-Some.command c.in-Ok.reply c.write_reply.result
+    (rw c.in-Ok-Some.field-0-is at c.in-Ok-Some.ensures.command) c.in-Ok.ensures.run c.write_reply.ensures

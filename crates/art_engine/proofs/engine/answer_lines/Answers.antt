@@ -17,32 +17,39 @@ loop-number-init g c = (
 pub loop-number-preserved : goal.loop-number-preserved
 loop-number-preserved g c = (
   c.in_ok-answer.ensures.kept,
-  goes_on (GoesOn c.loop-number.number-counter c.args.tree.now c.loop-number.tree (g.W.Write.contents c.args.output.now) (g.W.Write.contents c.loop-number.output))
-      (GoesOn (c.loop-number.number-counter + 1) c.args.tree.now c.answer.new.tree (g.W.Write.contents c.args.output.now) (g.W.Write.contents c.write_out.new.output))
+  goes_on (GoesOn c.loop-number.number-counter c.args.tree.now c.loop-number.tree (g.W.Write.contents c.args.output.now)
+      (g.W.Write.contents c.loop-number.output))
+      (GoesOn (c.loop-number.number-counter + 1) c.args.tree.now c.answer.new.tree (g.W.Write.contents c.args.output.now)
+      (g.W.Write.contents c.write_out.new.output))
       (reader_remaining g.R.Read.remaining c.args.input.now) (reader_remaining g.R.Read.remaining c.loop-number.input)
       (reader_remaining g.R.Read.remaining c.next_line.new.input) c.loop-number.number-counter c.next_line.new.line.items c.loop-number.invariant.1
       (read_as _ _ _ c.in_ok-next_line.field-0 true c.if-not-branch.false c.in_ok-next_line.ensures)
-      (one_line_more c.loop-number.number-counter c.args.tree.now c.loop-number.tree (g.W.Write.contents c.args.output.now) (g.W.Write.contents c.loop-number.output) c.next_line.new.line.items
+      (one_line_more c.loop-number.number-counter c.args.tree.now c.loop-number.tree (g.W.Write.contents c.args.output.now)
+      (g.W.Write.contents c.loop-number.output) c.next_line.new.line.items
       c.in-Some.request c.answer.new.tree (g.W.Write.contents c.answer.new.output) (g.W.Write.contents c.write_out.new.output)
       (c.in-Some.ensures.small, sym c.deref.ensures.value ∙ c.in-Some.ensures.line) c.in_ok-answer.ensures.replied c.write_out.ensures),
 )
 
 pub returns-then-not-branch-clause-served : goal.returns-then-not-branch-clause-served
 returns-then-not-branch-clause-served g c =
-    ends (GoesOn c.loop-number.number-counter c.args.tree.now c.loop-number.tree (g.W.Write.contents c.args.output.now) (g.W.Write.contents c.loop-number.output))
+    ends (GoesOn c.loop-number.number-counter c.args.tree.now c.loop-number.tree (g.W.Write.contents c.args.output.now)
+    (g.W.Write.contents c.loop-number.output))
     (λ ls. AreServed ls 1 c.args.tree.now (g.W.Write.contents c.args.output.now) Input (g.W.Write.contents c.loop-number.output))
     (reader_remaining g.R.Read.remaining c.args.input.now) (reader_remaining g.R.Read.remaining c.loop-number.input)
     (reader_remaining g.R.Read.remaining c.next_line.new.input) c.loop-number.number-counter c.next_line.new.line.items c.loop-number.invariant.1
     (read_as _ _ _ c.in_ok-next_line.field-0 false c.if-not-branch.true c.in_ok-next_line.ensures)
-    (all_served c.loop-number.number-counter c.args.tree.now c.loop-number.tree (g.W.Write.contents c.args.output.now) (g.W.Write.contents c.loop-number.output) c.next_line.new.line.items)
+    (all_served c.loop-number.number-counter c.args.tree.now c.loop-number.tree (g.W.Write.contents c.args.output.now)
+    (g.W.Write.contents c.loop-number.output) c.next_line.new.line.items)
 
 pub returns-in_default-clause-served : goal.returns-in_default-clause-served
 returns-in_default-clause-served g c =
-    stops (GoesOn c.loop-number.number-counter c.args.tree.now c.loop-number.tree (g.W.Write.contents c.args.output.now) (g.W.Write.contents c.loop-number.output))
+    stops (GoesOn c.loop-number.number-counter c.args.tree.now c.loop-number.tree (g.W.Write.contents c.args.output.now)
+    (g.W.Write.contents c.loop-number.output))
     (λ ls. AreServed ls 1 c.args.tree.now (g.W.Write.contents c.args.output.now) BadLine (g.W.Write.contents c.writeln.new.self))
     (reader_remaining g.R.Read.remaining c.args.input.now) (reader_remaining g.R.Read.remaining c.loop-number.input)
     (reader_remaining g.R.Read.remaining c.next_line.new.input) c.loop-number.number-counter c.next_line.new.line.items c.loop-number.invariant.1
     (read_as _ _ _ c.in_ok-next_line.field-0 true c.if-not-branch.false c.in_ok-next_line.ensures)
-    (refused_here c.loop-number.number-counter c.args.tree.now c.loop-number.tree (g.W.Write.contents c.args.output.now) (g.W.Write.contents c.loop-number.output)
+    (refused_here c.loop-number.number-counter c.args.tree.now c.loop-number.tree (g.W.Write.contents c.args.output.now)
+    (g.W.Write.contents c.loop-number.output)
     c.next_line.new.line.items (g.W.Write.contents c.writeln.new.self)
     (subst AsksForNothing c.deref.ensures.value c.in_default.ensures.none) c.in_ok-writeln.ensures.bytes)

@@ -7,7 +7,8 @@ use Rattle.std.proofs.lemmas.Iterator.Splits.{YieldsList-from_slice_split}
 use Rattle.art_engine.specs.KeyTexts.{IsByteWord}
 use Rattle.art_engine.proofs.lines.has_byte_words.Goals as goal
 
-decided : (P : List ℕ → Type 0) (xs : List (List ℕ)) (r : Bool) → MatchBool r (AllWithin P xs 0 (length xs)) ((k : ℕ) × (k < length xs) × HoldsAt (λ x. P x → ⊥) xs k) → IsTrue r ↔ All P xs
+decided : (P : List ℕ → Type 0) (xs : List (List ℕ)) (r : Bool) →
+    MatchBool r (AllWithin P xs 0 (length xs)) ((k : ℕ) × (k < length xs) × HoldsAt (λ x. P x → ⊥) xs k) → IsTrue r ↔ All P xs
 decided P xs true h = ((λ t k d below. h k d (omega arith) below), (λ all. refl))
 decided P xs false h = ((λ t. let no : ⊥ = cc in absurd no), (λ all. absurd (h.2 [] (all h.0 [] h.1))))
 

@@ -3,4 +3,6 @@ use Rattle.art_engine.proofs.Numbers.{too_large}
 use Rattle.art_engine.proofs.lines.parse_byte.Goals as goal
 
 pub returns-clause-none : goal.returns-clause-none
-returns-clause-none c = rw c.ok.ensures.value (too_large c.args.digits.now c.in_ok-parse_number.field-0 c.try_from.result (search rules) c.in_ok-parse_number.ensures.value c.try_from.ensures)
+returns-clause-none c = rw c.ok.ensures.value
+    (too_large c.args.digits.now c.in_ok-parse_number.field-0 c.try_from.result
+    (search rules) c.in_ok-parse_number.ensures.value c.try_from.ensures)

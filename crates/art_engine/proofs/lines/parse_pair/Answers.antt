@@ -12,11 +12,13 @@ returns-in_err-key-clause-none c =
 pub returns-in_err-parse-clause-none : goal.returns-in_err-parse-clause-none
 returns-in_err-parse-clause-none c =
     rw c.from_residual-in_err-parse.ensures (λ key value is small same.
-    let both = same_words c.in_ok-key.key.now c.in_ok-key.value.now key (decimal value) c.in_ok-key.ensures.word (key_spaceless key is) (sym c.in_ok-key.ensures.parts ∙ same) in
+    let both = same_words c.in_ok-key.key.now c.in_ok-key.value.now key (decimal value) c.in_ok-key.ensures.word (key_spaceless key is)
+    (sym c.in_ok-key.ensures.parts ∙ same) in
     c.in_err-parse.ensures.none (subst IsKeyWord (sym both.0) is))
 
 pub returns-in_err-parse_number-clause-none : goal.returns-in_err-parse_number-clause-none
 returns-in_err-parse_number-clause-none c =
     rw c.from_residual-in_err-parse_number.ensures (λ key value is small same.
-    let both = same_words c.in_ok-key.key.now c.in_ok-key.value.now key (decimal value) c.in_ok-key.ensures.word (key_spaceless key is) (sym c.in_ok-key.ensures.parts ∙ same) in
+    let both = same_words c.in_ok-key.key.now c.in_ok-key.value.now key (decimal value) c.in_ok-key.ensures.word (key_spaceless key is)
+    (sym c.in_ok-key.ensures.parts ∙ same) in
     c.in_err-parse_number.ensures.none value small both.1)

@@ -49,6 +49,8 @@ loop-preserved g c =
         subst (HasRoom c.args.store.now root) (sym c.turn.ensures.capacity) room,
         subst (Each (IsPendingTree c.args.store.now)) (sym c.turn.ensures.left) (trees_turned c.args.store.now c.loop.pending.items trees),
       ),
-      λ pairs by. goes_on c.args.store.now (nodes_text g.row.P pairs) (g.W.Write.contents c.args.output.now) (g.W.Write.contents c.loop.output) (g.W.Write.contents c.write_node.new.output)
-          c.loop.pending.items c.turn.new.pending.items c.in-Some-turn.next (rw c.in-Some-turn.is at c.turn.ensures.next) c.turn.ensures.left (c.loop.invariant.1 pairs by) c.in_ok-write_node.ensures,
+      λ pairs by. goes_on c.args.store.now (nodes_text g.row.P pairs) (g.W.Write.contents c.args.output.now)
+          (g.W.Write.contents c.loop.output) (g.W.Write.contents c.write_node.new.output)
+          c.loop.pending.items c.turn.new.pending.items c.in-Some-turn.next
+          (rw c.in-Some-turn.is at c.turn.ensures.next) c.turn.ensures.left (c.loop.invariant.1 pairs by) c.in_ok-write_node.ensures,
     )

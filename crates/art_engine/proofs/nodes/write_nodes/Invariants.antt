@@ -14,6 +14,7 @@ use Rattle.art_engine.proofs.nodes.write_nodes.Given as goal
 -- what is left after so many steps stands for trees, there is room for what will be, and the lines so far are written
 abbrev pub invariant-loop : goal.invariant-loop
 invariant-loop g l =
-    ((root : OpaqueNodePtr) × (turns : ℕ) × (l.pending.items ≡ left_after l.store root turns) × HasRoom l.store root (vec_capacity l.pending) × Each (IsPendingTree l.store) l.pending.items) ×
+    ((root : OpaqueNodePtr) × (turns : ℕ) × (l.pending.items ≡ left_after l.store root turns) ×
+    HasRoom l.store root (vec_capacity l.pending) × Each (IsPendingTree l.store) l.pending.items) ×
     ((pairs : List (Key × ℕ)) → IsCanonical (of_key key_bytes) g.row.P l.store l.fn.root pairs →
     IsWritten l.store l.pending.items (nodes_text g.row.P pairs) (g.W.Write.contents l.initial.output) (g.W.Write.contents l.output))

@@ -6,8 +6,10 @@ pub overflow_sub-span-in-Some : goal.overflow_sub-span-in-Some
 overflow_sub-span-in-Some g c = (last_found _ c.requires.rising _ _ _ _ c.loop-span-test.true (sym c.get.ensures ∙ c.in-Some.is) c.loop-span.invariant.1.1).0
 
 pub returns-in-Some-clause-within : goal.returns-in-Some-clause-within
-returns-in-Some-clause-within g c =
-    (omega (arith, c.loop-span.invariant.1.0), (last_found _ c.requires.rising _ _ _ _ c.loop-span-test.true (sym c.get.ensures ∙ c.in-Some.is) c.loop-span.invariant.1.1).1)
+returns-in-Some-clause-within g c = (
+  omega (arith, c.loop-span.invariant.1.0),
+  (last_found _ c.requires.rising _ _ _ _ c.loop-span-test.true (sym c.get.ensures ∙ c.in-Some.is) c.loop-span.invariant.1.1).1,
+)
 
 pub returns-in-Some-clause-gives : goal.returns-in-Some-clause-gives
 returns-in-Some-clause-gives g c = c.loop-span.invariant.0 ∙ take_last_at _ c.requires.rising _ _ _ c.loop-span-test.true (sym c.get.ensures ∙ c.in-Some.is)

@@ -6,7 +6,11 @@ pub overflow_sub-span : goal.overflow_sub-span
 overflow_sub-span g c = (first_found _ c.requires.rising _ _ _ _ c.loop-span-test.true (sym c.get.ensures ∙ c.in-Some.is) c.loop-span.invariant.1.1).0
 
 pub returns-in-Some-clause-within : goal.returns-in-Some-clause-within
-returns-in-Some-clause-within g c = (c.loop-span.invariant.1.0, (first_found _ c.requires.rising _ _ _ _ c.loop-span-test.true (sym c.get.ensures ∙ c.in-Some.is) c.loop-span.invariant.1.1).1)
+returns-in-Some-clause-within g c = (
+  c.loop-span.invariant.1.0,
+  (first_found _ c.requires.rising _ _ _ _ c.loop-span-test.true
+      (sym c.get.ensures ∙ c.in-Some.is) c.loop-span.invariant.1.1).1,
+)
 
 pub returns-in-Some-clause-gives : goal.returns-in-Some-clause-gives
 returns-in-Some-clause-gives g c = c.loop-span.invariant.0 ∙ take_first _ c.requires.rising _ _ _ c.loop-span-test.true (sym c.get.ensures ∙ c.in-Some.is)

@@ -34,9 +34,11 @@ returns-clause-bytes c =
 pub returns-clause-kinds : goal.returns-clause-kinds
 returns-clause-kinds c =
     let (within, low, bytes, kinds, slots) = c.loop-place.invariant in
-    at_its_place c.args.kinds.now c.loop-place.kinds c.args.at c.loop-place.place c.args.child.1.kind (end c) (omega (arith, c.requires.place, c.requires.kinds)) kinds
+    at_its_place c.args.kinds.now c.loop-place.kinds c.args.at c.loop-place.place c.args.child.1.kind (end c)
+    (omega (arith, c.requires.place, c.requires.kinds)) kinds
 
 pub returns-clause-slots : goal.returns-clause-slots
 returns-clause-slots c =
     let (within, low, bytes, kinds, slots) = c.loop-place.invariant in
-    at_its_place c.args.slots.now c.loop-place.slots c.args.at c.loop-place.place c.args.child.1.slot (end c) (omega (arith, c.requires.place, c.requires.slots)) slots
+    at_its_place c.args.slots.now c.loop-place.slots c.args.at c.loop-place.place c.args.child.1.slot (end c)
+    (omega (arith, c.requires.place, c.requires.slots)) slots

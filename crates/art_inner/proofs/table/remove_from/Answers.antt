@@ -9,10 +9,14 @@ pub loop-place-preserved : goal.loop-place-preserved
 loop-place-preserved g c =
     let (after, within, is) = c.loop-place.invariant in
     let more : c.loop-place.place < length c.args.part.now = omega (arith, c.loop-place-test.true, c.loop-place.auto.part) in
-    let read = c.index-part-place in
-    (omega (arith, after), omega (arith, more), moved_front c.args.part.now c.loop-place.part c.args.at c.loop-place.place read.result read.result after more is read.is)
+    let read = c.index-part-place in (
+      omega (arith, after),
+      omega (arith, more),
+      moved_front c.args.part.now c.loop-place.part c.args.at c.loop-place.place read.result read.result after more is read.is,
+    )
 
 pub returns : goal.returns
 returns g c =
     let (after, within, is) = c.loop-place.invariant in
-    all_moved c.args.part.now c.loop-place.part c.args.at c.loop-place.place c.requires (omega (arith, within, c.loop-place-test.false, c.loop-place.auto.part)) is
+    all_moved c.args.part.now c.loop-place.part c.args.at c.loop-place.place c.requires
+    (omega (arith, within, c.loop-place-test.false, c.loop-place.auto.part)) is

@@ -8,7 +8,10 @@ written : (text empty joined items : List ℕ) → IsPlain text → empty ≡ []
 written text empty joined items plain none all ended = ended ∙ ap (λ xs. xs ++ 0 ∷ []) (all ∙ ap (λ xs. xs ++ text) none) ∙ sym (escape-plain text plain)
 
 pub invariant_of-result : goal.invariant_of-result
-invariant_of-result c = subst IsEscape (sym (written _ _ _ _ c.requires c.in_ok-bytes.ensures.items c.in_ok-extend_from_slice.ensures.items c.in_ok-push.ensures.items)) (ap escape (unescape-escape c.args.text.now))
+invariant_of-result c = subst IsEscape (sym
+    (written _ _ _ _ c.requires c.in_ok-bytes.ensures.items c.in_ok-extend_from_slice.ensures.items c.in_ok-push.ensures.items))
+    (ap escape (unescape-escape c.args.text.now))
 
 pub returns : goal.returns
-returns c = ap unescape (written _ _ _ _ c.requires c.in_ok-bytes.ensures.items c.in_ok-extend_from_slice.ensures.items c.in_ok-push.ensures.items) ∙ unescape-escape c.args.text.now
+returns c = ap unescape (written _ _ _ _ c.requires c.in_ok-bytes.ensures.items c.in_ok-extend_from_slice.ensures.items
+    c.in_ok-push.ensures.items) ∙ unescape-escape c.args.text.now

@@ -16,7 +16,8 @@ loop-chunk-preserved-in-Continue-branch-2 g c =
     let rest = utf8_lossy (utf8_chunks_rest c.next.new.self) in
     let text = utf8_lossy_chunk _ _ _ _ steps.0 steps.3.0 steps.3.1 some in
     let first : HasWritten g.W.Write.write_str_gives c.loop-chunk.f valid c.write_str.new.self = c.in_ok-write_str.ensures.writes now.1.plain refl in
-    let second : HasWritten g.W.Write.write_str_gives c.write_str.new.self replacement_bytes c.write_str-then-not-is_empty.new.self = c.in_ok-write_str-2.ensures.writes first.plain refl in (
+    let second : HasWritten g.W.Write.write_str_gives c.write_str.new.self replacement_bytes c.write_str-then-not-is_empty.new.self =
+    c.in_ok-write_str-2.ensures.writes first.plain refl in (
       (now.0 ++ valid) ++ replacement_bytes,
       put_two _ _ _ _ _ _ _ (put_two _ _ _ _ _ _ _ now.1 first refl) second refl,
       append_assoc (now.0 ++ valid) replacement_bytes rest ∙ append_assoc now.0 valid (replacement_bytes ++ rest)

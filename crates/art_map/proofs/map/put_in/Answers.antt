@@ -12,9 +12,11 @@ use Rattle.art_map.proofs.Puts.{accepted, at_some, canonical_root, left_holds, p
 use Rattle.art_map.proofs.map.put_in.Goals as goal
 
 -- a search without a point for the key has found a conflict
-conflicts : {K V : Type 0} (bytes : K × V → List ℕ) (pairs : List (K × V)) {spelled key : List ℕ} → (is_conflict bytes spelled pairs ≡ false → false ≡ true) → spelled ≡ key →
+conflicts : {K V : Type 0} (bytes : K × V → List ℕ) (pairs : List (K × V)) {spelled key : List ℕ} →
+    (is_conflict bytes spelled pairs ≡ false → false ≡ true) → spelled ≡ key →
     is_conflict bytes key pairs ≡ true
-conflicts bytes pairs {spelled} refused same = subst (λ k. is_conflict bytes k pairs ≡ true) same (not_false (is_conflict bytes spelled pairs) (λ free. false≢true (refused free)))
+conflicts bytes pairs {spelled} refused same =
+    subst (λ k. is_conflict bytes k pairs ≡ true) same (not_false (is_conflict bytes spelled pairs) (λ free. false≢true (refused free)))
 
 pub begin-requires : goal.begin-requires
 begin-requires g c = (search rules, (c.in_default.is, rw c.in_default.is at c.requires))
@@ -25,7 +27,8 @@ returns-in-Ok g c = rw (no_pairs (of_key g.K.AsBytes.bytes) g.row.P c.args.store
 pub returns-in-Err : goal.returns-in-Err
 returns-in-Err g c =
     let refused = c.in-Err.ensures in
-    rw (no_pairs (of_key g.K.AsBytes.bytes) g.row.P c.args.store.now c.in_default.is c.requires, c.without_memory.ensures) (refused.0, (refused.1, refused.2, refl))
+    rw (no_pairs (of_key g.K.AsBytes.bytes) g.row.P c.args.store.now c.in_default.is c.requires, c.without_memory.ensures)
+    (refused.0, (refused.1, refused.2, refl))
 
 pub search_for_insert_point-requires : goal.search_for_insert_point-requires
 search_for_insert_point-requires g c = (search rules, canonical_root c.in-Some.is c.requires)
@@ -62,7 +65,8 @@ pub returns-in_default-existing_leaf : goal.returns-in_default-existing_leaf
 returns-in_default-existing_leaf g c =
     let has = at_some (c.in-Some.is ∙ ap Some (sym c.in-Ok-search_for_insert_point.ensures.root)) c.requires in
     let more = pair_more g.K.AsBytes.bytes g.row.P (c.args.key, c.args.value) has c.in-Ok-apply.ensures.replaced c.in_default-existing_leaf.is in (
-      left_holds (of_key g.K.AsBytes.bytes) g.row.P has (c.in-Ok-apply.ensures.canonical _ has.layout has.by) (c.in-Ok-apply.ensures.kept _ has.layout has.by) (c.one_more.ensures ∙ sym more.1),
+      left_holds (of_key g.K.AsBytes.bytes) g.row.P has (c.in-Ok-apply.ensures.canonical _ has.layout has.by)
+          (c.in-Ok-apply.ensures.kept _ has.layout has.by) (c.one_more.ensures ∙ sym more.1),
       sym more.0,
       accepted g.K.AsBytes.bytes g.row.P (c.args.key, c.args.value) has c.in-Ok-search_for_insert_point.ensures.root c.as_bytes.ensures
           (λ pairs layout by. (c.in-Ok-search_for_insert_point.ensures.accepted pairs layout by).0 refl),
@@ -73,7 +77,8 @@ returns-in-Some-existing_leaf g c =
     let has = at_some (c.in-Some.is ∙ ap Some (sym c.in-Ok-search_for_insert_point.ensures.root)) c.requires in
     let many = same_many g.K.AsBytes.bytes g.row.P (c.args.key, c.args.value) has c.in-Ok-apply.ensures.replaced c.in-Some-existing_leaf.is in
     rw c.in-Some-existing_leaf.is (
-      left_holds (of_key g.K.AsBytes.bytes) g.row.P has (c.in-Ok-apply.ensures.canonical _ has.layout has.by) (c.in-Ok-apply.ensures.kept _ has.layout has.by) (sym many.1),
+      left_holds (of_key g.K.AsBytes.bytes) g.row.P has (c.in-Ok-apply.ensures.canonical _ has.layout has.by)
+          (c.in-Ok-apply.ensures.kept _ has.layout has.by) (sym many.1),
       sym many.0,
       accepted g.K.AsBytes.bytes g.row.P (c.args.key, c.args.value) has c.in-Ok-search_for_insert_point.ensures.root c.as_bytes.ensures
           (λ pairs layout by. (c.in-Ok-search_for_insert_point.ensures.accepted pairs layout by).0 refl),
@@ -85,7 +90,8 @@ returns-in-Err-apply g c =
     let pairs = pairs_at c.args.store.now c.args.root.now in
     let has = at_some c.in-Some.is c.requires in
     let here = subst (λ n. IsCanonicalTree bytes g.row.P c.args.store.now n pairs has.layout) (sym c.in-Ok-search_for_insert_point.ensures.root) has.by in
-    let at = subst (λ key. AnswersTo bytes g.row.P has.layout key c.in-Ok-search_for_insert_point.point) c.as_bytes.ensures (c.in-Ok-search_for_insert_point.ensures.point pairs has.layout has.by) in
+    let at = subst (λ key. AnswersTo bytes g.row.P has.layout key c.in-Ok-search_for_insert_point.point) c.as_bytes.ensures
+    (c.in-Ok-search_for_insert_point.ensures.point pairs has.layout has.by) in
     rw c.without_memory-in-Err-apply.ensures (
       stays bytes g.row.P c.args.store.now c.apply.new.store c.in-Err-apply.ensures.leaves c.in-Err-apply.ensures.inners c.requires,
       (

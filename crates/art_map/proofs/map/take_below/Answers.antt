@@ -17,7 +17,8 @@ returns-in_default-search_for_first_delete_point_below g c =
     let pairs = pairs_at c.args.store.now c.args.root.now in
     let has = at_some c.in-Some.is c.requires in
     let none =
-    sym (point_none has.layout (first_of (below B c.args.prefix.now pairs)) (c.in_default-search_for_first_delete_point_below.ensures.point pairs has.layout has.by)) in
+    sym (point_none has.layout (first_of (below B c.args.prefix.now pairs))
+    (c.in_default-search_for_first_delete_point_below.ensures.point pairs has.layout has.by)) in
     (subst (HoldsPairs B g.row.P c.args.store.now c.args.root.now c.args.len.now) (sym (nothing_out B c.args.prefix.now pairs none)) c.requires, none)
 
 pub returns : goal.returns
@@ -29,6 +30,7 @@ returns g c =
     point_some has.layout c.in-Some-search_for_first_delete_point_below.point (first_of (below B c.args.prefix.now pairs))
     (c.in-Some-search_for_first_delete_point_below.ensures.point pairs has.layout has.by) in
     let Taken = HasTaken g.K.AsBytes.bytes g.row.P in
-    subst (λ reply. Taken reply (without_below B c.args.prefix.now 1 pairs) (Some c.take_out.result) c.take_out.new.store c.take_out.new.root c.take_out.new.len) (sym e)
+    subst (λ reply. Taken reply (without_below B c.args.prefix.now 1 pairs)
+    (Some c.take_out.result) c.take_out.new.store c.take_out.new.root c.take_out.new.len) (sym e)
     (subst (λ rest. Taken (Some x) rest (Some c.take_out.result) c.take_out.new.store c.take_out.new.root c.take_out.new.len)
     (first_below B c.args.prefix.now pairs x has.by.is_map e).1 (c.take_out.ensures pairs has.layout has.by x leads))

@@ -15,8 +15,11 @@ returns g c =
     let B = of_key g.K.AsBytes.bytes in
     let pairs = pairs_at c.args.store.now c.args.root.now in
     let has = at_some c.in-Some.is c.requires in
-    let (x, e, leads) = point_some has.layout c.find_maximum_to_delete-point.result (last_of pairs) (c.find_maximum_to_delete-point.ensures.point pairs has.layout has.by) in
+    let (x, e, leads) =
+    point_some has.layout c.find_maximum_to_delete-point.result (last_of pairs)
+    (c.find_maximum_to_delete-point.ensures.point pairs has.layout has.by) in
     let Taken = HasTaken g.K.AsBytes.bytes g.row.P in
     subst (λ reply. Taken reply (without_last pairs) (Some c.take_out.result) c.take_out.new.store c.take_out.new.root c.take_out.new.len) (sym e)
-    (subst (λ left. Taken (Some x) left (Some c.take_out.result) c.take_out.new.store c.take_out.new.root c.take_out.new.len) (last_is_removed_by_key B x pairs has.by.is_map e)
+    (subst (λ left. Taken (Some x) left (Some c.take_out.result) c.take_out.new.store c.take_out.new.root c.take_out.new.len)
+    (last_is_removed_by_key B x pairs has.by.is_map e)
     (c.take_out.ensures pairs has.layout has.by x leads))

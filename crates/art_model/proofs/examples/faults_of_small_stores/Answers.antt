@@ -33,8 +33,11 @@ module _ (leaves : List (LeafPtr × LeafNode Key ℕ)) (inners : List (InnerPtr 
 
   -- an inner node as it is seen
   shown_node : (slot : ℕ) → T (map.is_sorted inner_cmp inners) →
-      node_at (store_of leaves inners) (node4 slot) ≡ option_map (tree_node Node4) (option_map held_inner (map.find inner_cmp (record { kind = Node4; slot = slot }) inners))
-  shown_node slot sorted = ap (λ o. option_map (tree_node Node4) (option_map held_inner o)) (map.get-from_sorted inner_cmp inners (record { kind = Node4; slot = slot }) sorted)
+      node_at (store_of leaves inners) (node4 slot)
+      ≡ option_map (tree_node Node4) (option_map held_inner (map.find inner_cmp (record { kind = Node4; slot = slot }) inners))
+  shown_node slot sorted =
+      ap (λ o. option_map (tree_node Node4) (option_map held_inner o))
+      (map.get-from_sorted inner_cmp inners (record { kind = Node4; slot = slot }) sorted)
 
 -- the root is reached by no step, at no bytes
 abbrev at_root : (s : Nodes Key ℕ) (root : OpaqueNodePtr) → Reaches bytes_of_pair 2 s root [] root
@@ -69,8 +72,16 @@ returns-clause-dead_root c = (shown_leaf [] (node4_over 0 0 [] ((5, node4 0) ∷
 pub returns-clause-dead_sibling : goal.returns-clause-dead_sibling
 returns-clause-dead_sibling c =
     let leaves : List (LeafPtr × LeafNode Key ℕ) = leaf_between 0 (Some 7) (1 ∷ []) None ∷ [] in
-    let links : Links OpaqueNodePtr = record { previous = Some (leaf_at 7); next = None } in
-    (shown_leaf leaves [] 7 tt, inr (leaf_at 0, (1 ∷ [], 0), Less, (at_root linked_to_nothing (leaf_at 0), shown_leaf leaves [] 0 tt), (links, shown_links leaves [] 0 tt, inl (refl, refl))))
+    let links : Links OpaqueNodePtr = record { previous = Some (leaf_at 7); next = None } in (
+      shown_leaf leaves [] 7 tt,
+      inr (
+        leaf_at 0,
+        (1 ∷ [], 0),
+        Less,
+        (at_root linked_to_nothing (leaf_at 0), shown_leaf leaves [] 0 tt),
+        (links, shown_links leaves [] 0 tt, inl (refl, refl)),
+      ),
+    )
 
 pub returns-clause-own_child : goal.returns-clause-own_child
 returns-clause-own_child c = (at_root looped (node4 0), at_child looped ((5, node4 0) ∷ []) 5 (node4 0) looped_node refl, no_step)
@@ -104,8 +115,20 @@ self_linked_links = shown_links (leaf_between 0 None (1 ∷ []) (Some 0) ∷ [])
 pub returns-clause-own_next : goal.returns-clause-own_next
 returns-clause-own_next c =
     let x : Key × ℕ = (1 ∷ [], 0) in
-    let links : Links OpaqueNodePtr = record { previous = None; next = Some (leaf_at 0) } in
-    ([], leaf_at 0, leaf_at 0, x, x, (at_root self_linked (leaf_at 0), self_linked_leaf), (links, self_linked_links, inr (refl, refl)), self_linked_leaf, refl, refl, refl, λ same. absurd cc)
+    let links : Links OpaqueNodePtr = record { previous = None; next = Some (leaf_at 0) } in (
+      [],
+      leaf_at 0,
+      leaf_at 0,
+      x,
+      x,
+      (at_root self_linked (leaf_at 0), self_linked_leaf),
+      (links, self_linked_links, inr (refl, refl)),
+      self_linked_leaf,
+      refl,
+      refl,
+      refl,
+      λ same. absurd cc,
+    )
 
 pub returns-clause-false_link : goal.returns-clause-false_link
 returns-clause-false_link c =
@@ -124,7 +147,8 @@ pub returns-clause-stored : goal.returns-clause-stored
 returns-clause-stored c =
     let slots : List (ℕ × OpaqueNodePtr) = (5, leaf_at 0) ∷ (6, leaf_at 1) ∷ [] in
     let h = of_length 4 (1 ∷ 2 ∷ []) in
-    let leaves : List (LeafPtr × LeafNode Key ℕ) = leaf_between 0 None (1 ∷ 1 ∷ 1 ∷ 1 ∷ 5 ∷ []) (Some 1) ∷ leaf_between 1 (Some 0) (1 ∷ 1 ∷ 1 ∷ 1 ∷ 6 ∷ []) None ∷ [] in
+    let leaves : List (LeafPtr × LeafNode Key ℕ) =
+    leaf_between 0 None (1 ∷ 1 ∷ 1 ∷ 1 ∷ 5 ∷ []) (Some 1) ∷ leaf_between 1 (Some 0) (1 ∷ 1 ∷ 1 ∷ 1 ∷ 6 ∷ []) None ∷ [] in
     let there = shown_node leaves (node4_over 0 4 (1 ∷ 2 ∷ []) slots ∷ []) 0 tt in
     let least = shown_leaf leaves (node4_over 0 4 (1 ∷ 2 ∷ []) slots ∷ []) 0 tt in
     let x : Key × ℕ = (1 ∷ 1 ∷ 1 ∷ 1 ∷ 5 ∷ [], 0) in
@@ -134,5 +158,19 @@ returns-clause-stored c =
       slots,
       (at_root misstored (node4 0), there),
       omega arith,
-      (part, (h, slots, there, inr (omega arith, (x, (leaf_at 0 ∷ [], ((h, 5, (6, leaf_at 1) ∷ [], there), tt), least), omega arith, refl))), refl, refl, λ same. absurd cc),
+      (
+        part,
+        (
+          h,
+          slots,
+          there,
+          inr (
+            omega arith,
+            (x, (leaf_at 0 ∷ [], ((h, 5, (6, leaf_at 1) ∷ [], there), tt), least), omega arith, refl),
+          ),
+        ),
+        refl,
+        refl,
+        λ same. absurd cc,
+      ),
     )

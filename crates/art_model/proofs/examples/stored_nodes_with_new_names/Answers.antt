@@ -203,10 +203,12 @@ other_key a b apart same = apart (ap (λ key. get_or key 0 0) same)
 leaves_stay : KeepsLeaves bytes_of_pair (Some tree_of_two) (Some (tree_of_three 1 0))
 leaves_stay x y n m (inl a) (inl b) same = keep (1 ∷ []) (1 ∷ []) (leaf_at 1) (leaf_at 1) a b same (λ e. refl)
 leaves_stay x y n m (inl a) (inr (inl b)) same = keep (1 ∷ []) (2 ∷ []) (leaf_at 1) (leaf_at 2) a b same (λ e. absurd (other_key 2 1 (λ f. omega arith) e))
-leaves_stay x y n m (inl a) (inr (inr (inl b))) same = keep (1 ∷ []) (3 ∷ []) (leaf_at 1) (leaf_at 3) a b same (λ e. absurd (other_key 3 1 (λ f. omega arith) e))
+leaves_stay x y n m (inl a) (inr (inr (inl b))) same =
+    keep (1 ∷ []) (3 ∷ []) (leaf_at 1) (leaf_at 3) a b same (λ e. absurd (other_key 3 1 (λ f. omega arith) e))
 leaves_stay x y n m (inr (inl a)) (inl b) same = keep (2 ∷ []) (1 ∷ []) (leaf_at 2) (leaf_at 1) a b same (λ e. absurd (other_key 1 2 (λ f. omega arith) e))
 leaves_stay x y n m (inr (inl a)) (inr (inl b)) same = keep (2 ∷ []) (2 ∷ []) (leaf_at 2) (leaf_at 2) a b same (λ e. refl)
-leaves_stay x y n m (inr (inl a)) (inr (inr (inl b))) same = keep (2 ∷ []) (3 ∷ []) (leaf_at 2) (leaf_at 3) a b same (λ e. absurd (other_key 3 2 (λ f. omega arith) e))
+leaves_stay x y n m (inr (inl a)) (inr (inr (inl b))) same =
+    keep (2 ∷ []) (3 ∷ []) (leaf_at 2) (leaf_at 3) a b same (λ e. absurd (other_key 3 2 (λ f. omega arith) e))
 leaves_stay x y n m (inl a) (inr (inr (inr none))) same = elim none [ ]
 leaves_stay x y n m (inr (inl a)) (inr (inr (inr none))) same = elim none [ ]
 leaves_stay x y n m (inr (inr none)) _ same = elim none [ ]

@@ -10,7 +10,11 @@ use Rattle.art_oracle.proofs.build.+nodes.Goals as goal
 
 pub build_below-returns-then-is_empty-clause-built : goal.build_below-returns-then-is_empty-clause-built
 build_below-returns-then-is_empty-clause-built g t c front node ready there below =
-    record { to = node; there = there; below = empty_below g.K.AsBytes.bytes g.row.P c.args.store.now front node c.args.leaves.now (grind (arith, common_steps)) }
+    record {
+      to = node;
+      there = there;
+      below = empty_below g.K.AsBytes.bytes g.row.P c.args.store.now front node c.args.leaves.now (grind (arith, common_steps));
+    }
 
 pub build_below-build_node-requires : goal.build_below-build_node-requires
 build_below-build_node-requires g t c κs within =
@@ -23,7 +27,8 @@ build_below-build_node-requires g t c κs within =
     let fits : c.group_end.result ≤ length c.args.leaves.now = c.group_end.ensures.within in
     let others : length c.split_at.result.1.now ≡ length (drop c.group_end.result c.args.leaves.now) = ap length c.split_at.ensures.back in
     let few = count_few g.K.AsBytes.bytes c.args.store.now.leaves (drop c.group_end.result c.args.leaves.now) c.args.at in
-    let ready_group = subst (λ l. Ready g.K.AsBytes.bytes c.args.store.now.leaves (front ++ c.byte_of-byte.result ∷ []) l (c.args.at + 1)) (sym c.split_at.ensures.front) (group_ready G) in
+    let ready_group = subst (λ l. Ready g.K.AsBytes.bytes c.args.store.now.leaves (front ++ c.byte_of-byte.result ∷ []) l (c.args.at + 1))
+    (sym c.split_at.ensures.front) (group_ready G) in
     (omega (arith, c.decreases), (within.0, (within.1, (search rules, (search rules, (omega arith, (front ++ c.byte_of-byte.result ∷ [], ready_group)))))))
 
 pub build_below-write_child-requires : goal.build_below-write_child-requires
@@ -31,8 +36,11 @@ build_below-write_child-requires g t c =
     let (front, ready) = c.requires.ready in
     let (node, there, below, place) = c.requires.parent in
     let long : 0 < length c.args.leaves.now = grind (arith, common_steps) in
-    let G = grouped ready c.group_end.ensures (record { slot = 0 }) long (sym c.byte_of-byte.ensures.byte) in
-    (search rules, rw (inner_kept c.args.store.now c.build_node.new.store c.args.parent node c.requires.inner c.in_ok-child.ensures.kept there) (inl (omega (arith, place, count_split G))))
+    let G = grouped ready c.group_end.ensures (record { slot = 0 }) long (sym c.byte_of-byte.ensures.byte) in (
+      search rules,
+      rw (inner_kept c.args.store.now c.build_node.new.store c.args.parent node c.requires.inner
+          c.in_ok-child.ensures.kept there) (inl (omega (arith, place, count_split G))),
+    )
 
 pub build_below-build_below-requires : goal.build_below-build_below-requires
 build_below-build_below-requires g t c κs within =
@@ -48,7 +56,8 @@ build_below-build_below-requires g t c κs within =
     let taken : length c.split_at.result.0.now ≡ n = c.split_at.ensures.front_len in
     let rest : length others + n ≡ length c.args.leaves.now = c.split_at.ensures.back_len in
     let next = with_child c.byte_of-byte.result c.in_ok-child.child node in
-    let ready' : ReadyBelow bytes written.leaves front others c.args.at = rw (c.write_child.ensures.leaves, c.in_ok-child.ensures.leaves, c.split_at.ensures.back) (others_ready G) in
+    let ready' : ReadyBelow bytes written.leaves front others c.args.at =
+    rw (c.write_child.ensures.leaves, c.in_ok-child.ensures.leaves, c.split_at.ensures.back) (others_ready G) in
     let low : AreBelow bytes written.leaves others c.args.at next =
     rw (c.write_child.ensures.leaves, c.in_ok-child.ensures.leaves, c.split_at.ensures.back) (below_others G node below c.in_ok-child.child) in
     let now =
@@ -56,8 +65,16 @@ build_below-build_below-requires g t c κs within =
     c.requires.inner there c.in_ok-child.ensures.kept c.write_child.ensures.leaves c.write_child.ensures.inners in
     let more : length next.children ≡ length node.children + 1 = length-drafted G node below c.in_ok-child.child in
     let fewer : count_groups bytes c.args.store.now.leaves c.args.leaves.now c.args.at ≡ 1 + count_groups bytes written.leaves others c.args.at =
-    rw (c.write_child.ensures.leaves, c.in_ok-child.ensures.leaves, c.split_at.ensures.back) (count_split G ∙ omega arith) in
-    (omega (arith, c.decreases), (within.0, (within.1, (search rules, (search rules, ((front, ready'), ((next, now, low, omega (arith, place)), c.requires.inner)))))))
+    rw (c.write_child.ensures.leaves, c.in_ok-child.ensures.leaves, c.split_at.ensures.back) (count_split G ∙ omega arith) in (
+      omega (arith, c.decreases),
+      (
+        within.0,
+        (
+          within.1,
+          (search rules, (search rules, ((front, ready'), ((next, now, low, omega (arith, place)), c.requires.inner)))),
+        ),
+      ),
+    )
 
 pub build_below-returns-clause-built : goal.build_below-returns-clause-built
 build_below-returns-clause-built g t c front node ready there below =
@@ -73,8 +90,10 @@ build_below-returns-clause-built g t c front node ready there below =
     let G = grouped ready c.group_end.ensures (record { slot = 0 }) long (sym c.byte_of-byte.ensures.byte) in
     let first : Built bytes g.row.P (front ++ byte ∷ []) (take n leaves) old mid c.in_ok-child.child =
     subst (λ l. Built bytes g.row.P (front ++ byte ∷ []) l old mid c.in_ok-child.child) c.split_at.ensures.front
-    (c.in_ok-child.ensures.built (front ++ byte ∷ []) (subst (λ l. Ready bytes old.leaves (front ++ byte ∷ []) l (c.args.at + 1)) (sym c.split_at.ensures.front) (group_ready G))) in
-    let next : ReadyBelow bytes written.leaves front c.split_at.result.1.now c.args.at = rw (c.write_child.ensures.leaves, c.in_ok-child.ensures.leaves, c.split_at.ensures.back) (others_ready G) in
+    (c.in_ok-child.ensures.built (front ++ byte ∷ [])
+    (subst (λ l. Ready bytes old.leaves (front ++ byte ∷ []) l (c.args.at + 1)) (sym c.split_at.ensures.front) (group_ready G))) in
+    let next : ReadyBelow bytes written.leaves front c.split_at.result.1.now c.args.at =
+    rw (c.write_child.ensures.leaves, c.in_ok-child.ensures.leaves, c.split_at.ensures.back) (others_ready G) in
     let low : AreBelow bytes written.leaves c.split_at.result.1.now c.args.at (with_child byte c.in_ok-child.child node) =
     rw (c.write_child.ensures.leaves, c.in_ok-child.ensures.leaves, c.split_at.ensures.back) (below_others G node below c.in_ok-child.child) in
     let now =
@@ -95,11 +114,13 @@ pub build_below-returns-clause-kept : goal.build_below-returns-clause-kept
 build_below-returns-clause-kept g t c =
     let (node, there, below, place) = c.requires.parent in
     others_kept c.args.store.now c.build_node.new.store c.write_child.new.self c.args.parent (with_child c.byte_of-byte.result c.in_ok-child.child)
-    node c.requires.inner there c.in_ok-child.ensures.kept c.write_child.ensures.leaves c.write_child.ensures.inners c.build_below.new.store c.in_ok-build_below.ensures.kept
+    node c.requires.inner there c.in_ok-child.ensures.kept c.write_child.ensures.leaves c.write_child.ensures.inners c.build_below.new.store
+    c.in_ok-build_below.ensures.kept
 
 pub build_node-returns-then-leaves-eq1-clause-built : goal.build_node-returns-then-leaves-eq1-clause-built
 build_node-returns-then-leaves-eq1-clause-built g t c way ready =
-    leaf_built g.K.AsBytes.bytes g.row.P c.args.store.now way c.args.leaves.now c.args.depth (record { slot = 0 }) c.to_opaque.result ready c.if-leaves-eq1.true c.to_opaque.ensures
+    leaf_built g.K.AsBytes.bytes g.row.P c.args.store.now way c.args.leaves.now c.args.depth
+    (record { slot = 0 }) c.to_opaque.result ready c.if-leaves-eq1.true c.to_opaque.ensures
 
 pub build_node-build_below-requires : goal.build_node-build_below-requires
 build_node-build_below-requires g t c κs within =
@@ -127,7 +148,13 @@ build_node-build_below-requires g t c κs within =
             search rules,
             (
               search rules,
-              ((way ++ s.part, ready_at), ((node, there, childless, omega (arith, c.in_ok-at.ensures.capacity)), (λ e. kind_not_leaf n (sym c.in_ok-at.ensures.kind ∙ e)))),
+              (
+                (way ++ s.part, ready_at),
+                (
+                  (node, there, childless, omega (arith, c.in_ok-at.ensures.capacity)),
+                  (λ e. kind_not_leaf n (sym c.in_ok-at.ensures.kind ∙ e)),
+                ),
+              ),
             ),
           ),
         ),
@@ -137,7 +164,8 @@ build_node-build_below-requires g t c κs within =
 pub build_node-returns-clause-built : goal.build_node-returns-clause-built
 build_node-returns-clause-built g t c way ready =
     let (node, placed, starts) = c.in_ok-at.ensures.placed in
-    rw c.to_opaque-2.ensures (finished_built g.K.AsBytes.bytes g.row.P c.args.store.now c.place_node.new.store c.in_ok-at.name c.in_ok-at.ensures.leaves placed (starts way ready)
+    rw c.to_opaque-2.ensures (finished_built g.K.AsBytes.bytes g.row.P c.args.store.now c.place_node.new.store c.in_ok-at.name
+    c.in_ok-at.ensures.leaves placed (starts way ready)
     c.in_ok-at.ensures.fresh c.in_ok-at.ensures.kind c.in_ok-build_below.ensures.kept c.in_ok-build_below.ensures.built)
 
 pub build_node-returns-clause-kept : goal.build_node-returns-clause-kept

@@ -28,7 +28,8 @@ pub build_node-requires : goal.build_node-requires
 build_node-requires g c =
     let names = c.in_ok-names.names.items in
     let H = has_leaves c.args.store.now c.place_leaves.new.store c.link_leaves.new.store names c.as_slice.result.now c.args.pairs.items
-    c.as_slice.ensures.value c.in_ok-names.ensures.placed c.in_ok-names.ensures.inners c.link_leaves.ensures.keeps c.link_leaves.ensures.linked c.link_leaves.ensures.inners in
+    c.as_slice.ensures.value c.in_ok-names.ensures.placed c.in_ok-names.ensures.inners c.link_leaves.ensures.keeps
+    c.link_leaves.ensures.linked c.link_leaves.ensures.inners in
     let long : length c.args.pairs.items ≡ length names = ap length (sym H.placed.its) ∙ pairs_long c.link_leaves.new.store.leaves names H.placed.there in
     let some : 1 ≤ length c.as_slice-2.result.now = grind (arith, common_steps, c.as_slice-2.ensures.len) in
     let listed : length c.as_slice-2.result.now ≡ length names = ap length c.as_slice-2.ensures.value in
@@ -39,7 +40,8 @@ returns g c =
     let bytes = g.K.AsBytes.bytes in
     let names = c.in_ok-names.names.items in
     let H = has_leaves c.args.store.now c.place_leaves.new.store c.link_leaves.new.store names c.as_slice.result.now c.args.pairs.items
-    c.as_slice.ensures.value c.in_ok-names.ensures.placed c.in_ok-names.ensures.inners c.link_leaves.ensures.keeps c.link_leaves.ensures.linked c.link_leaves.ensures.inners in
+    c.as_slice.ensures.value c.in_ok-names.ensures.placed c.in_ok-names.ensures.inners c.link_leaves.ensures.keeps
+    c.link_leaves.ensures.linked c.link_leaves.ensures.inners in
     let b : Built bytes g.row.P [] names c.link_leaves.new.store c.build_node.new.store c.in_ok-root.root =
     subst (λ l. Built bytes g.row.P [] l c.link_leaves.new.store c.build_node.new.store c.in_ok-root.root) c.as_slice-2.ensures.value
     (c.in_ok-root.ensures.built [] (rw c.as_slice-2.ensures.value (leaves_ready H bytes c.requires))) in

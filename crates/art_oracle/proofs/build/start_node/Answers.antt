@@ -12,7 +12,8 @@ pub overflow_add-at : goal.overflow_add-at
 overflow_add-at g c =
     let (way, ready) = c.requires.ready in
     let within = at_within g.K.AsBytes.bytes c.args.store.now.leaves way c.args.leaves.now c.args.depth ready c.requires.two
-    (c.split_at.ensures.back ∙ ap (drop c.args.depth) c.key_of.ensures) (c.split_at-2.ensures.back ∙ ap (drop c.args.depth) c.key_of-2.ensures) c.common_len-len.ensures in
+    (c.split_at.ensures.back ∙ ap (drop c.args.depth) c.key_of.ensures)
+    (c.split_at-2.ensures.back ∙ ap (drop c.args.depth) c.key_of-2.ensures) c.common_len-len.ensures in
     let read : c.args.depth + c.common_len-len.result ≤ length c.key_of.result.now = rw c.key_of.ensures within in
     omega (arith, c.key_of.type_inv)
 
@@ -20,16 +21,19 @@ pub group_count-requires : goal.group_count-requires
 group_count-requires g c =
     let (way, ready) = c.requires.ready in
     let below = ready_below g.K.AsBytes.bytes c.args.store.now.leaves way c.args.leaves.now c.args.depth ready c.requires.two
-    (c.split_at.ensures.back ∙ ap (drop c.args.depth) c.key_of.ensures) (c.split_at-2.ensures.back ∙ ap (drop c.args.depth) c.key_of-2.ensures) c.common_len-len.ensures in
+    (c.split_at.ensures.back ∙ ap (drop c.args.depth) c.key_of.ensures)
+    (c.split_at-2.ensures.back ∙ ap (drop c.args.depth) c.key_of-2.ensures) c.common_len-len.ensures in
     (search rules, (omega (arith, c.requires.two), (_, below)))
 
 pub new-requires : goal.new-requires
 new-requires g c =
-    let fits : c.common_len-len.result ≤ length c.split_at.result.1.now = rw c.common_len-len.ensures (common_fits c.split_at.result.1.now c.split_at-2.result.1.now) in
+    let fits : c.common_len-len.result ≤ length c.split_at.result.1.now =
+    rw c.common_len-len.ensures (common_fits c.split_at.result.1.now c.split_at-2.result.1.now) in
     (search rules, omega arith)
 
 pub returns-clause-starts : goal.returns-clause-starts
 returns-clause-starts g c way ready =
     starts g.K.AsBytes.bytes c.args.store.now.leaves way c.args.leaves.now c.args.depth ready c.requires.two
-    (c.split_at.ensures.back ∙ ap (drop c.args.depth) c.key_of.ensures) (c.split_at-2.ensures.back ∙ ap (drop c.args.depth) c.key_of-2.ensures) c.common_len-len.ensures
+    (c.split_at.ensures.back ∙ ap (drop c.args.depth) c.key_of.ensures)
+    (c.split_at-2.ensures.back ∙ ap (drop c.args.depth) c.key_of-2.ensures) c.common_len-len.ensures
     g.row.P _ (c.from_header.ensures.view ∙ ap (λ h. record { prefix = h; children = [] }) c.new.ensures)

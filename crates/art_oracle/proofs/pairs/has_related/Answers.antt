@@ -20,5 +20,6 @@ returns-then-follows_related g c =
 
 pub returns-else-follows_related : goal.returns-else-follows_related
 returns-else-follows_related g c =
-    conflict_high g.K.AsBytes.bytes c.args.key.now c.args.at c.args.pairs.now c.split_at.result.0.now c.split_at.result.1.now c.follows_related.result c.precedes_related.result
+    conflict_high g.K.AsBytes.bytes c.args.key.now c.args.at c.args.pairs.now c.split_at.result.0.now c.split_at.result.1.now
+    c.follows_related.result c.precedes_related.result
     c.split_at.ensures.front c.follows_related.ensures c.if-follows_related.false c.split_at.ensures.back c.precedes_related.ensures

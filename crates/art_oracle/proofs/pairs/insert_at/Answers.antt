@@ -12,5 +12,7 @@ returns-clause-old g c = with_none g.K.AsBytes.bytes c.args.pairs.now.items c.ar
 
 pub returns-clause-map : goal.returns-clause-map
 returns-clause-map g c =
-    let e = inserted_map g.K.AsBytes.bytes c.args.pairs.now.items c.args.at _ c.requires.map c.requires.gap c.requires.unrelated (c.args.key, c.args.value) refl in
+    let e =
+    inserted_map g.K.AsBytes.bytes c.args.pairs.now.items c.args.at _ c.requires.map c.requires.gap c.requires.unrelated
+    (c.args.key, c.args.value) refl in
     search (rules, e)

@@ -20,10 +20,14 @@ returns-in-Ok-clause-map g c =
     rw c.remove.ensures.items (removed_map g.K.AsBytes.bytes c.args.pairs.now.items c.in-Ok.at _ (search rules) is)
 
 pub returns-in-Err-clause-pairs : goal.returns-in-Err-clause-pairs
-returns-in-Err-clause-pairs g c = sym (removed_none g.K.AsBytes.bytes c.args.pairs.now.items c.in-Err.field-0 _ (search rules) (rw c.deref.ensures.value at c.in-Err.ensures.absent))
+returns-in-Err-clause-pairs g c =
+    sym (removed_none g.K.AsBytes.bytes c.args.pairs.now.items c.in-Err.field-0 _ (search rules)
+    (rw c.deref.ensures.value at c.in-Err.ensures.absent))
 
 pub returns-in-Err-clause-old : goal.returns-in-Err-clause-old
-returns-in-Err-clause-old g c = with_none g.K.AsBytes.bytes c.args.pairs.now.items c.in-Err.field-0 _ (search rules) (rw c.deref.ensures.value at c.in-Err.ensures.absent)
+returns-in-Err-clause-old g c =
+    with_none g.K.AsBytes.bytes c.args.pairs.now.items c.in-Err.field-0 _ (search rules)
+    (rw c.deref.ensures.value at c.in-Err.ensures.absent)
 
 pub returns-in-Err-clause-map : goal.returns-in-Err-clause-map
 returns-in-Err-clause-map g c = c.requires

@@ -25,7 +25,8 @@ unreachable-requires-in_default-leaf g c =
 pub returns-in_default-clause-ends : goal.returns-in_default-clause-ends
 returns-in_default-clause-ends g c pairs layout by =
     let within = front_within (parts_rest _ c.parts-last.ensures) 0 in
-    rw c.path-path.ensures (last_leaf by _ (c.down.invariant.on_way pairs layout by) c.in-Some-as_leaf.ensures.name c.in-Some-leaf.ensures (omega arith) c.add_one.ensures)
+    rw c.path-path.ensures (last_leaf by _ (c.down.invariant.on_way pairs layout by) c.in-Some-as_leaf.ensures.name c.in-Some-leaf.ensures
+    (omega arith) c.add_one.ensures)
 
 pub step_at-requires : goal.step_at-requires
 step_at-requires g c =
@@ -80,7 +81,8 @@ returns-in_err-child-in-AtEnd-clause-ends g c pairs layout by =
     let at = shown_here by d c.in-Some.node c.in-Some.ensures.kind c.in-Some.ensures.view in
     let (ended, same) = c.in-AtEnd.ensures (g.Q.KeyQuery.key c.args.query) has in
     let is = c.parts-last.ensures ∙ ap (λ o. c.parts-last.result.0.now ++ cons_option o []) c.in_ok-last-in-AtEnd.was in
-    rw c.from_residual-in_err-child-in-AtEnd.ensures (stops_last by d at _ ended _ is same c.add_one.ensures (c.in_err-child-in-AtEnd.ensures.child _ c.in-Some.ensures.view))
+    rw c.from_residual-in_err-child-in-AtEnd.ensures
+    (stops_last by d at _ ended _ is same c.add_one.ensures (c.in_err-child-in-AtEnd.ensures.child _ c.in-Some.ensures.view))
 
 pub returns-in_err-name-in-AtEnd-clause-ends : goal.returns-in_err-name-in-AtEnd-clause-ends
 returns-in_err-name-in-AtEnd-clause-ends g c pairs layout by =
@@ -89,7 +91,8 @@ returns-in_err-name-in-AtEnd-clause-ends g c pairs layout by =
     let at = shown_here by d c.in-Some.node c.in-Some.ensures.kind c.in-Some.ensures.view in
     let (ended, same) = c.in-AtEnd.ensures (g.Q.KeyQuery.key c.args.query) has in
     let is = c.parts-last.ensures ∙ ap (λ o. c.parts-last.result.0.now ++ cons_option o []) c.in_ok-last-in-AtEnd.was in
-    let below = steps_last by d at _ ended _ is same c.add_one.ensures (c.in_ok-child-in-AtEnd.ensures.child _ c.in-Some.ensures.view) (c.in_ok-child-in-AtEnd.ensures.behavior _ c.in-Some.ensures.view refl) in
+    let below = steps_last by d at _ ended _ is same c.add_one.ensures (c.in_ok-child-in-AtEnd.ensures.child _ c.in-Some.ensures.view)
+    (c.in_ok-child-in-AtEnd.ensures.behavior _ c.in-Some.ensures.view refl) in
     rw c.from_residual-in_err-name-in-AtEnd.ensures
     (stops_after by below c.add_one-in-AtEnd.ensures (λ leaf. false≢true (c.in_err-name-in-AtEnd.ensures.leaf.1 leaf)) (front_near has 0))
 
@@ -101,7 +104,8 @@ unreachable-requires-in_default-leaf-2 g c =
     let at = shown_here by d c.in-Some.node c.in-Some.ensures.kind c.in-Some.ensures.view in
     let (ended, same) = c.in-AtEnd.ensures (g.Q.KeyQuery.key c.args.query) has in
     let is = c.parts-last.ensures ∙ ap (λ o. c.parts-last.result.0.now ++ cons_option o []) c.in_ok-last-in-AtEnd.was in
-    let below = steps_last by d at _ ended _ is same c.add_one.ensures (c.in_ok-child-in-AtEnd.ensures.child _ c.in-Some.ensures.view) (c.in_ok-child-in-AtEnd.ensures.behavior _ c.in-Some.ensures.view refl) in
+    let below = steps_last by d at _ ended _ is same c.add_one.ensures (c.in_ok-child-in-AtEnd.ensures.child _ c.in-Some.ensures.view)
+    (c.in_ok-child-in-AtEnd.ensures.behavior _ c.in-Some.ensures.view refl) in
     leaf_met (node_there by below) c.in_ok-name-in-AtEnd.ensures.name c.in_default-leaf-2.ensures
 
 pub returns-in-AtEnd-clause-ends : goal.returns-in-AtEnd-clause-ends
@@ -111,7 +115,8 @@ returns-in-AtEnd-clause-ends g c pairs layout by =
     let at = shown_here by d c.in-Some.node c.in-Some.ensures.kind c.in-Some.ensures.view in
     let (ended, same) = c.in-AtEnd.ensures (g.Q.KeyQuery.key c.args.query) has in
     let is = c.parts-last.ensures ∙ ap (λ o. c.parts-last.result.0.now ++ cons_option o []) c.in_ok-last-in-AtEnd.was in
-    let below = steps_last by d at _ ended _ is same c.add_one.ensures (c.in_ok-child-in-AtEnd.ensures.child _ c.in-Some.ensures.view) (c.in_ok-child-in-AtEnd.ensures.behavior _ c.in-Some.ensures.view refl) in
+    let below = steps_last by d at _ ended _ is same c.add_one.ensures (c.in_ok-child-in-AtEnd.ensures.child _ c.in-Some.ensures.view)
+    (c.in_ok-child-in-AtEnd.ensures.behavior _ c.in-Some.ensures.view refl) in
     rw (c.path.ensures, c.step_down-in-AtEnd.ensures)
     (last_leaf by _ below c.in_ok-name-in-AtEnd.ensures.name c.in-Some-leaf-2.ensures
     (omega (arith, front_near has 0, ap length is, length-append c.parts-last.result.0.now (c.in_ok-last-in-AtEnd.last ∷ []))) c.add_one-in-AtEnd.ensures)

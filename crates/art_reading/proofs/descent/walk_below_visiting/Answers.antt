@@ -43,7 +43,8 @@ returns-in_default-clause-visits g c =
 pub unreachable-requires : goal.unreachable-requires
 unreachable-requires g c =
     let (pairs, layout, by) = c.requires in
-    inner_met (stands_there by (c.down.invariant.readings.is_number pairs layout by).way.descent.at) c.in-Inner.ensures.proper c.in-Inner.ensures.name c.in_default-inner.ensures.view
+    inner_met (stands_there by (c.down.invariant.readings.is_number pairs layout by).way.descent.at)
+    c.in-Inner.ensures.proper c.in-Inner.ensures.name c.in_default-inner.ensures.view
 
 pub returns-then-prefix_len-prefix-clause-end : goal.returns-then-prefix_len-prefix-clause-end
 returns-then-prefix_len-prefix-clause-end g c pairs layout by =

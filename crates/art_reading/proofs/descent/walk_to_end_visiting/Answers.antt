@@ -6,15 +6,20 @@ use Rattle.art_reading.proofs.Counts.{count_both}
 use Rattle.art_reading.proofs.descent.walk_to_end_visiting.Goals as goal
 
 pub down-init : goal.down-init
-down-init g c = record { along = λ layout full. rw c.new-steps.ensures (start c.args.end full); readings = record { number = 0; counted = omega arith; is_number = omega arith } }
+down-init g c = record {
+  along = λ layout full. rw c.new-steps.ensures (start c.args.end full);
+  readings = record { number = 0; counted = omega arith; is_number = omega arith };
+}
 
 pub returns-in-Leaf-clause-leads : goal.returns-in-Leaf-clause-leads
-returns-in-Leaf-clause-leads g c layout full = rw c.path.ensures (ends (path_after c.down.steps) c.args.end c.in-Leaf.ensures.name (c.down.invariant.along layout full))
+returns-in-Leaf-clause-leads g c layout full =
+    rw c.path.ensures (ends (path_after c.down.steps) c.args.end c.in-Leaf.ensures.name (c.down.invariant.along layout full))
 
 pub unreachable-requires : goal.unreachable-requires
 unreachable-requires g c =
     let (layout, full) = c.requires in
-    edge_inner_there (IsAlong c.args.end (path_after c.down.steps)) c.args.store.now layout (c.down.invariant.along layout full) c.in-Inner.ensures.proper c.in-Inner.ensures.name c.in_default.ensures.view
+    edge_inner_there (IsAlong c.args.end (path_after c.down.steps)) c.args.store.now layout
+    (c.down.invariant.along layout full) c.in-Inner.ensures.proper c.in-Inner.ensures.name c.in_default.ensures.view
 
 pub child_at_end-byte-requires : goal.child_at_end-byte-requires
 child_at_end-byte-requires g c =
@@ -22,7 +27,8 @@ child_at_end-byte-requires g c =
     let d = c.down.invariant.along layout full in (
       search rules,
       edge_some (IsAlong c.args.end (path_after c.down.steps)) c.args.store.now layout d
-          (edge_shown (IsAlong c.args.end (path_after c.down.steps)) c.args.store.now layout d c.in-Inner.ensures.proper c.in-Inner.ensures.name c.in-Some.ensures.view),
+          (edge_shown (IsAlong c.args.end (path_after c.down.steps))
+          c.args.store.now layout d c.in-Inner.ensures.proper c.in-Inner.ensures.name c.in-Some.ensures.view),
     )
 
 pub down-smaller : goal.down-smaller
@@ -44,7 +50,8 @@ down-preserved g c = record {
       let before = c.down.invariant.readings in
       let few = before.is_number in
       let d = c.down.invariant.along layout full in
-      let less = (steps (path_after c.down.steps) c.args.end d (edge_shown (IsAlong c.args.end (path_after c.down.steps)) c.args.store.now layout d c.in-Inner.ensures.proper
+      let less = (steps (path_after c.down.steps) c.args.end d
+      (edge_shown (IsAlong c.args.end (path_after c.down.steps)) c.args.store.now layout d c.in-Inner.ensures.proper
       c.in-Inner.ensures.name c.in-Some.ensures.view) c.child_at_end-byte.result c.child_at_end-byte.ensures).1 in
       record { number = before.number + 1; counted = count_both _ _ _ before.counted c.count_one.ensures; is_number = omega arith };
 }

@@ -13,7 +13,8 @@ use Rattle.art_reading.proofs.descent.walk_to_end_visiting.Given as goal
 
 abbrev pub invariant-down : goal.invariant-down
 invariant-down g l = record {
-  along : (layout : Tree OpaqueNodePtr (g.row.K.Denot × g.row.V.Denot)) → IsFullTree l.store l.fn.root layout → IsAtEdge (IsAlong l.end (path_after l.steps)) l.store layout l.name;
+  along : (layout : Tree OpaqueNodePtr (g.row.K.Denot × g.row.V.Denot)) → IsFullTree l.store l.fn.root layout →
+      IsAtEdge (IsAlong l.end (path_after l.steps)) l.store layout l.name;
   readings : CountsReadings l.fn.visits l.visits (λ number. number + levels l.store l.name ≤ levels l.store l.fn.root);
 }
 

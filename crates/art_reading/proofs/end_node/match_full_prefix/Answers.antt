@@ -32,10 +32,19 @@ pub returns-then-len-eq0-clause-visits : goal.returns-then-len-eq0-clause-visits
 returns-then-len-eq0-clause-visits g c = record { number = 0; counted = omega arith; is_number = (omega arith, λ few. refl) }
 
 pub returns-then-len-clause-visits : goal.returns-then-len-clause-visits
-returns-then-len-clause-visits g c = record { number = 0; counted = omega arith; is_number = (costs_none c.args.store.now c.args.root _ _ c.match_prefix.result, λ few. refl) }
+returns-then-len-clause-visits g c =
+    record {
+      number = 0;
+      counted = omega arith;
+      is_number = (costs_none c.args.store.now c.args.root _ _ c.match_prefix.result, λ few. refl);
+    }
 
 pub returns-clause-visits : goal.returns-clause-visits
 returns-clause-visits g c =
     let long = c.if-len.false in
     let len = c.prefix_len-len.ensures in
-    record { number = c.match_long_prefix-result.result.1; counted = c.add.ensures; is_number = (c.match_long_prefix-result.ensures.visits, λ few. omega arith) }
+    record {
+      number = c.match_long_prefix-result.result.1;
+      counted = c.add.ensures;
+      is_number = (c.match_long_prefix-result.ensures.visits, λ few. omega arith);
+    }

@@ -6,11 +6,15 @@ use Rattle.art_reading.proofs.end_node.match_prefix.Goals as goal
 
 pub returns-in-None-clause-len : goal.returns-in-None-clause-len
 returns-in-None-clause-len c =
-    (all_shared c.args.prefix.now c.args.rest_of_key.now c.shared_len-matched_bytes.result c.shared_len-matched_bytes.ensures (ltb-false _ _ (sym c.in-None.ensures.lookup.0))).0
+    (all_shared c.args.prefix.now c.args.rest_of_key.now c.shared_len-matched_bytes.result c.shared_len-matched_bytes.ensures
+    (ltb-false _ _ (sym c.in-None.ensures.lookup.0))).0
 
 pub returns-in-None-clause-front : goal.returns-in-None-clause-front
 returns-in-None-clause-front c =
-    (all_shared c.args.prefix.now c.args.rest_of_key.now c.shared_len-matched_bytes.result c.shared_len-matched_bytes.ensures (ltb-false _ _ (sym c.in-None.ensures.lookup.0))).1
+    (all_shared c.args.prefix.now c.args.rest_of_key.now c.shared_len-matched_bytes.result c.shared_len-matched_bytes.ensures
+    (ltb-false _ _ (sym c.in-None.ensures.lookup.0))).1
 
 pub returns-in-Some-clause-byte : goal.returns-in-Some-clause-byte
-returns-in-Some-clause-byte c = slice_get_read c.args.prefix.now _ c.shared_len-matched_bytes.result c.in-Some.field-0.now refl c.in-Some.ensures.lookup.3.0 c.in-Some.ensures.lookup.1
+returns-in-Some-clause-byte c =
+    slice_get_read c.args.prefix.now _ c.shared_len-matched_bytes.result c.in-Some.field-0.now refl c.in-Some.ensures.lookup.3.0
+    c.in-Some.ensures.lookup.1

@@ -13,8 +13,16 @@ returns-in-Leaf-clause-step g c path pairs layout by d =
 
 pub step_at_inner-requires : goal.step_at_inner-requires
 step_at_inner-requires g c =
-    let (path, at) = c.requires.at in
-    (search rules, (c.requires.root, (c.in-Inner.ensures.proper, ((path, λ pairs layout by. at_named by (at pairs layout by) c.in-Inner.ensures.name), c.requires.guide))))
+    let (path, at) = c.requires.at in (
+      search rules,
+      (
+        c.requires.root,
+        (
+          c.in-Inner.ensures.proper,
+          ((path, λ pairs layout by. at_named by (at pairs layout by) c.in-Inner.ensures.name), c.requires.guide),
+        ),
+      ),
+    )
 
 pub returns-in-Inner-clause-step : goal.returns-in-Inner-clause-step
 returns-in-Inner-clause-step g c path pairs layout by d =
@@ -26,4 +34,8 @@ returns-in-Inner-clause-visits g c =
 
 pub returns-in-Leaf-clause-visits : goal.returns-in-Leaf-clause-visits
 returns-in-Leaf-clause-visits g c =
-    record { number = 1; counted = c.count_one.ensures; is_number = record { at_least = omega arith; at_most = omega arith; if_whole = λ pairs layout by whole. refl } }
+    record {
+      number = 1;
+      counted = c.count_one.ensures;
+      is_number = record { at_least = omega arith; at_most = omega arith; if_whole = λ pairs layout by whole. refl };
+    }

@@ -37,9 +37,11 @@ returns-in-Ok-clause-visits g c =
       is_number = record {
         at_least = omega arith;
         at_most = past_costs c.args.store.now c.args.root _ _ _ (1 + match.number) c.args.key_bytes.now _ _
-            (λ to there. lower by d.frames d.node d.whole d.named _ d.radix _ _ (shown_there by d c.requires.inner refl (sym c.inner_at-node.ensures.view)) _ to there)
+            (λ to there. lower by d.frames d.node d.whole d.named _ d.radix _ _
+            (shown_there by d c.requires.inner refl (sym c.inner_at-node.ensures.view)) _ to there)
             (omega arith) c.step_past_prefix.ensures.ends c.step_past_prefix.ensures.into c.step_past_prefix.ensures.down;
-        if_whole = λ pairs layout by whole. ap (λ n. 1 + n) (match.is_number.1 (stored_at by (c.requires.at.1 pairs layout by) c.requires.inner (sym c.inner_at-node.ensures.view) whole));
+        if_whole = λ pairs layout by whole. ap (λ n. 1 + n)
+            (match.is_number.1 (stored_at by (c.requires.at.1 pairs layout by) c.requires.inner (sym c.inner_at-node.ensures.view) whole));
       };
     }
 
@@ -52,7 +54,10 @@ returns-in-Err-clause-visits g c =
       counted = count_both _ _ _ c.count_one.ensures match.counted;
       is_number = record {
         at_least = omega arith;
-        at_most = end_costs c.args.store.now c.args.root _ _ _ (1 + match.number) c.args.key_bytes.now _ c.end_in_prefix.ensures.ends c.end_in_prefix.ensures.parts (omega arith) (omega arith);
-        if_whole = λ pairs layout by whole. ap (λ n. 1 + n) (match.is_number.1 (stored_at by (c.requires.at.1 pairs layout by) c.requires.inner (sym c.inner_at-node.ensures.view) whole));
+        at_most = end_costs c.args.store.now c.args.root _ _ _
+            (1 + match.number) c.args.key_bytes.now _ c.end_in_prefix.ensures.ends c.end_in_prefix.ensures.parts
+            (omega arith) (omega arith);
+        if_whole = λ pairs layout by whole. ap (λ n. 1 + n)
+            (match.is_number.1 (stored_at by (c.requires.at.1 pairs layout by) c.requires.inner (sym c.inner_at-node.ensures.view) whole));
       };
     }

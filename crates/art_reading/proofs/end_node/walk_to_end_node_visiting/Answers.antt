@@ -13,7 +13,9 @@ down-init g c = record {
     number = 0;
     counted = omega arith;
     is_number = record {
-      reached = λ pairs layout by. rw c.new-steps.ensures (record { at = start by c.args.key_bytes.now; at_least = omega arith; if_whole = λ whole. omega arith });
+      reached =
+          λ pairs layout by. rw c.new-steps.ensures
+          (record { at = start by c.args.key_bytes.now; at_least = omega arith; if_whole = λ whole. omega arith });
       few = omega arith;
     };
   };
@@ -50,7 +52,9 @@ returns-in-End-clause-visits g c =
 pub down-smaller : goal.down-smaller
 down-smaller g c =
     let (pairs, layout, by) = c.requires in
-    let (deeper, at, left) = rw c.in-Down.is at (c.next_step.ensures.step (path_after c.down.steps) pairs layout by (c.down.invariant.readings.is_number.reached pairs layout by).at) in
+    let (deeper, at, left) =
+    rw c.in-Down.is at (c.next_step.ensures.step
+    (path_after c.down.steps) pairs layout by (c.down.invariant.readings.is_number.reached pairs layout by).at) in
     let short = inside by at in
     omega arith
 
@@ -82,7 +86,16 @@ down-preserved g c =
     }
 
 pub next_step-requires : goal.next_step-requires
-next_step-requires g c = (search rules, (c.requires, ((path_after c.down.steps, λ pairs layout by. (c.down.invariant.readings.is_number.reached pairs layout by).at), c.down.invariant.guide)))
+next_step-requires g c = (
+  search rules,
+  (
+    c.requires,
+    (
+      (path_after c.down.steps, λ pairs layout by. (c.down.invariant.readings.is_number.reached pairs layout by).at),
+      c.down.invariant.guide,
+    ),
+  ),
+)
 
 pub step_down-requires : goal.step_down-requires
 step_down-requires g c =

@@ -13,7 +13,8 @@ returns-in_err-last-clause-pair g c pairs layout by =
     rw c.from_residual.ensures (pair_found (of_key g.K.AsBytes.bytes) g.row.P by None _ (c.in_err-last.ensures.leaf pairs layout by))
 
 pub returns-clause-leaf : goal.returns-clause-leaf
-returns-clause-leaf g c pairs layout by = let found = c.in_ok-last.ensures.leaf pairs layout by in (pair_of c.in_ok-last.last.node.now, found.only, found.is_leaf)
+returns-clause-leaf g c pairs layout by =
+    let found = c.in_ok-last.ensures.leaf pairs layout by in (pair_of c.in_ok-last.last.node.now, found.only, found.is_leaf)
 
 pub returns-clause-there : goal.returns-clause-there
 returns-clause-there g c =

@@ -12,8 +12,10 @@ pub loop-at-smaller : goal.loop-at-smaller
 loop-at-smaller c = omega (arith, c.loop-at-test.true)
 
 pub loop-at-preserved : goal.loop-at-preserved
-loop-at-preserved c =
-    (omega (arith, c.loop-at.invariant.0, c.loop-at-test.true), joined c.loop-at.at 8 c.args.a.now c.args.b.now c.loop-at.invariant.1 (c.are_same.ensures.0 c.if-are_same.true))
+loop-at-preserved c = (
+  omega (arith, c.loop-at.invariant.0, c.loop-at-test.true),
+  joined c.loop-at.at 8 c.args.a.now c.args.b.now c.loop-at.invariant.1 (c.are_same.ensures.0 c.if-are_same.true),
+)
 
 pub returns-else-are_same-clause-same : goal.returns-else-are_same-clause-same
 returns-else-are_same-clause-same c = c.loop-at.invariant.1

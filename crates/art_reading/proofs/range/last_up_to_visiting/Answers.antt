@@ -35,8 +35,10 @@ returns-in-Excluded-clause-there g c =
     last_there by _ _ (c.leaf_at_cut-in-Excluded.ensures.leaf pairs layout by)
 
 pub returns-in-Unbounded-clause-leaf : goal.returns-in-Unbounded-clause-leaf
-returns-in-Unbounded-clause-leaf g c pairs layout by = sym (c.walk_to_end_visiting.ensures.leads layout (has_children _ _ _ _ _ layout by)).0.name_is ∙ ap last_of (sym (where_any layout))
-    ∙ ap (λ (b : Bound (Bor (List ℕ))). last_of (leaves_where (λ x. is_up_to (bound_map (λ z. z.now) b) (g.K.AsBytes.bytes x.0)) layout)) (sym c.in-Unbounded.is)
+returns-in-Unbounded-clause-leaf g c pairs layout by =
+    sym (c.walk_to_end_visiting.ensures.leads layout (has_children _ _ _ _ _ layout by)).0.name_is ∙ ap last_of (sym (where_any layout))
+    ∙ ap (λ (b : Bound (Bor (List ℕ))). last_of (leaves_where (λ x. is_up_to (bound_map (λ z. z.now) b) (g.K.AsBytes.bytes x.0)) layout))
+    (sym c.in-Unbounded.is)
 
 pub returns-in-Unbounded-clause-there : goal.returns-in-Unbounded-clause-there
 returns-in-Unbounded-clause-there g c =
@@ -54,4 +56,9 @@ pub returns-in-Unbounded-clause-visits : goal.returns-in-Unbounded-clause-visits
 returns-in-Unbounded-clause-visits g c =
     let down = c.walk_to_end_visiting.ensures.visits in
     let few = down.is_number in
-    record { number = down.number; counted = down.counted; is_number = λ pairs layout by. let all = root_levels by in rw c.in-Unbounded.is (omega arith, omega arith) }
+    record {
+      number = down.number;
+      counted = down.counted;
+      is_number = λ pairs layout by. let all = root_levels by in
+          rw c.in-Unbounded.is (omega arith, omega arith);
+    }

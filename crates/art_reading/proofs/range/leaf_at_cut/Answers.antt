@@ -22,8 +22,10 @@ pub returns-then-not-is_after-clause-leaf : goal.returns-then-not-is_after-claus
 returns-then-not-is_after-clause-leaf g c pairs layout by =
     let b = c.walk_beside-name.ensures.beside pairs layout by in
     let first = (c.walk_to_end_visiting.ensures.leads b.at.node (node_full by b.at)).0 in
-    let told = first_is by b.at first (λ x. is_before_cut c.args.cut c.args.key_bytes.now (g.K.AsBytes.bytes x.0) ≡ side by b c.args.cut) (all_on_side by b c.args.cut) _ (sym c.leaf_at-leaf.ensures) in
-    from_first by b c.args.cut (sym told ∙ ap (is_before_cut c.args.cut c.args.key_bytes.now) (sym c.as_bytes.ensures) ∙ sym c.is_after.ensures ∙ c.if-not-is_after.true)
+    let told = first_is by b.at first (λ x. is_before_cut c.args.cut c.args.key_bytes.now (g.K.AsBytes.bytes x.0) ≡ side by b c.args.cut)
+    (all_on_side by b c.args.cut) _ (sym c.leaf_at-leaf.ensures) in
+    from_first by b c.args.cut (sym told ∙ ap (is_before_cut c.args.cut c.args.key_bytes.now) (sym c.as_bytes.ensures)
+    ∙ sym c.is_after.ensures ∙ c.if-not-is_after.true)
     first (sym c.leaf_at-leaf.ensures) c.args.end c.of.ensures
 
 pub walk_to_end_visiting-requires-2 : goal.walk_to_end_visiting-requires-2
@@ -42,8 +44,10 @@ pub returns-clause-leaf : goal.returns-clause-leaf
 returns-clause-leaf g c pairs layout by =
     let b = c.walk_beside-name.ensures.beside pairs layout by in
     let first = (c.walk_to_end_visiting.ensures.leads b.at.node (node_full by b.at)).0 in
-    let told = first_is by b.at first (λ x. is_before_cut c.args.cut c.args.key_bytes.now (g.K.AsBytes.bytes x.0) ≡ side by b c.args.cut) (all_on_side by b c.args.cut) _ (sym c.leaf_at-leaf.ensures) in
-    from_last by b c.args.cut (sym told ∙ ap (is_before_cut c.args.cut c.args.key_bytes.now) (sym c.as_bytes.ensures) ∙ sym c.is_after.ensures ∙ c.if-not-is_after.false)
+    let told = first_is by b.at first (λ x. is_before_cut c.args.cut c.args.key_bytes.now (g.K.AsBytes.bytes x.0) ≡ side by b c.args.cut)
+    (all_on_side by b c.args.cut) _ (sym c.leaf_at-leaf.ensures) in
+    from_last by b c.args.cut (sym told ∙ ap (is_before_cut c.args.cut c.args.key_bytes.now) (sym c.as_bytes.ensures)
+    ∙ sym c.is_after.ensures ∙ c.if-not-is_after.false)
     ((c.walk_to_end_visiting-2.ensures.leads b.at.node (node_full by b.at)).0) (sym c.leaf_at-leaf-2.ensures) c.args.end c.of-2.ensures
 
 -- ---- the counter
@@ -72,7 +76,8 @@ returns-clause-visits g c =
     let other = last.is_number in
     record {
       number = beside.number + first.number + 1 + last.number + 1;
-      counted = count_both _ _ _ (count_both _ _ _ (count_both _ _ _ (count_both _ _ _ beside.counted first.counted) c.count_one.ensures) last.counted) c.count_one-2.ensures;
+      counted = count_both _ _ _ (count_both _ _ _
+          (count_both _ _ _ (count_both _ _ _ beside.counted first.counted) c.count_one.ensures) last.counted) c.count_one-2.ensures;
       is_number = λ pairs layout by.
           let seen = beside.is_number.1 pairs layout by in
           let all = root_levels by in

@@ -27,7 +27,9 @@ returns-then-not-starts_with-clause-leaves g c pairs layout by =
     let at = (c.in-Some.ensures.end pairs layout by).0 in
     let first = (c.walk_to_end_visiting.ensures.leads at.at.node (node_full by at.at)).0 in
     let told = first_is by at.at first (λ x. is_front c.args.prefix.now (g.K.AsBytes.bytes x.0) ≡ at.begin) at.alike _ (sym c.leaf_at-leaf.ensures) in
-    let tested = ap (is_front c.args.prefix.now) (sym c.as_bytes.ensures) ∙ starts_front c.as_bytes.result.now c.args.prefix.now _ c.starts_with.ensures.value in
+    let tested =
+    ap (is_front c.args.prefix.now) (sym c.as_bytes.ensures)
+    ∙ starts_front c.as_bytes.result.now c.args.prefix.now _ c.starts_with.ensures.value in
     rw c.empty-then-not-starts_with.ensures (others_begin by _ at (sym told ∙ tested ∙ c.if-not-starts_with.true))
 
 pub walk_to_end_visiting-requires-2 : goal.walk_to_end_visiting-requires-2
@@ -52,7 +54,9 @@ returns-clause-leaves g c pairs layout by =
     let first = (c.walk_to_end_visiting.ensures.leads at.at.node full).0 in
     let last = (c.walk_to_end_visiting-2.ensures.leads at.at.node full).0 in
     let told = first_is by at.at first (λ x. is_front c.args.prefix.now (g.K.AsBytes.bytes x.0) ≡ at.begin) at.alike _ (sym c.leaf_at-leaf.ensures) in
-    let tested = ap (is_front c.args.prefix.now) (sym c.as_bytes.ensures) ∙ starts_front c.as_bytes.result.now c.args.prefix.now _ c.starts_with.ensures.value in
+    let tested =
+    ap (is_front c.args.prefix.now) (sym c.as_bytes.ensures)
+    ∙ starts_front c.as_bytes.result.now c.args.prefix.now _ c.starts_with.ensures.value in
     rw c.new.ensures (these_begin by _ at (sym told ∙ tested ∙ c.if-not-starts_with.false) first last)
 
 -- ---- the counter

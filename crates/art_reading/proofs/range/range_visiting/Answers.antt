@@ -20,8 +20,10 @@ returns-then-not-ends_after-clause-leaves g c pairs layout by =
 pub unwrap-last-requires : goal.unwrap-last-requires
 unwrap-last-requires g c =
     let (pairs, layout, by) = c.requires in
-    last_is_there by (bound_map (λ b. b.now) c.args.from) (bound_map (λ b. b.now) c.args.to) (c.in-Some.ensures.leaf pairs layout by) (sym c.leaf_at-leaf.ensures)
-    (ap (is_up_to (bound_map (λ b. b.now) c.args.to)) (sym c.as_bytes.ensures) ∙ sym c.ends_after.ensures ∙ c.if-not-ends_after.false) _ (c.last_up_to_visiting.ensures.leaf pairs layout by)
+    last_is_there by (bound_map (λ b. b.now) c.args.from) (bound_map (λ b. b.now) c.args.to) (c.in-Some.ensures.leaf pairs layout by)
+    (sym c.leaf_at-leaf.ensures)
+    (ap (is_up_to (bound_map (λ b. b.now) c.args.to)) (sym c.as_bytes.ensures) ∙ sym c.ends_after.ensures ∙ c.if-not-ends_after.false) _
+    (c.last_up_to_visiting.ensures.leaf pairs layout by)
 
 pub new-requires : goal.new-requires
 new-requires g c =
@@ -29,15 +31,20 @@ new-requires g c =
       search rules,
       (
         leaves_where (λ x. is_between (bound_map (λ b. b.now) c.args.from) (bound_map (λ b. b.now) c.args.to) (g.K.AsBytes.bytes x.0)) layout,
-        span_walk by (bound_map (λ b. b.now) c.args.from) (bound_map (λ b. b.now) c.args.to) (c.in-Some.ensures.leaf pairs layout by) (sym c.leaf_at-leaf.ensures)
-            (ap (is_up_to (bound_map (λ b. b.now) c.args.to)) (sym c.as_bytes.ensures) ∙ sym c.ends_after.ensures ∙ c.if-not-ends_after.false) (ap (option_map leaf_name) (sym c.unwrap-last.ensures) ∙ c.last_up_to_visiting.ensures.leaf pairs layout by),
+        span_walk by (bound_map (λ b. b.now) c.args.from) (bound_map (λ b. b.now) c.args.to) (c.in-Some.ensures.leaf pairs layout by)
+            (sym c.leaf_at-leaf.ensures)
+            (ap (is_up_to (bound_map (λ b. b.now) c.args.to)) (sym c.as_bytes.ensures) ∙ sym c.ends_after.ensures
+            ∙ c.if-not-ends_after.false) (ap (option_map leaf_name) (sym c.unwrap-last.ensures)
+            ∙ c.last_up_to_visiting.ensures.leaf pairs layout by),
       ),
     )
 
 pub returns-clause-leaves : goal.returns-clause-leaves
 returns-clause-leaves g c pairs layout by =
-    rw c.new.ensures (span_walk by (bound_map (λ b. b.now) c.args.from) (bound_map (λ b. b.now) c.args.to) (c.in-Some.ensures.leaf pairs layout by) (sym c.leaf_at-leaf.ensures)
-    (ap (is_up_to (bound_map (λ b. b.now) c.args.to)) (sym c.as_bytes.ensures) ∙ sym c.ends_after.ensures ∙ c.if-not-ends_after.false) (ap (option_map leaf_name) (sym c.unwrap-last.ensures) ∙ c.last_up_to_visiting.ensures.leaf pairs layout by))
+    rw c.new.ensures (span_walk by (bound_map (λ b. b.now) c.args.from) (bound_map (λ b. b.now) c.args.to)
+    (c.in-Some.ensures.leaf pairs layout by) (sym c.leaf_at-leaf.ensures)
+    (ap (is_up_to (bound_map (λ b. b.now) c.args.to)) (sym c.as_bytes.ensures) ∙ sym c.ends_after.ensures ∙ c.if-not-ends_after.false)
+    (ap (option_map leaf_name) (sym c.unwrap-last.ensures) ∙ c.last_up_to_visiting.ensures.leaf pairs layout by))
 
 -- ---- the counter
 pub returns-in_default-clause-visits : goal.returns-in_default-clause-visits

@@ -14,7 +14,11 @@ use Rattle.art_reading.proofs.range.walk_beside.Goals as goal
 pub down-init : goal.down-init
 down-init g c = record {
   within = omega arith;
-  readings = record { number = 0; counted = omega arith; is_number = λ pairs layout by. record { on_key = on_key_start by; at_least = omega arith; at_most = omega arith } };
+  readings = record {
+    number = 0;
+    counted = omega arith;
+    is_number = λ pairs layout by. record { on_key = on_key_start by; at_least = omega arith; at_most = omega arith };
+  };
   guide = λ pairs layout by. tt;
 }
 
@@ -39,7 +43,8 @@ returns-then-prefix_len-key_bytes-clause-beside g c pairs layout by =
 
 pub has_prefix-requires : goal.has_prefix-requires
 has_prefix-requires g c =
-    let long : length (take (c.down.depth + c.prefix_len-prefix_len.result - c.down.depth) (drop c.down.depth c.args.key_bytes.now)) ≡ c.prefix_len-prefix_len.result =
+    let long : length (take (c.down.depth + c.prefix_len-prefix_len.result - c.down.depth) (drop c.down.depth c.args.key_bytes.now))
+    ≡ c.prefix_len-prefix_len.result =
     omega (arith, length-take {A = ℕ}, length-drop {A = ℕ}) in (
       search rules,
       (
@@ -209,7 +214,8 @@ returns-in_default-lookup_child-clause-visits g c =
         λ pairs layout by.
             let read = before.is_number pairs layout by in
             let at = shown_met (stands_there by read.on_key.descent.at) c.in-Inner.ensures.proper c.in-Inner.ensures.name (sym c.inner_at-node.ensures.view) in
-            let last = gap_left read.on_key.descent c.args.key_bytes.now at (rw c.prefix_len-prefix_len.ensures at (sym c.lookup_child.ensures ∙ c.in_default-lookup_child.is)) in
+            let last = gap_left read.on_key.descent c.args.key_bytes.now at
+            (rw c.prefix_len-prefix_len.ensures at (sym c.lookup_child.ensures ∙ c.in_default-lookup_child.is)) in
             let seen = read.at_least in
             omega arith,
       );

@@ -14,7 +14,8 @@ pub returns-in-Insert : goal.returns-in-Insert
 returns-in-Insert g c side second =
     let (root, same) = c.in-Err.ensures.refused in
     rw (c.in-Insert.is, root) (from_none g.K.AsBytes.bytes g.row.P side second
-    (unplanted_step g.K.AsBytes.bytes g.row.P second c.requires same c.in-Err.ensures.handed_back (λ promised. absurd (false≢true (c.in-Err.ensures.succeeds promised)))))
+    (unplanted_step g.K.AsBytes.bytes g.row.P second c.requires same c.in-Err.ensures.handed_back
+    (λ promised. absurd (false≢true (c.in-Err.ensures.succeeds promised)))))
 
 pub returns-in-Ok-begin : goal.returns-in-Ok-begin
 returns-in-Ok-begin g c side second =
@@ -25,13 +26,17 @@ pub returns-in-InsertPrefix : goal.returns-in-InsertPrefix
 returns-in-InsertPrefix g c side second =
     let (root, same) = c.in-Err-begin.ensures.refused in
     rw (c.in-InsertPrefix.is, root) (from_none g.K.AsBytes.bytes g.row.P side second
-    (unplanted_prefix_step g.K.AsBytes.bytes g.row.P second c.requires same c.in-Err-begin.ensures.handed_back (λ promised. absurd (false≢true (c.in-Err-begin.ensures.succeeds promised)))))
+    (unplanted_prefix_step g.K.AsBytes.bytes g.row.P second c.requires same c.in-Err-begin.ensures.handed_back
+    (λ promised. absurd (false≢true (c.in-Err-begin.ensures.succeeds promised)))))
 
 pub returns-in-Delete : goal.returns-in-Delete
 returns-in-Delete g c side second = elim c.in-Delete.is [
-  | inl (key, is) ↦ rw (is, c.requires) (from_none g.K.AsBytes.bytes g.row.P side second (None, refl, absent_step g.K.AsBytes.bytes g.row.P side second None (refl, refl) refl))
-  | inr (inl is) ↦ rw (is, c.requires) (from_none g.K.AsBytes.bytes g.row.P side second (None, refl, absent_step g.K.AsBytes.bytes g.row.P side second None (refl, refl) refl))
-  | inr (inr is) ↦ rw (is, c.requires) (from_none g.K.AsBytes.bytes g.row.P side second (None, refl, absent_step g.K.AsBytes.bytes g.row.P side second None (refl, refl) refl))
+  | inl (key, is) ↦ rw (is, c.requires) (from_none g.K.AsBytes.bytes g.row.P side second
+      (None, refl, absent_step g.K.AsBytes.bytes g.row.P side second None (refl, refl) refl))
+  | inr (inl is) ↦ rw (is, c.requires) (from_none g.K.AsBytes.bytes g.row.P side second
+      (None, refl, absent_step g.K.AsBytes.bytes g.row.P side second None (refl, refl) refl))
+  | inr (inr is) ↦ rw (is, c.requires) (from_none g.K.AsBytes.bytes g.row.P side second
+      (None, refl, absent_step g.K.AsBytes.bytes g.row.P side second None (refl, refl) refl))
 ]
 
 pub returns-in-Clone : goal.returns-in-Clone

@@ -16,7 +16,9 @@ returns-in-Ok g c = any_from_root g.K.AsBytes.bytes g.row.P c.args.side.now _ (Î
     over_step g.K.AsBytes.bytes g.row.P g.K.Clone.is_clone g.V.Clone.is_clone c.args.side.now by c.opposite.result c.opposite.ensures (record {
       canonical = c.in-Ok.ensures.canonical (pairs_of layout) layout by;
       gained = c.in-Ok.ensures.gained;
-      freed = c.deallocate_tree.ensures.freed layout (has_children (of_key g.K.AsBytes.bytes) g.row.P c.args.present.now c.args.name (pairs_of layout) layout by);
+      freed =
+          c.deallocate_tree.ensures.freed layout (has_children (of_key g.K.AsBytes.bytes) g.row.P c.args.present.now c.args.name
+          (pairs_of layout) layout by);
       left = c.deallocate_tree.ensures.promise;
       taken = c.in-Ok.ensures.promise (pairs_of layout) layout by;
     }))

@@ -46,7 +46,8 @@ returns-in-Err g c side second =
     rw c.requires.root (from_root g.K.AsBytes.bytes g.row.P side second (λ layout by.
     let at = rw c.as_bytes.ensures at (c.in-Ok.ensures.point (pairs_of layout) layout by) in
     let accepted = rw c.as_bytes.ensures at (c.in-Ok.ensures.accepted (pairs_of layout) layout by) in
-    refused_step g.K.AsBytes.bytes g.row.P by second (accepted.0 refl) at (ap₂ (λ a b. (a, b)) c.in-Err.ensures.handed_back.0 c.in-Err.ensures.handed_back.1) (record {
+    refused_step g.K.AsBytes.bytes g.row.P by second (accepted.0 refl) at
+    (ap₂ (λ a b. (a, b)) c.in-Err.ensures.handed_back.0 c.in-Err.ensures.handed_back.1) (record {
       same = (c.in-Err.ensures.leaves, c.in-Err.ensures.inners);
       void = c.in-Err.ensures.void;
       uncovered = λ covered. absurd (false≢true (c.in-Err.ensures.succeeds covered));

@@ -27,7 +27,8 @@ pub returns-in-Err : goal.returns-in-Err
 returns-in-Err g c side second =
     rw c.requires.root (from_root g.K.AsBytes.bytes g.row.P side second (λ layout by.
     let at = rw c.as_bytes.ensures at (c.search_for_prefix_insert_point-at.ensures.point (pairs_of layout) layout by) in
-    prefix_refused g.K.AsBytes.bytes g.row.P by c.search_for_prefix_insert_point-at.result second at (ap₂ (λ a b. (a, b)) c.in-Err.ensures.handed_back.0 c.in-Err.ensures.handed_back.1) (record {
+    prefix_refused g.K.AsBytes.bytes g.row.P by c.search_for_prefix_insert_point-at.result second at
+    (ap₂ (λ a b. (a, b)) c.in-Err.ensures.handed_back.0 c.in-Err.ensures.handed_back.1) (record {
       same = (c.in-Err.ensures.leaves, c.in-Err.ensures.inners);
       void = c.in-Err.ensures.void;
       uncovered = λ covered. absurd (false≢true (c.in-Err.ensures.succeeds covered));

@@ -86,7 +86,8 @@ fn run_all<K: AsBytes + Clone + Drop, const P: usize>(
     root: &mut Option<OpaqueNodePtr>,
     commands: Vec<Command<K, u32>>,
 ) -> Result<Vec<Reply<K, u32>>, AllocError>
-    requires canonical { (pairs : List (K × ℕ)) × IsCanonical (of_key K.bytes) P first.old root.old pairs }
+    requires canonical { (pairs : List (K × ℕ)) ×
+        IsCanonical (of_key K.bytes) P first.old root.old pairs }
     requires clones { KeepBytes K.bytes K.is_clone }
     ensures { (pairs : List (K × ℕ)) × IsCanonical (of_key K.bytes) P first.new root.new pairs }
 {

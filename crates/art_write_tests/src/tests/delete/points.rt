@@ -30,7 +30,8 @@ pub fn take_out<K: AsBytes + Drop, const P: usize>(
     key_bytes: &[u8],
 ) -> Option<Option<OpaqueNodePtr>>
     requires { IsCanonicalRoot (of_key K.bytes) P store.old root }
-    ensures { IfSome result (λ left. IfSome left (λ root. IsCanonicalRoot (of_key K.bytes) P store.new root)) }
+    ensures { IfSome result (λ left.
+        IfSome left (λ root. IsCanonicalRoot (of_key K.bytes) P store.new root)) }
 {
     match point_of(store, root, key_bytes)?.apply(store, root) {
         Ok(done) => Some(done.new_root),

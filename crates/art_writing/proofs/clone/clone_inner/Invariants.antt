@@ -12,7 +12,8 @@ use Rattle.art_writing.proofs.clone.clone_inner.Given as goal
 abbrev pub invariant-children : goal.invariant-children
 invariant-children g l = record {
   copying : (tree : Tree OpaqueNodePtr (g.row.K.Denot × g.row.V.Denot)) → IsFullTree l.store (inner_name l.fn.root) tree →
-      IsCopying (IsPairClone g.K.Clone.is_clone g.V.Clone.is_clone) l.store l.fn.into tree (reverse l.above.items) l.into l.copy l.children (first_leaf l.ends) (last_leaf l.ends);
+      IsCopying (IsPairClone g.K.Clone.is_clone g.V.Clone.is_clone) l.store l.fn.into tree (reverse l.above.items) l.into l.copy l.children
+      (first_leaf l.ends) (last_leaf l.ends);
   lessened : IsLessened l.fn.into.promise l.into.promise;
 }
 

@@ -13,7 +13,8 @@ clone_leaf-requires g c =
 
 pub returns-in-Leaf : goal.returns-in-Leaf
 returns-in-Leaf g c =
-    subst (λ root. IsCloned {E = AllocError} (IsPairClone g.K.Clone.is_clone g.V.Clone.is_clone) c.args.store.now root c.args.into.now c.clone_leaf.new.into c.clone_leaf.result)
+    subst (λ root. IsCloned {E = AllocError}
+    (IsPairClone g.K.Clone.is_clone g.V.Clone.is_clone) c.args.store.now root c.args.into.now c.clone_leaf.new.into c.clone_leaf.result)
     c.in-Leaf.ensures.name c.clone_leaf.ensures
 
 pub clone_inner-requires : goal.clone_inner-requires
@@ -23,5 +24,6 @@ clone_inner-requires g c =
 
 pub returns-in-Inner : goal.returns-in-Inner
 returns-in-Inner g c =
-    subst (λ root. IsCloned {E = AllocError} (IsPairClone g.K.Clone.is_clone g.V.Clone.is_clone) c.args.store.now root c.args.into.now c.clone_inner.new.into c.clone_inner.result)
+    subst (λ root. IsCloned {E = AllocError}
+    (IsPairClone g.K.Clone.is_clone g.V.Clone.is_clone) c.args.store.now root c.args.into.now c.clone_inner.new.into c.clone_inner.result)
     c.in-Inner.ensures.name c.clone_inner.ensures

@@ -15,16 +15,20 @@ returns-clause-canonical g c pairs layout is =
     (λ done copied. cloned_canonical g.K.AsBytes.bytes g.row.P g.K.Clone.is_clone g.V.Clone.is_clone c.requires.clones is copied)
 
 pub returns-clause-gained : goal.returns-clause-gained
-returns-clause-gained g c = others_kept g.K.AsBytes.bytes g.row.P g.K.Clone.is_clone g.V.Clone.is_clone c.requires.clones _ _ c.clone_tree.result c.requires.root c.clone_tree.ensures.copied
+returns-clause-gained g c = others_kept g.K.AsBytes.bytes g.row.P g.K.Clone.is_clone g.V.Clone.is_clone c.requires.clones _ _
+    c.clone_tree.result c.requires.root c.clone_tree.ensures.copied
 
 pub returns-clause-apart : goal.returns-clause-apart
-returns-clause-apart g c = apart_kept g.K.AsBytes.bytes g.row.P g.K.Clone.is_clone g.V.Clone.is_clone c.requires.clones _ _ c.clone_tree.result c.requires.root c.clone_tree.ensures.copied
+returns-clause-apart g c = apart_kept g.K.AsBytes.bytes g.row.P g.K.Clone.is_clone g.V.Clone.is_clone c.requires.clones _ _
+    c.clone_tree.result c.requires.root c.clone_tree.ensures.copied
 
 pub returns-clause-first : goal.returns-clause-first
-returns-clause-first g c = first_named g.K.AsBytes.bytes g.row.P g.K.Clone.is_clone g.V.Clone.is_clone c.requires.clones _ _ c.clone_tree.result c.requires.root c.clone_tree.ensures.copied
+returns-clause-first g c = first_named g.K.AsBytes.bytes g.row.P g.K.Clone.is_clone g.V.Clone.is_clone c.requires.clones _ _
+    c.clone_tree.result c.requires.root c.clone_tree.ensures.copied
 
 pub returns-clause-last : goal.returns-clause-last
-returns-clause-last g c = last_named g.K.AsBytes.bytes g.row.P g.K.Clone.is_clone g.V.Clone.is_clone c.requires.clones _ _ c.clone_tree.result c.requires.root c.clone_tree.ensures.copied
+returns-clause-last g c = last_named g.K.AsBytes.bytes g.row.P g.K.Clone.is_clone g.V.Clone.is_clone c.requires.clones _ _
+    c.clone_tree.result c.requires.root c.clone_tree.ensures.copied
 
 pub returns-clause-promise : goal.returns-clause-promise
 returns-clause-promise g c pairs layout is = each_copied c.clone_tree.result is c.clone_tree.ensures.copied (λ done copied. copied.promise)

@@ -28,7 +28,8 @@ pub leaves-smaller : goal.leaves-smaller
 leaves-smaller g c =
     let (names, is) = c.requires in
     let left = c.leaves.invariant.left names is in
-    let less = leaf_less c.leaves.store.leaves c.in-Some.leaf (end_there c.leaves.store left.rest c.in-Some.leaf left.iterator_of (c.in-Some.ensures.leaf left.rest left.iterator_of)) in
+    let less = leaf_less c.leaves.store.leaves c.in-Some.leaf
+    (end_there c.leaves.store left.rest c.in-Some.leaf left.iterator_of (c.in-Some.ensures.leaf left.rest left.iterator_of)) in
     let now = ap map.len c.free_leaf.ensures.leaves in
     omega (arith, less, now)
 

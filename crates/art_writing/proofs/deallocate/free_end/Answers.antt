@@ -32,11 +32,13 @@ free_node-requires g c =
 
 pub returns-in-Inner-clause-freed : goal.returns-in-Inner-clause-freed
 returns-in-Inner-clause-freed g c shape ends can =
-    (inner_goes c.in-Inner.ensures.proper c.in-Inner.ensures.name {t = c.free_node.new.store} c.free_node.ensures.inners c.free_node.ensures.leaves shape ends can).0
+    (inner_goes c.in-Inner.ensures.proper c.in-Inner.ensures.name {t = c.free_node.new.store} c.free_node.ensures.inners
+    c.free_node.ensures.leaves shape ends can).0
 
 pub returns-in-Inner-clause-count : goal.returns-in-Inner-clause-count
 returns-in-Inner-clause-count g c shape ends can =
-    (inner_goes c.in-Inner.ensures.proper c.in-Inner.ensures.name {t = c.free_node.new.store} c.free_node.ensures.inners c.free_node.ensures.leaves shape ends can).1
+    (inner_goes c.in-Inner.ensures.proper c.in-Inner.ensures.name {t = c.free_node.new.store} c.free_node.ensures.inners
+    c.free_node.ensures.leaves shape ends can).1
 
 pub returns-in-Inner-clause-improper : goal.returns-in-Inner-clause-improper
 returns-in-Inner-clause-improper g c name leaf =

@@ -9,7 +9,14 @@ use Rattle.art_writing.proofs.OneTree.{all_is_left, fewer_left, is_end, last_cut
 use Rattle.art_writing.proofs.deallocate.free_nodes.Goals as goal
 
 pub left-init : goal.left-init
-left-init g c = record { left = λ shape can. all_is_left shape can; promise = refl; improper = λ name leaf. refl; total = omega arith; few = λ more. absurd (omega arith) }
+left-init g c =
+    record {
+      left = λ shape can. all_is_left shape can;
+      promise = refl;
+      improper = λ name leaf. refl;
+      total = omega arith;
+      few = λ more. absurd (omega arith);
+    }
 
 -- ---- an end is left
 
@@ -35,8 +42,11 @@ returns-in_default-clause-count g c shape can =
 
 pub free_node-requires : goal.free_node-requires
 free_node-requires g c =
-    let (others, last, only) = c.in-Some.ensures.last in
-    (search rules, rw c.inner_of-upper.ensures (node_there c.left.store c.left.left (some_children c.left.store c.left.left others (c.in-Some.last.byte, c.in-Some.last.name) last)))
+    let (others, last, only) = c.in-Some.ensures.last in (
+      search rules,
+      rw c.inner_of-upper.ensures
+          (node_there c.left.store c.left.left (some_children c.left.store c.left.left others (c.in-Some.last.byte, c.in-Some.last.name) last)),
+    )
 
 pub left-smaller-then-last : goal.left-smaller-then-last
 left-smaller-then-last g c =
@@ -58,7 +68,8 @@ left-preserved-then-last g c =
       improper = λ name leaf.
           let has = some_children c.left.store c.left.left others (c.in-Some.last.byte, c.in-Some.last.name) last in
           ap (λ m. map.get m name) removed
-          ∙ inner_gone_elsewhere c.left.store.inners (as_inner c.left.left) name (λ e. has.off (sym (ap (λ z. z.kind) e) ∙ leaf)) ∙ c.left.invariant.improper name leaf;
+          ∙ inner_gone_elsewhere c.left.store.inners (as_inner c.left.left) name (λ e. has.off (sym (ap (λ z. z.kind) e) ∙ leaf))
+          ∙ c.left.invariant.improper name leaf;
       total = let a = c.left.invariant.total in let e = ap map.len c.free_node.ensures.leaves in omega (arith, a, e);
       few = c.left.invariant.few;
     }
@@ -67,8 +78,11 @@ left-preserved-then-last g c =
 
 pub remove_child-requires : goal.remove_child-requires
 remove_child-requires g c =
-    let (others, last, only) = c.in-Some.ensures.last in
-    (search rules, rw c.inner_of-upper.ensures (node_there c.left.store c.left.left (some_children c.left.store c.left.left others (c.in-Some.last.byte, c.in-Some.last.name) last)))
+    let (others, last, only) = c.in-Some.ensures.last in (
+      search rules,
+      rw c.inner_of-upper.ensures
+          (node_there c.left.store c.left.left (some_children c.left.store c.left.left others (c.in-Some.last.byte, c.in-Some.last.name) last)),
+    )
 
 pub hang-freed-requires : goal.hang-freed-requires
 hang-freed-requires g c =
@@ -76,7 +90,8 @@ hang-freed-requires g c =
     let (others, last, only) = c.in-Some.ensures.last in
     let is = c.left.invariant.left shape can in
     let cut = last_cut c.in-Some.last.byte others is.left is.can c.in-Some.ensures.rising last
-    (c.remove_child.ensures.inners ∙ ap (λ p. change c.left.store.inners p (without_child c.in-Some.last.byte)) c.inner_of-upper.ensures) c.remove_child.ensures.leaves in
+    (c.remove_child.ensures.inners ∙ ap (λ p. change c.left.store.inners p (without_child c.in-Some.last.byte)) c.inner_of-upper.ensures)
+    c.remove_child.ensures.leaves in
     (search rules, (cut.upper, cut.cut, cut.can))
 
 pub left-smaller : goal.left-smaller
@@ -85,7 +100,8 @@ left-smaller g c =
     let (others, last, only) = c.in-Some.ensures.last in
     let is = c.left.invariant.left shape can in
     let cut = last_cut c.in-Some.last.byte others is.left is.can c.in-Some.ensures.rising last
-    (c.remove_child.ensures.inners ∙ ap (λ p. change c.left.store.inners p (without_child c.in-Some.last.byte)) c.inner_of-upper.ensures) c.remove_child.ensures.leaves in
+    (c.remove_child.ensures.inners ∙ ap (λ p. change c.left.store.inners p (without_child c.in-Some.last.byte)) c.inner_of-upper.ensures)
+    c.remove_child.ensures.leaves in
     fewer_left is.can (root_hangs cut (c.hang-freed.ensures.joined cut.upper cut.cut cut.can))
 
 pub left-preserved : goal.left-preserved
@@ -102,7 +118,8 @@ left-preserved g c =
           let has = some_children c.left.store c.left.left others (c.in-Some.last.byte, c.in-Some.last.name) last in
           c.hang-freed.ensures.improper name leaf
           ∙ ap (λ m. map.get m name) removed
-          ∙ inner_changed_elsewhere c.left.store.inners (as_inner c.left.left) name (without_child c.in-Some.last.byte) (λ e. has.off (sym (ap (λ z. z.kind) e) ∙ leaf))
+          ∙ inner_changed_elsewhere c.left.store.inners (as_inner c.left.left) name (without_child c.in-Some.last.byte)
+          (λ e. has.off (sym (ap (λ z. z.kind) e) ∙ leaf))
           ∙ c.left.invariant.improper name leaf;
       total =
           let a = c.left.invariant.total in

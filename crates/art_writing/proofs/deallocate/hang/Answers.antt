@@ -28,15 +28,19 @@ returns-in_default-clause-joined g c upper lower can =
 -- ---- the first child is below
 
 pub write_child-requires : goal.write_child-requires
-write_child-requires g c =
-    (search rules, rw c.inner_of.ensures (first_has_place c.down.store c.down.child c.in-Some.byte c.in-Some.first (kind_capacity c.down.child.kind) (sym c.in-Some.is ∙ c.first_child.ensures)))
+write_child-requires g c = (
+  search rules,
+  rw c.inner_of.ensures (first_has_place c.down.store c.down.child c.in-Some.byte c.in-Some.first
+      (kind_capacity c.down.child.kind) (sym c.in-Some.is ∙ c.first_child.ensures)),
+)
 
 pub down-smaller : goal.down-smaller
 down-smaller g c =
     let (upper, lower, can) = c.requires in
     let is = c.down.invariant.moved upper lower can in
     fewer_below is.can (child_moves {u = c.write_child.new.self} is.above is.below is.can (sym c.in-Some.is ∙ c.first_child.ensures)
-    (c.write_child.ensures.inners ∙ ap (λ p. change c.down.store.inners p (with_child c.in-Some.byte c.down.left)) c.inner_of.ensures) c.write_child.ensures.leaves)
+    (c.write_child.ensures.inners ∙ ap (λ p. change c.down.store.inners p (with_child c.in-Some.byte c.down.left)) c.inner_of.ensures)
+    c.write_child.ensures.leaves)
 
 pub down-preserved : goal.down-preserved
 down-preserved g c =
@@ -49,7 +53,8 @@ down-preserved g c =
       promise = c.write_child.ensures.promise ∙ c.down.invariant.promise;
       improper = λ name leaf.
           ap (λ m. map.get m name) written
-          ∙ inner_changed_elsewhere c.down.store.inners (as_inner c.down.child) name (with_child c.in-Some.byte c.down.left) (λ e. has.off (sym (ap (λ z. z.kind) e) ∙ leaf))
+          ∙ inner_changed_elsewhere c.down.store.inners (as_inner c.down.child) name (with_child c.in-Some.byte c.down.left)
+          (λ e. has.off (sym (ap (λ z. z.kind) e) ∙ leaf))
           ∙ c.down.invariant.improper name leaf;
       leaves = c.write_child.ensures.leaves ∙ c.down.invariant.leaves;
     }

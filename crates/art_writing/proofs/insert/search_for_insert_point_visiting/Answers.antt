@@ -15,4 +15,5 @@ pub returns-in-InsertPoint-clause-applies : goal.returns-in-InsertPoint-clause-a
 returns-in-InsertPoint-clause-applies g c = c.in-InsertPoint.ensures.applies
 
 pub returns-in-OverwritePoint-clause-accepted : goal.returns-in-OverwritePoint-clause-accepted
-returns-in-OverwritePoint-clause-accepted g c pairs layout by = ((λ ok. absurd (false≢true ok)), (λ free. absurd (true≢false (sym (c.in-OverwritePoint.ensures.point pairs layout by).0 ∙ free))))
+returns-in-OverwritePoint-clause-accepted g c pairs layout by =
+    ((λ ok. absurd (false≢true ok)), (λ free. absurd (true≢false (sym (c.in-OverwritePoint.ensures.point pairs layout by).0 ∙ free))))

@@ -4,8 +4,11 @@ use Rattle.art_model.proofs.leaves.Leaves.{there_changed}
 use Rattle.art_writing.proofs.writes.link.Goals as goal
 
 pub set_beside-requires-2 : goal.set_beside-requires-2
-set_beside-requires-2 g c =
-    (search rules, subst (λ m. IsThere m c.args.next) (sym c.set_beside.ensures.leaves) (there_changed c.args.store.now.leaves c.args.previous c.args.next (with_next c.args.next) c.requires.next))
+set_beside-requires-2 g c = (
+  search rules,
+  subst (λ m. IsThere m c.args.next) (sym c.set_beside.ensures.leaves)
+      (there_changed c.args.store.now.leaves c.args.previous c.args.next (with_next c.args.next) c.requires.next),
+)
 
 pub returns-clause-leaves : goal.returns-clause-leaves
 returns-clause-leaves g c =

@@ -20,8 +20,10 @@ returns-clause-leaf g c =
     let x = c.leaf_at-leaf.result.now in
     let there = c.leaf_at-leaf.ensures in
     let all = c.link.ensures.leaves in
-    let same = joined_keeps m x.previous x.next x.next x.previous c.args.name x there c.free_leaf-leaf.result (sym (ap (λ z. get z c.args.name) all) ∙ c.free_leaf-leaf.ensures.node) in
-    subst (λ o. IsSomeAnd o (λ leaf. c.with_no_siblings.result ≡ unlinked_leaf (leaf.key, leaf.value))) (sym there) (c.with_no_siblings.ensures ∙ ap unlinked_leaf same)
+    let same = joined_keeps m x.previous x.next x.next x.previous c.args.name x there c.free_leaf-leaf.result
+    (sym (ap (λ z. get z c.args.name) all) ∙ c.free_leaf-leaf.ensures.node) in
+    subst (λ o. IsSomeAnd o (λ leaf. c.with_no_siblings.result ≡ unlinked_leaf (leaf.key, leaf.value))) (sym there)
+    (c.with_no_siblings.ensures ∙ ap unlinked_leaf same)
 
 pub returns-clause-leaves : goal.returns-clause-leaves
 unfolding without_leaf
@@ -30,4 +32,5 @@ returns-clause-leaves g c =
     let x = c.leaf_at-leaf.result.now in
     let there = c.leaf_at-leaf.ensures in
     let all = c.link.ensures.leaves in
-    subst (λ o. IsSomeAnd o (λ leaf. c.free_leaf-leaf.new.self.leaves ≡ without_leaf m c.args.name leaf)) (sym there) (c.free_leaf-leaf.ensures.leaves ∙ ap (λ z. remove z c.args.name) all)
+    subst (λ o. IsSomeAnd o (λ leaf. c.free_leaf-leaf.new.self.leaves ≡ without_leaf m c.args.name leaf)) (sym there)
+    (c.free_leaf-leaf.ensures.leaves ∙ ap (λ z. remove z c.args.name) all)

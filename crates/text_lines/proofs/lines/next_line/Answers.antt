@@ -6,13 +6,16 @@ use Rattle.text_lines.proofs.lines.next_line.Goals as goal
 
 pub returns-then-branch-eq0 : goal.returns-then-branch-eq0
 returns-then-branch-eq0 g c =
-    read_none (g.R.Read.remaining c.args.input.now) (g.R.Read.remaining c.read_until.new.self) c.read_until.new.buf.items (c.in_ok-read_until.ensures.end c.if-branch-eq0.true)
+    read_none (g.R.Read.remaining c.args.input.now) (g.R.Read.remaining c.read_until.new.self) c.read_until.new.buf.items
+    (c.in_ok-read_until.ensures.end c.if-branch-eq0.true)
 
 pub returns-then-not-is_ended : goal.returns-then-not-is_ended
 returns-then-not-is_ended g c =
     let some : 0 < length c.read_until.new.buf.items =
-    some_read (c.in_ok-read_until.field-0) _ _ c.read_until.new.buf.items (ap length c.deref.ensures.value) c.deref.ensures.len c.in_ok-read_until.ensures.ok c.if-branch-eq0.false in
-    read_last (g.R.Read.remaining c.args.input.now) (g.R.Read.remaining c.read_until.new.self) c.clear.new.self.items c.read_until.new.buf.items c.clear.ensures.items
+    some_read (c.in_ok-read_until.field-0) _ _ c.read_until.new.buf.items
+    (ap length c.deref.ensures.value) c.deref.ensures.len c.in_ok-read_until.ensures.ok c.if-branch-eq0.false in
+    read_last (g.R.Read.remaining c.args.input.now)
+    (g.R.Read.remaining c.read_until.new.self) c.clear.new.self.items c.read_until.new.buf.items c.clear.ensures.items
     c.in_ok-read_until.ensures.bytes c.in_ok-read_until.ensures.rest some
     (λ e. false≢true (c.if-not-is_ended.ensures.1 (subst (λ bs. slice_get bs (length bs - 1) ≡ Some 10) (sym c.deref.ensures.value) e)))
 

@@ -15,7 +15,8 @@ returns-clause-accounts c =
 pub returns-clause-sum : goal.returns-clause-sum
 returns-clause-sum c =
     let known = after_calls _ _ _ _ _ c.for_each_mut_by_ref.ensures.pairs
-    (λ first seen done f. (f.1.now ≡ min (sum_by (paid c.args.fee) seen) (2 ^ 64 - 1)) × (f.0.now ≡ c.args.fee) × (first.1.ghost_name ≡ f.1.ghost_name)) (refl, refl, refl)
+    (λ first seen done f. (f.1.now ≡ min (sum_by (paid c.args.fee) seen) (2 ^ 64 - 1)) × (f.0.now ≡ c.args.fee) ×
+    (first.1.ghost_name ≡ f.1.ghost_name)) (refl, refl, refl)
     (λ first seen done f x left w known a.
     let called = a.called in
     let (sum, fee, name) = known in

@@ -12,4 +12,5 @@ told a b c p q r s first of_a of_b of_c of_p of_q of_r of_s is = rw (is, of_s, o
 pub returns : goal.returns
 returns c =
     told c.from.result c.from-2.result c.from-3.result c.new-days.result c.insert.new.self c.insert-2.new.self c.insert-3.new.self c.pop_first.result
-    c.from.ensures c.from-2.ensures c.from-3.ensures c.new-days.ensures c.in-Ok.ensures.pairs c.in-Ok-insert.ensures.pairs c.in-Ok-insert-2.ensures.pairs c.pop_first.ensures.removed
+    c.from.ensures c.from-2.ensures c.from-3.ensures c.new-days.ensures c.in-Ok.ensures.pairs c.in-Ok-insert.ensures.pairs
+    c.in-Ok-insert-2.ensures.pairs c.pop_first.ensures.removed

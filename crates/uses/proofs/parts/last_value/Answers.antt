@@ -11,4 +11,5 @@ last_pushed (y ∷ z ∷ xs) x = last_pushed (z ∷ xs) x
 
 pub returns-in-Some : goal.returns-in-Some
 returns-in-Some c =
-    sym (ap (λ pairs. option_map (λ pair. pair.1) (last_of pairs)) c.in-Some.ensures.steps ∙ ap (option_map (λ pair. pair.1)) (last_pushed c.next_back.new.self (deref_pair c.in-Some.pair)))
+    sym (ap (λ pairs. option_map (λ pair. pair.1) (last_of pairs)) c.in-Some.ensures.steps
+    ∙ ap (option_map (λ pair. pair.1)) (last_pushed c.next_back.new.self (deref_pair c.in-Some.pair)))

@@ -23,13 +23,16 @@ returns-in_err-children-clause-fault g c =
     let bytes = of_key g.K.AsBytes.bytes in
     let root = inner_name c.args.root in
     passed_on _ _ _ c.from_residual.ensures.1
-    (c.in_err-children.ensures.fault root (subst (λ p. Reaches bytes g.row.P c.args.store.now root p root) (sym c.requires.place) (reach_root bytes g.row.P c.args.store.now root)))
+    (c.in_err-children.ensures.fault root (subst (λ p. Reaches bytes g.row.P c.args.store.now root p root) (sym c.requires.place)
+    (reach_root bytes g.row.P c.args.store.now root)))
 
 pub below-init : goal.below-init
 below-init g c =
     let (start, starts, first) = c.requires.met in
     let (node, there) = some_of (map.get c.args.store.now.inners c.args.root) c.requires.there in
-    let enters = subst (λ o. IfSome o (λ node. IsEntered (of_key g.K.AsBytes.bytes) g.row.P c.args.store.now c.args.place.now.items c.enter.new.place.items c.args.root node c.in_ok-children.children)) there
+    let enters = subst (λ o. IfSome o (λ node. IsEntered
+    (of_key g.K.AsBytes.bytes) g.row.P c.args.store.now c.args.place.now.items c.enter.new.place.items c.args.root node
+    c.in_ok-children.children)) there
     c.in_ok-children.ensures.entered in
     record { at = started starts first c.requires.proper there c.requires.place c.new-above.ensures.items enters; least = c.in_ok-children.ensures.least }
 
@@ -40,7 +43,9 @@ returns-in_err-leave-clause-fault g c =
     let at = c.below.invariant.at in
     let root = inner_name c.args.root in
     passed_on _ _ _ c.from_residual-in_err-leave.ensures.1
-    (c.in_err-leave.ensures.fault root (subst (λ p. Reaches (of_key g.K.AsBytes.bytes) g.row.P c.args.store.now root p (inner_name c.below.name)) (sym (cut_off at)) (own_reached at)))
+    (c.in_err-leave.ensures.fault root (subst
+    (λ p. Reaches (of_key g.K.AsBytes.bytes) g.row.P c.args.store.now root p (inner_name c.below.name))
+    (sym (cut_off at)) (own_reached at)))
 
 pub returns-in_default-pop-clause-met : goal.returns-in_default-pop-clause-met
 returns-in_default-pop-clause-met g c =
@@ -69,7 +74,8 @@ below-smaller-in_default g c =
     let few = few_left next in
     let most = capacity_most c.in-Some-pop.parent.name.kind in
     let one = one_more_above c.below.above.items c.pop.new.self.items c.in-Some-pop.parent c.in-Some-pop.ensures.items in
-    falls_out (left_to_meet c.args.store.now.inners c.below.seen) (left_to_meet c.args.store.now.inners c.below.seen) (length c.below.above.items) (length c.pop.new.self.items)
+    falls_out (left_to_meet c.args.store.now.inners c.below.seen) (left_to_meet c.args.store.now.inners c.below.seen)
+    (length c.below.above.items) (length c.pop.new.self.items)
     (length c.below.children) (length c.in-Some-pop.parent.children) refl one (omega (arith, few, most))
 
 -- ---- a child is next
@@ -81,7 +87,8 @@ returns-in_err-meet-clause-fault g c =
     let child = c.in-Some.child in
     passed_on _ _ _ c.from_residual-in_err-meet.ensures.1
     (c.in_err-meet.ensures.fault root (all_reached at)
-    (subst (λ p. Reaches (of_key g.K.AsBytes.bytes) g.row.P c.args.store.now root p child) (sym c.deref.ensures.value) (child_is_reached at c.in-Some.ensures.steps c.in_ok-push.ensures.items))
+    (subst (λ p. Reaches (of_key g.K.AsBytes.bytes) g.row.P c.args.store.now root p child) (sym c.deref.ensures.value)
+    (child_is_reached at c.in-Some.ensures.steps c.in_ok-push.ensures.items))
     (λ other e same. stands_elsewhere child (child_is_free at c.in-Some.ensures.steps c.in_ok-push.ensures.items) other e (same ∙ c.deref.ensures.value)))
 
 pub returns-in_err-check_leaf-in-Leaf-clause-fault : goal.returns-in_err-check_leaf-in-Leaf-clause-fault
@@ -97,18 +104,22 @@ returns-in_err-check_leaf-in-Leaf-clause-fault g c =
 pub below-preserved-in-Leaf : goal.below-preserved-in-Leaf
 below-preserved-in-Leaf g c =
     let first = subst (IsFirstMet c.below.seen c.meet.new.seen c.in-Some.child) c.deref.ensures.value c.in_ok-meet.ensures.met in
-    let stands = subst (IsLeafAt (of_key g.K.AsBytes.bytes) g.row.P c.args.store.now c.in-Leaf.leaf) c.deref-in-Leaf.ensures.value c.in_ok-check_leaf-in-Leaf.ensures.leaf in
+    let stands = subst (IsLeafAt (of_key g.K.AsBytes.bytes) g.row.P c.args.store.now c.in-Leaf.leaf)
+    c.deref-in-Leaf.ensures.value c.in_ok-check_leaf-in-Leaf.ensures.leaf in
     record {
-      at = leaf_over c.below.invariant.at c.in-Some.ensures.steps c.in_ok-push.ensures.items c.in-Leaf.leaf first c.in-Leaf.ensures.name stands (sym c.push.new.self.ok.0) c.pop-in-Leaf.ensures.rest;
+      at = leaf_over c.below.invariant.at c.in-Some.ensures.steps c.in_ok-push.ensures.items c.in-Leaf.leaf first
+          c.in-Leaf.ensures.name stands (sym c.push.new.self.ok.0) c.pop-in-Leaf.ensures.rest;
       least = tt;
     }
 
 pub below-smaller-in-Leaf : goal.below-smaller-in-Leaf
 below-smaller-in-Leaf g c =
     let first = subst (IsFirstMet c.below.seen c.meet.new.seen c.in-Some.child) c.deref.ensures.value c.in_ok-meet.ensures.met in
-    falls_by (left_to_meet c.args.store.now.inners c.below.seen) (left_to_meet c.args.store.now.inners c.meet.new.seen) (length c.below.above.items) (length c.below.above.items)
+    falls_by (left_to_meet c.args.store.now.inners c.below.seen) (left_to_meet c.args.store.now.inners c.meet.new.seen)
+    (length c.below.above.items) (length c.below.above.items)
     (length c.below.children) (length c.next.new.self)
-    (no_more_to_try c.args.store.now.inners (place_in c.below.seen) (place_in c.meet.new.seen) (c.in-Some.child ∷ []) (one_met first)) refl (ap length c.in-Some.ensures.steps)
+    (no_more_to_try c.args.store.now.inners (place_in c.below.seen) (place_in c.meet.new.seen) (c.in-Some.child ∷ []) (one_met first)) refl
+    (ap length c.in-Some.ensures.steps)
 
 pub enter-requires-in-below : goal.enter-requires-in-below
 enter-requires-in-below g c =
@@ -117,8 +128,16 @@ enter-requires-in-below g c =
     let same = c.in-Inner.ensures.name in
     let (node, there) = inner_is_there s c.in-Inner.inner c.in-Inner.ensures.proper (subst (IsUsed s) (sym same) c.in_ok-meet.ensures.there) in
     let first = subst (IsFirstLeast bytes g.row.P s c.below.least) c.in-Some.ensures.steps c.below.invariant.least in
-    let least = least_known bytes g.row.P s c.below.least c.in-Some.byte c.in-Some.child c.next.new.self first in
-    (search rules, (ap is_some there, (c.in-Inner.ensures.proper, subst (λ n. IfSome c.below.least (λ leaf. IsLeastLeaf bytes g.row.P s n (Some leaf))) (sym same) least)))
+    let least = least_known bytes g.row.P s c.below.least c.in-Some.byte c.in-Some.child c.next.new.self first in (
+      search rules,
+      (
+        ap is_some there,
+        (
+          c.in-Inner.ensures.proper,
+          subst (λ n. IfSome c.below.least (λ leaf. IsLeastLeaf bytes g.row.P s n (Some leaf))) (sym same) least,
+        ),
+      ),
+    )
 
 pub returns-in_err-entered-clause-fault : goal.returns-in_err-entered-clause-fault
 returns-in_err-entered-clause-fault g c =
@@ -140,12 +159,16 @@ below-preserved g c =
     let first = subst (λ n. IsFirstMet c.below.seen c.meet.new.seen n c.push.new.self.items) (sym same) met in
     let (node, there) = inner_is_there s c.in-Inner.inner c.in-Inner.ensures.proper (subst (IsUsed s) (sym same) c.in_ok-meet.ensures.there) in
     let parent : Above = record { name = c.below.name; depth = c.below.depth; children = c.next.new.self } in
-    let outer = subst (λ n. AreAbove bytes g.row.P s root (parent ∷ reverse c.below.above.items) c.below.seen c.push.new.self.items n) (sym same) (parent_above at c.in-Some.ensures.steps c.in_ok-push.ensures.items) in
-    let enters = subst (λ o. IfSome o (λ node. IsEntered bytes g.row.P s c.push.new.self.items c.enter-in-below.new.place.items c.in-Inner.inner node c.in_ok-entered.entered.0)) there c.in_ok-entered.ensures.entered in
+    let outer = subst (λ n. AreAbove bytes g.row.P s root (parent ∷ reverse c.below.above.items) c.below.seen c.push.new.self.items n)
+    (sym same) (parent_above at c.in-Some.ensures.steps c.in_ok-push.ensures.items) in
+    let enters = subst (λ o. IfSome o (λ node. IsEntered bytes g.row.P s c.push.new.self.items c.enter-in-below.new.place.items
+    c.in-Inner.inner node c.in_ok-entered.entered.0)) there c.in_ok-entered.ensures.entered in
     record {
-      at = subst (λ l. IsAt bytes g.row.P s root l c.meet.new.seen c.enter-in-below.new.place.items c.in-Inner.inner c.len-depth.result c.in_ok-entered.entered.0)
+      at = subst (λ l. IsAt bytes g.row.P s root l c.meet.new.seen c.enter-in-below.new.place.items c.in-Inner.inner c.len-depth.result
+          c.in_ok-entered.entered.0)
           (sym (reverse-last c.push-in-below.new.self.items c.below.above.items parent c.in_ok-push-2.ensures.items))
-          (entered outer (child_is_free at c.in-Some.ensures.steps c.in_ok-push.ensures.items) first c.in-Inner.ensures.proper there (c.len-depth.ensures ∙ c.push.new.self.ok.0) enters);
+          (entered outer (child_is_free at c.in-Some.ensures.steps c.in_ok-push.ensures.items) first c.in-Inner.ensures.proper there
+          (c.len-depth.ensures ∙ c.push.new.self.ok.0) enters);
       least = c.in_ok-entered.ensures.least;
     }
 
@@ -157,11 +180,14 @@ below-smaller g c =
     let first = subst (λ n. IsFirstMet c.below.seen c.meet.new.seen n c.push.new.self.items) (sym same) met in
     let (node, there) = inner_is_there s c.in-Inner.inner c.in-Inner.ensures.proper (subst (IsUsed s) (sym same) c.in_ok-meet.ensures.there) in
     let parent : Above = record { name = c.below.name; depth = c.below.depth; children = c.next.new.self } in
-    let enters = subst (λ o. IfSome o (λ node. IsEntered (of_key g.K.AsBytes.bytes) g.row.P s c.push.new.self.items c.enter-in-below.new.place.items c.in-Inner.inner node c.in_ok-entered.entered.0)) there
+    let enters = subst (λ o. IfSome o (λ node. IsEntered
+    (of_key g.K.AsBytes.bytes) g.row.P s c.push.new.self.items c.enter-in-below.new.place.items c.in-Inner.inner node
+    c.in_ok-entered.entered.0)) there
     c.in_ok-entered.ensures.entered in
     let all = ap length enters.all in
     let bound = enters.bound in
     let most = capacity_most c.in-Inner.inner.kind in
-    falls_in (left_to_meet s.inners c.below.seen) (left_to_meet s.inners c.meet.new.seen) (length c.below.above.items) (length c.push-in-below.new.self.items) (length c.below.children) (length c.in_ok-entered.entered.0)
+    falls_in (left_to_meet s.inners c.below.seen) (left_to_meet s.inners c.meet.new.seen) (length c.below.above.items)
+    (length c.push-in-below.new.self.items) (length c.below.children) (length c.in_ok-entered.entered.0)
     (less_to_try s.inners (place_in c.below.seen) (place_in c.meet.new.seen) c.in-Inner.inner node c.push.new.self.items there first.fresh first.met)
     (one_more_above c.push-in-below.new.self.items c.below.above.items parent c.in_ok-push-2.ensures.items) (omega (arith, all, bound, most))

@@ -42,10 +42,12 @@ module _ {K V : Type 0} (bytes : K × V → List ℕ) (P : ℕ) (s : Nodes K V) 
       go (Some l) e = (between node.previous node.next, named (between node.previous node.next) refl, inr (refl, ap (option_map leaf_name) e))
 
   -- what is reported of a sibling is true at the leaf
-  at_leaf : {T : Type 0} (r : Result T MalformedTreeError) (place : List ℕ) (link : Option LeafPtr) (order : Ordering) {key : List ℕ} → bytes (pair_of node) ≡ key →
+  at_leaf : {T : Type 0} (r : Result T MalformedTreeError) (place : List ℕ) (link : Option LeafPtr) (order : Ordering) {key : List ℕ} →
+      bytes (pair_of node) ≡ key →
       ((root : OpaqueNodePtr) → IfSome link (λ l. HasSibling bytes P s root (leaf_name p) order (leaf_name l))) →
       IfErr r (λ error. (root leaf : OpaqueNodePtr) (x : K × V) → ReachesLeaf bytes P s root place leaf x → bytes x ≡ key →
-      IfSome link (λ l. HasSibling bytes P s root leaf order (leaf_name l)) → IsTrueOf bytes P s root (fault_of error)) → IfErr r (IsTrueAt bytes P s place (leaf_name p))
+      IfSome link (λ l. HasSibling bytes P s root leaf order (leaf_name l)) → IsTrueOf bytes P s root (fault_of error)) →
+      IfErr r (IsTrueAt bytes P s place (leaf_name p))
   at_leaf (Ok x) place link order is names h = tt
   at_leaf (Err error) place link order is names h = λ root reach. h root (leaf_name p) (pair_of node) (reach, leaf_at s p node there) is (names root)
 
@@ -55,7 +57,11 @@ one_node e f = cc
 pub returns-clause-leaf : goal.returns-clause-leaf
 returns-clause-leaf g c =
     let begun = subst (IsFront c.args.place.now) c.as_bytes-key.ensures (c.begins_with.ensures.0 c.if-not-begins_with.false) in
-    on_ok_weaker c.check_order-2.result (λ after. (pair_of c.leaf_at-node.result.now, leaf_at c.args.store.now c.args.leaf c.leaf_at-node.result.now c.leaf_at-node.ensures, begun))
+    on_ok_weaker c.check_order-2.result (λ after. (
+      pair_of c.leaf_at-node.result.now,
+      leaf_at c.args.store.now c.args.leaf c.leaf_at-node.result.now c.leaf_at-node.ensures,
+      begun,
+    ))
     c.check_order-2.ensures.sibling
 
 pub returns-in_err-check_order-clause-fault : goal.returns-in_err-check_order-clause-fault
@@ -68,8 +74,10 @@ returns-in_err-check_order-clause-fault g c =
 pub returns-clause-fault : goal.returns-clause-fault
 returns-clause-fault g c =
     let there = c.leaf_at-node.ensures in
-    at_leaf (of_key g.K.AsBytes.bytes) g.row.P c.args.store.now c.args.leaf c.leaf_at-node.result.now there c.check_order-2.result c.args.place.now c.leaf_at-node.result.now.next Greater
-    (sym c.as_bytes-key.ensures) (next_named (of_key g.K.AsBytes.bytes) g.row.P c.args.store.now c.args.leaf c.leaf_at-node.result.now there) c.check_order-2.ensures.fault
+    at_leaf (of_key g.K.AsBytes.bytes) g.row.P c.args.store.now c.args.leaf c.leaf_at-node.result.now there c.check_order-2.result
+    c.args.place.now c.leaf_at-node.result.now.next Greater
+    (sym c.as_bytes-key.ensures) (next_named
+    (of_key g.K.AsBytes.bytes) g.row.P c.args.store.now c.args.leaf c.leaf_at-node.result.now there) c.check_order-2.ensures.fault
 
 pub returns-then-not-begins_with-clause-fault : goal.returns-then-not-begins_with-clause-fault
 returns-then-not-begins_with-clause-fault g c root reach =
@@ -88,5 +96,7 @@ returns-clause-siblings g c =
     let own = c.leaf_at-node.result.now in
     let Stand = λ (k : List ℕ). IfSome own.previous (λ l. IsInOrder bytes g.row.P s l Less k) × IfSome own.next (λ l. IsInOrder bytes g.row.P s l Greater k) in
     on_ok_weaker c.check_order-2.result
-    (λ (after : IfSome own.next (λ l. IsInOrder bytes g.row.P s l Greater c.as_bytes-key.result.now)) (node : LeafNode g.row.K.Denot g.row.V.Denot) (is : map.get s.leaves c.args.leaf ≡ Some node).
-    subst (IsBetween bytes g.row.P s) (one_node (sym c.leaf_at-node.ensures) is) (subst Stand c.as_bytes-key.ensures (c.in_ok-check_order.ensures.sibling, after))) c.check_order-2.ensures.sibling
+    (λ (after : IfSome own.next (λ l. IsInOrder bytes g.row.P s l Greater c.as_bytes-key.result.now))
+    (node : LeafNode g.row.K.Denot g.row.V.Denot) (is : map.get s.leaves c.args.leaf ≡ Some node).
+    subst (IsBetween bytes g.row.P s) (one_node (sym c.leaf_at-node.ensures) is)
+    (subst Stand c.as_bytes-key.ensures (c.in_ok-check_order.ensures.sibling, after))) c.check_order-2.ensures.sibling

@@ -33,7 +33,8 @@ last_more [] l = refl
 last_more (d ∷ []) l = refl
 last_more (d ∷ e ∷ ds) l = last_more (e ∷ ds) l
 
-names_around : (done : List LeafPtr) (l : LeafPtr) (others : List LeafPtr) → names_of_leaves (done ++ l ∷ others) ≡ names_of_leaves done ++ leaf_name l ∷ names_of_leaves others
+names_around : (done : List LeafPtr) (l : LeafPtr) (others : List LeafPtr) →
+    names_of_leaves (done ++ l ∷ others) ≡ names_of_leaves done ++ leaf_name l ∷ names_of_leaves others
 names_around [] l others = refl
 names_around (d ∷ ds) l others = ap (λ ns. leaf_name d ∷ ns) (names_around ds l others)
 
@@ -62,9 +63,11 @@ agrees (Some p) (Some q) e = ap (λ i. let l : LeafPtr = record { slot = i } in 
     not_false false e = absurd (true≢false e)
 
 linked_so : {K V : Type 0} (s : Nodes K V) (p : LeafPtr) (node : LeafNode K V) {previous next : Option OpaqueNodePtr} → map.get s.leaves p ≡ Some node →
-    option_map leaf_name node.previous ≡ previous → option_map leaf_name node.next ≡ next → links_at s (leaf_name p) ≡ Some (record { previous = previous; next = next })
+    option_map leaf_name node.previous ≡ previous → option_map leaf_name node.next ≡ next →
+    links_at s (leaf_name p) ≡ Some (record { previous = previous; next = next })
 linked_so s p node there before after =
-    ap (λ o. option_and_then links_of (option_map held_leaf o)) there ∙ ap₂ (λ p n. let l : Links OpaqueNodePtr = record { previous = p; next = n } in Some l) before after
+    ap (λ o. option_and_then links_of (option_map held_leaf o)) there
+    ∙ ap₂ (λ p n. let l : Links OpaqueNodePtr = record { previous = p; next = n } in Some l) before after
 
 pub returns-then-ne-clause-fault : goal.returns-then-ne-clause-fault
 returns-then-ne-clause-fault g c root layout is leaves =
@@ -109,9 +112,11 @@ along-preserved g c =
     let split = c.in-Some.ensures.cases.0 in
     let previous = agrees node.previous c.along.previous (sym c.ne.ensures ∙ c.if-ne.false) in
     let names = next_is others ∙ first_same (names_of_leaves others) in
-    let next = agrees node.next c.copied-next.result (sym c.ne-else-ne.ensures ∙ c.if-ne-2.false) ∙ ap (option_map leaf_name) (c.copied-next.ensures ∙ c.first.ensures.value) ∙ names in
+    let next = agrees node.next c.copied-next.result (sym c.ne-else-ne.ensures ∙ c.if-ne-2.false)
+    ∙ ap (option_map leaf_name) (c.copied-next.ensures ∙ c.first.ensures.value) ∙ names in
     let own = linked_so s leaf node c.leaf_at-node.ensures previous next in (
       (subst (Each (λ l. IsSome (map.get s.leaves l))) split c.along.invariant.0).1,
       (done ++ leaf ∷ [], parts ∙ ap (λ ls. done ++ ls) split ∙ sym (append_assoc done (leaf ∷ []) others), sym (last_more done leaf)),
-      λ linked. c.along.invariant.2 (subst (λ ls. AreLinked (links_at s) (option_map leaf_name c.along.previous) (names_of_leaves ls) None) (sym split) (own, linked)),
+      λ linked. c.along.invariant.2 (subst (λ ls. AreLinked (links_at s) (option_map leaf_name c.along.previous) (names_of_leaves ls) None)
+          (sym split) (own, linked)),
     )

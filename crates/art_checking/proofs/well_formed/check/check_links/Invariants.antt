@@ -14,7 +14,8 @@ abbrev pub invariant-along : goal.invariant-along
 invariant-along g l =
     Each (λ leaf. IsSome (map.get l.store.leaves leaf)) l.rest
     × ((done : List LeafPtr) × (l.fn.leaves ≡ done ++ l.rest) × (option_map leaf_name l.previous ≡ last_of (names_of_leaves done)))
-    × (AreLinked (links_at l.store) (option_map leaf_name l.previous) (names_of_leaves l.rest) None → AreLinked (links_at l.store) None (names_of_leaves l.fn.leaves) None)
+    × (AreLinked (links_at l.store) (option_map leaf_name l.previous) (names_of_leaves l.rest) None →
+    AreLinked (links_at l.store) None (names_of_leaves l.fn.leaves) None)
 
 abbrev pub decreases-along : goal.decreases-along
 decreases-along g l = length l.rest

@@ -50,7 +50,8 @@ returns-clause-fault g c root leaf x reach is has =
       sym c.as_bytes-sibling_key.ensures,
       is,
       sym c.order_of-actual.ensures,
-      λ e. false≢true (sym c.if-eq.false ∙ c.eq.ensures ∙ eq-eqb (ordering_index c.order_of-actual.result) (ordering_index c.args.expected) (ap ordering_index e)),
+      λ e. false≢true (sym c.if-eq.false ∙ c.eq.ensures
+          ∙ eq-eqb (ordering_index c.order_of-actual.result) (ordering_index c.args.expected) (ap ordering_index e)),
     )
 
 pub returns-then-eq-clause-sibling : goal.returns-then-eq-clause-sibling
@@ -58,8 +59,11 @@ returns-then-eq-clause-sibling g c =
     let index = eqb-true (ordering_index c.order_of-actual.result) (ordering_index c.args.expected) (sym c.eq.ensures ∙ c.if-eq.true) in
     let same = sym (order_at-index c.order_of-actual.result) ∙ ap order_at index ∙ order_at-index c.args.expected in
     let bytes = of_key g.K.AsBytes.bytes in
-    subst (λ o. IfSome o (λ l. IsInOrder bytes g.row.P c.args.store.now l c.args.expected c.args.key.now)) (sym c.in-Some.is)
-    (c.in-Some-leaf.node.now, sym c.in-Some-leaf.ensures, ap (λ key. slice_cmp nat_cmp key c.args.key.now) (sym c.as_bytes-sibling_key.ensures) ∙ sym c.order_of-actual.ensures ∙ same)
+    subst (λ o. IfSome o (λ l. IsInOrder bytes g.row.P c.args.store.now l c.args.expected c.args.key.now)) (sym c.in-Some.is) (
+      c.in-Some-leaf.node.now,
+      sym c.in-Some-leaf.ensures,
+      ap (λ key. slice_cmp nat_cmp key c.args.key.now) (sym c.as_bytes-sibling_key.ensures) ∙ sym c.order_of-actual.ensures ∙ same,
+    )
 
 -- a sibling that is not in the store is never passed
 pub returns-in_default-leaf-clause-sibling : goal.returns-in_default-leaf-clause-sibling

@@ -34,7 +34,8 @@ pub returns-in-Leaf-clause-met : goal.returns-in-Leaf-clause-met
 returns-in-Leaf-clause-met g c =
     let met = subst (IsFirstMet c.args.seen.now c.meet.new.seen c.args.root) (c.deref.ensures.value ∙ c.requires.place) c.in_ok-meet.ensures.met in
     on_ok_weaker c.check_leaf.result
-    (λ stands. met_tree c.requires.start.leaves c.requires.start.count (passed_leaf met c.in-Leaf.leaf c.in-Leaf.ensures.name (c.deref-in-Leaf.ensures.value ∙ c.requires.place) stands))
+    (λ stands. met_tree c.requires.start.leaves c.requires.start.count
+    (passed_leaf met c.in-Leaf.leaf c.in-Leaf.ensures.name (c.deref-in-Leaf.ensures.value ∙ c.requires.place) stands))
     c.check_leaf.ensures.leaf
 
 pub returns-in-Leaf-clause-fault : goal.returns-in-Leaf-clause-fault
@@ -42,7 +43,8 @@ returns-in-Leaf-clause-fault g c =
     let bytes = of_key g.K.AsBytes.bytes in
     let s = c.args.store.now in
     let root = c.args.root in
-    IfErr-weaker c.check_leaf.result (IsTrueAt bytes g.row.P s c.deref-in-Leaf.result.now (leaf_name c.in-Leaf.leaf)) (λ error. IsTrueOf bytes g.row.P s root (fault_of error))
+    IfErr-weaker c.check_leaf.result (IsTrueAt bytes g.row.P s c.deref-in-Leaf.result.now (leaf_name c.in-Leaf.leaf))
+    (λ error. IsTrueOf bytes g.row.P s root (fault_of error))
     (λ error true. true root (subst (λ n. Reaches bytes g.row.P s root c.deref-in-Leaf.result.now n) (sym c.in-Leaf.ensures.name)
     (subst (λ p. Reaches bytes g.row.P s root p root) (sym (c.deref-in-Leaf.ensures.value ∙ c.requires.place)) (reach_root bytes g.row.P s root))))
     c.check_leaf.ensures.fault

@@ -35,7 +35,8 @@ down-smaller g c =
     let updates = c.in_ok-insert.ensures.updates in
     untried_less (λ p. contains derived.cmp-value.it c.down.passed p) (λ p. contains derived.cmp-value.it c.insert.new.self p)
     (λ p e. updates.0 p ∙ still (is_at (derived.cmp-value.it c.in-Inner.inner) p) (contains derived.cmp-value.it c.down.passed p) e)
-    (map.keys c.args.store.now.inners) c.in-Inner.inner (key_of_inner c.args.store.now.inners c.in-Inner.inner (ref_view c.in-Some.node) (sym c.in-Some.ensures.view))
+    (map.keys c.args.store.now.inners) c.in-Inner.inner
+    (key_of_inner c.args.store.now.inners c.in-Inner.inner (ref_view c.in-Some.node) (sym c.in-Some.ensures.view))
     (was_new (contains derived.cmp-value.it c.down.passed c.in-Inner.inner) c.in_ok-insert.field-0 c.in_ok-insert.ensures.added c.if-not-branch.false) updates.1
 
 copied : {X Y : Type 0} (y : Y) (o : Option (Bor X)) → option_map {T = Bor X} {U = Y} (λ _. y) o ≡ option_map {T = X} {U = Y} (λ _. y) (option_copied o)
@@ -43,7 +44,12 @@ copied y None = refl
 copied y (Some x) = refl
 
 pub down-init : goal.down-init
-down-init g c = record { names = []; descent = tt; ends = refl; passes = λ p e. absurd (false≢true (sym (ap (list_any (λ k. is_at (derived.cmp-value.it p) k)) c.new-passed.ensures.empty) ∙ e)) }
+down-init g c = record {
+  names = [];
+  descent = tt;
+  ends = refl;
+  passes = λ p e. absurd (false≢true (sym (ap (list_any (λ k. is_at (derived.cmp-value.it p) k)) c.new-passed.ensures.empty) ∙ e));
+}
 
 pub down-preserved : goal.down-preserved
 down-preserved g c =
@@ -54,10 +60,12 @@ down-preserved g c =
       c.in-Some-next.field-0-0,
       c.next.new.self,
       inner_at c.args.store.now
-          c.in-Inner.inner (ref_view c.in-Some.node) c.in-Inner.ensures.proper there ∙ ap (λ l. Some (inner_node (header_at c.in-Inner.inner.kind (ref_view c.in-Some.node)) l)) slots,
+          c.in-Inner.inner (ref_view c.in-Some.node) c.in-Inner.ensures.proper there
+          ∙ ap (λ l. Some (inner_node (header_at c.in-Inner.inner.kind (ref_view c.in-Some.node)) l)) slots,
     ) in
     down_more c.in-Inner.inner c.in-Some-next.child c.down.invariant c.in-Inner.ensures.name has
-    (λ q e. either (is_eq (derived.cmp-value.it c.in-Inner.inner q)) (contains derived.cmp-value.it c.down.passed q) q (same_inner c.in-Inner.inner q) (sym (c.in_ok-insert.ensures.updates.0 q) ∙ e))
+    (λ q e. either (is_eq (derived.cmp-value.it c.in-Inner.inner q)) (contains derived.cmp-value.it c.down.passed q) q
+    (same_inner c.in-Inner.inner q) (sym (c.in_ok-insert.ensures.updates.0 q) ∙ e))
 
 pub returns-in-Leaf : goal.returns-in-Leaf
 returns-in-Leaf g c =
@@ -67,10 +75,13 @@ returns-in-Leaf g c =
 
 pub returns-in_default : goal.returns-in_default
 returns-in_default g c =
-    ends_nowhere (of_key g.K.AsBytes.bytes) g.row.P c.args.store.now c.down.invariant c.in-Inner.inner c.in-Inner.ensures.proper c.in-Inner.ensures.name (sym c.in_default.ensures.view)
+    ends_nowhere (of_key g.K.AsBytes.bytes) g.row.P c.args.store.now c.down.invariant c.in-Inner.inner c.in-Inner.ensures.proper
+    c.in-Inner.ensures.name (sym c.in_default.ensures.view)
 
 pub returns-then-not-branch : goal.returns-then-not-branch
-returns-then-not-branch g c = ends_again (of_key g.K.AsBytes.bytes) g.row.P c.args.store.now c.down.invariant c.in-Inner.inner c.in-Inner.ensures.proper c.in-Inner.ensures.name
+returns-then-not-branch g c =
+    ends_again (of_key g.K.AsBytes.bytes) g.row.P c.args.store.now c.down.invariant c.in-Inner.inner c.in-Inner.ensures.proper
+    c.in-Inner.ensures.name
     (was_old (contains derived.cmp-value.it c.down.passed c.in-Inner.inner) c.in_ok-insert.field-0 c.in_ok-insert.ensures.added c.if-not-branch.true)
 
 pub returns-in_default-next : goal.returns-in_default-next

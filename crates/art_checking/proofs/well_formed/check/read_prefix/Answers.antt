@@ -12,7 +12,8 @@ pub returns-clause-prefix : goal.returns-clause-prefix
 returns-clause-prefix g c =
     let prefix = subst (λ place. IsRead (of_key g.K.AsBytes.bytes) g.row.P c.args.store.now place (place ++ c.in_ok-found.part.now) (inner_name c.args.name)
     (header_at c.args.name.kind (ref_view c.args.node))) c.deref.ensures.value c.in_ok-found.ensures.prefix in
-    subst (λ read. IsRead (of_key g.K.AsBytes.bytes) g.row.P c.args.store.now c.args.place.now.items read (inner_name c.args.name) (header_at c.args.name.kind (ref_view c.args.node)))
+    subst (λ read. IsRead (of_key g.K.AsBytes.bytes) g.row.P c.args.store.now c.args.place.now.items read (inner_name c.args.name)
+    (header_at c.args.name.kind (ref_view c.args.node)))
     (sym c.in_ok-extend_from_slice.ensures.items) prefix
 
 pub returns-clause-least : goal.returns-clause-least

@@ -44,7 +44,8 @@ returns-then-ne-clause-fault g c root reach =
     let Others = StoresOthers (of_key g.K.AsBytes.bytes) g.row.P c.args.store.now root in
     let front : c.split_at.result.0.now ≡ take g.row.P c.in-Some.part.now = c.split_at.ensures.front in
     let stored : c.read_prefix-stored.result.now ≡ node.prefix.stored = c.read_prefix-stored.ensures.stored in
-    let off : take g.row.P c.in-Some.part.now ≢ node.prefix.stored = λ e. differs c.split_at.result.0.now c.read_prefix-stored.result.now (sym c.ne.ensures ∙ c.if-ne.true) (front ∙ e ∙ sym stored) in
+    let off : take g.row.P c.in-Some.part.now ≢ node.prefix.stored =
+    λ e. differs c.split_at.result.0.now c.read_prefix-stored.result.now (sym c.ne.ensures ∙ c.if-ne.true) (front ∙ e ∙ sym stored) in
     said (of_key g.K.AsBytes.bytes) g.row.P c.args.store.now root c.stored_prefix_mismatch.result c.stored_prefix_mismatch.ensures
     (subst (λ a. Others place a c.split_at.result.0.now) (sym stored) (subst (Others place node.prefix.stored) (sym front)
     (stores_others (of_key g.K.AsBytes.bytes) g.row.P c.args.store.now c.args.name node place c.requires.proper c.requires.there
@@ -56,7 +57,8 @@ returns-clause-prefix g c =
     refl c.prefix_len-len.ensures c.in-Some.is c.in_ok-found.ensures.part in
     read_long (of_key g.K.AsBytes.bytes) g.row.P c.args.store.now c.args.name (ref_view c.args.node.now) c.args.place.now
     c.requires.proper c.requires.there (subst (λ n. g.row.P < n) c.prefix_len-len.ensures c.if-len.false) c.in-Some.part read
-    (sym c.split_at.ensures.front ∙ agrees c.split_at.result.0.now c.read_prefix-stored.result.now (sym c.ne.ensures ∙ c.if-ne.false) ∙ c.read_prefix-stored.ensures.stored)
+    (sym c.split_at.ensures.front ∙ agrees c.split_at.result.0.now c.read_prefix-stored.result.now (sym c.ne.ensures ∙ c.if-ne.false)
+    ∙ c.read_prefix-stored.ensures.stored)
 
 pub returns-clause-least : goal.returns-clause-least
 returns-clause-least g c = least_if (of_key g.K.AsBytes.bytes) g.row.P c.args.store.now (inner_name c.args.name) c.in_ok-found.found c.in_ok-found.ensures.least

@@ -20,7 +20,8 @@ decided (x ∷ a) (y ∷ b) = go (decided a b) (eqb x y) (nat_cmp x y) refl (is_
   where
     go : option_cmp nat_cmp (slice_get a (length (common_front a b))) (slice_get b (length (common_front a b))) ≡ slice_cmp nat_cmp a b →
         (t : Bool) (o : Ordering) → nat_cmp x y ≡ o → is_eq o ≡ t →
-        option_cmp nat_cmp (slice_get (x ∷ a) (length (cond t (x ∷ common_front a b) []))) (slice_get (y ∷ b) (length (cond t (x ∷ common_front a b) []))) ≡ ordering_then o (slice_cmp nat_cmp a b)
+        option_cmp nat_cmp (slice_get (x ∷ a) (length (cond t (x ∷ common_front a b) [])))
+        (slice_get (y ∷ b) (length (cond t (x ∷ common_front a b) []))) ≡ ordering_then o (slice_cmp nat_cmp a b)
     go ih true Equal e h = ih
     go ih true Less e h = absurd (false≢true h)
     go ih true Greater e h = absurd (false≢true h)
@@ -33,7 +34,8 @@ read : (xs : List ℕ) (i : ℕ) (r : Option (Bor ℕ)) → IsItemAt xs i r → 
 read xs i None h = sym (slice_get_past xs i h.3)
 read xs i (Some byte) h = ap Some h.1 ∙ sym (slice_get-get_or xs i byte.now h.3.0)
 
-by_value : (r s : Option (Bor ℕ)) → option_cmp (λ x y. nat_cmp x.now y.now) r s ≡ option_cmp nat_cmp (option_map (λ byte. byte.now) r) (option_map (λ byte. byte.now) s)
+by_value : (r s : Option (Bor ℕ)) → option_cmp (λ x y. nat_cmp x.now y.now) r s
+    ≡ option_cmp nat_cmp (option_map (λ byte. byte.now) r) (option_map (λ byte. byte.now) s)
 by_value None None = refl
 by_value None (Some y) = refl
 by_value (Some x) None = refl
@@ -44,5 +46,6 @@ returns c =
     let a = c.args.a.now in
     let b = c.args.b.now in
     let shared = c.shared_len-shared.result in
-    c.cmp.ensures ∙ by_value c.get.result c.get-2.result ∙ ap₂ (option_cmp nat_cmp) (read a shared c.get.result c.get.ensures.lookup) (read b shared c.get-2.result c.get-2.ensures.lookup) ∙
+    c.cmp.ensures ∙ by_value c.get.result c.get-2.result
+    ∙ ap₂ (option_cmp nat_cmp) (read a shared c.get.result c.get.ensures.lookup) (read b shared c.get-2.result c.get-2.ensures.lookup) ∙
     ap (λ i. option_cmp nat_cmp (slice_get a i) (slice_get b i)) c.shared_len-shared.ensures ∙ decided a b

@@ -8,7 +8,8 @@ pub returns-in_default-clause-room : goal.returns-in_default-clause-room
 returns-in_default-clause-room g c =
     let (turns, left, room) = c.loop.invariant in
     let none = none_left c.loop.pending.items (omega (arith, c.in_default.ensures.cases.0, c.loop.pending.ok.0)) in
-    subst (HasRoom c.args.store.now c.args.root) (sym c.pop.ensures.capacity) (room_whole c.args.store.now c.args.root turns (vec_capacity c.loop.pending) room (sym left ∙ none))
+    subst (HasRoom c.args.store.now c.args.root) (sym c.pop.ensures.capacity)
+    (room_whole c.args.store.now c.args.root turns (vec_capacity c.loop.pending) room (sym left ∙ none))
 
 pub push_below-requires : goal.push_below-requires
 push_below-requires g c =

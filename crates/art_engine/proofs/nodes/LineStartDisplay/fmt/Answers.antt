@@ -8,4 +8,5 @@ pub loop-preserved : goal.loop-preserved
 loop-preserved g c = λ plain.
     let so_far = c.loop.invariant plain in
     let more = c.in_ok-write_str.ensures.writes so_far.plain refl in
-    put_two g.W.Write.write_str_gives c.args.f.now c.loop.f c.write_str.new.self (indent c.loop.counter) (codes "  ") (indent (c.loop.counter + 1)) so_far more (indent_more c.loop.counter)
+    put_two g.W.Write.write_str_gives c.args.f.now c.loop.f c.write_str.new.self (indent c.loop.counter) (codes "  ")
+    (indent (c.loop.counter + 1)) so_far more (indent_more c.loop.counter)

@@ -13,5 +13,6 @@ returns-in-Indexed c =
 pub returns-in-Direct : goal.returns-in-Direct
 returns-in-Direct c =
     part_between c.in-Direct.table.now (subst IsRest c.in-Direct.is c.self.invariant).0 c.in-Direct.span.from c.in-Direct.span.to
-    c.args.first c.args.last c.between_in-in-Direct.result.from c.between_in-in-Direct.result.to c.between_in-in-Direct.ensures.from c.between_in-in-Direct.ensures.to
+    c.args.first c.args.last c.between_in-in-Direct.result.from c.between_in-in-Direct.result.to c.between_in-in-Direct.ensures.from
+    c.between_in-in-Direct.ensures.to
     ∙ ap (children_between c.args.first c.args.last) (sym (ap rest_list c.in-Direct.is) ∙ c.self.view_is)

@@ -16,4 +16,5 @@ returns-clause-bound c = subst (λ cs. length cs ≤ 256) c.self.view_is (listed
 pub returns-clause-few : goal.returns-clause-few
 returns-clause-few c =
     let none = ap (λ cs. child_at cs c.args.byte) c.self.view_is ∙ c.requires.absent in
-    subst (λ cs. length cs < 256) c.self.view_is (listed_few (direct_at c.self.inside.slots c.self.inside.places) c.args.byte c.nearest.result.1 c.ranges.byte.fits none)
+    subst (λ cs. length cs < 256) c.self.view_is
+    (listed_few (direct_at c.self.inside.slots c.self.inside.places) c.args.byte c.nearest.result.1 c.ranges.byte.fits none)

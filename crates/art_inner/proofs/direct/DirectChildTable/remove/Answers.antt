@@ -15,7 +15,8 @@ invariant_of-self c =
     let at = direct_at c.self.inside.slots c.self.inside.places in
     let there = ap (λ cs. is_some (child_at cs c.args.byte)) c.self.view_is ∙ ap is_some (sym c.get.ensures ∙ c.in_ok-child.was) in
     let shorter = length-remove_child (names_by_byte at) c.args.byte (listed_rising at) there in
-    let removed = ap length (direct_removed c.self.inside.slots c.self.inside.places c.args.byte c.ranges.byte.fits (omega (arith, c.self.told)) (omega (arith, c.self.told))) in
+    let removed = ap length (direct_removed c.self.inside.slots c.self.inside.places c.args.byte c.ranges.byte.fits
+    (omega (arith, c.self.told)) (omega (arith, c.self.told))) in
     omega (arith, c.self.invariant, shorter, removed)
 
 pub returns-clause-rest : goal.returns-clause-rest

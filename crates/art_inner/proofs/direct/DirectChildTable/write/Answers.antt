@@ -10,7 +10,8 @@ use Rattle.art_inner.proofs.direct.DirectChildTable.write.Goals as goal
 
 pub returns : goal.returns
 returns c =
-    direct_put c.self.inside.slots c.self.inside.places c.args.byte c.ranges.byte.fits (omega (arith, c.self.told)) (omega (arith, c.self.told)) c.place_of.result c.args.child c.place_of.ensures
+    direct_put c.self.inside.slots c.self.inside.places c.args.byte c.ranges.byte.fits (omega (arith, c.self.told))
+    (omega (arith, c.self.told)) c.place_of.result c.args.child c.place_of.ensures
     ∙ ap (λ cs. put_child cs c.args.byte c.args.child) c.self.view_is
 
 pub overflow_add-len : goal.overflow_add-len
@@ -23,6 +24,12 @@ invariant_of-self c =
     (omega (arith, c.self.told)) c.place_of.result c.args.child c.place_of.ensures) in
     let there = ap (λ cs. child_at cs c.args.byte) c.self.view_is ∙ sym c.get.ensures in
     elim c.match-get.branch [
-      | in-Some w ↦ omega (arith, c.self.invariant, w.len-is, made, length-put_child_old (names_by_byte at) c.args.byte c.args.child (listed_rising at) (ap is_some (there ∙ w.in-Some.is)))
+      | in-Some w ↦ omega (
+        arith,
+        c.self.invariant,
+        w.len-is,
+        made,
+        length-put_child_old (names_by_byte at) c.args.byte c.args.child (listed_rising at) (ap is_some (there ∙ w.in-Some.is)),
+      )
       | in-None w ↦ omega (arith, c.self.invariant, w.len-is, made, length-put_child_new (names_by_byte at) c.args.byte c.args.child (there ∙ w.in-None.is))
     ]

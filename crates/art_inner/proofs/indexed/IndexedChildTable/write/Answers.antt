@@ -14,13 +14,15 @@ room_for len cs ds b is count none (inr there) = absurd (none_is_not (ap is_some
 
 pub bounds-self-inside-last : goal.bounds-self-inside-last
 bounds-self-inside-last c =
-    room_for c.self.inside.len c.args.self.now (names_by_byte (indexed_at c.self.inside.slots c.self.inside.kinds c.self.inside.index)) c.args.byte c.self.view_is c.self.invariant.0
+    room_for c.self.inside.len c.args.self.now
+    (names_by_byte (indexed_at c.self.inside.slots c.self.inside.kinds c.self.inside.index)) c.args.byte c.self.view_is c.self.invariant.0
     (listed_at (indexed_at c.self.inside.slots c.self.inside.kinds c.self.inside.index) c.args.byte c.ranges.byte.fits
     ∙ ap (numbered c.self.inside.slots c.self.inside.kinds) c.if-place-eq0.true) c.requires
 
 pub bounds-self-inside-last-then-place-eq0 : goal.bounds-self-inside-last-then-place-eq0
 bounds-self-inside-last-then-place-eq0 c =
-    room_for c.self.inside.len c.args.self.now (names_by_byte (indexed_at c.self.inside.slots c.self.inside.kinds c.self.inside.index)) c.args.byte c.self.view_is c.self.invariant.0
+    room_for c.self.inside.len c.args.self.now
+    (names_by_byte (indexed_at c.self.inside.slots c.self.inside.kinds c.self.inside.index)) c.args.byte c.self.view_is c.self.invariant.0
     (listed_at (indexed_at c.self.inside.slots c.self.inside.kinds c.self.inside.index) c.args.byte c.ranges.byte.fits
     ∙ ap (numbered c.self.inside.slots c.self.inside.kinds) c.if-place-eq0.true) c.requires
 
@@ -41,8 +43,11 @@ invariant_of-self c =
     let room = room_for c.self.inside.len c.args.self.now
     (names_by_byte (indexed_at c.self.inside.slots c.self.inside.kinds c.self.inside.index)) c.args.byte c.self.view_is c.self.invariant.0 none c.requires in
     let made = ap length (indexed_added c.self.inside.slots c.self.inside.kinds c.self.inside.len c.args.child (omega (arith, room, c.self.told))
-    (omega (arith, room, c.self.told)) c.self.inside.index c.self.inside.len c.args.byte c.ranges.byte.fits c.self.invariant.2 refl (omega (arith, c.self.told))) in
-    let longer = length-put_child_new (names_by_byte (indexed_at c.self.inside.slots c.self.inside.kinds c.self.inside.index)) c.args.byte c.args.child none in (
+    (omega (arith, room, c.self.told)) c.self.inside.index c.self.inside.len c.args.byte c.ranges.byte.fits c.self.invariant.2 refl
+    (omega (arith, c.self.told))) in
+    let longer =
+    length-put_child_new (names_by_byte (indexed_at c.self.inside.slots c.self.inside.kinds c.self.inside.index))
+    c.args.byte c.args.child none in (
       omega (arith, c.self.invariant.0, made, longer),
       omega (arith, room),
       IsIndex-added c.self.inside.index c.self.inside.len c.args.byte (omega (arith, c.ranges.byte.fits, c.self.told)) c.self.invariant.2,
@@ -54,7 +59,8 @@ returns-else-place-eq0 c =
     let here : get_or c.self.inside.index c.args.byte 0 ≡ get_or c.self.inside.index c.args.byte 0 - 1 + 1 = omega (arith, c.if-place-eq0.false) in
     indexed_replaced c.self.inside.slots c.self.inside.kinds (get_or c.self.inside.index c.args.byte 0 - 1) c.args.child
     (omega (arith, fits, c.self.invariant.1, c.if-place-eq0.false, c.self.told))
-    (omega (arith, fits, c.self.invariant.1, c.if-place-eq0.false, c.self.told)) c.self.inside.index c.self.inside.len c.args.byte c.ranges.byte.fits c.self.invariant.2 here
+    (omega (arith, fits, c.self.invariant.1, c.if-place-eq0.false, c.self.told))
+    c.self.inside.index c.self.inside.len c.args.byte c.ranges.byte.fits c.self.invariant.2 here
     ∙ ap (λ cs. put_child cs c.args.byte c.args.child) c.self.view_is
 
 pub invariant_of-self-else-place-eq0 : goal.invariant_of-self-else-place-eq0
@@ -63,7 +69,8 @@ invariant_of-self-else-place-eq0 c =
     let here : get_or c.self.inside.index c.args.byte 0 ≡ get_or c.self.inside.index c.args.byte 0 - 1 + 1 = omega (arith, c.if-place-eq0.false) in
     let made = ap length (indexed_replaced c.self.inside.slots c.self.inside.kinds (get_or c.self.inside.index c.args.byte 0 - 1) c.args.child
     (omega (arith, fits, c.self.invariant.1, c.if-place-eq0.false, c.self.told))
-    (omega (arith, fits, c.self.invariant.1, c.if-place-eq0.false, c.self.told)) c.self.inside.index c.self.inside.len c.args.byte c.ranges.byte.fits c.self.invariant.2 here) in
+    (omega (arith, fits, c.self.invariant.1, c.if-place-eq0.false, c.self.told))
+    c.self.inside.index c.self.inside.len c.args.byte c.ranges.byte.fits c.self.invariant.2 here) in
     let there = ap is_some (listed_at (indexed_at c.self.inside.slots c.self.inside.kinds c.self.inside.index) c.args.byte c.ranges.byte.fits
     ∙ numbered_some c.self.inside.slots c.self.inside.kinds (get_or c.self.inside.index c.args.byte 0) c.if-place-eq0.false) in
     let same = length-put_child_old (names_by_byte (indexed_at c.self.inside.slots c.self.inside.kinds c.self.inside.index)) c.args.byte c.args.child

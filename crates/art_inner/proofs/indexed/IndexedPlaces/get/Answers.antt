@@ -7,7 +7,8 @@ use Rattle.art_inner.proofs.indexed.IndexedPlaces.get.Goals as goal
 
 pub returns-then-place-eq0 : goal.returns-then-place-eq0
 returns-then-place-eq0 c =
-    sym (listed_at (indexed_at c.self.inside.slots c.self.inside.kinds c.self.inside.index) c.args.byte c.ranges.byte.fits ∙ ap (numbered c.self.inside.slots c.self.inside.kinds) c.if-place-eq0.true)
+    sym (listed_at (indexed_at c.self.inside.slots c.self.inside.kinds c.self.inside.index) c.args.byte c.ranges.byte.fits
+    ∙ ap (numbered c.self.inside.slots c.self.inside.kinds) c.if-place-eq0.true)
     ∙ ap (λ cs. child_at cs c.args.byte) c.self.view_is
 
 pub returns : goal.returns

@@ -14,5 +14,6 @@ first_apart (d ∷ cs) k c there long =
 
 pub returns-clause-gives : goal.returns-clause-gives
 returns-clause-gives c =
-    first_apart (rows_of c.args.self.now) (c.len-len.result - 1) c.entry-first.result c.entry-first.ensures.entry (omega (arith, c.len-len.ensures.rows, c.if-len-eq0.false))
+    first_apart (rows_of c.args.self.now) (c.len-len.result - 1) c.entry-first.result c.entry-first.ensures.entry
+    (omega (arith, c.len-len.ensures.rows, c.if-len-eq0.false))
     ∙ ap (λ cs. c.entry-first.result ∷ cs) (sym c.part.ensures.value)

@@ -24,7 +24,8 @@ invariant_of-self g c =
     let s = shows_of c.self.inside c.args.self.now c.self.told c.self.told2 c.self.invariant c.self.view_is in
     let room : c.self.inside.len < g.row.N = omega (arith, table_length c.self.inside c.args.self.now s, c.requires.room) in
     let made =
-    (table_inserted c.self.inside c.args.self.now s c.args.at c.args.byte c.requires.place c.args.child c.insert_into.new.bytes c.insert_into.new.kinds c.insert_into.new.slots room
+    (table_inserted c.self.inside c.args.self.now s c.args.at c.args.byte c.requires.place c.args.child c.insert_into.new.bytes
+    c.insert_into.new.kinds c.insert_into.new.slots room
     c.requires.absent
     c.insert_into.ensures.bytes c.insert_into.ensures.kinds c.insert_into.ensures.slots) in (
       omega (arith, room),
@@ -36,6 +37,7 @@ pub returns : goal.returns
 returns g c =
     let s = shows_of c.self.inside c.args.self.now c.self.told c.self.told2 c.self.invariant c.self.view_is in
     let room : c.self.inside.len < g.row.N = omega (arith, table_length c.self.inside c.args.self.now s, c.requires.room) in
-    table_inserted c.self.inside c.args.self.now s c.args.at c.args.byte c.requires.place c.args.child c.insert_into.new.bytes c.insert_into.new.kinds c.insert_into.new.slots room
+    table_inserted c.self.inside c.args.self.now s c.args.at c.args.byte c.requires.place c.args.child c.insert_into.new.bytes
+    c.insert_into.new.kinds c.insert_into.new.slots room
     c.requires.absent
     c.insert_into.ensures.bytes c.insert_into.ensures.kinds c.insert_into.ensures.slots

@@ -13,7 +13,8 @@ bounds-self-inside-at g c =
 pub offset_bounds-self-inside-at : goal.offset_bounds-self-inside-at
 offset_bounds-self-inside-at g c =
     let s = shows_of c.self.inside c.args.self.now c.self.told c.self.told2 c.self.invariant c.self.view_is in
-    let within : c.args.at < g.row.N = omega (arith, s.fits, table_place c.self.inside c.args.self.now s c.args.at c.args.byte c.requires.place c.requires.there) in
+    let within : c.args.at < g.row.N =
+    omega (arith, s.fits, table_place c.self.inside c.args.self.now s c.args.at c.args.byte c.requires.place c.requires.there) in
     omega (arith, within, g.N.fits)
 
 pub bounds-self-inside-at-2 : goal.bounds-self-inside-at-2
@@ -33,7 +34,8 @@ remove_from-requires g c =
 pub invariant_of-self : goal.invariant_of-self
 invariant_of-self g c =
     let s = shows_of c.self.inside c.args.self.now c.self.told c.self.told2 c.self.invariant c.self.view_is in
-    let out = (table_removed c.self.inside c.args.self.now s c.args.at c.args.byte c.requires.place c.remove_from.new.part c.remove_from-2.new.part c.remove_from-3.new.part c.requires.there
+    let out = (table_removed c.self.inside c.args.self.now s c.args.at c.args.byte c.requires.place c.remove_from.new.part
+    c.remove_from-2.new.part c.remove_from-3.new.part c.requires.there
     c.remove_from.auto.part c.remove_from.ensures c.remove_from-2.auto.part c.remove_from-2.ensures c.remove_from-3.auto.part c.remove_from-3.ensures) in (
       omega (arith, s.fits),
       length_around c.self.inside.kinds c.remove_from-2.new.part g.row.N c.self.inside.len s.fits s.kinds c.remove_from-2.auto.part,
@@ -48,5 +50,6 @@ returns-clause-removed g c =
 pub returns-clause-rest : goal.returns-clause-rest
 returns-clause-rest g c =
     let s = shows_of c.self.inside c.args.self.now c.self.told c.self.told2 c.self.invariant c.self.view_is in
-    table_removed c.self.inside c.args.self.now s c.args.at c.args.byte c.requires.place c.remove_from.new.part c.remove_from-2.new.part c.remove_from-3.new.part c.requires.there
+    table_removed c.self.inside c.args.self.now s c.args.at c.args.byte c.requires.place c.remove_from.new.part c.remove_from-2.new.part
+    c.remove_from-3.new.part c.requires.there
     c.remove_from.auto.part c.remove_from.ensures c.remove_from-2.auto.part c.remove_from-2.ensures c.remove_from-3.auto.part c.remove_from-3.ensures

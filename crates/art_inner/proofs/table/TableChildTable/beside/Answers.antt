@@ -10,5 +10,7 @@ returns-clause-beside g c =
     let same = c.rows-rows.ensures.value in
     let cs = rows_of c.rows-rows.result in
     subst (λ z. IsNextTo z c.args.byte c.entry.result) same
-    (beside_at cs c.args.byte c.min.result c.entry.result (subst IsRising (sym same) c.rows-rows.ensures.rising) (subst (λ z. 0 < length z) (sym same) c.requires.some)
-    (c.min.ensures ∙ ap (λ n. min n (c.len.result - 1)) c.count_below-below.ensures ∙ ap (λ n. min (count_below cs c.args.byte) (n - 1)) c.len.ensures.rows) c.entry.ensures.entry)
+    (beside_at cs c.args.byte c.min.result c.entry.result (subst IsRising (sym same) c.rows-rows.ensures.rising)
+    (subst (λ z. 0 < length z) (sym same) c.requires.some)
+    (c.min.ensures ∙ ap (λ n. min n (c.len.result - 1)) c.count_below-below.ensures
+    ∙ ap (λ n. min (count_below cs c.args.byte) (n - 1)) c.len.ensures.rows) c.entry.ensures.entry)

@@ -27,7 +27,9 @@ returns-in-Err g c =
     let inv = c.loop-key.invariant in
     let back = c.in-Err.ensures.handed_back in
     let gave = it.Gave-then inv c.in-Some.is c.next.ensures.steps in
-    let given = subst (λ x. YieldsThen g.I.Iterator.next_gives c.args.pairs.now inv.seen (Some x) c.next.new.self) (ap₂ (λ k v. (k, v)) (sym back.0) (sym back.1)) gave in
+    let given =
+    subst (λ x. YieldsThen g.I.Iterator.next_gives c.args.pairs.now inv.seen (Some x) c.next.new.self)
+    (ap₂ (λ k v. (k, v)) (sym back.0) (sym back.1)) gave in
     record { all = tt; refused = (inv.seen, given, c.in-Err.ensures.kept ∙ inv.holds, rw (back.0, c.in-Err.ensures.kept) c.in-Err.ensures.refused) }
 
 pub returns : goal.returns

@@ -9,5 +9,6 @@ pub returns : goal.returns
 returns g c =
     let took = c.pop_first_below.ensures in
     rw (← c.self.view_is)
-    (extracts_strings _ g.K.AsBytes.bytes g.K.StringBytes.text c.args.prefix.now c.beginning.result.now c.beginning.ensures.begins c.self.inside.map c.pop_first_below.new.self c.pop_first_below.result
+    (extracts_strings _ g.K.AsBytes.bytes g.K.StringBytes.text c.args.prefix.now c.beginning.result.now c.beginning.ensures.begins
+    c.self.inside.map c.pop_first_below.new.self c.pop_first_below.result
     c.self.invariant took.was_sorted took.removed took.pairs)

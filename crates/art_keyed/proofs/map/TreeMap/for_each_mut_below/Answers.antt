@@ -20,7 +20,8 @@ returns-clause-pairs g c =
     ∙ ap (strings_below text (text c.args.prefix.now)) c.self.view_is in
     let after = below_strings _ g.K.AsBytes.bytes text c.args.prefix.now c.beginning.result.now c.beginning.ensures.begins new.self known in
     subst (λ pairs. ChangesPairs g.F.FnMut c.args.f.now pairs (strings_below text (text c.args.prefix.now) new.self) new.f) before
-    (subst (λ pairs. ChangesPairs g.F.FnMut c.args.f.now (below (of_key g.K.AsBytes.bytes) c.beginning.result.now c.self.inside.map) pairs new.f) after c.for_each_mut_below.ensures.pairs)
+    (subst (λ pairs. ChangesPairs g.F.FnMut c.args.f.now
+    (below (of_key g.K.AsBytes.bytes) c.beginning.result.now c.self.inside.map) pairs new.f) after c.for_each_mut_below.ensures.pairs)
 
 pub returns-clause-others : goal.returns-clause-others
 returns-clause-others g c =

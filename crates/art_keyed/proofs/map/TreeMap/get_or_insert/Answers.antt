@@ -12,8 +12,14 @@ pub returns-in_err-get_or_insert : goal.returns-in_err-get_or_insert
 returns-in_err-get_or_insert g c =
     let bytes = g.K.AsBytes.bytes in
     let (refused, is, back) = err_from_is_err_and {Q = IsHandedBack c.in_err-get_or_insert.field-0.0} c.from_residual.result c.from_residual.ensures.1 in
-    let told = refusal_told g.row.V.Denot _ bytes g.met.K.NoPrefixesBytes.no_prefixes c.args.key c.args.value c.self.inside.map c.as_key.ensures c.self.invariant _ c.in_err-get_or_insert.ensures.refused refused back in
+    let told = refusal_told g.row.V.Denot _ bytes g.met.K.NoPrefixesBytes.no_prefixes c.args.key c.args.value c.self.inside.map
+    c.as_key.ensures c.self.invariant _ c.in_err-get_or_insert.ensures.refused refused back in
     rw is (
       ap (λ s. inr s) c.self.view_is,
-      record { writes_back = tt; value = tt; handed_back = told.0; refused = subst (λ pairs. has_key (of_key bytes) (bytes c.args.key) pairs ≡ false) c.self.view_is told.1 },
+      record {
+        writes_back = tt;
+        value = tt;
+        handed_back = told.0;
+        refused = subst (λ pairs. has_key (of_key bytes) (bytes c.args.key) pairs ≡ false) c.self.view_is told.1;
+      },
     )

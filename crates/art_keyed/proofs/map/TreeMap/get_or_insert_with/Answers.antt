@@ -17,7 +17,8 @@ returns-in_err-get_or_insert_with g c =
     let bytes = g.K.AsBytes.bytes in
     let (value, made, refusal) = c.in_err-get_or_insert_with.ensures.refused in
     let (refused, is, back) = err_from_is_err_and {Q = IsHandedBack c.in_err-get_or_insert_with.field-0.0} c.from_residual.result c.from_residual.ensures.1 in
-    let told = refusal_told g.row.V.Denot _ bytes g.met.K.NoPrefixesBytes.no_prefixes c.args.key value c.self.inside.map c.as_key.ensures c.self.invariant _ refusal refused back in
+    let told = refusal_told g.row.V.Denot _ bytes g.met.K.NoPrefixesBytes.no_prefixes c.args.key value c.self.inside.map c.as_key.ensures
+    c.self.invariant _ refusal refused back in
     rw is (
       ap (λ s. inr s) c.self.view_is,
       record {
@@ -34,7 +35,8 @@ returns g c =
       lends_same (λ w. ap (put (of_key bytes) (c.args.key, w)) c.self.view_is),
       record {
         writes_back = tt;
-        value = subst (λ pairs. UnwrapsOrElse (value_at bytes (bytes c.args.key) pairs) (FnOnceReturnsAt g.F.FnOnce c.args.make c.args.key) c.in_ok-get_or_insert_with.field-0.now) c.self.view_is
+        value = subst (λ pairs. UnwrapsOrElse (value_at bytes (bytes c.args.key) pairs)
+            (FnOnceReturnsAt g.F.FnOnce c.args.make c.args.key) c.in_ok-get_or_insert_with.field-0.now) c.self.view_is
             c.in_ok-get_or_insert_with.ensures.value;
         handed_back = tt;
         refused = tt;

@@ -9,14 +9,17 @@ use Rattle.art_keyed.proofs.map.TreeMap.insert_both.Goals.{in-Ok, in-Err}
 pub invariant_of-self : goal.invariant_of-self
 invariant_of-self g c =
     elim c.match-insert_both.branch [
-      | in-Ok w ↦ rw w.in-Ok.ensures.pairs (put_keeps g.row.V.Denot _ g.K.AsBytes.bytes c.args.pair.0 c.args.pair.1 c.self.inside.map c.as_key.ensures c.self.invariant)
+      | in-Ok w ↦ rw w.in-Ok.ensures.pairs (put_keeps g.row.V.Denot _ g.K.AsBytes.bytes c.args.pair.0 c.args.pair.1 c.self.inside.map
+          c.as_key.ensures c.self.invariant)
       | in-Err w ↦ rw w.in-Err.ensures.kept c.self.invariant
     ]
 
 pub invariant_of-other : goal.invariant_of-other
 invariant_of-other g c =
     elim c.match-insert_both.branch [
-      | in-Ok w ↦ rw w.in-Ok.ensures.other_pairs (put_keeps g.row.W.Denot _ g.L.AsBytes.bytes c.args.other_pair.0 c.args.other_pair.1 c.other.inside.map c.as_key-2.ensures c.other.invariant)
+      | in-Ok w ↦ rw w.in-Ok.ensures.other_pairs
+          (put_keeps g.row.W.Denot _ g.L.AsBytes.bytes c.args.other_pair.0 c.args.other_pair.1 c.other.inside.map
+          c.as_key-2.ensures c.other.invariant)
       | in-Err w ↦ rw w.in-Err.ensures.other_kept c.other.invariant
     ]
 
@@ -24,7 +27,9 @@ pub returns-clause-found : goal.returns-clause-found
 returns-clause-found g c =
     let bytes = g.K.AsBytes.bytes in
     elim c.match-insert_both.branch [
-      | in-Ok w ↦ rw w.result-is (ap (value_at bytes (bytes c.args.pair.0)) w.in-Ok.ensures.pairs ∙ value_here bytes c.args.pair.0 c.args.pair.1 c.self.inside.map)
+      | in-Ok w ↦
+          rw w.result-is (ap (value_at bytes (bytes c.args.pair.0)) w.in-Ok.ensures.pairs
+          ∙ value_here bytes c.args.pair.0 c.args.pair.1 c.self.inside.map)
       | in-Err w ↦ rw w.result-is tt
     ]
 
@@ -41,7 +46,8 @@ returns-clause-second_found g c =
     let bytes = g.L.AsBytes.bytes in
     elim c.match-insert_both.branch [
       | in-Ok w ↦ rw w.result-is
-          (ap (value_at bytes (bytes c.args.other_pair.0)) w.in-Ok.ensures.other_pairs ∙ value_here bytes c.args.other_pair.0 c.args.other_pair.1 c.other.inside.map)
+          (ap (value_at bytes (bytes c.args.other_pair.0)) w.in-Ok.ensures.other_pairs
+          ∙ value_here bytes c.args.other_pair.0 c.args.other_pair.1 c.other.inside.map)
       | in-Err w ↦ rw w.result-is tt
     ]
 
@@ -58,6 +64,7 @@ returns-clause-refused g c =
     elim c.match-insert_both.branch [
       | in-Ok w ↦ rw w.result-is tt
       | in-Err w ↦ rw w.result-is (rw (← c.self.view_is) (rw (← c.other.view_is)
-          (one_is_new _ g.K.AsBytes.bytes _ g.L.AsBytes.bytes g.met.K.NoPrefixesBytes.no_prefixes g.met.L.NoPrefixesBytes.no_prefixes c.args.pair c.self.inside.map c.args.other_pair c.other.inside.map
+          (one_is_new _ g.K.AsBytes.bytes _ g.L.AsBytes.bytes g.met.K.NoPrefixesBytes.no_prefixes g.met.L.NoPrefixesBytes.no_prefixes
+          c.args.pair c.self.inside.map c.args.other_pair c.other.inside.map
           c.as_key.ensures c.self.invariant c.as_key-2.ensures c.other.invariant w.in-Err.error w.in-Err.ensures.refused)))
     ]

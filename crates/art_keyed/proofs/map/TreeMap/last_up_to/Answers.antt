@@ -9,5 +9,6 @@ use Rattle.art_keyed.proofs.map.TreeMap.last_up_to.Goals as goal
 pub returns : goal.returns
 returns g c =
     c.last_up_to.ensures
-    ∙ ap last_of (between_keys _ g.K.AsBytes.bytes g.met.K.OrderedBytes.keeps_order Unbounded c.args.to Unbounded _ refl c.bytes_of.ensures.bytes tt c.bytes_of.ensures.key c.self.inside.map c.self.invariant)
+    ∙ ap last_of (between_keys _ g.K.AsBytes.bytes g.met.K.OrderedBytes.keeps_order Unbounded c.args.to Unbounded _ refl
+    c.bytes_of.ensures.bytes tt c.bytes_of.ensures.key c.self.inside.map c.self.invariant)
     ∙ ap (λ pairs. last_of (keys_between g.K.OrderedBytes.order Unbounded (bound_map (λ b. b.now) c.args.to) pairs)) c.self.view_is

@@ -7,4 +7,6 @@ use Rattle.art_keyed.proofs.map.TreeMap.matches_key.Goals as goal
 pub returns : goal.returns
 returns g c =
     from_none (of_key g.K.AsBytes.bytes) c.beginning.result.now c.args.self.now
-    ∙ fronts_are _ g.K.AsBytes.bytes g.K.StringBytes.text g.K.StringBytes.inside g.met.K.StringBytes.is_inside g.met.K.StringBytes.keeps_fronts c.args.self.now c.as_byte_map.ensures.keys (g.K.StringBytes.text c.args.query.now) c.beginning.result.now c.beginning.ensures.inside
+    ∙ fronts_are _ g.K.AsBytes.bytes g.K.StringBytes.text g.K.StringBytes.inside g.met.K.StringBytes.is_inside
+    g.met.K.StringBytes.keeps_fronts c.args.self.now c.as_byte_map.ensures.keys
+    (g.K.StringBytes.text c.args.query.now) c.beginning.result.now c.beginning.ensures.inside

@@ -21,4 +21,5 @@ returns-clause-other_keys g c =
 pub returns-clause-len : goal.returns-clause-len
 returns-clause-len g c =
     rw (← c.self.view_is)
-    (removal_counted g.K.AsBytes.bytes c.as_bytes.result.now c.self.inside.map c.remove_by.new.self c.remove_by.ensures.was_sorted c.remove_by.result c.remove_by.ensures.removed c.remove_by.ensures.pairs)
+    (removal_counted g.K.AsBytes.bytes c.as_bytes.result.now c.self.inside.map c.remove_by.new.self c.remove_by.ensures.was_sorted
+    c.remove_by.result c.remove_by.ensures.removed c.remove_by.ensures.pairs)

@@ -8,9 +8,11 @@ invariant_of-self g c = rw c.remove_prefix.ensures.pairs (others_keep _ g.K.AsBy
 pub returns-clause-pairs : goal.returns-clause-pairs
 returns-clause-pairs g c =
     rw (← c.self.view_is) (c.remove_prefix.ensures.pairs
-    ∙ not_below_strings _ g.K.AsBytes.bytes g.K.StringBytes.text c.args.prefix.now c.beginning.result.now c.beginning.ensures.begins c.self.inside.map c.self.invariant)
+    ∙ not_below_strings _ g.K.AsBytes.bytes g.K.StringBytes.text c.args.prefix.now c.beginning.result.now c.beginning.ensures.begins
+    c.self.inside.map c.self.invariant)
 
 pub returns-clause-removed : goal.returns-clause-removed
 returns-clause-removed g c =
     rw (← c.self.view_is) (c.remove_prefix.ensures.removed
-    ∙ ap length (below_strings _ g.K.AsBytes.bytes g.K.StringBytes.text c.args.prefix.now c.beginning.result.now c.beginning.ensures.begins c.self.inside.map c.self.invariant))
+    ∙ ap length (below_strings _ g.K.AsBytes.bytes g.K.StringBytes.text c.args.prefix.now c.beginning.result.now c.beginning.ensures.begins
+    c.self.inside.map c.self.invariant))

@@ -8,12 +8,16 @@ use Rattle.art_keyed.proofs.map.TreeMap.shortest_match_key.Goals as goal
 pub shortest_text-requires : goal.shortest_text-requires
 shortest_text-requires g c = (
   search rules,
-  are_ended _ g.K.AsBytes.bytes g.K.StringBytes.text g.K.StringBytes.inside g.met.K.StringBytes.is_inside g.met.K.StringBytes.keeps_fronts c.self.inside.map c.self.invariant,
+  are_ended _ g.K.AsBytes.bytes g.K.StringBytes.text g.K.StringBytes.inside g.met.K.StringBytes.is_inside g.met.K.StringBytes.keeps_fronts
+      c.self.inside.map c.self.invariant,
 )
 
 pub returns : goal.returns
 returns g c =
     let text = g.K.StringBytes.text in
     c.shortest_text.ensures.pair
-    ∙ ap first_of (from_none (of_key g.K.AsBytes.bytes) c.beginning.result.now c.self.inside.map ∙ fronts_are _ g.K.AsBytes.bytes g.K.StringBytes.text g.K.StringBytes.inside g.met.K.StringBytes.is_inside g.met.K.StringBytes.keeps_fronts c.self.inside.map c.self.invariant (g.K.StringBytes.text c.args.query.now) c.beginning.result.now c.beginning.ensures.inside)
+    ∙ ap first_of (from_none (of_key g.K.AsBytes.bytes) c.beginning.result.now c.self.inside.map
+    ∙ fronts_are _ g.K.AsBytes.bytes g.K.StringBytes.text g.K.StringBytes.inside g.met.K.StringBytes.is_inside
+    g.met.K.StringBytes.keeps_fronts c.self.inside.map c.self.invariant
+    (g.K.StringBytes.text c.args.query.now) c.beginning.result.now c.beginning.ensures.inside)
     ∙ ap (λ pairs. first_of (strings_in_front text (text c.args.query.now) pairs)) c.self.view_is

@@ -14,7 +14,8 @@ invariant_of-self g c =
       | in-Ok w ↦ rw w.in-Ok.ensures.stay (before_keeps _ (of_key g.K.AsBytes.bytes) _ c.self.inside.map c.self.invariant)
       | in-Err w ↦
           let refused = w.in-Err.refused in
-          stayed_keep _ (of_key g.K.AsBytes.bytes) _ c.self.inside.map c.split_off.new.self refused.moved (refused.key, refused.value) w.in-Err.ensures.refused c.self.invariant w.in-Err.ensures.kept
+          stayed_keep _ (of_key g.K.AsBytes.bytes) _ c.self.inside.map c.split_off.new.self refused.moved
+          (refused.key, refused.value) w.in-Err.ensures.refused c.self.invariant w.in-Err.ensures.kept
     ]
 
 pub returns-clause-stay : goal.returns-clause-stay
@@ -44,7 +45,8 @@ returns-clause-refused g c =
           let r = w.in-Err.refused in
           rw w.result-is
           (subst (λ k. keys_from B k c.args.self.now ≡ r.moved ++ (r.key, r.value) ∷ keys_from B k c.split_off.new.self) c.as_bytes.ensures
-          (subst (λ pairs. keys_from B c.as_bytes.result.now pairs ≡ r.moved ++ (r.key, r.value) ∷ keys_from B c.as_bytes.result.now c.split_off.new.self) c.self.view_is
+          (subst (λ pairs. keys_from B c.as_bytes.result.now pairs
+          ≡ r.moved ++ (r.key, r.value) ∷ keys_from B c.as_bytes.result.now c.split_off.new.self) c.self.view_is
           w.in-Err.ensures.refused))
     ]
 
@@ -56,5 +58,6 @@ returns-clause-kept g c =
       | in-Err w ↦
           rw w.result-is
           (subst (λ k. keys_before B k c.split_off.new.self ≡ keys_before B k c.args.self.now) c.as_bytes.ensures
-          (subst (λ pairs. keys_before B c.as_bytes.result.now c.split_off.new.self ≡ keys_before B c.as_bytes.result.now pairs) c.self.view_is w.in-Err.ensures.kept))
+          (subst (λ pairs. keys_before B c.as_bytes.result.now c.split_off.new.self ≡ keys_before B c.as_bytes.result.now pairs)
+          c.self.view_is w.in-Err.ensures.kept))
     ]

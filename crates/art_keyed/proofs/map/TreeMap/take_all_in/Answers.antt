@@ -13,7 +13,8 @@ invariant_of-self g c = rw (c.remove_range.ensures.pairs tt) (others_keep _ (of_
 pub returns-clause-pairs : goal.returns-clause-pairs
 returns-clause-pairs g c =
     c.remove_range.ensures.pairs tt
-    ∙ not_between_keys _ g.K.AsBytes.bytes g.met.K.OrderedBytes.keeps_order c.args.from c.args.to _ _ c.bytes_of.ensures.bytes c.bytes_of-2.ensures.bytes c.bytes_of.ensures.key c.bytes_of-2.ensures.key
+    ∙ not_between_keys _ g.K.AsBytes.bytes g.met.K.OrderedBytes.keeps_order c.args.from c.args.to _ _ c.bytes_of.ensures.bytes
+    c.bytes_of-2.ensures.bytes c.bytes_of.ensures.key c.bytes_of-2.ensures.key
     c.self.inside.map c.self.invariant
     ∙ ap (keys_not_between g.K.OrderedBytes.order (bound_map (λ b. b.now) c.args.from) (bound_map (λ b. b.now) c.args.to)) c.self.view_is
 
@@ -21,6 +22,7 @@ pub returns-clause-removed : goal.returns-clause-removed
 returns-clause-removed g c =
     c.remove_range.ensures.removed tt
     ∙ ap length
-    (between_keys _ g.K.AsBytes.bytes g.met.K.OrderedBytes.keeps_order c.args.from c.args.to _ _ c.bytes_of.ensures.bytes c.bytes_of-2.ensures.bytes c.bytes_of.ensures.key c.bytes_of-2.ensures.key
+    (between_keys _ g.K.AsBytes.bytes g.met.K.OrderedBytes.keeps_order c.args.from c.args.to _ _ c.bytes_of.ensures.bytes
+    c.bytes_of-2.ensures.bytes c.bytes_of.ensures.key c.bytes_of-2.ensures.key
     c.self.inside.map c.self.invariant
     ∙ ap (keys_between g.K.OrderedBytes.order (bound_map (λ b. b.now) c.args.from) (bound_map (λ b. b.now) c.args.to)) c.self.view_is)

@@ -13,6 +13,7 @@ pub returns-clause-removed : goal.returns-clause-removed
 returns-clause-removed g c =
     c.pop_first_in.ensures.removed tt
     ∙ ap first_of
-    (between_keys _ g.K.AsBytes.bytes g.met.K.OrderedBytes.keeps_order c.args.from c.args.to _ _ c.bytes_of.ensures.bytes c.bytes_of-2.ensures.bytes c.bytes_of.ensures.key c.bytes_of-2.ensures.key
+    (between_keys _ g.K.AsBytes.bytes g.met.K.OrderedBytes.keeps_order c.args.from c.args.to _ _ c.bytes_of.ensures.bytes
+    c.bytes_of-2.ensures.bytes c.bytes_of.ensures.key c.bytes_of-2.ensures.key
     c.self.inside.map c.self.invariant
     ∙ ap (keys_between g.K.OrderedBytes.order (bound_map (λ b. b.now) c.args.from) (bound_map (λ b. b.now) c.args.to)) c.self.view_is)

@@ -9,5 +9,6 @@ use Rattle.art_keyed.proofs.set.TreeSet.first_from.Goals as goal
 pub returns : goal.returns
 returns g c =
     c.first_from.ensures
-    ∙ ap first_of (between_in_set _ g.K.AsBytes.bytes g.met.K.OrderedBytes.keeps_order c.args.from Unbounded _ Unbounded c.bytes_of.ensures.bytes refl c.bytes_of.ensures.key tt c.self.inside.set c.self.invariant)
+    ∙ ap first_of (between_in_set _ g.K.AsBytes.bytes g.met.K.OrderedBytes.keeps_order c.args.from Unbounded _ Unbounded
+    c.bytes_of.ensures.bytes refl c.bytes_of.ensures.key tt c.self.inside.set c.self.invariant)
     ∙ ap (λ pairs. first_of (set_between g.K.OrderedBytes.order (bound_map (λ b. b.now) c.args.from) Unbounded pairs)) c.self.view_is

@@ -7,7 +7,8 @@ use Rattle.art_keyed.proofs.set.TreeSet.insert.Goals.{in-Ok, in-Err-Memory}
 pub unreachable-requires : goal.unreachable-requires
 unreachable-requires g c =
     let refused = rw c.in-Err-Conflict.field-0-is at c.in-Err-Conflict.ensures.refused in
-    true≢false (sym refused.2 ∙ key_never_in_conflict (Unit {0}) _ _ g.met.K.NoPrefixesBytes.no_prefixes c.args.key c.self.inside.set c.as_key.ensures c.self.invariant)
+    true≢false (sym refused.2 ∙ key_never_in_conflict
+    (Unit {0}) _ _ g.met.K.NoPrefixesBytes.no_prefixes c.args.key c.self.inside.set c.as_key.ensures c.self.invariant)
 
 pub invariant_of-self : goal.invariant_of-self
 invariant_of-self g c =

@@ -13,7 +13,8 @@ invariant_of-self g c =
       | in-Ok w ↦ rw w.in-Ok.ensures.stay (before_keeps _ g.K.AsBytes.bytes _ c.self.inside.set c.self.invariant)
       | in-Err w ↦
           let refused = w.in-Err.refused in
-          stayed_keep _ g.K.AsBytes.bytes _ c.self.inside.set c.split_off.new.self refused.moved refused.key w.in-Err.ensures.refused c.self.invariant w.in-Err.ensures.kept
+          stayed_keep _ g.K.AsBytes.bytes _ c.self.inside.set c.split_off.new.self refused.moved refused.key w.in-Err.ensures.refused
+          c.self.invariant w.in-Err.ensures.kept
     ]
 
 pub returns-clause-stay : goal.returns-clause-stay
@@ -55,5 +56,6 @@ returns-clause-kept g c =
       | in-Err w ↦
           rw w.result-is
           (subst (λ k. keys_before B k c.split_off.new.self ≡ keys_before B k c.args.self.now) c.as_bytes.ensures
-          (subst (λ keys. keys_before B c.as_bytes.result.now c.split_off.new.self ≡ keys_before B c.as_bytes.result.now keys) c.self.view_is w.in-Err.ensures.kept))
+          (subst (λ keys. keys_before B c.as_bytes.result.now c.split_off.new.self ≡ keys_before B c.as_bytes.result.now keys)
+          c.self.view_is w.in-Err.ensures.kept))
     ]

@@ -7,5 +7,6 @@ invariant_of-result g c = record {
   of_key = (c.as_key.ensures, c.as_key-2.ensures);
   is =
       c.in_ok-extend_from_slice-2.ensures.items
-      ∙ ap₂ (λ s t. s ++ t) (c.in_ok-extend_from_slice.ensures.items ∙ ap₂ (λ s t. s ++ t) c.in_ok-bytes.ensures.items c.as_bytes-first.ensures) c.as_bytes-second.ensures;
+      ∙ ap₂ (λ s t. s ++ t) (c.in_ok-extend_from_slice.ensures.items
+      ∙ ap₂ (λ s t. s ++ t) c.in_ok-bytes.ensures.items c.as_bytes-first.ensures) c.as_bytes-second.ensures;
 }

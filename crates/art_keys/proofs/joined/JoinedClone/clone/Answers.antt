@@ -9,4 +9,7 @@ invariant_of-result g c =
 
 pub returns : goal.returns
 returns g c =
-    record { cases = ap (parted g.A.DecodeBytes.key_of g.A.DecodeBytes.length_of g.B.DecodeBytes.key_of) (each_same _ _ c.in_ok-clone.ensures.cases.0) ∙ c.self.view_is }
+    record {
+      cases = ap (parted g.A.DecodeBytes.key_of g.A.DecodeBytes.length_of g.B.DecodeBytes.key_of)
+          (each_same _ _ c.in_ok-clone.ensures.cases.0) ∙ c.self.view_is;
+    }

@@ -9,7 +9,8 @@ all_of-requires g c = (search rules, ap length c.requires.is ∙ c.requires.of_k
 
 pub invariant_of-result : goal.invariant_of-result
 invariant_of-result g c =
-    own_bytes _ (joined_length g.A.DecodeBytes.length_of g.B.DecodeBytes.length_of) (arrays_come_back g.A.NoPrefixesBytes.is_key g.A.AsBytes.bytes g.B.NoPrefixesBytes.is_key g.B.AsBytes.bytes
+    own_bytes _ (joined_length g.A.DecodeBytes.length_of g.B.DecodeBytes.length_of)
+    (arrays_come_back g.A.NoPrefixesBytes.is_key g.A.AsBytes.bytes g.B.NoPrefixesBytes.is_key g.B.AsBytes.bytes
     g.A.DecodeBytes.key_of g.A.DecodeBytes.length_of g.B.DecodeBytes.key_of g.B.DecodeBytes.length_of
     g.met.A.DecodeBytes.comes_back g.met.B.DecodeBytes.comes_back g.row.N) _ (record {
       key = c.requires.key;

@@ -31,4 +31,5 @@ returns g c =
     let Are = AreClones g.K.Clone.is_clone g.V.Clone.is_clone in
     let before = sym (ap (pairs_at c.self.inside.store) c.in-Some.is) ∙ c.self.view_is in
     subst (λ pairs. Are pairs (pairs_at c.copy_tree.new.into (Some c.in_ok-root.root))) before
-    (subst (λ after. Are (pairs_at c.self.inside.store (Some c.in-Some.root)) after) (sym (view_of (of_key g.K.AsBytes.bytes) g.row.P c.copy_tree.new.into held)) are)
+    (subst (λ after. Are (pairs_at c.self.inside.store (Some c.in-Some.root)) after)
+    (sym (view_of (of_key g.K.AsBytes.bytes) g.row.P c.copy_tree.new.into held)) are)

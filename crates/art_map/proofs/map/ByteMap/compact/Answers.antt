@@ -18,13 +18,15 @@ pub invariant_of-self : goal.invariant_of-self
 invariant_of-self g c =
     let sorted = c.sort_leaves.ensures in
     holds (of_key g.K.AsBytes.bytes) g.row.P c.sort_leaves.new.self
-    (still_holds c.in-Some.is c.self.invariant c.minimum_unchecked-first.ensures c.in-Inner.field-0 c.in-Inner.ensures.name c.in-Inner.ensures.proper c.sort_leaves.result
+    (still_holds c.in-Some.is c.self.invariant c.minimum_unchecked-first.ensures c.in-Inner.field-0 c.in-Inner.ensures.name
+    c.in-Inner.ensures.proper c.sort_leaves.result
     sorted.renamed sorted.refused)
 
 pub returns-in-Inner : goal.returns-in-Inner
 returns-in-Inner g c =
     let sorted = c.sort_leaves.ensures in
     let still = view_of (of_key g.K.AsBytes.bytes) g.row.P c.sort_leaves.new.self
-    (still_holds c.in-Some.is c.self.invariant c.minimum_unchecked-first.ensures c.in-Inner.field-0 c.in-Inner.ensures.name c.in-Inner.ensures.proper c.sort_leaves.result
+    (still_holds c.in-Some.is c.self.invariant c.minimum_unchecked-first.ensures c.in-Inner.field-0 c.in-Inner.ensures.name
+    c.in-Inner.ensures.proper c.sort_leaves.result
     sorted.renamed sorted.refused) in
     record { same = still ∙ c.self.view_is }

@@ -26,7 +26,9 @@ pub returns-in-Err : goal.returns-in-Err
 returns-in-Err g c =
     let inv = c.loop-key.invariant in
     let x : g.row.K.Denot × g.row.V.Denot = (c.in-Some.key, c.in-Some.value) in
-    let refused = subst (λ pairs. IsRefusalOf g.K.AsBytes.bytes c.in-Some.key c.in-Some.value pairs c.in-Err.error) (sym c.in-Err.ensures.kept) c.in-Err.ensures.refused in
+    let refused =
+    subst (λ pairs. IsRefusalOf g.K.AsBytes.bytes c.in-Some.key c.in-Some.value pairs c.in-Err.error)
+    (sym c.in-Err.ensures.kept) c.in-Err.ensures.refused in
     record { all = tt; refused = (inv.seen, x, it.Gave-then inv c.in-Some.is c.next.ensures.steps, c.in-Err.ensures.kept ∙ inv.holds, refused) }
 
 pub returns : goal.returns

@@ -16,14 +16,17 @@ returns-in_err-leaf-clause-pair g c =
     let has = at_some c.in_ok-self.was c.self.invariant in
     ap (option_map deref_pair) c.from_residual-in_err-leaf.ensures
     ∙ no_first_pair has.by (λ x. is_from (bound_map (λ b. b.now) c.args.from) (g.K.AsBytes.bytes x.0)) (c.in_err-leaf.ensures.leaf _ has.layout has.by)
-    ∙ ap (λ test. first_of (filter test (pairs_at c.self.inside.store c.self.inside.root))) (λ i x. also_true (is_from (bound_map (λ b. b.now) c.args.from) (g.K.AsBytes.bytes x.0)) i)
+    ∙ ap (λ test. first_of (filter test (pairs_at c.self.inside.store c.self.inside.root)))
+    (λ i x. also_true (is_from (bound_map (λ b. b.now) c.args.from) (g.K.AsBytes.bytes x.0)) i)
     ∙ ap (λ pairs. first_of (between (of_key g.K.AsBytes.bytes) (bound_map (λ b. b.now) c.args.from) Unbounded pairs)) c.self.view_is
 
 pub returns-clause-pair : goal.returns-clause-pair
 returns-clause-pair g c =
     let has = at_some c.in_ok-self.was c.self.invariant in
-    first_pair has.by (λ x. is_from (bound_map (λ b. b.now) c.args.from) (g.K.AsBytes.bytes x.0)) (c.in_ok-leaf.ensures.leaf _ has.layout has.by) c.pair_at.ensures
-    ∙ ap (λ test. first_of (filter test (pairs_at c.self.inside.store c.self.inside.root))) (λ i x. also_true (is_from (bound_map (λ b. b.now) c.args.from) (g.K.AsBytes.bytes x.0)) i)
+    first_pair has.by (λ x. is_from (bound_map (λ b. b.now) c.args.from) (g.K.AsBytes.bytes x.0))
+    (c.in_ok-leaf.ensures.leaf _ has.layout has.by) c.pair_at.ensures
+    ∙ ap (λ test. first_of (filter test (pairs_at c.self.inside.store c.self.inside.root)))
+    (λ i x. also_true (is_from (bound_map (λ b. b.now) c.args.from) (g.K.AsBytes.bytes x.0)) i)
     ∙ ap (λ pairs. first_of (between (of_key g.K.AsBytes.bytes) (bound_map (λ b. b.now) c.args.from) Unbounded pairs)) c.self.view_is
 
 pub returns-clause-sorted : goal.returns-clause-sorted

@@ -13,7 +13,8 @@ pub invariant_of-self-lent : goal.invariant_of-self-lent
 invariant_of-self-lent g c lent =
     let bytes = g.K.AsBytes.bytes in
     let key = g.Q.KeyQuery.key c.args.query in (
-      λ w. holds (of_key bytes) g.row.P _ (value_written bytes g.row.P key (leaf_named bytes g.row.P key c.in_ok-self.was c.self.invariant c.in_ok-leaf.ensures.leaf w) c.self.invariant w),
+      λ w. holds (of_key bytes) g.row.P _ (value_written bytes g.row.P key
+          (leaf_named bytes g.row.P key c.in_ok-self.was c.self.invariant c.in_ok-leaf.ensures.leaf w) c.self.invariant w),
       c.self.invariant,
     )
 
@@ -25,5 +26,7 @@ returns g c =
     let left = λ (w : g.row.V.Denot).
     view_of (of_key bytes) g.row.P _ (value_written bytes g.row.P key (named w) c.self.invariant w) ∙ ap (with_value_at bytes key w) c.self.view_is in
     let lent = c.value_mut.ensures.value in
-    let (r, is) = some_of c.value_mut.result (sym (is_some-map (λ x. x.now) c.value_mut.result) ∙ ap is_some lent ∙ is_some-map (λ node. node.value) _ ∙ c.in_ok-leaf.ensures.there) in
+    let (r, is) = some_of c.value_mut.result
+    (sym (is_some-map (λ x. x.now) c.value_mut.result) ∙ ap is_some lent ∙ is_some-map (λ node. node.value) _
+    ∙ c.in_ok-leaf.ensures.there) in
     rw is (lends_same left, record { writes_back = tt; value = rw is at lent ∙ value_read bytes g.row.P key (named r.now) c.self.view_is })

@@ -8,7 +8,9 @@ invariant_of-self g c = put_holds g.K.AsBytes.bytes g.row.P _ c.put_in.new.store
 
 pub returns : goal.returns
 returns g c =
-    let told = tells_put g.K.AsBytes.bytes g.row.P _ c.put_in.new.store c.put_in.new.root c.put_in.new.len _ _ c.self.view_is c.put_in.result c.put_in.ensures in
+    let told =
+    tells_put g.K.AsBytes.bytes g.row.P _ c.put_in.new.store c.put_in.new.root c.put_in.new.len _ _ c.self.view_is c.put_in.result
+    c.put_in.ensures in
     record {
       pairs = told.pairs;
       replaced = told.replaced;

@@ -20,4 +20,5 @@ pair_at-requires g c = (
 pub returns : goal.returns
 returns g c =
     named_pair g.K.AsBytes.bytes g.row.P c.in_ok-self.was c.self.invariant last_of
-    (λ pairs layout by. last_named g.K.AsBytes.bytes g.row.P _ by (c.maximum_unchecked-leaf.ensures layout (has_children _ _ _ _ _ layout by))) c.pair_at.ensures c.self.view_is
+    (λ pairs layout by. last_named g.K.AsBytes.bytes
+    g.row.P _ by (c.maximum_unchecked-leaf.ensures layout (has_children _ _ _ _ _ layout by))) c.pair_at.ensures c.self.view_is

@@ -19,5 +19,6 @@ returns-in_err-leaf g c =
 pub returns : goal.returns
 returns g c =
     let has = at_some c.in_ok-self.was c.self.invariant in
-    last_pair has.by (λ x. is_up_to (bound_map (λ b. b.now) c.args.to) (g.K.AsBytes.bytes x.0)) (c.in_ok-leaf.ensures.leaf _ has.layout has.by) c.pair_at.ensures
+    last_pair has.by (λ x. is_up_to (bound_map (λ b. b.now) c.args.to) (g.K.AsBytes.bytes x.0))
+    (c.in_ok-leaf.ensures.leaf _ has.layout has.by) c.pair_at.ensures
     ∙ ap (λ pairs. last_of (between (of_key g.K.AsBytes.bytes) Unbounded (bound_map (λ b. b.now) c.args.to) pairs)) c.self.view_is

@@ -26,6 +26,8 @@ returns g c =
     let key = c.args.key_bytes.now in
     let left = c.f.new.arg2 in
     let named = leaf_named bytes g.row.P key c.in_ok-self.was c.self.invariant c.in_ok-leaf.ensures.leaf left in
-    let after = view_of (of_key bytes) g.row.P _ (value_written bytes g.row.P key named c.self.invariant left) ∙ ap (with_value_at bytes key left) c.self.view_is in
+    let after =
+    view_of (of_key bytes) g.row.P _ (value_written bytes g.row.P key named c.self.invariant left)
+    ∙ ap (with_value_at bytes key left) c.self.view_is in
     let found = c.in-Some.ensures.value ∙ value_read bytes g.row.P key named c.self.view_is in
     rw (sym found) (left, record { shown = c.in-Some.value; shows = refl; left = _; met = c.f.ensures; leaves = refl }, after)

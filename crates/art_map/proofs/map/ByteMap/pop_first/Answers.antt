@@ -10,4 +10,9 @@ invariant_of-self g c = taken_holds g.K.AsBytes.bytes g.row.P _ _ _ _ first_of w
 pub returns : goal.returns
 returns g c =
     let (left, removed) = tells_taken g.K.AsBytes.bytes g.row.P _ _ _ _ first_of without_first c.take_first.result c.take_first.ensures c.self.view_is in
-    record { succeeds = refl; pairs = left; removed = removed; was_sorted = view_sorted (of_key g.K.AsBytes.bytes) g.row.P c.self.inside.store c.self.invariant c.self.view_is }
+    record {
+      succeeds = refl;
+      pairs = left;
+      removed = removed;
+      was_sorted = view_sorted (of_key g.K.AsBytes.bytes) g.row.P c.self.inside.store c.self.invariant c.self.view_is;
+    }

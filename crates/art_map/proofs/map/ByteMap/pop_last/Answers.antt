@@ -10,4 +10,9 @@ invariant_of-self g c = taken_holds g.K.AsBytes.bytes g.row.P _ _ _ _ last_of wi
 pub returns : goal.returns
 returns g c =
     let (left, removed) = tells_taken g.K.AsBytes.bytes g.row.P _ _ _ _ last_of without_last c.take_last.result c.take_last.ensures c.self.view_is in
-    record { succeeds = refl; pairs = left; removed = removed; was_sorted = view_sorted (of_key g.K.AsBytes.bytes) g.row.P c.self.inside.store c.self.invariant c.self.view_is }
+    record {
+      succeeds = refl;
+      pairs = left;
+      removed = removed;
+      was_sorted = view_sorted (of_key g.K.AsBytes.bytes) g.row.P c.self.inside.store c.self.invariant c.self.view_is;
+    }

@@ -22,5 +22,6 @@ new-requires-2 g c =
 pub returns-clause-pairs : goal.returns-clause-pairs
 returns-clause-pairs g c =
     let has = at_some c.in-Some.is c.self.invariant in
-    c.new-2.ensures.pairs ∙ range_pairs has.by (λ x. is_front c.args.prefix.now (g.K.AsBytes.bytes x.0)) (c.prefix_unchecked-walk.ensures _ has.layout has.by) has.len_is
+    c.new-2.ensures.pairs ∙ range_pairs has.by (λ x. is_front c.args.prefix.now (g.K.AsBytes.bytes x.0))
+    (c.prefix_unchecked-walk.ensures _ has.layout has.by) has.len_is
     ∙ ap (below (of_key g.K.AsBytes.bytes) c.args.prefix.now) c.self.view_is

@@ -30,5 +30,6 @@ returns-in_err-leaf-clause-pair g c =
 
 pub returns-clause-pair : goal.returns-clause-pair
 returns-clause-pair g c =
-    named_pair g.K.AsBytes.bytes g.row.P c.in_ok-self.was c.self.invariant (λ pairs. first_of (texts_from (of_key g.K.AsBytes.bytes) c.args.query.now c.args.at_least pairs))
+    named_pair g.K.AsBytes.bytes g.row.P c.in_ok-self.was c.self.invariant
+    (λ pairs. first_of (texts_from (of_key g.K.AsBytes.bytes) c.args.query.now c.args.at_least pairs))
     c.in_ok-leaf.ensures.leaf c.pair_at.ensures c.self.view_is

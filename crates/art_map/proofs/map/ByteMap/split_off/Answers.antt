@@ -15,7 +15,8 @@ loop-key-smaller g c =
     let B = of_key g.K.AsBytes.bytes in
     let test = is_between (Included c.args.key_bytes.now) Unbounded in
     let took = c.take_first_in.ensures in
-    rw (took.pairs, c.in-Some.is) (fewer B test c.args.self.now c.loop-key.self took.sorted c.loop-key.invariant.kept (c.in-Some.key, c.in-Some.value) (sym c.in-Some.is ∙ took.removed))
+    rw (took.pairs, c.in-Some.is) (fewer B test c.args.self.now c.loop-key.self took.sorted c.loop-key.invariant.kept
+    (c.in-Some.key, c.in-Some.value) (sym c.in-Some.is ∙ took.removed))
 
 pub loop-key-preserved : goal.loop-key-preserved
 loop-key-preserved g c =
@@ -28,28 +29,32 @@ pub returns-in-Err-Conflict-clause-refused : goal.returns-in-Err-Conflict-clause
 returns-in-Err-Conflict-clause-refused g c =
     let took = c.take_first_in.ensures in
     let refused = rw c.in-Err-Conflict.field-0-is at c.in-Err-Conflict.ensures.refused in
-    (stopped g.K.AsBytes.bytes c.args.key_bytes.now c.args.self.now c.loop-key.invariant took.sorted (sym c.in-Some.is ∙ took.removed) (ap₂ (λ k v. (k, v)) refused.0 refused.1)
+    (stopped g.K.AsBytes.bytes c.args.key_bytes.now c.args.self.now c.loop-key.invariant took.sorted (sym c.in-Some.is ∙ took.removed)
+    (ap₂ (λ k v. (k, v)) refused.0 refused.1)
     (took.pairs ∙ ap (λ o. without (of_key g.K.AsBytes.bytes) o c.loop-key.self) c.in-Some.is) c.in-Err-Conflict.ensures.kept).0
 
 pub returns-in-Err-Conflict-clause-kept : goal.returns-in-Err-Conflict-clause-kept
 returns-in-Err-Conflict-clause-kept g c =
     let took = c.take_first_in.ensures in
     let refused = rw c.in-Err-Conflict.field-0-is at c.in-Err-Conflict.ensures.refused in
-    (stopped g.K.AsBytes.bytes c.args.key_bytes.now c.args.self.now c.loop-key.invariant took.sorted (sym c.in-Some.is ∙ took.removed) (ap₂ (λ k v. (k, v)) refused.0 refused.1)
+    (stopped g.K.AsBytes.bytes c.args.key_bytes.now c.args.self.now c.loop-key.invariant took.sorted (sym c.in-Some.is ∙ took.removed)
+    (ap₂ (λ k v. (k, v)) refused.0 refused.1)
     (took.pairs ∙ ap (λ o. without (of_key g.K.AsBytes.bytes) o c.loop-key.self) c.in-Some.is) c.in-Err-Conflict.ensures.kept).1
 
 pub returns-in-Err-Memory-clause-refused : goal.returns-in-Err-Memory-clause-refused
 returns-in-Err-Memory-clause-refused g c =
     let took = c.take_first_in.ensures in
     let refused = rw c.in-Err-Memory.field-0-is at c.in-Err-Memory.ensures.refused in
-    (stopped g.K.AsBytes.bytes c.args.key_bytes.now c.args.self.now c.loop-key.invariant took.sorted (sym c.in-Some.is ∙ took.removed) (ap₂ (λ k v. (k, v)) refused.0 refused.1)
+    (stopped g.K.AsBytes.bytes c.args.key_bytes.now c.args.self.now c.loop-key.invariant took.sorted (sym c.in-Some.is ∙ took.removed)
+    (ap₂ (λ k v. (k, v)) refused.0 refused.1)
     (took.pairs ∙ ap (λ o. without (of_key g.K.AsBytes.bytes) o c.loop-key.self) c.in-Some.is) c.in-Err-Memory.ensures.kept).0
 
 pub returns-in-Err-Memory-clause-kept : goal.returns-in-Err-Memory-clause-kept
 returns-in-Err-Memory-clause-kept g c =
     let took = c.take_first_in.ensures in
     let refused = rw c.in-Err-Memory.field-0-is at c.in-Err-Memory.ensures.refused in
-    (stopped g.K.AsBytes.bytes c.args.key_bytes.now c.args.self.now c.loop-key.invariant took.sorted (sym c.in-Some.is ∙ took.removed) (ap₂ (λ k v. (k, v)) refused.0 refused.1)
+    (stopped g.K.AsBytes.bytes c.args.key_bytes.now c.args.self.now c.loop-key.invariant took.sorted (sym c.in-Some.is ∙ took.removed)
+    (ap₂ (λ k v. (k, v)) refused.0 refused.1)
     (took.pairs ∙ ap (λ o. without (of_key g.K.AsBytes.bytes) o c.loop-key.self) c.in-Some.is) c.in-Err-Memory.ensures.kept).1
 
 pub returns-clause-stay : goal.returns-clause-stay

@@ -14,14 +14,16 @@ loop-pair-smaller g c =
     let B = of_key g.K.AsBytes.bytes in
     let test = is_between (bound_map (λ b. b.now) c.args.from) (bound_map (λ b. b.now) c.args.to) in
     let took = c.take_first_in.ensures in
-    rw (took.pairs, c.in-Some.is) (fewer B test c.args.self.now c.loop-pair.self took.sorted c.loop-pair.invariant c.in-Some.pair (sym c.in-Some.is ∙ took.removed))
+    rw (took.pairs, c.in-Some.is) (fewer B test c.args.self.now c.loop-pair.self took.sorted c.loop-pair.invariant c.in-Some.pair
+    (sym c.in-Some.is ∙ took.removed))
 
 pub loop-pair-preserved : goal.loop-pair-preserved
 loop-pair-preserved g c =
     let B = of_key g.K.AsBytes.bytes in
     let test = is_between (bound_map (λ b. b.now) c.args.from) (bound_map (λ b. b.now) c.args.to) in
     let took = c.take_first_in.ensures in
-    rw (took.pairs, c.in-Some.is) (some_goes B test c.args.self.now c.loop-pair.self took.sorted c.loop-pair.invariant c.in-Some.pair (sym c.in-Some.is ∙ took.removed))
+    rw (took.pairs, c.in-Some.is) (some_goes B test c.args.self.now c.loop-pair.self took.sorted c.loop-pair.invariant c.in-Some.pair
+    (sym c.in-Some.is ∙ took.removed))
 
 pub overflow_sub-result : goal.overflow_sub-result
 overflow_sub-result g c =

@@ -11,14 +11,16 @@ pub invariant_of-self : goal.invariant_of-self
 invariant_of-self g c =
     let B = of_key g.K.AsBytes.bytes in
     let part = between B (bound_map (λ b. b.now) c.args.from) (bound_map (λ b. b.now) c.args.to) in
-    taken_holds g.K.AsBytes.bytes g.row.P _ _ _ _ (λ pairs. first_of (part pairs)) (λ pairs. without B (first_of (part pairs)) pairs) c.take_between.result c.take_between.ensures
+    taken_holds g.K.AsBytes.bytes g.row.P _ _ _ _ (λ pairs. first_of (part pairs))
+    (λ pairs. without B (first_of (part pairs)) pairs) c.take_between.result c.take_between.ensures
 
 pub returns : goal.returns
 returns g c =
     let B = of_key g.K.AsBytes.bytes in
     let part = between B (bound_map (λ b. b.now) c.args.from) (bound_map (λ b. b.now) c.args.to) in
     let (left, removed) =
-    tells_taken g.K.AsBytes.bytes g.row.P _ _ _ _ (λ pairs. first_of (part pairs)) (λ pairs. without B (first_of (part pairs)) pairs) c.take_between.result c.take_between.ensures c.self.view_is in
+    tells_taken g.K.AsBytes.bytes g.row.P _ _ _ _ (λ pairs. first_of (part pairs))
+    (λ pairs. without B (first_of (part pairs)) pairs) c.take_between.result c.take_between.ensures c.self.view_is in
     record {
       removed = removed;
       pairs = left ∙ ap (λ o. without B o c.args.self.now) (sym removed);

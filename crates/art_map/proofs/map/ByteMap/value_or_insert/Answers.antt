@@ -20,8 +20,16 @@ unreachable-requires g c =
 
 pub returns-in-Err : goal.returns-in-Err
 returns-in-Err g c =
-    let seen = view_of (of_key g.K.AsBytes.bytes) g.row.P c.enter.new.store c.in-Err.ensures.0 ∙ c.self.view_is in
-    (ap (λ s. inr s) seen, record { writes_back = tt; value = tt; accepted = tt; refused = subst (λ pairs. IsRefusalOf g.K.AsBytes.bytes c.args.key c.args.value pairs c.in-Err.error) c.self.view_is c.in-Err.ensures.1 })
+    let seen = view_of (of_key g.K.AsBytes.bytes) g.row.P c.enter.new.store c.in-Err.ensures.0 ∙ c.self.view_is in (
+      ap (λ s. inr s) seen,
+      record {
+        writes_back = tt;
+        value = tt;
+        accepted = tt;
+        refused = subst (λ pairs. IsRefusalOf g.K.AsBytes.bytes c.args.key c.args.value pairs c.in-Err.error)
+            c.self.view_is c.in-Err.ensures.1;
+      },
+    )
 
 pub invariant_of-self-lent : goal.invariant_of-self-lent
 invariant_of-self-lent g c w =

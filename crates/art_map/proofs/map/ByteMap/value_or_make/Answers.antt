@@ -12,7 +12,9 @@ use Rattle.art_map.proofs.Written.{is_there, lends_same, one_value, value_read, 
 use Rattle.art_map.proofs.map.ByteMap.value_or_make.Goals as goal
 
 pub invariant_of-self : goal.invariant_of-self
-invariant_of-self g c = made_holds g.K.AsBytes.bytes g.row.P _ c.leaf_made.new.store c.leaf_made.new.root c.leaf_made.new.len _ _ c.leaf_made.result c.leaf_made.ensures
+invariant_of-self g c =
+    made_holds g.K.AsBytes.bytes g.row.P _ c.leaf_made.new.store c.leaf_made.new.root c.leaf_made.new.len _ _ c.leaf_made.result
+    c.leaf_made.ensures
 
 pub unreachable-requires : goal.unreachable-requires
 unreachable-requires g c =
@@ -27,7 +29,12 @@ returns-in-Err g c =
     let seen = view_of (of_key bytes) g.row.P c.leaf_made.new.store held ∙ c.self.view_is in
     let none = none_refused bytes c.args.key value _ (map_held (of_key bytes) g.row.P c.self.inside.store c.self.invariant) c.in-Err.error refused in (
       ap (λ s. inr s) seen,
-      record { writes_back = tt; value = tt; accepted = tt; refused = (value, made none, subst (λ pairs. IsRefusalOf bytes c.args.key value pairs c.in-Err.error) c.self.view_is refused) },
+      record {
+        writes_back = tt;
+        value = tt;
+        accepted = tt;
+        refused = (value, made none, subst (λ pairs. IsRefusalOf bytes c.args.key value pairs c.in-Err.error) c.self.view_is refused);
+      },
     )
 
 pub invariant_of-self-lent : goal.invariant_of-self-lent

@@ -13,7 +13,8 @@ use Rattle.art_map.proofs.map.ByteMap.value_or_try.Goals as goal
 
 pub invariant_of-self : goal.invariant_of-self
 invariant_of-self g c =
-    tried_holds g.K.AsBytes.bytes g.row.P _ c.leaf_tried.new.store c.leaf_tried.new.root c.leaf_tried.new.len _ (g.F.FnOnce.post c.args.make tt) c.leaf_tried.result c.leaf_tried.ensures
+    tried_holds g.K.AsBytes.bytes g.row.P _ c.leaf_tried.new.store c.leaf_tried.new.root c.leaf_tried.new.len _
+    (g.F.FnOnce.post c.args.make tt) c.leaf_tried.result c.leaf_tried.ensures
 
 pub unreachable-requires : goal.unreachable-requires
 unreachable-requires g c =
@@ -27,7 +28,13 @@ returns-in-Err g c =
     let (held, refused) = c.in-Err.ensures in
     let seen = view_of (of_key bytes) g.row.P c.leaf_tried.new.store held ∙ c.self.view_is in (
       ap (λ s. inr s) seen,
-      record { writes_back = tt; value = tt; accepted = tt; refused = subst (λ pairs. IsMakeRefusal bytes c.args.key (g.F.FnOnce.post c.args.make tt) pairs c.in-Err.error) c.self.view_is refused },
+      record {
+        writes_back = tt;
+        value = tt;
+        accepted = tt;
+        refused = subst (λ pairs. IsMakeRefusal bytes c.args.key (g.F.FnOnce.post c.args.make tt) pairs c.in-Err.error)
+            c.self.view_is refused;
+      },
     )
 
 pub invariant_of-self-lent : goal.invariant_of-self-lent

@@ -29,7 +29,8 @@ returns-in_default-existing_leaf g c =
     let (root_is, point_in, covered, free) = rw c.in-Some.is at c.requires.reserved in
     let has = at_some root_is c.requires.holds in
     let more = pair_more g.K.AsBytes.bytes g.row.P (c.args.key, c.args.value) has c.in-Ok-apply.ensures.replaced c.in_default-existing_leaf.is in (
-      left_holds (of_key g.K.AsBytes.bytes) g.row.P has (c.in-Ok-apply.ensures.canonical _ has.layout has.by) (c.in-Ok-apply.ensures.kept _ has.layout has.by) (c.one_more.ensures ∙ sym more.1),
+      left_holds (of_key g.K.AsBytes.bytes) g.row.P has (c.in-Ok-apply.ensures.canonical _ has.layout has.by)
+          (c.in-Ok-apply.ensures.kept _ has.layout has.by) (c.one_more.ensures ∙ sym more.1),
       sym more.0,
       free,
     )
@@ -40,7 +41,8 @@ returns g c =
     let has = at_some root_is c.requires.holds in
     let many = same_many g.K.AsBytes.bytes g.row.P (c.args.key, c.args.value) has c.in-Ok-apply.ensures.replaced c.in-Some-existing_leaf.is in
     rw c.in-Some-existing_leaf.is (
-      left_holds (of_key g.K.AsBytes.bytes) g.row.P has (c.in-Ok-apply.ensures.canonical _ has.layout has.by) (c.in-Ok-apply.ensures.kept _ has.layout has.by) (sym many.1),
+      left_holds (of_key g.K.AsBytes.bytes) g.row.P has (c.in-Ok-apply.ensures.canonical _ has.layout has.by)
+          (c.in-Ok-apply.ensures.kept _ has.layout has.by) (sym many.1),
       sym many.0,
       free,
     )

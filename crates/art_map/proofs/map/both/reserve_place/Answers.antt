@@ -22,7 +22,8 @@ returns-in-Err-search_for_insert_point-clause-refused g c =
     let has = at_some c.in-Some.is c.requires.1 in
     let accepted = c.in-Err-search_for_insert_point.ensures.accepted pairs has.layout has.by in
     let related = not_false (is_conflict bytes c.args.key_bytes.now pairs) (λ free. false≢true (accepted.1 free)) in
-    unreserved g.K.AsBytes.bytes c.args.key_bytes.now pairs has.by.is_map related c.in-Err-search_for_insert_point.error c.in-Err-search_for_insert_point.ensures.refused
+    unreserved g.K.AsBytes.bytes c.args.key_bytes.now pairs has.by.is_map related c.in-Err-search_for_insert_point.error
+    c.in-Err-search_for_insert_point.ensures.refused
 
 pub returns-in-Ok-reserve_for-clause-reserved : goal.returns-in-Ok-reserve_for-clause-reserved
 returns-in-Ok-reserve_for-clause-reserved g c =
@@ -34,9 +35,12 @@ returns-in-Ok-reserve_for-clause-reserved g c =
     let inners = c.in-Ok-reserve_for.ensures.inners in (
       c.in-Some.is ∙ ap Some (sym c.in-Ok-search_for_insert_point.ensures.root),
       (others, layout, tree_stays (leaves, inners) by, at),
-      subst (λ placed. is_covered placed c.reserve_for.new.store.promise ≡ true) (sym (placed_same c.args.store.now c.reserve_for.new.store inners c.in-Ok-search_for_insert_point.point.insert_kind))
+      subst (λ placed. is_covered placed c.reserve_for.new.store.promise ≡ true)
+          (sym (placed_same c.args.store.now c.reserve_for.new.store inners c.in-Ok-search_for_insert_point.point.insert_kind))
           c.in-Ok-reserve_for.ensures.reserved,
-      subst (λ xs. is_conflict bytes c.args.key_bytes.now xs ≡ false) (sym (view_of bytes g.row.P c.reserve_for.new.store (stays bytes g.row.P c.args.store.now c.reserve_for.new.store leaves inners c.requires.1)))
+      subst (λ xs. is_conflict bytes c.args.key_bytes.now xs ≡ false)
+          (sym (view_of bytes g.row.P c.reserve_for.new.store
+          (stays bytes g.row.P c.args.store.now c.reserve_for.new.store leaves inners c.requires.1)))
           ((c.in-Ok-search_for_insert_point.ensures.accepted pairs has.layout has.by).0 refl),
     )
 
@@ -46,4 +50,5 @@ returns-in-Err-reserve_for-clause-refused g c =
     let pairs = pairs_at c.args.store.now c.args.root in
     let has = at_some c.in-Some.is c.requires.1 in
     let here = subst (λ n. IsCanonicalTree bytes g.row.P c.args.store.now n pairs has.layout) (sym c.in-Ok-search_for_insert_point.ensures.root) has.by in
-    refused_new here (c.in-Ok-search_for_insert_point.ensures.point pairs has.layout has.by) (λ covered. absurd (false≢true (c.in-Err-reserve_for.ensures.succeeds covered)))
+    refused_new here (c.in-Ok-search_for_insert_point.ensures.point pairs has.layout has.by)
+    (λ covered. absurd (false≢true (c.in-Err-reserve_for.ensures.succeeds covered)))

@@ -17,7 +17,8 @@ loop-leaf-smaller g c =
     let now = c.loop-leaf.invariant.0 in
     let next = c.in-Some.ensures in
     fewer g.K.AsBytes.bytes g.row.P (λ f x next value. CalledOnPair g.F.FnMut f x tt next value) c.args.root c.args.len c.args.f.now
-    (pairs_between c.args.store.now c.args.walk c.args.len) (pairs_at c.args.store.now c.args.root) now (next.leaf now.names now.is) (next.rest now.names now.is)
+    (pairs_between c.args.store.now c.args.walk c.args.len) (pairs_at c.args.store.now c.args.root) now (next.leaf now.names now.is)
+    (next.rest now.names now.is)
     c.with_pair_mut.ensures.called
 
 pub loop-leaf-preserved : goal.loop-leaf-preserved
@@ -25,7 +26,8 @@ loop-leaf-preserved g c =
     let now = c.loop-leaf.invariant.0 in
     let next = c.in-Some.ensures in (
       goes_on g.K.AsBytes.bytes g.row.P (λ f x next value. CalledOnPair g.F.FnMut f x tt next value) c.args.root c.args.len c.args.f.now
-          (pairs_between c.args.store.now c.args.walk c.args.len) (pairs_at c.args.store.now c.args.root) now (next.leaf now.names now.is) (next.rest now.names now.is)
+          (pairs_between c.args.store.now c.args.walk c.args.len) (pairs_at c.args.store.now c.args.root) now (next.leaf now.names now.is)
+          (next.rest now.names now.is)
           c.with_pair_mut.ensures.called,
       c.with_pair_mut.ensures.callable,
     )

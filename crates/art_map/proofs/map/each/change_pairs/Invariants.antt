@@ -6,7 +6,8 @@ use Rattle.art_map.proofs.map.each.change_pairs.Given as goal
 
 abbrev pub invariant-loop-leaf : goal.invariant-loop-leaf
 invariant-loop-leaf g l =
-    Changing g.K.AsBytes.bytes g.row.P (λ f x next value. CalledOnPair g.F.FnMut f x tt next value) l.fn.root l.fn.len l.fn.f (pairs_between l.fn.store l.fn.walk l.fn.len)
+    Changing g.K.AsBytes.bytes g.row.P (λ f x next value. CalledOnPair g.F.FnMut f x tt next value) l.fn.root l.fn.len l.fn.f
+    (pairs_between l.fn.store l.fn.walk l.fn.len)
     (pairs_at l.fn.store l.fn.root) l.f l.store l.walk
     × goal.F-IsAlwaysCallable g l.f
 

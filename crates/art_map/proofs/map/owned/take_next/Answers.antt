@@ -7,8 +7,10 @@ returns-in_err-name-clause-pair g c = rw c.from_residual.ensures (first_ended c.
 
 pub returns-clause-walk : goal.returns-clause-walk
 returns-clause-walk g c =
-    first_out_walk _ _ _ c.free_leaf-leaf.ensures.leaves c.free_leaf-leaf.ensures.inners c.requires c.free_leaf-leaf.ensures.node c.in_ok-name.ensures.rest c.in_ok-name.ensures.leaf
+    first_out_walk _ _ _ c.free_leaf-leaf.ensures.leaves c.free_leaf-leaf.ensures.inners c.requires c.free_leaf-leaf.ensures.node
+    c.in_ok-name.ensures.rest c.in_ok-name.ensures.leaf
 
 pub returns-clause-pair : goal.returns-clause-pair
 returns-clause-pair g c =
-    first_out _ _ _ c.free_leaf-leaf.ensures.leaves c.free_leaf-leaf.ensures.inners c.requires c.free_leaf-leaf.ensures.node c.in_ok-name.ensures.rest c.in_ok-name.ensures.leaf
+    first_out _ _ _ c.free_leaf-leaf.ensures.leaves c.free_leaf-leaf.ensures.inners c.requires c.free_leaf-leaf.ensures.node
+    c.in_ok-name.ensures.rest c.in_ok-name.ensures.leaf

@@ -13,8 +13,10 @@ overflow_sub-len g c = last_counts c.requires c.in_ok-name.ensures.rest c.in_ok-
 
 pub returns-clause-walk : goal.returns-clause-walk
 returns-clause-walk g c =
-    last_out_walk _ _ _ c.free_leaf-leaf.ensures.leaves c.free_leaf-leaf.ensures.inners c.requires c.free_leaf-leaf.ensures.node c.in_ok-name.ensures.rest c.in_ok-name.ensures.leaf
+    last_out_walk _ _ _ c.free_leaf-leaf.ensures.leaves c.free_leaf-leaf.ensures.inners c.requires c.free_leaf-leaf.ensures.node
+    c.in_ok-name.ensures.rest c.in_ok-name.ensures.leaf
 
 pub returns-clause-pair : goal.returns-clause-pair
 returns-clause-pair g c =
-    last_out _ _ _ c.free_leaf-leaf.ensures.leaves c.free_leaf-leaf.ensures.inners c.requires c.free_leaf-leaf.ensures.node c.in_ok-name.ensures.rest c.in_ok-name.ensures.leaf
+    last_out _ _ _ c.free_leaf-leaf.ensures.leaves c.free_leaf-leaf.ensures.inners c.requires c.free_leaf-leaf.ensures.node
+    c.in_ok-name.ensures.rest c.in_ok-name.ensures.leaf

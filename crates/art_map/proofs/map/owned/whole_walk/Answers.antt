@@ -28,8 +28,14 @@ maximum_unchecked-last-requires g c =
 pub new-requires : goal.new-requires
 new-requires g c =
     let has = at_some c.in-Some.is c.requires in
-    let full = has_children _ _ _ _ _ has.layout has.by in
-    (search rules, (leaf_names has.layout, items.whole_walk has.by (c.minimum_unchecked-first.ensures has.layout full) (c.maximum_unchecked-last.ensures has.layout full)))
+    let full = has_children _ _ _ _ _ has.layout has.by in (
+      search rules,
+      (
+        leaf_names has.layout,
+        items.whole_walk has.by (c.minimum_unchecked-first.ensures has.layout full)
+            (c.maximum_unchecked-last.ensures has.layout full),
+      ),
+    )
 
 pub returns-clause-walk : goal.returns-clause-walk
 returns-clause-walk g c =

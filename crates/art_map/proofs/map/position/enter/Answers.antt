@@ -33,7 +33,8 @@ returns-in-Leaf g c =
     rw stored (
       c.requires.holds,
       named,
-      stored_free bytes (bytes c.args.key) (pairs_at c.args.store.now c.args.root.now) (map_held (of_key bytes) g.row.P c.args.store.now c.requires.holds) stored,
+      stored_free bytes (bytes c.args.key) (pairs_at c.args.store.now c.args.root.now)
+          (map_held (of_key bytes) g.row.P c.args.store.now c.requires.holds) stored,
     )
 
 pub returns-in-Ok : goal.returns-in-Ok
@@ -67,7 +68,8 @@ returns-in-Ok-apply g c =
     let more = one_more bytes new pairs has.by.is_map (none_back bytes new pairs none) in
     let after = c.in-Ok-apply.ensures.canonical pairs has.layout has.by in
     rw (sym (new_is_put bytes new pairs none)) (
-      left_holds (of_key bytes) g.row.P has after (c.in-Ok-apply.ensures.kept pairs has.layout has.by) (c.one_more.ensures ∙ ap (λ n. n + 1) has.len_is ∙ sym more),
+      left_holds (of_key bytes) g.row.P has after (c.in-Ok-apply.ensures.kept pairs has.layout has.by)
+          (c.one_more.ensures ∙ ap (λ n. n + 1) has.len_is ∙ sym more),
       leaf_of_result bytes g.row.P new _ c.in-Ok-apply.done after c.in-Ok-apply.ensures.leaf,
       free,
     )

@@ -12,11 +12,14 @@ returns-in-Leaf g c =
     let bytes = g.K.AsBytes.bytes in
     let named = rw c.in-Leaf.is at c.requires.position in
     let stored = is_stored bytes g.row.P (bytes c.args.key) named in
-    let free = stored_free bytes (bytes c.args.key) (pairs_at c.args.store.now c.args.root.now) (map_held (of_key bytes) g.row.P c.args.store.now c.requires.holds) stored in
+    let free = stored_free bytes (bytes c.args.key) (pairs_at c.args.store.now c.args.root.now)
+    (map_held (of_key bytes) g.row.P c.args.store.now c.requires.holds) stored in
     (named.pair.1, λ none. absurd (false≢true (sym none ∙ stored)), rw stored (c.requires.holds, named, free))
 
 pub make-value-requires : goal.make-value-requires
 make-value-requires g c =
-    let new = position_new g.K.AsBytes.bytes g.row.P (g.K.AsBytes.bytes c.args.key) c.requires.holds c.args.position c.requires.position c.in_default.not-Leaf in
+    let new =
+    position_new g.K.AsBytes.bytes g.row.P (g.K.AsBytes.bytes c.args.key)
+    c.requires.holds c.args.position c.requires.position c.in_default.not-Leaf in
     let callable = c.requires.make new in
     search rules

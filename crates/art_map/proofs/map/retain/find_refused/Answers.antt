@@ -22,7 +22,8 @@ loop-leaf-init g c =
     let range = range_there has.by (λ x. is_between (bound_map (λ b. b.now) c.bound_after.result) Unbounded (g.K.AsBytes.bytes x.0))
     (c.range_unchecked-walk.ensures _ has.layout has.by) has.len_is in (
       begins g.K.AsBytes.bytes g.row.P (λ f x next value. CalledOnPair g.F.FnMut f x true next value) (Some c.args.root) c.args.len c.args.f.now
-          (pairs_between c.args.store.now c.range_unchecked-walk.result c.args.len) (pairs_at c.args.store.now (Some c.args.root)) range refl refl c.requires.holds,
+          (pairs_between c.args.store.now c.range_unchecked-walk.result c.args.len)
+          (pairs_at c.args.store.now (Some c.args.root)) range refl refl c.requires.holds,
       c.requires.callable,
     )
 
@@ -31,18 +32,22 @@ loop-leaf-smaller g c =
     let now = c.loop-leaf.invariant.0 in
     let next = c.in-Some.ensures in
     let yes : c.with_pair_mut.result ≡ true = search rules in
-    let called = subst (λ b. CallsOnLeaf g.F.FnMut c.in-Some.leaf c.loop-leaf.f c.loop-leaf.store b c.with_pair_mut.new.f c.with_pair_mut.new.self) yes c.with_pair_mut.ensures.called in
+    let called = subst (λ b. CallsOnLeaf g.F.FnMut c.in-Some.leaf c.loop-leaf.f c.loop-leaf.store b c.with_pair_mut.new.f
+    c.with_pair_mut.new.self) yes c.with_pair_mut.ensures.called in
     fewer g.K.AsBytes.bytes g.row.P (λ f x next value. CalledOnPair g.F.FnMut f x true next value) (Some c.args.root) c.args.len c.args.f.now
-    (pairs_between c.args.store.now c.range_unchecked-walk.result c.args.len) (pairs_at c.args.store.now (Some c.args.root)) now (next.leaf now.names now.is) (next.rest now.names now.is) called
+    (pairs_between c.args.store.now c.range_unchecked-walk.result c.args.len) (pairs_at c.args.store.now (Some c.args.root)) now
+    (next.leaf now.names now.is) (next.rest now.names now.is) called
 
 pub loop-leaf-preserved : goal.loop-leaf-preserved
 loop-leaf-preserved g c =
     let now = c.loop-leaf.invariant.0 in
     let next = c.in-Some.ensures in
     let yes : c.with_pair_mut.result ≡ true = search rules in
-    let called = subst (λ b. CallsOnLeaf g.F.FnMut c.in-Some.leaf c.loop-leaf.f c.loop-leaf.store b c.with_pair_mut.new.f c.with_pair_mut.new.self) yes c.with_pair_mut.ensures.called in (
+    let called = subst (λ b. CallsOnLeaf g.F.FnMut c.in-Some.leaf c.loop-leaf.f c.loop-leaf.store b c.with_pair_mut.new.f
+    c.with_pair_mut.new.self) yes c.with_pair_mut.ensures.called in (
       goes_on g.K.AsBytes.bytes g.row.P (λ f x next value. CalledOnPair g.F.FnMut f x true next value) (Some c.args.root) c.args.len c.args.f.now
-          (pairs_between c.args.store.now c.range_unchecked-walk.result c.args.len) (pairs_at c.args.store.now (Some c.args.root)) now (next.leaf now.names now.is)
+          (pairs_between c.args.store.now c.range_unchecked-walk.result c.args.len) (pairs_at c.args.store.now (Some c.args.root)) now
+          (next.leaf now.names now.is)
           (next.rest now.names now.is) called,
       c.with_pair_mut.ensures.callable,
     )
@@ -52,13 +57,15 @@ pair_at-requires g c =
     let bytes = g.K.AsBytes.bytes in
     let has = at_root (of_key bytes) g.row.P c.requires.holds in
     let first =
-    range_pairs has.by (λ x. is_between (bound_map (λ b. b.now) c.bound_after.result) Unbounded (bytes x.0)) (c.range_unchecked-walk.ensures _ has.layout has.by) has.len_is
+    range_pairs has.by (λ x. is_between (bound_map (λ b. b.now) c.bound_after.result) Unbounded (bytes x.0))
+    (c.range_unchecked-walk.ensures _ has.layout has.by) has.len_is
     ∙ ap (λ b. between (of_key bytes) b Unbounded (pairs_at c.args.store.now (Some c.args.root))) c.bound_after.ensures in
     let now = c.loop-leaf.invariant.0 in
     let next = c.in-Some.ensures in
     let no : c.with_pair_mut.result ≡ false = search rules in
     let (x, held, up_to, node, there, pair) =
-    refused_at g.F.FnMut bytes g.row.P c.args.last.now c.args.f.now first now (next.leaf now.names now.is) (next.rest now.names now.is) c.with_pair_mut.ensures.called no in
+    refused_at g.F.FnMut bytes g.row.P c.args.last.now c.args.f.now first now (next.leaf now.names now.is)
+    (next.rest now.names now.is) c.with_pair_mut.ensures.called no in
     (search rules, ap is_some there)
 
 pub search_for_delete_point_by_lengths-requires : goal.search_for_delete_point_by_lengths-requires
@@ -66,13 +73,15 @@ search_for_delete_point_by_lengths-requires g c =
     let bytes = g.K.AsBytes.bytes in
     let has = at_root (of_key bytes) g.row.P c.requires.holds in
     let first =
-    range_pairs has.by (λ x. is_between (bound_map (λ b. b.now) c.bound_after.result) Unbounded (bytes x.0)) (c.range_unchecked-walk.ensures _ has.layout has.by) has.len_is
+    range_pairs has.by (λ x. is_between (bound_map (λ b. b.now) c.bound_after.result) Unbounded (bytes x.0))
+    (c.range_unchecked-walk.ensures _ has.layout has.by) has.len_is
     ∙ ap (λ b. between (of_key bytes) b Unbounded (pairs_at c.args.store.now (Some c.args.root))) c.bound_after.ensures in
     let now = c.loop-leaf.invariant.0 in
     let next = c.in-Some.ensures in
     let no : c.with_pair_mut.result ≡ false = search rules in
     let (x, held, up_to, node, there, pair) =
-    refused_at g.F.FnMut bytes g.row.P c.args.last.now c.args.f.now first now (next.leaf now.names now.is) (next.rest now.names now.is) c.with_pair_mut.ensures.called no in
+    refused_at g.F.FnMut bytes g.row.P c.args.last.now c.args.f.now first now (next.leaf now.names now.is)
+    (next.rest now.names now.is) c.with_pair_mut.ensures.called no in
     let changed = at_root (of_key bytes) g.row.P held in
     (search rules, (_, changed.layout, changed.by))
 
@@ -81,13 +90,15 @@ returns-then-not-with_pair_mut-clause-found g c =
     let bytes = g.K.AsBytes.bytes in
     let has = at_root (of_key bytes) g.row.P c.requires.holds in
     let first =
-    range_pairs has.by (λ x. is_between (bound_map (λ b. b.now) c.bound_after.result) Unbounded (bytes x.0)) (c.range_unchecked-walk.ensures _ has.layout has.by) has.len_is
+    range_pairs has.by (λ x. is_between (bound_map (λ b. b.now) c.bound_after.result) Unbounded (bytes x.0))
+    (c.range_unchecked-walk.ensures _ has.layout has.by) has.len_is
     ∙ ap (λ b. between (of_key bytes) b Unbounded (pairs_at c.args.store.now (Some c.args.root))) c.bound_after.ensures in
     let now = c.loop-leaf.invariant.0 in
     let next = c.in-Some.ensures in
     let no : c.with_pair_mut.result ≡ false = search rules in
     let (x, held, up_to, node, there, pair) =
-    refused_at g.F.FnMut bytes g.row.P c.args.last.now c.args.f.now first now (next.leaf now.names now.is) (next.rest now.names now.is) c.with_pair_mut.ensures.called no in
+    refused_at g.F.FnMut bytes g.row.P c.args.last.now c.args.f.now first now (next.leaf now.names now.is)
+    (next.rest now.names now.is) c.with_pair_mut.ensures.called no in
     let shown : deref_pair c.pair_at.result ≡ x = same_some (sym c.pair_at.ensures ∙ ap (option_map pair_of) there ∙ ap Some pair) in
     let found = c.search_for_delete_point_by_lengths.result in
     finds g.F.FnMut bytes g.row.P c.args.last.now c.args.f.now held up_to found
@@ -100,9 +111,11 @@ returns-clause-found g c =
     let bytes = g.K.AsBytes.bytes in
     let has = at_root (of_key bytes) g.row.P c.requires.holds in
     let first =
-    range_pairs has.by (λ x. is_between (bound_map (λ b. b.now) c.bound_after.result) Unbounded (bytes x.0)) (c.range_unchecked-walk.ensures _ has.layout has.by) has.len_is
+    range_pairs has.by (λ x. is_between (bound_map (λ b. b.now) c.bound_after.result) Unbounded (bytes x.0))
+    (c.range_unchecked-walk.ensures _ has.layout has.by) has.len_is
     ∙ ap (λ b. between (of_key bytes) b Unbounded (pairs_at c.args.store.now (Some c.args.root))) c.bound_after.ensures in
     let now = c.loop-leaf.invariant.0 in
     all_kept g.F.FnMut bytes g.row.P c.args.last.now c.args.f.now first
     (ends bytes g.row.P (λ f x next value. CalledOnPair g.F.FnMut f x true next value) (Some c.args.root) c.args.len c.args.f.now
-    (pairs_between c.args.store.now c.range_unchecked-walk.result c.args.len) (pairs_at c.args.store.now (Some c.args.root)) now (c.in_default.ensures.leaf now.names now.is))
+    (pairs_between c.args.store.now c.range_unchecked-walk.result c.args.len) (pairs_at c.args.store.now (Some c.args.root)) now
+    (c.in_default.ensures.leaf now.names now.is))

@@ -13,7 +13,8 @@ returns-in_default-clause-taken g c =
     let pairs = pairs_at c.args.store.now c.args.root.now in (
       pairs,
       c.requires.holds,
-      none_refused g.F.FnMut g.K.AsBytes.bytes g.row.P c.args.last.now c.args.f.now pairs (no_pairs B g.row.P c.args.store.now c.in_default.is c.requires.holds),
+      none_refused g.F.FnMut g.K.AsBytes.bytes g.row.P c.args.last.now c.args.f.now pairs
+          (no_pairs B g.row.P c.args.store.now c.in_default.is c.requires.holds),
     )
 
 pub returns-in_default-find_refused-clause-taken : goal.returns-in_default-find_refused-clause-taken

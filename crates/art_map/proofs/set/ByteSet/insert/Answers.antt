@@ -20,4 +20,5 @@ pub returns-in-Err-clause-refused : goal.returns-in-Err-clause-refused
 returns-in-Err-clause-refused g c =
     let B = g.K.AsBytes.bytes in
     subst (λ keys. IsKeyRefusal B c.args.key keys c.without_value.result) c.self.view_is
-    (subst (IsKeyRefusal B c.args.key (keys_of c.self.inside.map)) (sym c.without_value.ensures) (key_refused B c.args.key c.self.inside.map _ c.in-Err.ensures.refused))
+    (subst (IsKeyRefusal B c.args.key (keys_of c.self.inside.map)) (sym c.without_value.ensures)
+    (key_refused B c.args.key c.self.inside.map _ c.in-Err.ensures.refused))

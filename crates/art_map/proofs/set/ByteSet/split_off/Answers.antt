@@ -13,6 +13,7 @@ returns-clause-refused g c =
       | in-Err w ↦
           let refused = w.in-Err.refused in
           rw w.result-is
-          (subst (λ ks. keys_from B c.args.key_bytes.now ks ≡ keys_of refused.moved ++ refused.key ∷ keys_from B c.args.key_bytes.now (keys_of c.split_off.new.self)) c.self.view_is
+          (subst (λ ks. keys_from B c.args.key_bytes.now ks
+          ≡ keys_of refused.moved ++ refused.key ∷ keys_from B c.args.key_bytes.now (keys_of c.split_off.new.self)) c.self.view_is
           (keys_parted B c.args.key_bytes.now c.self.inside.map c.split_off.new.self refused.moved (refused.key, refused.value) w.in-Err.ensures.refused))
     ]

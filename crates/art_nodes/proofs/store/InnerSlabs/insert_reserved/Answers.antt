@@ -22,5 +22,6 @@ returns-in-Node48-clause-nodes g c =
 
 pub returns-in-Node256-clause-nodes : goal.returns-in-Node256-clause-nodes
 returns-in-Node256-clause-nodes g c =
-    placed_of c.args.self.now _ c.insert_in-in-Node256.result _ c.insert_in-in-Node256.ensures.kind _ (only256 c.args.self.now _) c.insert_in-in-Node256.ensures.put
+    placed_of c.args.self.now _ c.insert_in-in-Node256.result _ c.insert_in-in-Node256.ensures.kind _
+    (only256 c.args.self.now _) c.insert_in-in-Node256.ensures.put
     ∙ ap (λ n. insert (inners_of c.args.self.now) c.insert_in-in-Node256.result (any_view n)) (sym c.in-Node256.is)

@@ -4,7 +4,8 @@ use Rattle.art_nodes.proofs.store.InnerSlabs.put_larger.Goals as goal
 
 pub returns-in-Node4-clause-nodes : goal.returns-in-Node4-clause-nodes
 returns-in-Node4-clause-nodes g c =
-    gives_way c.args.self.now _ _ c.args.name c.grow.result (with_child c.args.byte c.args.child) c.in-Node4.is c.grow.ensures.kind (only4 _ _) (only16 _ _) c.grow.ensures.gone c.grow.ensures.put
+    gives_way c.args.self.now _ _ c.args.name c.grow.result (with_child c.args.byte c.args.child) c.in-Node4.is c.grow.ensures.kind
+    (only4 _ _) (only16 _ _) c.grow.ensures.gone c.grow.ensures.put
 
 pub returns-in-Node16-clause-nodes : goal.returns-in-Node16-clause-nodes
 returns-in-Node16-clause-nodes g c =

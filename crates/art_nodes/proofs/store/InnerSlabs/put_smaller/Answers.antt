@@ -6,7 +6,8 @@ use Rattle.art_nodes.proofs.store.InnerSlabs.put_smaller.Goals as goal
 
 pub returns-in-Node16-clause-nodes : goal.returns-in-Node16-clause-nodes
 returns-in-Node16-clause-nodes g c =
-    gives_way c.args.self.now _ _ c.args.name c.shrink.result (without_child c.args.byte) c.in-Node16.is c.shrink.ensures.kind (only16 _ _) (only4 _ _) c.shrink.ensures.gone c.shrink.ensures.put
+    gives_way c.args.self.now _ _ c.args.name c.shrink.result (without_child c.args.byte) c.in-Node16.is c.shrink.ensures.kind (only16 _ _)
+    (only4 _ _) c.shrink.ensures.gone c.shrink.ensures.put
 
 pub returns-in-Node48-clause-nodes : goal.returns-in-Node48-clause-nodes
 returns-in-Node48-clause-nodes g c =

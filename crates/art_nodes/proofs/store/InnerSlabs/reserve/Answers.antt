@@ -33,7 +33,8 @@ returns-in-Node16-clause-room g c =
     })
 
 pub returns-in_err-make_room_beside-3-clause-nodes : goal.returns-in_err-make_room_beside-3-clause-nodes
-returns-in_err-make_room_beside-3-clause-nodes g c = same_slots c.args.self.now _ c.make_room_beside.ensures.wider.slots c.make_room_beside-2.ensures.wider.slots
+returns-in_err-make_room_beside-3-clause-nodes g c =
+    same_slots c.args.self.now _ c.make_room_beside.ensures.wider.slots c.make_room_beside-2.ensures.wider.slots
     c.make_room_beside-3.ensures.wider.slots refl
 
 pub returns-in_err-make_room_beside-3-clause-succeeds : goal.returns-in_err-make_room_beside-3-clause-succeeds

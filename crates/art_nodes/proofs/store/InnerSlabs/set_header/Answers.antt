@@ -6,7 +6,8 @@ use Rattle.art_nodes.proofs.store.InnerSlabs.set_header.Goals as goal
 
 pub returns-in-Node4-clause-nodes : goal.returns-in-Node4-clause-nodes
 returns-in-Node4-clause-nodes g c =
-    written_of c.args.self.now _ c.args.name (with_header c.args.header) _ _ Node4 c.in-Node4.is (only4 c.args.self.now _) c.index_mut.ensures.value refl c.set_header.ensures
+    written_of c.args.self.now _ c.args.name (with_header c.args.header) _ _ Node4 c.in-Node4.is
+    (only4 c.args.self.now _) c.index_mut.ensures.value refl c.set_header.ensures
 
 pub returns-in-Node16-clause-nodes : goal.returns-in-Node16-clause-nodes
 returns-in-Node16-clause-nodes g c =
@@ -45,4 +46,5 @@ pub index_mut-requires-in-Node256 : goal.index_mut-requires-in-Node256
 index_mut-requires-in-Node256 g c = in_slot c.args.self.now c.args.name Node256 c.in-Node256.is c.requires
 
 pub returns-in-Node256-clause-rooms : goal.returns-in-Node256-clause-rooms
-returns-in-Node256-clause-rooms g c = rooms_written c.args.self.now _ c.args.name _ _ Node256 (only256 c.args.self.now _) c.index_mut-in-Node256.ensures.value refl
+returns-in-Node256-clause-rooms g c =
+    rooms_written c.args.self.now _ c.args.name _ _ Node256 (only256 c.args.self.now _) c.index_mut-in-Node256.ensures.value refl

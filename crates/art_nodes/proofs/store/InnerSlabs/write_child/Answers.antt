@@ -6,7 +6,8 @@ use Rattle.art_nodes.proofs.store.InnerSlabs.write_child.Goals as goal
 
 pub returns-in-Node4-clause-nodes : goal.returns-in-Node4-clause-nodes
 returns-in-Node4-clause-nodes g c =
-    written_of c.args.self.now _ c.args.name (with_child c.args.byte c.args.child) _ _ Node4 c.in-Node4.is (only4 c.args.self.now _) c.index_mut.ensures.value refl c.write_child.ensures
+    written_of c.args.self.now _ c.args.name (with_child c.args.byte c.args.child) _ _ Node4 c.in-Node4.is
+    (only4 c.args.self.now _) c.index_mut.ensures.value refl c.write_child.ensures
 
 pub returns-in-Node16-clause-nodes : goal.returns-in-Node16-clause-nodes
 returns-in-Node16-clause-nodes g c =
@@ -33,7 +34,8 @@ pub returns-in-Node48-clause-rooms : goal.returns-in-Node48-clause-rooms
 returns-in-Node48-clause-rooms g c = rooms_written c.args.self.now _ c.args.name _ _ Node48 (only48 c.args.self.now _) c.index_mut-in-Node48.ensures.value refl
 
 pub returns-in-Node256-clause-rooms : goal.returns-in-Node256-clause-rooms
-returns-in-Node256-clause-rooms g c = rooms_written c.args.self.now _ c.args.name _ _ Node256 (only256 c.args.self.now _) c.index_mut-in-Node256.ensures.value refl
+returns-in-Node256-clause-rooms g c =
+    rooms_written c.args.self.now _ c.args.name _ _ Node256 (only256 c.args.self.now _) c.index_mut-in-Node256.ensures.value refl
 
 pub index_mut-requires : goal.index_mut-requires
 index_mut-requires g c = is_there _ _ (place_of c.args.self.now c.args.name Node4 c.in-Node4.is c.args.byte c.requires)

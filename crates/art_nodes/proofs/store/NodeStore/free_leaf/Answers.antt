@@ -18,7 +18,9 @@ pub remove-requires : goal.remove-requires
 remove-requires g c = ap is_some (sym (leaf_under c.self.inside.leaves.slots _ c.args.leaf (ap (λ nodes. nodes.leaves) c.self.view_is))) ∙ c.requires
 
 pub returns-clause-leaves : goal.returns-clause-leaves
-returns-clause-leaves g c = leaves_freed c.self.inside.leaves _ c.args.leaf c.remove.ensures.updates ∙ ap (λ nodes. map.remove nodes.leaves c.args.leaf) c.self.view_is
+returns-clause-leaves g c =
+    leaves_freed c.self.inside.leaves _ c.args.leaf c.remove.ensures.updates
+    ∙ ap (λ nodes. map.remove nodes.leaves c.args.leaf) c.self.view_is
 
 pub invariant_of-self : goal.invariant_of-self
 invariant_of-self g c = (omega (arith, c.remove.ensures.len, c.self.invariant.0), c.self.invariant.1)

@@ -11,5 +11,6 @@ returns-clause-placed g c =
       | then-self-gt0 w ↦ ap (λ s. s.leaves.slots) w.self-inside-is
       | else-self-gt0+in_default w ↦ ap (λ s. s.leaves.slots) w.self-inside-is ∙ w.make_room.ensures.wider.slots
     ] in
-    leaves_placed c.if-self-gt0.self-inside.leaves c.insert_reserved-slot.new.self c.insert_reserved-slot.result c.args.leaf c.insert_reserved-slot.ensures.updates
+    leaves_placed c.if-self-gt0.self-inside.leaves c.insert_reserved-slot.new.self c.insert_reserved-slot.result c.args.leaf
+    c.insert_reserved-slot.ensures.updates
     ∙ ap (λ m. insert m (record { slot = c.insert_reserved-slot.result }) c.args.leaf) (ap leaves_of same ∙ ap (λ nodes. nodes.leaves) c.self.view_is)

@@ -15,5 +15,8 @@ returns-clause-renamed g c row is first =
     let moved = c.move_row.ensures row (subst (λ leaves. IsRow leaves None row) (sym was) is) first in
     let inners = λ (name : InnerPtr).
     c.rename_leaves.ensures.nodes name
-    ∙ ap (λ s. option_map (inner_renamed (new_name table)) (map.get s.inners name)) c.self.view_is in
-    (new_name table, are_renamed table row c.args.self.now _ c.self.inside.leaves c.move_row.new.to c.rename_links.new.leaves was refl moved c.rename_links.ensures inners)
+    ∙ ap (λ s. option_map (inner_renamed (new_name table)) (map.get s.inners name)) c.self.view_is in (
+      new_name table,
+      are_renamed table row c.args.self.now _ c.self.inside.leaves c.move_row.new.to c.rename_links.new.leaves was refl moved
+          c.rename_links.ensures inners,
+    )

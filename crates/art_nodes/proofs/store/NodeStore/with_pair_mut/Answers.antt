@@ -7,10 +7,14 @@ use Rattle.art_nodes.proofs.StoreLemmas.{leaf_under, leaves_written, keeps_room}
 use Rattle.art_nodes.proofs.store.NodeStore.with_pair_mut.Goals as goal
 
 pub index_mut-node-requires : goal.index_mut-node-requires
-index_mut-node-requires g c = ap is_some (sym (leaf_under c.self.inside.leaves.slots _ c.args.leaf (ap (λ nodes. nodes.leaves) c.self.view_is))) ∙ c.requires.there
+index_mut-node-requires g c =
+    ap is_some (sym (leaf_under c.self.inside.leaves.slots _ c.args.leaf (ap (λ nodes. nodes.leaves) c.self.view_is))) ∙ c.requires.there
 
 pub invariant_of-self : goal.invariant_of-self
-invariant_of-self g c = (keeps_room c.self.inside.leaves c.args.leaf.slot c.self.inside.promised_leaves _ _ c.index_mut-node.ensures.value c.self.invariant.0, c.self.invariant.1)
+invariant_of-self g c = (
+  keeps_room c.self.inside.leaves c.args.leaf.slot c.self.inside.promised_leaves _ _ c.index_mut-node.ensures.value c.self.invariant.0,
+  c.self.invariant.1,
+)
 
 pub returns-clause-called : goal.returns-clause-called
 returns-clause-called g c =

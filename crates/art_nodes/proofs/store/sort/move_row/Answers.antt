@@ -29,7 +29,8 @@ loop-next-preserved g c =
           let moving = subst (AreMoving c.args.from.now l.from l.to l.table row) c.in-Some.is (l.invariant.moving row is first) in
           let there = next_there c.args.from.now l.from l.to l.table row name moving in
           let fits : name.slot < length l.table = omega (arith, ContainsKey-within c.args.from.now name.slot there.1, l.invariant.places) in
-          next_moves c.args.from.now l.from c.remove-node.new.self l.to put.new.self l.table row name put.result c.remove-node.result is c.remove-node.ensures.value
+          next_moves c.args.from.now l.from c.remove-node.new.self l.to put.new.self l.table row name put.result c.remove-node.result is
+          c.remove-node.ensures.value
           c.remove-node.ensures.updates put.ensures.was_vacant put.ensures.updates fits moving;
       room = omega (arith, l.invariant.room, c.remove-node.ensures.len, put.ensures.len, put.ensures.capacity);
       places = omega (arith, l.invariant.places, as_long);

@@ -9,7 +9,8 @@ use Rattle.art_nodes.proofs.store.sort.move_row.Given as goal
 
 abbrev pub invariant-loop-next : goal.invariant-loop-next
 invariant-loop-next g l = record {
-  moving : (row : List LeafPtr) → IsRow (leaves_of l.fn.from.slots) None row → first_of row ≡ Some l.fn.first → AreMoving l.fn.from l.from l.to l.table row l.next;
+  moving : (row : List LeafPtr) → IsRow (leaves_of l.fn.from.slots) None row → first_of row ≡ Some l.fn.first →
+      AreMoving l.fn.from l.from l.to l.table row l.next;
   room : HasRoomFor l.to (slab_len l.from);
   places : length l.fn.from.slots ≤ length l.table;
 }

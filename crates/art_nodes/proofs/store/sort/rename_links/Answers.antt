@@ -13,7 +13,8 @@ loop-slot-preserved g c =
       | in-Some w ↦
           let there = sym c.get_mut.ensures.value ∙ ap option_copied_mut w.in-Some.is in
           subst (λ s. AreChangedBelow f c.args.leaves.now s (c.loop-slot.slot + 1)) (sym w.leaves-is)
-          (next_changed f c.args.leaves.now c.loop-slot.leaves c.loop-slot.slot c.loop-slot.invariant w.in-Some.leaf.now w.rename_beside.new.leaf there w.rename_beside.ensures)
+          (next_changed f c.args.leaves.now c.loop-slot.leaves c.loop-slot.slot c.loop-slot.invariant w.in-Some.leaf.now
+          w.rename_beside.new.leaf there w.rename_beside.ensures)
       | in_default w ↦
           let none = sym c.get_mut.ensures.value ∙ ap option_copied_mut w.in_default.is in
           subst (λ s. AreChangedBelow f c.args.leaves.now s (c.loop-slot.slot + 1)) (sym w.leaves-is)

@@ -10,11 +10,13 @@ use Rattle.art_reading.proofs.lookup.shortest.shortest_text_visiting.Goals as go
 
 pub returns-in_err-leaf-clause-leaf : goal.returns-in_err-leaf-clause-leaf
 returns-in_err-leaf-clause-leaf g c pairs layout by =
-    first_none by c.args.end (c.requires.ended pairs layout by) c.args.query.now c.args.at_least c.from_residual.result c.from_residual.ensures (c.in_err-leaf.ensures.ends pairs layout by)
+    first_none by c.args.end (c.requires.ended pairs layout by)
+    c.args.query.now c.args.at_least c.from_residual.result c.from_residual.ensures (c.in_err-leaf.ensures.ends pairs layout by)
 
 pub returns-in_err-leaf-clause-pair : goal.returns-in_err-leaf-clause-pair
 returns-in_err-leaf-clause-pair g c pairs layout by =
-    first_pair by (texts_from (of_key g.K.AsBytes.bytes) c.args.query.now c.args.at_least pairs) c.from_residual.result (returns-in_err-leaf-clause-leaf g c pairs layout by)
+    first_pair by (texts_from (of_key g.K.AsBytes.bytes) c.args.query.now c.args.at_least pairs) c.from_residual.result
+    (returns-in_err-leaf-clause-leaf g c pairs layout by)
 
 pub unreachable-requires : goal.unreachable-requires
 unreachable-requires g c =
@@ -31,7 +33,8 @@ returns-then-is_sought-clause-leaf g c pairs layout by =
 
 pub returns-then-is_sought-clause-pair : goal.returns-then-is_sought-clause-pair
 returns-then-is_sought-clause-pair g c pairs layout by =
-    first_pair by (texts_from (of_key g.K.AsBytes.bytes) c.args.query.now c.args.at_least pairs) (Some c.in_ok-leaf.leaf) (returns-then-is_sought-clause-leaf g c pairs layout by)
+    first_pair by (texts_from (of_key g.K.AsBytes.bytes) c.args.query.now c.args.at_least pairs) (Some c.in_ok-leaf.leaf)
+    (returns-then-is_sought-clause-leaf g c pairs layout by)
 
 pub returns-clause-leaf : goal.returns-clause-leaf
 returns-clause-leaf g c pairs layout by =

@@ -42,7 +42,8 @@ returns-then-is_some-clause-ends g c pairs layout by =
     let len = front_len way at in
     let same = c.prefix_len-prefix_len.ensures in
     over_all by c.args.end c.args.query.now c.args.at_least c.leaf_if_long-leaf.result
-    (short_some by c.args.end c.args.query.now c.args.at_least ended way at c.leaf_if_long-leaf.result (λ l. c.leaf_if_long-leaf.ensures.short (omega arith)) (λ m. c.leaf_if_long-leaf.ensures.long (omega arith)) (sym c.if-is_some.ensures))
+    (short_some by c.args.end c.args.query.now c.args.at_least ended way at c.leaf_if_long-leaf.result
+    (λ l. c.leaf_if_long-leaf.ensures.short (omega arith)) (λ m. c.leaf_if_long-leaf.ensures.long (omega arith)) (sym c.if-is_some.ensures))
 
 pub returns-then-place-query-clause-ends : goal.returns-then-place-query-clause-ends
 returns-then-place-query-clause-ends g c pairs layout by =
@@ -52,7 +53,9 @@ returns-then-place-query-clause-ends g c pairs layout by =
     let len = front_len way at in
     let same = c.prefix_len-prefix_len.ensures in
     over_all by c.args.end c.args.query.now c.args.at_least None
-    (short_ends_with by c.args.end c.args.query.now c.args.at_least ended way at c.leaf_if_long-leaf.result (λ l. c.leaf_if_long-leaf.ensures.short (omega arith)) (λ m. c.leaf_if_long-leaf.ensures.long (omega arith)) (none_is c.leaf_if_long-leaf.result (sym c.is_some.ensures ∙ c.if-is_some.false)) (omega arith))
+    (short_ends_with by c.args.end c.args.query.now c.args.at_least ended way at c.leaf_if_long-leaf.result
+    (λ l. c.leaf_if_long-leaf.ensures.short (omega arith)) (λ m. c.leaf_if_long-leaf.ensures.long (omega arith))
+    (none_is c.leaf_if_long-leaf.result (sym c.is_some.ensures ∙ c.if-is_some.false)) (omega arith))
 
 pub returns-in_default-lookup_child-clause-ends : goal.returns-in_default-lookup_child-clause-ends
 returns-in_default-lookup_child-clause-ends g c pairs layout by =
@@ -62,8 +65,11 @@ returns-in_default-lookup_child-clause-ends g c pairs layout by =
     let len = front_len way at in
     let same = c.prefix_len-prefix_len.ensures in
     over_all by c.args.end c.args.query.now c.args.at_least None
-    (short_gap by c.args.end c.args.query.now c.args.at_least ended way at c.leaf_if_long-leaf.result (λ l. c.leaf_if_long-leaf.ensures.short (omega arith)) (λ m. c.leaf_if_long-leaf.ensures.long (omega arith)) (none_is c.leaf_if_long-leaf.result (sym c.is_some.ensures ∙ c.if-is_some.false))
-    (ap (λ n. child_at (ref_view c.in-Some.node).children (get_or c.args.query.now n 0)) (len ∙ ap (λ n. c.down.depth + n) (sym same)) ∙ sym c.lookup_child.ensures ∙ c.in_default-lookup_child.is))
+    (short_gap by c.args.end c.args.query.now c.args.at_least ended way at c.leaf_if_long-leaf.result
+    (λ l. c.leaf_if_long-leaf.ensures.short (omega arith)) (λ m. c.leaf_if_long-leaf.ensures.long (omega arith))
+    (none_is c.leaf_if_long-leaf.result (sym c.is_some.ensures ∙ c.if-is_some.false))
+    (ap (λ n. child_at (ref_view c.in-Some.node).children (get_or c.args.query.now n 0)) (len ∙ ap (λ n. c.down.depth + n) (sym same))
+    ∙ sym c.lookup_child.ensures ∙ c.in_default-lookup_child.is))
 
 pub down-preserved : goal.down-preserved
 down-preserved g c = record {
@@ -75,7 +81,11 @@ down-preserved g c = record {
       let ended = ended_all by c.args.end c.args.query.now (c.requires.ended pairs layout by) in
       let len = front_len way at in
       let same = c.prefix_len-prefix_len.ensures in
-      subst (λ n. IsShortWay (of_key g.K.AsBytes.bytes) g.row.P c.args.end c.args.query.now c.args.at_least layout c.in-Some-lookup_child.child (c.down.depth + n + 1)) (sym same)
-      (short_goes_on by c.args.end c.args.query.now c.args.at_least ended way at c.leaf_if_long-leaf.result (λ l. c.leaf_if_long-leaf.ensures.short (omega arith)) (λ m. c.leaf_if_long-leaf.ensures.long (omega arith)) (none_is c.leaf_if_long-leaf.result (sym c.is_some.ensures ∙ c.if-is_some.false))
-      (ap (λ n. child_at (ref_view c.in-Some.node).children (get_or c.args.query.now n 0)) (len ∙ ap (λ n. c.down.depth + n) (sym same)) ∙ sym c.lookup_child.ensures ∙ c.in-Some-lookup_child.is));
+      subst (λ n. IsShortWay (of_key g.K.AsBytes.bytes)
+      g.row.P c.args.end c.args.query.now c.args.at_least layout c.in-Some-lookup_child.child (c.down.depth + n + 1)) (sym same)
+      (short_goes_on by c.args.end c.args.query.now c.args.at_least ended way at c.leaf_if_long-leaf.result
+      (λ l. c.leaf_if_long-leaf.ensures.short (omega arith)) (λ m. c.leaf_if_long-leaf.ensures.long (omega arith))
+      (none_is c.leaf_if_long-leaf.result (sym c.is_some.ensures ∙ c.if-is_some.false))
+      (ap (λ n. child_at (ref_view c.in-Some.node).children (get_or c.args.query.now n 0)) (len ∙ ap (λ n. c.down.depth + n) (sym same))
+      ∙ sym c.lookup_child.ensures ∙ c.in-Some-lookup_child.is));
 }

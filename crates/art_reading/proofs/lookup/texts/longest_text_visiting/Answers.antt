@@ -22,7 +22,8 @@ returns-in-Whole-clause-pair g c pairs layout by =
 
 pub returns-in-Passed-None-clause-leaf : goal.returns-in-Passed-None-clause-leaf
 returns-in-Passed-None-clause-leaf g c pairs layout by =
-    found_none by c.args.end (c.requires.ended pairs layout by) c.args.query.now None refl (ends_at by _ c.in-Passed-None.field-0-is (c.in-Passed-None.ensures.ends pairs layout by))
+    found_none by c.args.end (c.requires.ended pairs layout by) c.args.query.now None refl
+    (ends_at by _ c.in-Passed-None.field-0-is (c.in-Passed-None.ensures.ends pairs layout by))
 
 pub returns-in-Passed-None-clause-pair : goal.returns-in-Passed-None-clause-pair
 returns-in-Passed-None-clause-pair g c pairs layout by =
@@ -31,18 +32,22 @@ returns-in-Passed-None-clause-pair g c pairs layout by =
 pub unreachable-requires : goal.unreachable-requires
 unreachable-requires g c =
     let (pairs, layout, by) = c.requires.root in
-    leaf_not_gone c.args.store.now by.stands.0.holds (ends_at by _ c.in-Passed-Some.field-0-is (c.in-Passed-Some.ensures.ends pairs layout by)).has c.in_default.ensures
+    leaf_not_gone c.args.store.now by.stands.0.holds
+    (ends_at by _ c.in-Passed-Some.field-0-is (c.in-Passed-Some.ensures.ends pairs layout by)).has c.in_default.ensures
 
 pub returns-then-shared-text-clause-leaf : goal.returns-then-shared-text-clause-leaf
 returns-then-shared-text-clause-leaf g c pairs layout by =
     let covering = ends_at by _ c.in-Passed-Some.field-0-is (c.in-Passed-Some.ensures.ends pairs layout by) in
-    let own = c.text_of-text.ensures ∙ ap without_last c.as_bytes.ensures ∙ ap (text_of (of_key g.K.AsBytes.bytes)) (own_pair by covering.has c.in-Some.ensures) in
+    let own =
+    c.text_of-text.ensures ∙ ap without_last c.as_bytes.ensures
+    ∙ ap (text_of (of_key g.K.AsBytes.bytes)) (own_pair by covering.has c.in-Some.ensures) in
     found_whole by c.args.end (c.requires.ended pairs layout by) c.args.query.now covering
     (ap (λ t. length (common_front t c.args.query.now)) (sym own) ∙ sym c.shared_len-shared.ensures ∙ c.if-shared-text.true ∙ ap length own)
 
 pub returns-then-shared-text-clause-pair : goal.returns-then-shared-text-clause-pair
 returns-then-shared-text-clause-pair g c pairs layout by =
-    last_pair by (texts_in_front (of_key g.K.AsBytes.bytes) c.args.query.now pairs) (Some c.in-Passed-Some.leaf) (returns-then-shared-text-clause-leaf g c pairs layout by)
+    last_pair by (texts_in_front (of_key g.K.AsBytes.bytes) c.args.query.now pairs) (Some c.in-Passed-Some.leaf)
+    (returns-then-shared-text-clause-leaf g c pairs layout by)
 
 pub slice_bounds-walk_to_text-end : goal.slice_bounds-walk_to_text-end
 slice_bounds-walk_to_text-end g c =
@@ -54,7 +59,9 @@ slice_bounds-walk_to_text-end g c =
 pub returns-clause-leaf : goal.returns-clause-leaf
 returns-clause-leaf g c pairs layout by =
     let covering = ends_at by _ c.in-Passed-Some.field-0-is (c.in-Passed-Some.ensures.ends pairs layout by) in
-    let own = c.text_of-text.ensures ∙ ap without_last c.as_bytes.ensures ∙ ap (text_of (of_key g.K.AsBytes.bytes)) (own_pair by covering.has c.in-Some.ensures) in
+    let own =
+    c.text_of-text.ensures ∙ ap without_last c.as_bytes.ensures
+    ∙ ap (text_of (of_key g.K.AsBytes.bytes)) (own_pair by covering.has c.in-Some.ensures) in
     found_again by c.args.end (c.requires.ended pairs layout by) c.args.query.now covering c.shared_len-shared.result
     (c.shared_len-shared.ensures ∙ ap (λ t. length (common_front t c.args.query.now)) own) c.leaf-2.result
     (ends_walk by _ c.walk_to_text-2.result c.leaf-2.ensures (c.walk_to_text-2.ensures.ends pairs layout by))
@@ -72,7 +79,9 @@ pub returns-clause-visits : goal.returns-clause-visits
 returns-clause-visits g c =
     let (pairs, layout, by) = c.requires.root in
     let covering = ends_at by _ c.in-Passed-Some.field-0-is (c.in-Passed-Some.ensures.ends pairs layout by) in
-    let own = c.text_of-text.ensures ∙ ap without_last c.as_bytes.ensures ∙ ap (text_of (of_key g.K.AsBytes.bytes)) (own_pair by covering.has c.in-Some.ensures) in
+    let own =
+    c.text_of-text.ensures ∙ ap without_last c.as_bytes.ensures
+    ∙ ap (text_of (of_key g.K.AsBytes.bytes)) (own_pair by covering.has c.in-Some.ensures) in
     let len = ap length own in
     let short = covering.short in
     let within = shared_within c.text_of-text.result.now c.args.query.now in

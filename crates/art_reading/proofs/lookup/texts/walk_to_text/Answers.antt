@@ -21,7 +21,8 @@ pub returns-then-begins_with-clause-ends : goal.returns-then-begins_with-clause-
 returns-then-begins_with-clause-ends g c pairs layout by =
     let way = c.down.invariant.way pairs layout by in
     let there = stands_there by way.descent.at in
-    let is = leaf_shown c.args.store.now c.in-Leaf.leaf way.descent.at.node (there.named ∙ sym c.in-Leaf.ensures.name) there.holds c.in-Some.node.now c.in-Some.ensures in
+    let is = leaf_shown c.args.store.now c.in-Leaf.leaf way.descent.at.node
+    (there.named ∙ sym c.in-Leaf.ensures.name) there.holds c.in-Some.node.now c.in-Some.ensures in
     let ended = ended_all by c.args.end c.args.query.now (c.requires.ended pairs layout by) in
     over_ends by c.args.end c.args.query.now (Whole c.in-Leaf.leaf)
     (own_leaf by c.args.end c.args.query.now ended way c.in-Leaf.leaf (pair_of c.in-Some.node.now) is
@@ -31,7 +32,8 @@ pub returns-in-Leaf-clause-ends : goal.returns-in-Leaf-clause-ends
 returns-in-Leaf-clause-ends g c pairs layout by =
     let way = c.down.invariant.way pairs layout by in
     let there = stands_there by way.descent.at in
-    let is = leaf_shown c.args.store.now c.in-Leaf.leaf way.descent.at.node (there.named ∙ sym c.in-Leaf.ensures.name) there.holds c.in-Some.node.now c.in-Some.ensures in
+    let is = leaf_shown c.args.store.now c.in-Leaf.leaf way.descent.at.node
+    (there.named ∙ sym c.in-Leaf.ensures.name) there.holds c.in-Some.node.now c.in-Some.ensures in
     let ended = ended_all by c.args.end c.args.query.now (c.requires.ended pairs layout by) in
     over_ends by c.args.end c.args.query.now (Passed c.down.passed)
     (other_leaf by c.args.end c.args.query.now ended way c.in-Leaf.leaf (pair_of c.in-Some.node.now) is
@@ -43,7 +45,8 @@ returns-in-Leaf-clause-ends g c pairs layout by =
 pub unreachable-requires-in_default-inner : goal.unreachable-requires-in_default-inner
 unreachable-requires-in_default-inner g c =
     let (pairs, layout, by) = c.requires.root in
-    inner_met (stands_there by (c.down.invariant.way pairs layout by).descent.at) c.in-Inner.ensures.proper c.in-Inner.ensures.name c.in_default-inner.ensures.view
+    inner_met (stands_there by (c.down.invariant.way pairs layout by).descent.at)
+    c.in-Inner.ensures.proper c.in-Inner.ensures.name c.in_default-inner.ensures.view
 
 pub step_at-requires : goal.step_at-requires
 step_at-requires g c = (search rules, c.down.invariant.within)
@@ -53,12 +56,14 @@ returns-in_default-step_at-clause-ends g c pairs layout by =
     let way = c.down.invariant.way pairs layout by in
     let at = shown_met (stands_there by way.descent.at) c.in-Inner.ensures.proper c.in-Inner.ensures.name c.in-Some-inner.ensures.view in
     let ended = ended_all by c.args.end c.args.query.now (c.requires.ended pairs layout by) in
-    over_ends by c.args.end c.args.query.now (Passed c.step_at.new.passed) (step_ends by c.args.end c.args.query.now ended way at c.step_at.ensures c.in_default-step_at.is)
+    over_ends by c.args.end c.args.query.now (Passed c.step_at.new.passed)
+    (step_ends by c.args.end c.args.query.now ended way at c.step_at.ensures c.in_default-step_at.is)
 
 pub down-preserved : goal.down-preserved
 down-preserved g c =
-    let goes : ForTree (of_key g.K.AsBytes.bytes) g.row.PREFIX_LEN c.args.store.now c.args.root
-    (λ pairs layout. IsNestedWay (of_key g.K.AsBytes.bytes) g.row.PREFIX_LEN c.args.end c.args.query.now layout c.in-Some-step_at.child c.in-Some-step_at.below c.step_at.new.passed
+    let goes : ForTree (of_key g.K.AsBytes.bytes) g.row.P c.args.store.now c.args.root
+    (λ pairs layout. IsNestedWay (of_key g.K.AsBytes.bytes)
+    g.row.P c.args.end c.args.query.now layout c.in-Some-step_at.child c.in-Some-step_at.below c.step_at.new.passed
     × (c.down.depth < c.in-Some-step_at.below) × (c.in-Some-step_at.below ≤ length c.args.query.now)) = λ pairs layout by.
     let way = c.down.invariant.way pairs layout by in
     let at = shown_met (stands_there by way.descent.at) c.in-Inner.ensures.proper c.in-Inner.ensures.name c.in-Some-inner.ensures.view in

@@ -11,7 +11,8 @@ returns-then-not-goes_on-clause-child g c =
     let node = ref_view c.args.node in
     let l = length-append c.args.front.now (c.args.last ∷ []) in
     let same = prefix_same node.prefix c.prefix_len.ensures c.read_prefix.ensures.stored in
-    none_parted c.args.self.now node (c.args.front.now ++ c.args.last ∷ []) c.args.depth (rest_of (last_rest c.args.front.now c.args.last) c.args.depth (omega arith)) c.requires.stored (omega arith)
+    none_parted c.args.self.now node (c.args.front.now ++ c.args.last ∷ []) c.args.depth
+    (rest_of (last_rest c.args.front.now c.args.last) c.args.depth (omega arith)) c.requires.stored (omega arith)
     (sym c.if-not-goes_on.true ∙ c.goes_on.ensures.outcome ∙ ap
     (λ (p : Prefix). is_ok (prefix_match c.args.self.now p (take (length c.args.front.now - c.args.depth) (drop c.args.depth c.args.front.now)))) same)
 
@@ -20,7 +21,8 @@ returns-clause-child g c =
     let node = ref_view c.args.node in
     let l = length-append c.args.front.now (c.args.last ∷ []) in
     let same = prefix_same node.prefix c.prefix_len.ensures c.read_prefix.ensures.stored in
-    child_passed c.args.self.now node (c.args.front.now ++ c.args.last ∷ []) c.args.depth (rest_of (last_rest c.args.front.now c.args.last) c.args.depth (omega arith)) c.requires.stored (omega arith)
+    child_passed c.args.self.now node (c.args.front.now ++ c.args.last ∷ []) c.args.depth
+    (rest_of (last_rest c.args.front.now c.args.last) c.args.depth (omega arith)) c.requires.stored (omega arith)
     (sym c.if-not-goes_on.false ∙ c.goes_on.ensures.outcome ∙ ap
     (λ (p : Prefix). is_ok (prefix_match c.args.self.now p (take (length c.args.front.now - c.args.depth) (drop c.args.depth c.args.front.now)))) same)
     (sym c.requires.depth) (sym (get_or-append_seam c.args.front.now c.args.last [] 0)) c.lookup_child.ensures
@@ -34,4 +36,5 @@ returns-clause-behavior g c = λ some.
     (rest_of (last_rest c.args.front.now c.args.last) c.args.depth (omega arith)) c.requires.stored (omega arith)
     (sym c.if-not-goes_on.false ∙ c.goes_on.ensures.outcome ∙ ap
     (λ (p : Prefix). is_ok (prefix_match c.args.self.now p (take (length c.args.front.now - c.args.depth) (drop c.args.depth c.args.front.now)))) same)
-    (c.goes_on.ensures.behavior ∙ ap (λ (p : Prefix). behavior_after c.args.self.now p (take (length c.args.front.now - c.args.depth) (drop c.args.depth c.args.front.now))) same)
+    (c.goes_on.ensures.behavior ∙ ap (λ (p : Prefix). behavior_after c.args.self.now p
+    (take (length c.args.front.now - c.args.depth) (drop c.args.depth c.args.front.now))) same)

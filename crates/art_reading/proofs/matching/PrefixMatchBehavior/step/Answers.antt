@@ -4,7 +4,8 @@ use Rattle.art_reading.proofs.matching.PrefixMatchBehavior.step.Goals as goal
 
 pub returns-then-prefix_len-left : goal.returns-then-prefix_len-left
 returns-then-prefix_len-left g c key has =
-    ended_there c.args.self.now (g.N.InnerNode.view_of c.args.node.now) key c.args.front.now c.args.depth _ _ has c.requires.depth refl c.prefix_len-prefix_len.ensures (omega arith) c.ended.ensures
+    ended_there c.args.self.now (g.N.InnerNode.view_of c.args.node.now)
+    key c.args.front.now c.args.depth _ _ has c.requires.depth refl c.prefix_len-prefix_len.ensures (omega arith) c.ended.ensures
 
 pub returns-then-not-passes : goal.returns-then-not-passes
 returns-then-not-passes g c key has =

@@ -16,7 +16,9 @@ take_other-header-requires g c =
 -- ---- when the parent is removed
 
 module _ (g : Over) (c : After-take_other-header g) where
-  two : IsOneOfTwo (of_key g.K.AsBytes.bytes) g.row.P c.args.store.now c.args.root c.requires.answers.0 c.requires.answers.1 c.requires.answers.2 c.args.self c.args.parent c.args.byte
+  two : IsOneOfTwo (of_key g.K.AsBytes.bytes)
+      g.row.P c.args.store.now c.args.root c.requires.answers.0 c.requires.answers.1 c.requires.answers.2 c.args.self
+      c.args.parent c.args.byte
   two = is_one_of_two c.requires.answers.3 c.requires.answers.4 c.requires.parent c.requires.compressed
 
   taken : IsOtherTaken two c.take_other-header.new.self c.take_other-header.result.0 c.take_other-header.result.1 c.take_other-header.result.2
@@ -45,6 +47,7 @@ returns g c =
     let leaves = c.replace_at.ensures.leaves ∙ c.lengthen_prefix.ensures.leaves ∙ c.take_other-header.ensures.leaves in
     let lengthened = lengthened_is (two g o) (taken g o) c.lengthen_prefix.new.store.inners c.lengthen_prefix.ensures.leaf c.lengthen_prefix.ensures.inner in
     let_go (is_below by leads c.requires.parent) leaves (λ t done leaf. taken_out_of c.requires.answers
-    (two_deleted (two g o) leaves c.up.ensures (other_is (two g o) (taken g o)) lengthened c.replace_at.ensures.inners leaf c.requires.compressed c.replace_at.ensures.root)
+    (two_deleted (two g o) leaves c.up.ensures
+    (other_is (two g o) (taken g o)) lengthened c.replace_at.ensures.inners leaf c.requires.compressed c.replace_at.ensures.root)
     is_compressed c.requires.compressed (λ kind e. absurd cc)
     (leaf.promise ∙ c.replace_at.ensures.promise ∙ c.lengthen_prefix.ensures.promise ∙ c.take_other-header.ensures.promise))

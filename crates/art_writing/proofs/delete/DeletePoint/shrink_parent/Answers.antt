@@ -36,7 +36,8 @@ returns g c =
     c.requires.shrinks (smaller g at.After-put_smaller-node) leaves
     (c.replace_at.ensures.inners ∙ ap (λ path. with_child_at (last_step path) c.to_opaque.result c.put_smaller-node.new.self.inners) c.up.ensures
     ∙ ap (λ name. with_child_at (last_step (up c.args.self.path)) name c.put_smaller-node.new.self.inners) c.to_opaque.ensures)
-    (c.replace_at.ensures.root ∙ ap (λ path. root_with path c.args.root c.to_opaque.result) c.up.ensures ∙ ap (root_with (up c.args.self.path) c.args.root) c.to_opaque.ensures)
+    (c.replace_at.ensures.root ∙ ap (λ path. root_with path c.args.root c.to_opaque.result) c.up.ensures
+    ∙ ap (root_with (up c.args.self.path) c.args.root) c.to_opaque.ensures)
     leaf)
     c.args.smaller c.requires.shrinks
     (leaf.promise ∙ c.replace_at.ensures.promise ∙ c.put_smaller-node.ensures.promise

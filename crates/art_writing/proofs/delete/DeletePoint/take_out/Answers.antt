@@ -9,7 +9,8 @@ use Rattle.art_writing.proofs.delete.DeletePoint.take_out.Goals.{Joined-last_ste
 use Rattle.art_writing.proofs.delete.DeletePoint.take_out.Given.{Over}
 
 -- the leaf has no parent, or is no longer a child of it
-let_go : (g : Over) (c : Joined-last_step g) → IsLetGo (of_key g.K.AsBytes.bytes) g.row.P c.args.store.now c.match-last_step.store c.args.root c.args.self c.match-last_step.new_root
+let_go : (g : Over) (c : Joined-last_step g) →
+    IsLetGo (of_key g.K.AsBytes.bytes) g.row.P c.args.store.now c.match-last_step.store c.args.root c.args.self c.match-last_step.new_root
 let_go g c =
     let bytes = of_key g.K.AsBytes.bytes in
     let s = c.args.store.now in

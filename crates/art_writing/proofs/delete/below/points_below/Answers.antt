@@ -34,7 +34,8 @@ returns-then-not-starts_with g c pairs layout by =
     let first = c.walk_to_end-path.ensures at.0.at.node (node_full by at.0.at) in
     let told = first_is by at.0.at first.0 (λ x. is_front c.args.prefix.now (g.K.AsBytes.bytes x.0) ≡ at.0.begin) at.0.alike _ (sym c.leaf_at-leaf.ensures) in
     none_go B c.args.prefix.now layout c.in_ok-end.end at.0
-    (sym told ∙ ap (is_front c.args.prefix.now) (sym c.as_bytes.ensures) ∙ starts_front c.as_bytes.result.now c.args.prefix.now _ c.starts_with.ensures.value ∙ c.if-not-starts_with.true)
+    (sym told ∙ ap (is_front c.args.prefix.now) (sym c.as_bytes.ensures)
+    ∙ starts_front c.as_bytes.result.now c.args.prefix.now _ c.starts_with.ensures.value ∙ c.if-not-starts_with.true)
 
 pub returns : goal.returns
 returns g c pairs layout by =
@@ -43,5 +44,6 @@ returns g c pairs layout by =
     let first = c.walk_to_end-path.ensures at.0.at.node (node_full by at.0.at) in
     let told = first_is by at.0.at first.0 (λ x. is_front c.args.prefix.now (g.K.AsBytes.bytes x.0) ≡ at.0.begin) at.0.alike _ (sym c.leaf_at-leaf.ensures) in
     points_there B c.args.prefix.now layout c.in_ok-end.end at.0 at.1
-    (sym told ∙ ap (is_front c.args.prefix.now) (sym c.as_bytes.ensures) ∙ starts_front c.as_bytes.result.now c.args.prefix.now _ c.starts_with.ensures.value ∙ c.if-not-starts_with.false)
+    (sym told ∙ ap (is_front c.args.prefix.now) (sym c.as_bytes.ensures)
+    ∙ starts_front c.as_bytes.result.now c.args.prefix.now _ c.starts_with.ensures.value ∙ c.if-not-starts_with.false)
     _ first.0 (c.joined.ensures ∙ ap (joined c.in_ok-end.end.path) first.1)

@@ -28,7 +28,8 @@ place_between-leaf_node_ptr-requires g c =
     let same = sym c.reserve.ensures.leaves in (
       search rules,
       (
-        leaf_promised c.reserve.new.self.promise c.larger_and_links-larger.result.0 (not_refused c.reserve.result (sym c.is_err.ensures.value ∙ c.if-is_err.false) c.reserve.ensures.reserved),
+        leaf_promised c.reserve.new.self.promise c.larger_and_links-larger.result.0
+            (not_refused c.reserve.result (sym c.is_err.ensures.value ∙ c.if-is_err.false) c.reserve.ensures.reserved),
         (
           subst (λ m. IsThere m c.larger_and_links-larger.result.1.0) same (previous_is_there c.args.self (c.args.key, c.args.value) by e _ _ beside),
           subst (λ m. IsThere m c.larger_and_links-larger.result.1.1) same (next_is_there c.args.self (c.args.key, c.args.value) by e _ _ beside),
@@ -74,11 +75,13 @@ returns-then-is_some g c =
     full_inserted c.args.self (c.args.key, c.args.value) by e _ _ beside c.reserve.new.self c.place_between-leaf_node_ptr.new.store
     c.reserve.ensures.leaves c.reserve.ensures.inners c.place_between-leaf_node_ptr.ensures.fresh c.place_between-leaf_node_ptr.ensures.leaves
     c.place_between-leaf_node_ptr.ensures.inners c.to_opaque-child.ensures c.put_larger.new.store c.put_larger.ensures.leaves full last
-    c.put_larger.result.0 c.put_larger.ensures.kind c.put_larger.ensures.fresh c.put_larger.ensures.inners c.requires.point c.put_larger.ensures.root _ c.new_child.ensures)
+    c.put_larger.result.0 c.put_larger.ensures.kind c.put_larger.ensures.fresh c.put_larger.ensures.inners c.requires.point
+    c.put_larger.ensures.root _ c.new_child.ensures)
     (c.put_larger.ensures.promise
     ∙ ap (λ promise. inner_taken (Some (larger_kind c.args.inner_node_ptr.kind)) promise) c.place_between-leaf_node_ptr.ensures.promise
     ∙ ap (λ kind. inner_taken kind (take_leaf c.reserve.new.self.promise)) (sym asked)
-    ∙ after_reserve c.args.store.now c.reserve.new.self c.larger_and_links-larger.result.0 c.reserve.result granted c.reserve.ensures.covered c.reserve.ensures.granted
+    ∙ after_reserve c.args.store.now c.reserve.new.self c.larger_and_links-larger.result.0 c.reserve.result granted
+    c.reserve.ensures.covered c.reserve.ensures.granted
     (ap (λ kind. record { leaves = 1; inner = kind }) c.larger_and_links-larger.ensures.larger ∙ ap (placed_for c.args.store.now) (sym c.requires.point)))
 
 pub write_child-requires : goal.write_child-requires
@@ -87,7 +90,8 @@ write_child-requires g c =
     let e = entry c.requires.answers c.requires.point (ap (λ l. get_or l c.args.self.key_bytes_used 0) c.as_bytes-key_bytes.ensures) by in
     let p = c.args.inner_node_ptr in
     let same = c.place_between-leaf_node_ptr.ensures.inners ∙ c.reserve.ensures.inners in
-    let room = asked_room c.args.self (c.args.key, c.args.value) by e c.larger_and_links-larger.ensures.few c.larger_and_links-larger.ensures.larger (sym c.is_some.ensures ∙ c.if-is_some.false) in
+    let room = asked_room c.args.self (c.args.key, c.args.value)
+    by e c.larger_and_links-larger.ensures.few c.larger_and_links-larger.ensures.larger (sym c.is_some.ensures ∙ c.if-is_some.false) in
     (search rules, has_room c.args.self (c.args.key, c.args.value) by e room c.place_between-leaf_node_ptr.new.store.inners same)
 
 pub returns : goal.returns
@@ -96,7 +100,8 @@ returns g c =
     applied g.K.AsBytes.bytes c.requires.answers (λ pairs layout by.
     let e = entry c.requires.answers c.requires.point (ap (λ l. get_or l c.args.self.key_bytes_used 0) c.as_bytes-key_bytes.ensures) by in
     let beside = c.larger_and_links-larger.ensures.beside e.left e.right (entry_gap by e) in
-    let room = asked_room c.args.self (c.args.key, c.args.value) by e c.larger_and_links-larger.ensures.few c.larger_and_links-larger.ensures.larger (sym c.is_some.ensures ∙ c.if-is_some.false) in
+    let room = asked_room c.args.self (c.args.key, c.args.value)
+    by e c.larger_and_links-larger.ensures.few c.larger_and_links-larger.ensures.larger (sym c.is_some.ensures ∙ c.if-is_some.false) in
     room_inserted c.args.self (c.args.key, c.args.value) by e _ _ beside c.reserve.new.self c.place_between-leaf_node_ptr.new.store
     c.reserve.ensures.leaves c.reserve.ensures.inners c.place_between-leaf_node_ptr.ensures.fresh c.place_between-leaf_node_ptr.ensures.leaves
     c.place_between-leaf_node_ptr.ensures.inners c.to_opaque-child.ensures c.write_child.new.self c.write_child.ensures.leaves room

@@ -43,5 +43,6 @@ branch_above-requires g c =
 
 pub returns : goal.returns
 returns g c pairs layout by at =
-    leaf_branch by at c.requires.point (sym c.leaf_at-leaf.ensures) c.as_bytes.ensures refl c.branch_above.ensures.header c.branch_above.ensures.old_byte c.branch_above.ensures.new_byte refl refl
+    leaf_branch by at c.requires.point (sym c.leaf_at-leaf.ensures)
+    c.as_bytes.ensures refl c.branch_above.ensures.header c.branch_above.ensures.old_byte c.branch_above.ensures.new_byte refl refl
     (c.branch_above.ensures.beside at.node (end_full by at (leaf_named by at c.requires.point ∙ sym c.to_opaque.ensures)))

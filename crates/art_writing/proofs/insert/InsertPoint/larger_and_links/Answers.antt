@@ -24,7 +24,8 @@ links_beside-links-requires g c =
     (search rules, beside_full (entry_inner by e) (entry_gap by e) (sym c.inner_at-node.ensures.view) c.beside-other.ensures.beside)
 
 pub returns-clause-larger : goal.returns-clause-larger
-returns-clause-larger g c = c.larger_if_full-larger.ensures ∙ asked_of c.args.store.now c.args.name c.inner_at-node.ensures.kind (sym c.inner_at-node.ensures.view)
+returns-clause-larger g c =
+    c.larger_if_full-larger.ensures ∙ asked_of c.args.store.now c.args.name c.inner_at-node.ensures.kind (sym c.inner_at-node.ensures.view)
 
 pub returns-clause-beside : goal.returns-clause-beside
 returns-clause-beside g c left right gap =

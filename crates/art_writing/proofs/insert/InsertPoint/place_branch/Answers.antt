@@ -27,7 +27,8 @@ returns-clause-placed g c =
       leaf_was_free = c.place_between-leaf.ensures.fresh;
       leaves = c.replace_at-new_root.ensures.leaves ∙ c.place_two-parent.ensures.leaves ∙ c.place_between-leaf.ensures.leaves;
       inners = c.replace_at-new_root.ensures.inners ∙ ap₂ (with_child_at (last_step c.args.self.path)) c.to_opaque-2.ensures
-          (c.place_two-parent.ensures.placed ∙ ap₂ (λ m name. map.insert m node (with_child branch.new_byte name (with_child branch.old_byte c.args.old (childless branch.header))))
+          (c.place_two-parent.ensures.placed ∙ ap₂
+          (λ m name. map.insert m node (with_child branch.new_byte name (with_child branch.old_byte c.args.old (childless branch.header))))
           c.place_between-leaf.ensures.inners c.to_opaque.ensures);
       existing = refl;
       change = refl;

@@ -29,5 +29,6 @@ returns g c =
     let is = read_for c.as_bytes.ensures c.branch_at_leaf-branch.ensures pairs layout by at in
     leaf_split by at is c.requires.point c.to_opaque-old.ensures (c.reserve.ensures.leaves, c.reserve.ensures.inners) c.place_branch.ensures.placed)
     (c.place_branch.ensures.promise
-    ∙ after_reserve c.args.store.now c.reserve.new.self (Some Node4) c.reserve.result (sym c.is_err.ensures.value ∙ c.if-is_err.false) c.reserve.ensures.covered c.reserve.ensures.granted
+    ∙ after_reserve c.args.store.now c.reserve.new.self (Some Node4) c.reserve.result
+    (sym c.is_err.ensures.value ∙ c.if-is_err.false) c.reserve.ensures.covered c.reserve.ensures.granted
     (ap (placed_for c.args.store.now) (sym c.requires.point)))

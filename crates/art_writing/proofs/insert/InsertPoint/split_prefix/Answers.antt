@@ -30,7 +30,8 @@ place_branch-requires g c =
         (
           search rules,
           (
-            subst (λ m. IsThere m c.branch_at_prefix-branch.result.previous) (sym c.set_header.ensures.leaves) (previous_is_there (tree_stays {mid = c.reserve.new.self} same by) at is),
+            subst (λ m. IsThere m c.branch_at_prefix-branch.result.previous) (sym c.set_header.ensures.leaves)
+                (previous_is_there (tree_stays {mid = c.reserve.new.self} same by) at is),
             (
               subst (λ m. IsThere m c.branch_at_prefix-branch.result.next) (sym c.set_header.ensures.leaves)
                   (next_is_there (tree_stays {mid = c.reserve.new.self} same by) at is),
@@ -50,8 +51,10 @@ returns g c =
     let is = read_for c.as_bytes.ensures c.branch_at_prefix-branch.ensures.branch pairs layout by at in
     prefix_split by at is c.requires.point c.to_opaque-old.ensures (c.set_header.ensures.leaves ∙ c.reserve.ensures.leaves)
     (c.set_header.ensures.inners ∙ ap (λ m. change m c.args.inner_node_ptr (with_header c.trimmed_header-header.result)) c.reserve.ensures.inners)
-    (c.trimmed_header-header.ensures.header (g.K.AsBytes.bytes c.args.key) pairs layout by at) c.branch_at_prefix-branch.ensures.len c.place_branch.ensures.placed)
+    (c.trimmed_header-header.ensures.header (g.K.AsBytes.bytes c.args.key) pairs layout by at)
+    c.branch_at_prefix-branch.ensures.len c.place_branch.ensures.placed)
     (c.place_branch.ensures.promise
     ∙ ap (λ promise. take_inner Node4 (take_leaf promise)) c.set_header.ensures.promise
-    ∙ after_reserve c.args.store.now c.reserve.new.self (Some Node4) c.reserve.result (sym c.is_err.ensures.value ∙ c.if-is_err.false) c.reserve.ensures.covered c.reserve.ensures.granted
+    ∙ after_reserve c.args.store.now c.reserve.new.self (Some Node4) c.reserve.result
+    (sym c.is_err.ensures.value ∙ c.if-is_err.false) c.reserve.ensures.covered c.reserve.ensures.granted
     (ap (placed_for c.args.store.now) (sym c.requires.point)))

@@ -20,7 +20,8 @@ ltrim_by-requires g c =
 
 pub returns-in_default-clause-header : goal.returns-in_default-clause-header
 returns-in_default-clause-header g c key pairs layout by at =
-    trim_stored by at c.requires.point (sym c.inner_at-node.ensures.view) c.header-header.ensures c.in_default.is c.ltrim_by.ensures.len c.ltrim_by.ensures.stored
+    trim_stored by at c.requires.point (sym c.inner_at-node.ensures.view)
+    c.header-header.ensures c.in_default.is c.ltrim_by.ensures.len c.ltrim_by.ensures.stored
 
 pub leaf_at-leaf-requires : goal.leaf_at-leaf-requires
 leaf_at-leaf-requires g c =
@@ -29,8 +30,11 @@ leaf_at-leaf-requires g c =
 
 pub ltrim_by_with_leaf-requires : goal.ltrim_by_with_leaf-requires
 ltrim_by_with_leaf-requires g c =
-    let (key, (pairs, layout, by, at)) = c.requires.answers in
-    (search rules, trim_given by at c.requires.point (sym c.inner_at-node.ensures.view) c.header-header.ensures c.in-Some.is (sym c.leaf_at-leaf.ensures) c.as_bytes.ensures)
+    let (key, (pairs, layout, by, at)) = c.requires.answers in (
+      search rules,
+      trim_given by at c.requires.point (sym c.inner_at-node.ensures.view) c.header-header.ensures c.in-Some.is
+          (sym c.leaf_at-leaf.ensures) c.as_bytes.ensures,
+    )
 
 pub returns-clause-header : goal.returns-clause-header
 returns-clause-header g c key pairs layout by at =

@@ -11,5 +11,6 @@ returns-clause-writes g c = λ plain ok.
     let others = c.loop-byte.invariant first.plain in
     let is : c.args.self.now.0.now ≡ c.in-Some.first.now ∷ c.in-Some.others.now = c.in-Some.ensures.cases.0 in
     put_two g.W.Write.write_str_gives c.args.f.now c.write.new.self c.loop-byte.f _ _ _ first others
-    (ap (λ bs. decimal c.in-Some.first.now ++ flat_map (λ byte. codes ", " ++ decimal byte) bs) (take_all c.loop-byte.byte-index c.in-Some.others.now c.loop-byte-test.false)
+    (ap (λ bs. decimal c.in-Some.first.now ++ flat_map (λ byte. codes ", " ++ decimal byte) bs)
+    (take_all c.loop-byte.byte-index c.in-Some.others.now c.loop-byte-test.false)
     ∙ ap bytes_text (sym is))

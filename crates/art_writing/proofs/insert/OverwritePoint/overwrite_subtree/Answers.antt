@@ -19,7 +19,8 @@ place_between-leaf_node_ptr-requires g c = (
   search rules,
   (
     leaf_promised c.reserve.new.self.promise None (not_refused c.reserve.result (sym c.is_err.ensures.value ∙ c.if-is_err.false) c.reserve.ensures.reserved),
-    ends_there c.requires.answers c.requires.inner c.reserve.new.self (c.reserve.ensures.leaves, c.reserve.ensures.inners) c.links_around-previous.result.0 c.links_around-previous.result.1
+    ends_there c.requires.answers c.requires.inner c.reserve.new.self
+        (c.reserve.ensures.leaves, c.reserve.ensures.inners) c.links_around-previous.result.0 c.links_around-previous.result.1
         c.links_around-previous.ensures.previous c.links_around-previous.ensures.next,
   ),
 )
@@ -46,7 +47,13 @@ returns g c =
     overwritten c.requires.answers (λ pairs layout by.
     let same : SameNodes c.args.store.now c.reserve.new.self = (c.reserve.ensures.leaves, c.reserve.ensures.inners) in
     let at = subtree_at c.requires.answers c.requires.inner by in
-    let x : LeafNode g.row.K.Denot g.row.V.Denot = record { key = c.args.key; value = c.args.value; previous = c.links_around-previous.result.0; next = c.links_around-previous.result.1 } in
+    let x : LeafNode g.row.K.Denot g.row.V.Denot =
+    record {
+      key = c.args.key;
+      value = c.args.value;
+      previous = c.links_around-previous.result.0;
+      next = c.links_around-previous.result.1;
+    } in
     let put = put_at c.reserve.new.self c.place_between-leaf_node_ptr.new.store c.replace_at-new_root.new.store x
     same c.place_between-leaf_node_ptr.ensures.fresh c.place_between-leaf_node_ptr.ensures.leaves
     c.place_between-leaf_node_ptr.ensures.inners c.to_opaque.ensures c.replace_at-new_root.ensures.leaves c.replace_at-new_root.ensures.inners in
@@ -57,5 +64,6 @@ returns g c =
     (c.replace_at-new_root.ensures.root ∙ ap (λ z. root_with c.args.self.path c.args.self.root z) c.to_opaque.ensures)
     (c.deallocate_tree-leafs_removed.ensures.count at.node still) c.requires.inner)
     (c.deallocate_tree-leafs_removed.ensures.promise ∙ c.replace_at-new_root.ensures.promise ∙ c.place_between-leaf_node_ptr.ensures.promise
-    ∙ after_reserve c.args.store.now c.reserve.new.self None c.reserve.result (sym c.is_err.ensures.value ∙ c.if-is_err.false) c.reserve.ensures.covered c.reserve.ensures.granted
+    ∙ after_reserve c.args.store.now c.reserve.new.self None c.reserve.result
+    (sym c.is_err.ensures.value ∙ c.if-is_err.false) c.reserve.ensures.covered c.reserve.ensures.granted
     (sym (placed_for_inner _ c.requires.inner)))

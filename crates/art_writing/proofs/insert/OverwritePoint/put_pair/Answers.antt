@@ -14,4 +14,5 @@ returns-in-Leaf g c =
     overwritten c.requires
     (leaf_pair_overwritten (c.args.key, c.args.value) c.requires c.in-Leaf.ensures.name c.swap_pair-key.new.self c.swap_pair-key.ensures.leaves
     c.swap_pair-key.ensures.inners c.swap_pair-key.result c.with_no_siblings.result c.swap_pair-key.ensures.pair c.with_no_siblings.ensures)
-    (c.swap_pair-key.ensures.promise ∙ sym (nothing_after c.args.store.now.promise) ∙ ap (λ name. promise_after (placed_for_overwrite name.kind) c.args.store.now.promise) c.in-Leaf.ensures.name)
+    (c.swap_pair-key.ensures.promise ∙ sym (nothing_after c.args.store.now.promise)
+    ∙ ap (λ name. promise_after (placed_for_overwrite name.kind) c.args.store.now.promise) c.in-Leaf.ensures.name)

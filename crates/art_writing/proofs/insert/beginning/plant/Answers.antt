@@ -7,12 +7,14 @@ use Rattle.art_writing.proofs.insert.beginning.plant.Goals as goal
 pub returns-in-Ok-clause-canonical : goal.returns-in-Ok-clause-canonical
 returns-in-Ok-clause-canonical g c = (
   leaf (leaf_name c.in-Ok.name) (c.args.key, c.args.value),
-  planted g.K.AsBytes.bytes g.row.P (placed_alone c.args.store.now c.in-Ok.ensures.fresh c.in-Ok.ensures.placed c.in-Ok.ensures.inners c.in-Ok.ensures.promise c.with_no_siblings.ensures),
+  planted g.K.AsBytes.bytes g.row.P (placed_alone c.args.store.now c.in-Ok.ensures.fresh c.in-Ok.ensures.placed c.in-Ok.ensures.inners
+      c.in-Ok.ensures.promise c.with_no_siblings.ensures),
 )
 
 pub returns-in-Ok-clause-root : goal.returns-in-Ok-clause-root
 returns-in-Ok-clause-root g c =
-    planted_root g.K.AsBytes.bytes g.row.P (placed_alone c.args.store.now c.in-Ok.ensures.fresh c.in-Ok.ensures.placed c.in-Ok.ensures.inners c.in-Ok.ensures.promise c.with_no_siblings.ensures)
+    planted_root g.K.AsBytes.bytes g.row.P (placed_alone c.args.store.now c.in-Ok.ensures.fresh c.in-Ok.ensures.placed
+    c.in-Ok.ensures.inners c.in-Ok.ensures.promise c.with_no_siblings.ensures)
 
 pub returns-in-Ok-clause-apart : goal.returns-in-Ok-clause-apart
 returns-in-Ok-clause-apart g c =
@@ -20,7 +22,9 @@ returns-in-Ok-clause-apart g c =
     (placed_alone c.args.store.now c.in-Ok.ensures.fresh c.in-Ok.ensures.placed c.in-Ok.ensures.inners c.in-Ok.ensures.promise c.with_no_siblings.ensures)
 
 pub returns-in-Ok-clause-planted : goal.returns-in-Ok-clause-planted
-returns-in-Ok-clause-planted g c = placed_alone c.args.store.now c.in-Ok.ensures.fresh c.in-Ok.ensures.placed c.in-Ok.ensures.inners c.in-Ok.ensures.promise c.with_no_siblings.ensures
+returns-in-Ok-clause-planted g c =
+    placed_alone c.args.store.now c.in-Ok.ensures.fresh c.in-Ok.ensures.placed c.in-Ok.ensures.inners c.in-Ok.ensures.promise
+    c.with_no_siblings.ensures
 
 pub returns-in-Err-clause-handed_back : goal.returns-in-Err-clause-handed_back
 returns-in-Err-clause-handed_back g c =

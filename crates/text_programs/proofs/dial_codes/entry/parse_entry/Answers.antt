@@ -8,4 +8,5 @@ returns-in_err-code-clause-none c = rw c.from_residual.ensures (λ code name is 
 
 pub returns-else-is_code-clause-none : goal.returns-else-is_code-clause-none
 returns-else-is_code-clause-none c code name h e =
-    no_entry c.args.line.now c.in_ok-code.code.now c.in_ok-code.name.now code name c.in_ok-code.ensures.parts c.in_ok-code.ensures.word (sym c.is_code.ensures ∙ c.if-is_code.false) h e
+    no_entry c.args.line.now c.in_ok-code.code.now c.in_ok-code.name.now code name c.in_ok-code.ensures.parts c.in_ok-code.ensures.word
+    (sym c.is_code.ensures ∙ c.if-is_code.false) h e

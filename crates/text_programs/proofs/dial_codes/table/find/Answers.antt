@@ -14,7 +14,8 @@ returns-in-Some-clause-found c = last_match (entries_of c.args.table.now) c.args
 
 pub returns-in-Some-clause-longest : goal.returns-in-Some-clause-longest
 returns-in-Some-clause-longest c entry there front =
-    subst (IsNoLonger entry) (sym (returns-in-Some-clause-last c)) (no_longer (entries_of c.args.table.now) c.args.number.now entry (entries_rise c.args.table.now c.rises.ensures) there front)
+    subst (IsNoLonger entry) (sym (returns-in-Some-clause-last c))
+    (no_longer (entries_of c.args.table.now) c.args.number.now entry (entries_rise c.args.table.now c.rises.ensures) there front)
 
 pub returns-in-None-clause-last : goal.returns-in-None-clause-last
 returns-in-None-clause-last c =
@@ -22,4 +23,5 @@ returns-in-None-clause-last c =
 
 pub returns-in-None-clause-longest : goal.returns-in-None-clause-longest
 returns-in-None-clause-longest c entry there front =
-    subst (IsNoLonger entry) (sym (returns-in-None-clause-last c)) (no_longer (entries_of c.args.table.now) c.args.number.now entry (entries_rise c.args.table.now c.rises.ensures) there front)
+    subst (IsNoLonger entry) (sym (returns-in-None-clause-last c))
+    (no_longer (entries_of c.args.table.now) c.args.number.now entry (entries_rise c.args.table.now c.rises.ensures) there front)

@@ -10,7 +10,8 @@ push-requires-in-loop-index c =
 
 pub loop-index-preserved : goal.loop-index-preserved
 loop-index-preserved c = (
-  c.push-in-loop-index.ensures.items ∙ ap (λ bs. bs ++ (c.args.number / 2 ^ (c.width-width.result - 1 - c.loop-index.index) % 2 + 1) ∷ []) c.loop-index.invariant.0
+  c.push-in-loop-index.ensures.items ∙ ap (λ bs. bs ++ (c.args.number / 2 ^ (c.width-width.result - 1 - c.loop-index.index) % 2 + 1) ∷ [])
+      c.loop-index.invariant.0
       ∙ ap (λ bs. c.args.version ∷ bs) (one_bit_more c.width-width.result c.loop-index.index c.args.number (omega arith)),
   omega arith,
 )

@@ -24,5 +24,6 @@ returns-then-cleared-number-clause-fault c =
       record { version = version_of c.in-Some.address; number = number_of c.in-Some.address; length = length },
       (c.in-Some.address, w, refl, refl),
       within.1,
-      (λ same. c.if-cleared-number.true (c.cleared.ensures ∙ ap₂ cleared (ap₂ (λ a b. a - b) room within.0) c.number_of-number.ensures.number ∙ same ∙ sym c.number_of-number.ensures.number)),
+      (λ same. c.if-cleared-number.true (c.cleared.ensures
+          ∙ ap₂ cleared (ap₂ (λ a b. a - b) room within.0) c.number_of-number.ensures.number ∙ same ∙ sym c.number_of-number.ensures.number)),
     )

@@ -8,5 +8,6 @@ use Rattle.text_programs.proofs.ip_routes.table.key_of.Goals as goal
 pub unreachable-requires : goal.unreachable-requires
 unreachable-requires c =
     let n = c.args.network in
-    let some = c.in_ok-key.ensures.made.1 (subst HasNoZero (sym (c.deref.ensures.0 ∙ c.first_bits-string.ensures)) (c.requires.version, bits_have_no_zero n.length (n.number / 2 ^ host_bits n))) in
+    let some = c.in_ok-key.ensures.made.1 (subst HasNoZero (sym (c.deref.ensures.0 ∙ c.first_bits-string.ensures))
+    (c.requires.version, bits_have_no_zero n.length (n.number / 2 ^ host_bits n))) in
     false≢true (sym (ap is_some c.in-None.is) ∙ some)

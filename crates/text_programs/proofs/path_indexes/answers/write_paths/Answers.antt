@@ -7,7 +7,8 @@ use Rattle.text_programs.proofs.path_indexes.answers.write_paths.Goals as goal
 
 pub loop-path-init : goal.loop-path-init
 loop-path-init g c =
-    writing_begins (λ x. path_line x.0) c.args.part c.into_iter-path-iterator.result (g.W.Write.contents c.args.output.now) c.into_iter-path-iterator.ensures.into_iter_gives
+    writing_begins (λ x. path_line x.0) c.args.part c.into_iter-path-iterator.result
+    (g.W.Write.contents c.args.output.now) c.into_iter-path-iterator.ensures.into_iter_gives
 
 pub loop-path-preserved : goal.loop-path-preserved
 loop-path-preserved g c =

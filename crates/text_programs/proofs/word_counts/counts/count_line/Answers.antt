@@ -8,7 +8,8 @@ use Rattle.text_programs.proofs.word_counts.counts.count_line.Goals as goal
 
 pub count_word-requires : goal.count_word-requires
 count_word-requires c =
-    let turn = YieldsList-turn (YieldsList-from_slice_split _ is_gap c.args.line.now (ap split_rest c.into_iter-word-iterator.ensures.into_iter_gives ∙ c.split-word-items.ensures.rest)
+    let turn = YieldsList-turn (YieldsList-from_slice_split _ is_gap c.args.line.now
+    (ap split_rest c.into_iter-word-iterator.ensures.into_iter_gives ∙ c.split-word-items.ensures.rest)
     (ap split_done c.into_iter-word-iterator.ensures.into_iter_gives ∙ c.split-word-items.ensures.done)
     (ap split_callee c.into_iter-word-iterator.ensures.into_iter_gives ∙ c.split-word-items.ensures.closure) (λ x b q h. search rules))
     c.loop-word.yielded _ c.loop-word.yielded_by _ _ c.in-Some.word c.in-Some.is c.next.ensures.steps in
@@ -16,7 +17,8 @@ count_word-requires c =
 
 pub returns : goal.returns
 returns c before kept =
-    let all = YieldsList-end (YieldsList-from_slice_split _ is_gap c.args.line.now (ap split_rest c.into_iter-word-iterator.ensures.into_iter_gives ∙ c.split-word-items.ensures.rest)
+    let all = YieldsList-end (YieldsList-from_slice_split _ is_gap c.args.line.now
+    (ap split_rest c.into_iter-word-iterator.ensures.into_iter_gives ∙ c.split-word-items.ensures.rest)
     (ap split_done c.into_iter-word-iterator.ensures.into_iter_gives ∙ c.split-word-items.ensures.done)
     (ap split_callee c.into_iter-word-iterator.ensures.into_iter_gives ∙ c.split-word-items.ensures.closure) (λ x b q h. search rules))
     c.loop-word.yielded _ c.loop-word.yielded_by _ _ c.in-None.is c.next.ensures.steps in

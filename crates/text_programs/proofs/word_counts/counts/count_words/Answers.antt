@@ -9,7 +9,8 @@ use Rattle.text_programs.proofs.word_counts.counts.count_words.Goals as goal
 
 pub loop-number-init : goal.loop-number-init
 loop-number-init g c =
-    begins (λ before. HasTimes (flat_map words before) c.new-counts.result) (g.R.Read.remaining c.args.input.now) (no_words c.new-counts.result c.new-counts.ensures)
+    begins (λ before. HasTimes (flat_map words before) c.new-counts.result) (g.R.Read.remaining c.args.input.now)
+    (no_words c.new-counts.result c.new-counts.ensures)
 
 pub loop-number-preserved : goal.loop-number-preserved
 loop-number-preserved g c =

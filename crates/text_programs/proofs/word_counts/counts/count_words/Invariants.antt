@@ -6,4 +6,5 @@ use Rattle.text_programs.proofs.word_counts.counts.count_words.Given as goal
 
 -- the words of the lines that were read are counted
 abbrev pub invariant-loop-number : goal.invariant-loop-number
-invariant-loop-number g l = IfSome (g.R.Read.remaining l.initial.input) (λ text. IsReadTo (λ before. HasTimes (flat_map words before) l.counts) text (g.R.Read.remaining l.input) l._number)
+invariant-loop-number g l = IfSome (g.R.Read.remaining l.initial.input)
+    (λ text. IsReadTo (λ before. HasTimes (flat_map words before) l.counts) text (g.R.Read.remaining l.input) l._number)

@@ -56,11 +56,13 @@ returns c = record {
         ap fault_of w.result-is ∙ count_same w.in_ok-clone-in-WrongChildrenCount.ensures.cases ∙
         sym (ap fault_of w.in-WrongChildrenCount.is)
     | in-PrefixMismatch+in_ok-clone-in-PrefixMismatch+in_ok-clone-in-PrefixMismatch-2 w ↦
-        ap fault_of w.result-is ∙ ap₂ prefix_mismatch w.in_ok-clone-in-PrefixMismatch.ensures.cases (same_items w.in_ok-clone-in-PrefixMismatch-2.ensures.cases.0) ∙
+        ap fault_of w.result-is ∙ ap₂ prefix_mismatch w.in_ok-clone-in-PrefixMismatch.ensures.cases
+        (same_items w.in_ok-clone-in-PrefixMismatch-2.ensures.cases.0) ∙
         sym (ap fault_of w.in-PrefixMismatch.is)
     | in-EmptyTreeWithLen w ↦ ap fault_of w.result-is ∙ sym (ap fault_of w.in-EmptyTreeWithLen.is)
     | in-LeafSiblingWrongOrder+in_ok-clone-in-LeafSiblingWrongOrder+in_ok-clone-in-LeafSiblingWrongOrder-2 w ↦
-        ap fault_of w.result-is ∙ order_same (same_items w.in_ok-clone-in-LeafSiblingWrongOrder.ensures.cases.0) (same_items w.in_ok-clone-in-LeafSiblingWrongOrder-2.ensures.cases.0) ∙
+        ap fault_of w.result-is ∙ order_same (same_items w.in_ok-clone-in-LeafSiblingWrongOrder.ensures.cases.0)
+        (same_items w.in_ok-clone-in-LeafSiblingWrongOrder-2.ensures.cases.0) ∙
         sym (ap fault_of w.in-LeafSiblingWrongOrder.is)
     | in-WrongSiblingLinks+in_ok-clone-in-WrongSiblingLinks w ↦
         ap fault_of w.result-is ∙ links_same (same_items w.in_ok-clone-in-WrongSiblingLinks.ensures.cases.0) ∙

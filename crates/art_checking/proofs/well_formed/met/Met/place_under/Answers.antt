@@ -9,7 +9,8 @@ use Rattle.art_checking.proofs.Meetings.{eq_same}
 use Rattle.art_checking.proofs.well_formed.met.Met.place_under.Goals as goal
 
 -- what a mark returns, by whether it has the name
-told : (bytes : List ℕ) (marks : List Mark) (i : ℕ) (mark : Mark) (name : OpaqueNodePtr) (b : Bool) → i < length marks → mark ≡ get_or marks i mark → same_name mark.name name ≡ b →
+told : (bytes : List ℕ) (marks : List Mark) (i : ℕ) (mark : Mark) (name : OpaqueNodePtr) (b : Bool) → i < length marks →
+    mark ≡ get_or marks i mark → same_name mark.name name ≡ b →
     place_under name (slice_get (marked bytes marks) i) ≡ cond b (Some (slice_range bytes mark.from mark.to)) None
 told bytes marks i mark name b inside is same =
     ap (place_under name) (slice_get-map (placed bytes) marks i ∙ ap (option_map (placed bytes)) (slice_get_read marks (length marks) i mark refl inside is)) ∙
@@ -20,7 +21,8 @@ returns-then-eq c =
     let mark = c.in_ok-mark.mark.now in
     let name = c.args.name in
     let read = c.in_ok-mark.ensures.lookup in
-    sym (told c.deref-then-eq.result.now c.deref.result.now c.args.number mark name true read.3.0 read.1 (sym (eq_same mark.name name) ∙ sym c.eq.ensures ∙ c.if-eq.true)) ∙
+    sym (told c.deref-then-eq.result.now c.deref.result.now c.args.number mark name true read.3.0 read.1
+    (sym (eq_same mark.name name) ∙ sym c.eq.ensures ∙ c.if-eq.true)) ∙
     ap₂ (λ bytes marks. place_under name (slice_get (marked bytes marks) c.args.number)) c.deref-then-eq.ensures.value c.deref.ensures.value ∙
     ap (λ met. place_under name (slice_get met c.args.number)) c.self.view_is
 

@@ -12,4 +12,5 @@ returns c =
     let bytes = c.in_ok-extend_from_slice.ensures.items in
     let from = c.len-from.ensures ∙ inside.bytes.ok.0 in
     let to = c.len-to.ensures ∙ c.extend_from_slice.new.self.ok.0 ∙ ap length bytes in
-    ap₂ marked bytes c.in_ok-push.ensures.items ∙ marked-last inside.bytes.items place inside.marks.items mark c.self.invariant from to ∙ ap (λ met. met ++ (c.args.name, place) ∷ []) c.self.view_is
+    ap₂ marked bytes c.in_ok-push.ensures.items ∙ marked-last inside.bytes.items place inside.marks.items mark c.self.invariant from to
+    ∙ ap (λ met. met ++ (c.args.name, place) ∷ []) c.self.view_is

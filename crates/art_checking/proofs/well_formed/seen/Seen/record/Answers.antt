@@ -12,7 +12,8 @@ returns-clause-places c =
     let old = c.args.self.now in
     let name = c.args.name in
     let place = c.args.place.now in
-    let same_met : c.match-split.self.met ≡ old.met = elim c.match-split.branch [ in-Leaf+in_ok-push w ↦ ap (λ seen. seen.met) w.self-is | in_default w ↦ ap (λ seen. seen.met) w.self-is ] in
+    let same_met : c.match-split.self.met ≡ old.met =
+    elim c.match-split.branch [ in-Leaf+in_ok-push w ↦ ap (λ seen. seen.met) w.self-is | in_default w ↦ ap (λ seen. seen.met) w.self-is ] in
     let same_numbers : c.match-split.self.numbers ≡ old.numbers =
     elim c.match-split.branch [ in-Leaf+in_ok-push w ↦ ap (λ seen. seen.numbers) w.self-is | in_default w ↦ ap (λ seen. seen.numbers) w.self-is ] in
     let number = c.in_ok-set.ensures.here ∙ c.len.ensures ∙ ap length same_met in

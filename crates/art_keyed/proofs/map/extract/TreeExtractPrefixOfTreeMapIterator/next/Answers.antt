@@ -10,4 +10,5 @@ returns-clause-steps g c = (refl, refl, c.extract_below.ensures)
 pub returns-clause-goes : goal.returns-clause-goes
 returns-clause-goes g c =
     let text = g.K.StringBytes.text in
-    step_goes (of_key g.K.AsBytes.bytes) (λ x. is_front (text c.args.self.now.prefix.now) (text x.0)) (λ q. q.map.now) c.args.self.now c.extract_below.result _ c.extract_below.ensures
+    step_goes (of_key g.K.AsBytes.bytes) (λ x. is_front (text c.args.self.now.prefix.now) (text x.0))
+    (λ q. q.map.now) c.args.self.now c.extract_below.result _ c.extract_below.ensures

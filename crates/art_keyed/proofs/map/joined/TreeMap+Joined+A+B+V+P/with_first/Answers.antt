@@ -11,5 +11,6 @@ returns-clause-pairs g c =
     let first = g.A.AsBytes.bytes in
     let second = g.B.AsBytes.bytes in
     c.prefix.ensures.pairs ∙ ap (λ front. below (of_key (joined_bytes first second)) front c.self.inside.map) c.as_bytes.ensures
-    ∙ below_first g.A.NoPrefixesBytes.is_key first g.B.NoPrefixesBytes.is_key second g.met.A.NoPrefixesBytes.no_prefixes c.args.first.now c.as_key.ensures c.self.inside.map c.self.invariant
+    ∙ below_first g.A.NoPrefixesBytes.is_key first g.B.NoPrefixesBytes.is_key second g.met.A.NoPrefixesBytes.no_prefixes c.args.first.now
+    c.as_key.ensures c.self.inside.map c.self.invariant
     ∙ ap (pairs_with_first first (first c.args.first.now)) c.self.view_is

@@ -8,6 +8,8 @@ use Rattle.art_keyed.proofs.map.joined_array.TreeMap+JoinedArray+A+B+N+V+P.range
 pub returns-clause-pairs : goal.returns-clause-pairs
 returns-clause-pairs g c =
     c.range.ensures.pairs tt
-    ∙ ap₂ (λ from to. keys_between (pair_cmp g.A.OrderedBytes.order g.B.OrderedBytes.order) (Included from) (Excluded to) c.args.self.now) c.join-from.ensures c.join.ensures
-    ∙ range_seconds g.A.NoPrefixesBytes.is_key g.A.AsBytes.bytes g.met.A.OrderedBytes.keeps_order g.B.OrderedBytes.order c.args.first.now c.as_key.ensures c.args.seconds.start c.args.seconds.end
+    ∙ ap₂ (λ from to. keys_between (pair_cmp g.A.OrderedBytes.order g.B.OrderedBytes.order) (Included from) (Excluded to) c.args.self.now)
+    c.join-from.ensures c.join.ensures
+    ∙ range_seconds g.A.NoPrefixesBytes.is_key g.A.AsBytes.bytes g.met.A.OrderedBytes.keeps_order g.B.OrderedBytes.order c.args.first.now
+    c.as_key.ensures c.args.seconds.start c.args.seconds.end
     _ (λ both known. known.0.0) c.args.self.now c.range.ensures.known

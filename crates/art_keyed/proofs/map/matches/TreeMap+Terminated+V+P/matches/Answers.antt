@@ -8,4 +8,5 @@ use Rattle.art_keyed.proofs.map.matches.TreeMap+Terminated+V+P.matches.Goals as 
 pub returns : goal.returns
 returns g c =
     from_none (of_key ended) c.args.text.now c.args.self.now
-    ∙ fronts_are HasNoZero ended (λ (t : List ℕ). t) (λ t. t) (λ t of_text. (refl, of_text)) (λ a b. refl) c.args.self.now c.as_byte_map.ensures.keys c.args.text.now c.args.text.now refl
+    ∙ fronts_are HasNoZero ended (λ (t : List ℕ). t) (λ t. t) (λ t of_text. (refl, of_text))
+    (λ a b. refl) c.args.self.now c.as_byte_map.ensures.keys c.args.text.now c.args.text.now refl

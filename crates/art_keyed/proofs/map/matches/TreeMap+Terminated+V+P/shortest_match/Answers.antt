@@ -15,5 +15,7 @@ shortest_text-requires g c = (
 pub returns : goal.returns
 returns g c =
     c.shortest_text.ensures.pair
-    ∙ ap first_of (from_none (of_key ended) c.args.text.now c.self.inside.map ∙ fronts_are HasNoZero ended (λ (t : List ℕ). t) (λ t. t) (λ t of_text. (refl, of_text)) (λ a b. refl) c.self.inside.map c.self.invariant c.args.text.now c.args.text.now refl)
+    ∙ ap first_of (from_none (of_key ended) c.args.text.now c.self.inside.map
+    ∙ fronts_are HasNoZero ended (λ (t : List ℕ). t) (λ t. t) (λ t of_text. (refl, of_text))
+    (λ a b. refl) c.self.inside.map c.self.invariant c.args.text.now c.args.text.now refl)
     ∙ ap (λ pairs. first_of (strings_in_front (λ t. t) c.args.text.now pairs)) c.self.view_is

@@ -12,7 +12,8 @@ pub longest_text-requires : goal.longest_text-requires
 longest_text-requires g c = (
   search rules,
   subst (AreEnded (of_key g.K.AsBytes.bytes) 0) (sym c.as_byte_map.ensures.pairs)
-      (are_ended _ g.K.AsBytes.bytes g.K.StringBytes.text g.K.StringBytes.inside g.met.K.StringBytes.is_inside g.met.K.StringBytes.keeps_fronts c.args.self.now c.as_byte_map.ensures.keys),
+      (are_ended _ g.K.AsBytes.bytes g.K.StringBytes.text g.K.StringBytes.inside g.met.K.StringBytes.is_inside
+      g.met.K.StringBytes.keeps_fronts c.args.self.now c.as_byte_map.ensures.keys),
 )
 
 pub returns-in_err-pair : goal.returns-in_err-pair
@@ -25,7 +26,8 @@ returns-in_err-pair g c =
 
 pub returns-then-as_bytes-at_least : goal.returns-then-as_bytes-at_least
 returns-then-as_bytes-at_least g c =
-    let ended = are_ended _ g.K.AsBytes.bytes g.K.StringBytes.text g.K.StringBytes.inside g.met.K.StringBytes.is_inside g.met.K.StringBytes.keeps_fronts c.args.self.now c.as_byte_map.ensures.keys in
+    let ended = are_ended _ g.K.AsBytes.bytes g.K.StringBytes.text g.K.StringBytes.inside g.met.K.StringBytes.is_inside
+    g.met.K.StringBytes.keeps_fronts c.args.self.now c.as_byte_map.ensures.keys in
     let rise = subst (IsMap (of_key g.K.AsBytes.bytes)) c.as_byte_map.ensures.pairs c.longest_text.ensures.sorted in
     let found : Some (deref_pair c.in_ok-pair.pair) ≡ last_of (texts_in_front (of_key g.K.AsBytes.bytes) c.in_ok-query.query.now c.args.self.now) =
     c.in_ok-pair.ensures.pair ∙ ap (λ pairs. last_of (texts_in_front (of_key g.K.AsBytes.bytes) c.in_ok-query.query.now pairs)) c.as_byte_map.ensures.pairs in
@@ -36,7 +38,8 @@ returns-then-as_bytes-at_least g c =
 
 pub shorter-requires : goal.shorter-requires
 shorter-requires g c =
-    let ended = are_ended _ g.K.AsBytes.bytes g.K.StringBytes.text g.K.StringBytes.inside g.met.K.StringBytes.is_inside g.met.K.StringBytes.keeps_fronts c.args.self.now c.as_byte_map.ensures.keys in
+    let ended = are_ended _ g.K.AsBytes.bytes g.K.StringBytes.text g.K.StringBytes.inside g.met.K.StringBytes.is_inside
+    g.met.K.StringBytes.keeps_fronts c.args.self.now c.as_byte_map.ensures.keys in
     let rise = subst (IsMap (of_key g.K.AsBytes.bytes)) c.as_byte_map.ensures.pairs c.longest_text.ensures.sorted in
     let found : Some (deref_pair c.in_ok-pair.pair) ≡ last_of (texts_in_front (of_key g.K.AsBytes.bytes) c.in_ok-query.query.now c.args.self.now) =
     c.in_ok-pair.ensures.pair ∙ ap (λ pairs. last_of (texts_in_front (of_key g.K.AsBytes.bytes) c.in_ok-query.query.now pairs)) c.as_byte_map.ensures.pairs in
@@ -46,13 +49,15 @@ shorter-requires g c =
 
 pub returns : goal.returns
 returns g c =
-    let ended = are_ended _ g.K.AsBytes.bytes g.K.StringBytes.text g.K.StringBytes.inside g.met.K.StringBytes.is_inside g.met.K.StringBytes.keeps_fronts c.args.self.now c.as_byte_map.ensures.keys in
+    let ended = are_ended _ g.K.AsBytes.bytes g.K.StringBytes.text g.K.StringBytes.inside g.met.K.StringBytes.is_inside
+    g.met.K.StringBytes.keeps_fronts c.args.self.now c.as_byte_map.ensures.keys in
     let rise = subst (IsMap (of_key g.K.AsBytes.bytes)) c.as_byte_map.ensures.pairs c.longest_text.ensures.sorted in
     let found : Some (deref_pair c.in_ok-pair.pair) ≡ last_of (texts_in_front (of_key g.K.AsBytes.bytes) c.in_ok-query.query.now c.args.self.now) =
     c.in_ok-pair.ensures.pair ∙ ap (λ pairs. last_of (texts_in_front (of_key g.K.AsBytes.bytes) c.in_ok-query.query.now pairs)) c.as_byte_map.ensures.pairs in
     let own = ap length c.as_bytes.ensures in
     let same = ap length c.as_bytes-2.ensures in
     ap (λ o. matches_left g.K.AsBytes.bytes (option_map (λ b. b.now) o) c.args.at_least c.args.self.now) c.in_ok-query.was
-    ∙ last_came g.K.AsBytes.bytes c.in_ok-query.query.now c.args.at_least c.args.self.now rise ended (deref_pair c.in_ok-pair.pair) found (omega arith) (option_map (λ b. b.now) c.shorter.result)
+    ∙ last_came g.K.AsBytes.bytes c.in_ok-query.query.now c.args.at_least c.args.self.now rise ended (deref_pair c.in_ok-pair.pair) found
+    (omega arith) (option_map (λ b. b.now) c.shorter.result)
     (λ few. c.shorter.ensures.empty (omega arith))
     (λ more. c.shorter.ensures.cut (omega arith) ∙ ap (λ n. Some (take (n - 2) c.in_ok-query.query.now)) same)

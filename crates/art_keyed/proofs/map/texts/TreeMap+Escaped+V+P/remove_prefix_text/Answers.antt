@@ -12,7 +12,8 @@ returns-clause-pairs g c =
     let plain : c.args.text.now ≡ escape_inside c.args.text.now =
     sym (snoc_same (escape_inside c.args.text.now) c.args.text.now 0 0 (sym (escape_is c.args.text.now) ∙ escape-plain c.args.text.now c.requires)).0 in
     c.remove_prefix.ensures.pairs
-    ∙ not_below_strings (λ (t : List ℕ). ⊤) escape (λ t. t) c.args.text.now c.args.text.now (λ other of_other. ap (λ z. is_front z (escape other)) plain ∙ escape_begins c.args.text.now other) c.self.inside.map c.self.invariant
+    ∙ not_below_strings (λ (t : List ℕ). ⊤) escape (λ t. t) c.args.text.now c.args.text.now
+    (λ other of_other. ap (λ z. is_front z (escape other)) plain ∙ escape_begins c.args.text.now other) c.self.inside.map c.self.invariant
     ∙ ap (strings_not_below (λ t. t) c.args.text.now) c.self.view_is
 
 pub returns-clause-removed : goal.returns-clause-removed
@@ -20,5 +21,6 @@ returns-clause-removed g c =
     let plain : c.args.text.now ≡ escape_inside c.args.text.now =
     sym (snoc_same (escape_inside c.args.text.now) c.args.text.now 0 0 (sym (escape_is c.args.text.now) ∙ escape-plain c.args.text.now c.requires)).0 in
     c.remove_prefix.ensures.removed
-    ∙ ap length (below_strings (λ (t : List ℕ). ⊤) escape (λ t. t) c.args.text.now c.args.text.now (λ other of_other. ap (λ z. is_front z (escape other)) plain ∙ escape_begins c.args.text.now other) c.self.inside.map c.self.invariant)
+    ∙ ap length (below_strings (λ (t : List ℕ). ⊤) escape (λ t. t) c.args.text.now c.args.text.now
+    (λ other of_other. ap (λ z. is_front z (escape other)) plain ∙ escape_begins c.args.text.now other) c.self.inside.map c.self.invariant)
     ∙ ap (λ pairs. length (strings_below (λ t. t) c.args.text.now pairs)) c.self.view_is

@@ -14,5 +14,6 @@ longest_text-requires g c = (
 pub returns : goal.returns
 returns g c =
     c.longest_text.ensures.pair
-    ∙ ap last_of (fronts_are HasNoZero ended (λ (t : List ℕ). t) (λ t. t) (λ t of_text. (refl, of_text)) (λ a b. refl) c.self.inside.map c.self.invariant c.args.text.now c.args.text.now refl)
+    ∙ ap last_of (fronts_are HasNoZero ended (λ (t : List ℕ). t) (λ t. t) (λ t of_text. (refl, of_text))
+    (λ a b. refl) c.self.inside.map c.self.invariant c.args.text.now c.args.text.now refl)
     ∙ ap (λ pairs. last_of (strings_in_front (λ t. t) c.args.text.now pairs)) c.self.view_is

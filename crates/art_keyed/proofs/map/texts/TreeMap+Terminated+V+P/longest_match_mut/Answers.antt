@@ -9,22 +9,29 @@ use Rattle.art_keyed.proofs.map.texts.TreeMap+Terminated+V+P.longest_match_mut.G
 pub slice_bounds-get_text_mut-end : goal.slice_bounds-get_text_mut-end
 slice_bounds-get_text_mut-end g c =
     ap length c.as_bytes_without_end-len.ensures.text
-    ∙ ap length (sym (longest_cut ended c.args.text.now c.args.self.now (c.in_ok-key.key.now, c.in_ok-key.field-0-1.now) c.in_ok-key.ensures (length c.as_bytes_without_end-len.result.now) (ap length c.as_bytes_without_end-len.ensures.text)))
+    ∙ ap length (sym (longest_cut ended c.args.text.now c.args.self.now (c.in_ok-key.key.now, c.in_ok-key.field-0-1.now) c.in_ok-key.ensures
+    (length c.as_bytes_without_end-len.result.now) (ap length c.as_bytes_without_end-len.ensures.text)))
 
 pub unreachable-requires : goal.unreachable-requires
 unreachable-requires g c =
-    let found = c.in_default.ensures.value ∙ ap (λ text. value_at ended (ended text) c.args.self.now) (longest_cut ended c.args.text.now c.args.self.now (c.in_ok-key.key.now, c.in_ok-key.field-0-1.now) c.in_ok-key.ensures (length c.as_bytes_without_end-len.result.now) (ap length c.as_bytes_without_end-len.ensures.text))
-    ∙ ap (option_map (λ x. x.1)) (longest_own ended c.args.text.now c.args.self.now (c.in_ok-key.key.now, c.in_ok-key.field-0-1.now) c.in_ok-key.ensures c.len.ensures.sorted) in
+    let found = c.in_default.ensures.value ∙ ap (λ text. value_at ended (ended text) c.args.self.now)
+    (longest_cut ended c.args.text.now c.args.self.now (c.in_ok-key.key.now, c.in_ok-key.field-0-1.now) c.in_ok-key.ensures
+    (length c.as_bytes_without_end-len.result.now) (ap length c.as_bytes_without_end-len.ensures.text))
+    ∙ ap (option_map (λ x. x.1)) (longest_own ended c.args.text.now c.args.self.now
+    (c.in_ok-key.key.now, c.in_ok-key.field-0-1.now) c.in_ok-key.ensures c.len.ensures.sorted) in
     absurd cc
 
 pub returns : goal.returns
 returns g c =
-    let text_is = longest_cut ended c.args.text.now c.args.self.now (c.in_ok-key.key.now, c.in_ok-key.field-0-1.now) c.in_ok-key.ensures (length c.as_bytes_without_end-len.result.now) (ap length c.as_bytes_without_end-len.ensures.text) in (
+    let text_is = longest_cut ended c.args.text.now c.args.self.now (c.in_ok-key.key.now, c.in_ok-key.field-0-1.now) c.in_ok-key.ensures
+    (length c.as_bytes_without_end-len.result.now) (ap length c.as_bytes_without_end-len.ensures.text) in (
       lends_same (λ w. ap (λ text. with_value_at ended (ended text) w c.args.self.now) text_is
-          ∙ ap (λ key. with_value_at ended key w c.args.self.now) (longest_key_is ended c.args.text.now c.args.self.now (c.in_ok-key.key.now, c.in_ok-key.field-0-1.now) c.in_ok-key.ensures)),
+          ∙ ap (λ key. with_value_at ended key w c.args.self.now)
+          (longest_key_is ended c.args.text.now c.args.self.now (c.in_ok-key.key.now, c.in_ok-key.field-0-1.now) c.in_ok-key.ensures)),
       record {
         writes_back = tt;
         value = c.in-Some.ensures.value ∙ ap (λ text. value_at ended (ended text) c.args.self.now) text_is
-            ∙ ap (option_map (λ x. x.1)) (longest_own ended c.args.text.now c.args.self.now (c.in_ok-key.key.now, c.in_ok-key.field-0-1.now) c.in_ok-key.ensures c.len.ensures.sorted ∙ c.in_ok-key.ensures);
+            ∙ ap (option_map (λ x. x.1)) (longest_own ended c.args.text.now c.args.self.now
+            (c.in_ok-key.key.now, c.in_ok-key.field-0-1.now) c.in_ok-key.ensures c.len.ensures.sorted ∙ c.in_ok-key.ensures);
       },
     )

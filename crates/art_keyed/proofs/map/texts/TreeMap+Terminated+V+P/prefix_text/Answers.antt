@@ -15,5 +15,6 @@ returns-then-has_zero-clause-pairs g c =
 pub returns-clause-pairs : goal.returns-clause-pairs
 returns-clause-pairs g c =
     c.prefix.ensures.pairs
-    ∙ below_strings HasNoZero ended (λ (t : List ℕ). t) c.args.text.now c.args.text.now (λ other of_other. ended_begins c.args.text.now other c.if-has_zero.ensures.none) c.self.inside.map c.self.invariant
+    ∙ below_strings HasNoZero ended (λ (t : List ℕ). t) c.args.text.now c.args.text.now
+    (λ other of_other. ended_begins c.args.text.now other c.if-has_zero.ensures.none) c.self.inside.map c.self.invariant
     ∙ ap (strings_below (λ (t : List ℕ). t) c.args.text.now) c.self.view_is

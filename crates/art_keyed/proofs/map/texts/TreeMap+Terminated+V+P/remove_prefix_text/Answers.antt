@@ -19,11 +19,13 @@ invariant_of-self g c =
 pub returns-clause-pairs : goal.returns-clause-pairs
 returns-clause-pairs g c =
     c.remove_prefix.ensures.pairs
-    ∙ not_below_strings HasNoZero ended (λ (t : List ℕ). t) c.args.text.now c.args.text.now (λ other of_other. ended_begins c.args.text.now other c.if-has_zero.ensures.none) c.self.inside.map c.self.invariant
+    ∙ not_below_strings HasNoZero ended (λ (t : List ℕ). t) c.args.text.now c.args.text.now
+    (λ other of_other. ended_begins c.args.text.now other c.if-has_zero.ensures.none) c.self.inside.map c.self.invariant
     ∙ ap (strings_not_below (λ (t : List ℕ). t) c.args.text.now) c.self.view_is
 
 pub returns-clause-removed : goal.returns-clause-removed
 returns-clause-removed g c =
     c.remove_prefix.ensures.removed
-    ∙ ap length (below_strings HasNoZero ended (λ (t : List ℕ). t) c.args.text.now c.args.text.now (λ other of_other. ended_begins c.args.text.now other c.if-has_zero.ensures.none) c.self.inside.map c.self.invariant)
+    ∙ ap length (below_strings HasNoZero ended (λ (t : List ℕ). t) c.args.text.now c.args.text.now
+    (λ other of_other. ended_begins c.args.text.now other c.if-has_zero.ensures.none) c.self.inside.map c.self.invariant)
     ∙ ap (λ pairs. length (strings_below (λ (t : List ℕ). t) c.args.text.now pairs)) c.self.view_is

@@ -6,4 +6,5 @@ use Rattle.art_keyed.proofs.map.texts.TreeMap+Terminated+V+P.remove_text.Goals a
 
 pub invariant_of-self : goal.invariant_of-self
 invariant_of-self g c =
-    subst (HaveKeys HasNoZero) (sym c.remove_by.ensures.pairs) (remove_keeps g.row.V.Denot HasNoZero ended (c.args.text.now ++ 0 ∷ []) c.self.inside.map c.self.invariant)
+    subst (HaveKeys HasNoZero) (sym c.remove_by.ensures.pairs)
+    (remove_keeps g.row.V.Denot HasNoZero ended (c.args.text.now ++ 0 ∷ []) c.self.inside.map c.self.invariant)

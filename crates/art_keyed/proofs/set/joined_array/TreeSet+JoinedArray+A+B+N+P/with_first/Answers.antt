@@ -10,5 +10,7 @@ returns-clause-keys g c =
     let first = g.A.AsBytes.bytes in
     let second = g.B.AsBytes.bytes in
     c.prefix.ensures.keys ∙ ap (λ prefix. below (joined_bytes first second) prefix c.self.inside.set) c.as_bytes.ensures
-    ∙ below_first_in_set g.A.NoPrefixesBytes.is_key first g.B.NoPrefixesBytes.is_key second g.met.A.NoPrefixesBytes.no_prefixes c.args.first.now c.as_key.ensures c.self.inside.set (two_keys g.row.N g.A.NoPrefixesBytes.is_key first g.B.NoPrefixesBytes.is_key second c.self.inside.set c.self.invariant)
+    ∙ below_first_in_set g.A.NoPrefixesBytes.is_key first g.B.NoPrefixesBytes.is_key second g.met.A.NoPrefixesBytes.no_prefixes
+    c.args.first.now c.as_key.ensures c.self.inside.set
+    (two_keys g.row.N g.A.NoPrefixesBytes.is_key first g.B.NoPrefixesBytes.is_key second c.self.inside.set c.self.invariant)
     ∙ ap (set_with_first first (first c.args.first.now)) c.self.view_is

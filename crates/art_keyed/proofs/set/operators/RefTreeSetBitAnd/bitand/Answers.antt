@@ -6,4 +6,5 @@ use Rattle.art_keyed.proofs.set.operators.RefTreeSetBitAnd.bitand.Goals as goal
 
 pub returns : goal.returns
 returns g c =
-    IfOk-weaker c.clones_of.result _ _ (λ set made. subst (λ keys. AreAddedClones g.K.AsBytes.bytes g.K.Clone.is_clone keys set) (all_came _ made.0 made.1 ∙ c.intersection.ensures) made.2) c.clones_of.ensures
+    IfOk-weaker c.clones_of.result _ _ (λ set made. subst (λ keys. AreAddedClones g.K.AsBytes.bytes g.K.Clone.is_clone keys set)
+    (all_came _ made.0 made.1 ∙ c.intersection.ensures) made.2) c.clones_of.ensures

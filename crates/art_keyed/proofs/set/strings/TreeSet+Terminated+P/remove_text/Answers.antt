@@ -6,4 +6,5 @@ use Rattle.art_keyed.proofs.set.strings.TreeSet+Terminated+P.remove_text.Goals a
 
 pub invariant_of-self : goal.invariant_of-self
 invariant_of-self g c =
-    subst (Each HasNoZero) (sym c.remove_by.ensures.keys) (key_remove_keeps (Unit {0}) HasNoZero ended (c.args.text.now ++ 0 ∷ []) c.self.inside.set c.self.invariant)
+    subst (Each HasNoZero) (sym c.remove_by.ensures.keys)
+    (key_remove_keeps (Unit {0}) HasNoZero ended (c.args.text.now ++ 0 ∷ []) c.self.inside.set c.self.invariant)

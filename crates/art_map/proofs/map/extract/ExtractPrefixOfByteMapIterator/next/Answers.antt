@@ -7,8 +7,12 @@ use Rattle.art_map.proofs.map.extract.ExtractPrefixOfByteMapIterator.next.Goals 
 pub returns-clause-steps : goal.returns-clause-steps
 returns-clause-steps g c =
     let took = c.pop_first_below.ensures in
-    let s = c.args.self.now in
-    (refl, refl, extracts_below (of_key g.K.AsBytes.bytes) s.prefix.now s.map.now c.pop_first_below.new.self c.pop_first_below.result took.was_sorted took.removed took.pairs)
+    let s = c.args.self.now in (
+      refl,
+      refl,
+      extracts_below (of_key g.K.AsBytes.bytes)
+          s.prefix.now s.map.now c.pop_first_below.new.self c.pop_first_below.result took.was_sorted took.removed took.pairs,
+    )
 
 pub returns-clause-goes : goal.returns-clause-goes
 returns-clause-goes g c =

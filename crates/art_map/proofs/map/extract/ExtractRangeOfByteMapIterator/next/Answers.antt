@@ -22,4 +22,5 @@ returns-clause-goes g c =
     let took = c.take_first_in.ensures in
     let s = c.args.self.now in
     let test = is_between (bound_map (λ b. b.now) s.from) (bound_map (λ b. b.now) s.to) in
-    step_goes B (λ x. test (B x)) (λ q. q.map.now) s c.take_first_in.result _ (extracts B test s.map.now c.take_first_in.new.self c.take_first_in.result took.sorted took.removed took.pairs)
+    step_goes B (λ x. test (B x)) (λ q. q.map.now) s c.take_first_in.result _
+    (extracts B test s.map.now c.take_first_in.new.self c.take_first_in.result took.sorted took.removed took.pairs)

@@ -9,4 +9,6 @@ pub returns-clause-upper : goal.returns-clause-upper
 returns-clause-upper g c = let same = subst (λ pairs. length pairs ≡ c.self.inside.len) c.self.view_is (left_len _ _ _ c.self.invariant) in omega arith
 
 pub returns-clause-exact : goal.returns-clause-exact
-returns-clause-exact g c = let same = subst (λ pairs. length pairs ≡ c.self.inside.len) c.self.view_is (left_len _ _ _ c.self.invariant) in ap (λ n. (n, Some n)) (sym same)
+returns-clause-exact g c =
+    let same = subst (λ pairs. length pairs ≡ c.self.inside.len) c.self.view_is (left_len _ _ _ c.self.invariant) in
+    ap (λ n. (n, Some n)) (sym same)

@@ -25,16 +25,22 @@ links_beside-next-requires g c = let (pairs, layout, by, at) = c.requires in (se
 pub remove_child-requires : goal.remove_child-requires
 remove_child-requires g c =
     let (pairs, layout, by, at) = c.requires in
-    let full = node_full by at in
-    (search rules, parent_there by at (first_below c.args.store.now full.0.holds (c.walk_to_end-path.ensures at.node full) (sym c.last_step.ensures ∙ c.in-Some.is)))
+    let full = node_full by at in (
+      search rules,
+      parent_there by at (first_below c.args.store.now full.0.holds (c.walk_to_end-path.ensures at.node full)
+          (sym c.last_step.ensures ∙ c.in-Some.is)),
+    )
 
 pub link-requires : goal.link-requires
 link-requires g c =
     let (pairs, layout, by, at) = c.requires in
     let full = node_full by at in
     let first = first_below c.args.store.now full.0.holds (c.walk_to_end-path.ensures at.node full) (sym c.last_step.ensures ∙ c.in-Some.is) in
-    let next = c.links_beside-next.result in
-    (search rules, rw c.remove_child.ensures.leaves (first_there by at first, next_there by at next.1 (next_is by at next.0 next.1 (c.links_beside-next.ensures at.node full))))
+    let next = c.links_beside-next.result in (
+      search rules,
+      rw c.remove_child.ensures.leaves
+          (first_there by at first, next_there by at next.1 (next_is by at next.0 next.1 (c.links_beside-next.ensures at.node full))),
+    )
 
 pub replace_at-new_root-requires : goal.replace_at-new_root-requires
 replace_at-new_root-requires g c =
@@ -50,12 +56,15 @@ free_nodes-others-requires g c =
     let first = first_below c.args.store.now full.0.holds (c.walk_to_end-path.ensures at.node full) (sym c.last_step.ensures ∙ c.in-Some.is) in
     let next = c.links_beside-next.result in
     let n = c.walk_to_end-path.result.1 in
-    let leaves = c.replace_at-new_root.ensures.leaves ∙ c.link.ensures.leaves ∙ ap (λ m. with_links_around m (Some n) next.1 next.1 (Some n)) c.remove_child.ensures.leaves in
-    let inners = c.replace_at-new_root.ensures.inners ∙ ap (with_child_at (last_step c.args.self.path) c.to_opaque.result) (c.link.ensures.inners ∙ c.remove_child.ensures.inners) in (
+    let leaves = c.replace_at-new_root.ensures.leaves ∙ c.link.ensures.leaves
+    ∙ ap (λ m. with_links_around m (Some n) next.1 next.1 (Some n)) c.remove_child.ensures.leaves in
+    let inners = c.replace_at-new_root.ensures.inners
+    ∙ ap (with_child_at (last_step c.args.self.path) c.to_opaque.result) (c.link.ensures.inners ∙ c.remove_child.ensures.inners) in (
       search rules,
       (
         shape_of (rest by at first),
-        all_can (rest_there by at first c.replace_at-new_root.new.store next.0 next.1 (c.links_beside-next.ensures at.node full) leaves inners c.to_opaque.ensures),
+        all_can (rest_there by at first c.replace_at-new_root.new.store next.0 next.1
+            (c.links_beside-next.ensures at.node full) leaves inners c.to_opaque.ensures),
       ),
     )
 
@@ -68,16 +77,22 @@ overflow_add-result g c =
     let n = c.walk_to_end-path.result.1 in
     let w = c.replace_at-new_root.new.store in
     let beside = c.links_beside-next.ensures at.node full in
-    let leaves = c.replace_at-new_root.ensures.leaves ∙ c.link.ensures.leaves ∙ ap (λ m. with_links_around m (Some n) next.1 next.1 (Some n)) c.remove_child.ensures.leaves in
-    let inners = c.replace_at-new_root.ensures.inners ∙ ap (with_child_at (last_step c.args.self.path) c.to_opaque.result) (c.link.ensures.inners ∙ c.remove_child.ensures.inners) in
+    let leaves = c.replace_at-new_root.ensures.leaves ∙ c.link.ensures.leaves
+    ∙ ap (λ m. with_links_around m (Some n) next.1 next.1 (Some n)) c.remove_child.ensures.leaves in
+    let inners = c.replace_at-new_root.ensures.inners
+    ∙ ap (with_child_at (last_step c.args.self.path) c.to_opaque.result) (c.link.ensures.inners ∙ c.remove_child.ensures.inners) in
     let left = rest by at first in
     let can = all_can (rest_there by at first w next.0 next.1 beside leaves inners c.to_opaque.ensures) in
-    let root = c.replace_at-new_root.ensures.root ∙ ap (root_with c.args.self.path c.args.root) c.to_opaque.ensures ∙ ap (λ p. root_with p c.args.root (leaf_name n)) at.path_is
+    let root = c.replace_at-new_root.ensures.root ∙ ap (root_with c.args.self.path c.args.root) c.to_opaque.ensures
+    ∙ ap (λ p. root_with p c.args.root (leaf_name n)) at.path_is
     ∙ root_with-path_of at.path c.args.root (leaf_name n) in
-    let done = collapsed_below by at first w next.0 next.1 beside leaves inners c.to_opaque.ensures (all_go left (c.free_nodes-others.ensures.freed (shape_of left) can)) root
+    let done = collapsed_below by at first w next.0 next.1 beside leaves inners c.to_opaque.ensures
+    (all_go left (c.free_nodes-others.ensures.freed (shape_of left) can)) root
     (all_counted left c.free_nodes-others.result (c.free_nodes-others.ensures.count (shape_of left) can)) in
     let (y, here, pair) = leaf_at done.canonical (leads_to_one by at done) in
-    let fits = count_fits c.free_nodes-others.new.store n y c.free_nodes-others.result _ here c.free_nodes-others.ensures.total c.free_nodes-others.ensures.few in
+    let fits =
+    count_fits c.free_nodes-others.new.store n y c.free_nodes-others.result _ here c.free_nodes-others.ensures.total
+    c.free_nodes-others.ensures.few in
     omega arith
 
 pub returns-clause-collapsed : goal.returns-clause-collapsed
@@ -88,12 +103,16 @@ returns-clause-collapsed g c pairs layout by at =
     let n = c.walk_to_end-path.result.1 in
     let w = c.replace_at-new_root.new.store in
     let beside = c.links_beside-next.ensures at.node full in
-    let leaves = c.replace_at-new_root.ensures.leaves ∙ c.link.ensures.leaves ∙ ap (λ m. with_links_around m (Some n) next.1 next.1 (Some n)) c.remove_child.ensures.leaves in
-    let inners = c.replace_at-new_root.ensures.inners ∙ ap (with_child_at (last_step c.args.self.path) c.to_opaque.result) (c.link.ensures.inners ∙ c.remove_child.ensures.inners) in
+    let leaves = c.replace_at-new_root.ensures.leaves ∙ c.link.ensures.leaves
+    ∙ ap (λ m. with_links_around m (Some n) next.1 next.1 (Some n)) c.remove_child.ensures.leaves in
+    let inners = c.replace_at-new_root.ensures.inners
+    ∙ ap (with_child_at (last_step c.args.self.path) c.to_opaque.result) (c.link.ensures.inners ∙ c.remove_child.ensures.inners) in
     let left = rest by at first in
     let can = all_can (rest_there by at first w next.0 next.1 beside leaves inners c.to_opaque.ensures) in
-    let root = c.replace_at-new_root.ensures.root ∙ ap (root_with c.args.self.path c.args.root) c.to_opaque.ensures ∙ ap (λ p. root_with p c.args.root (leaf_name n)) at.path_is
+    let root = c.replace_at-new_root.ensures.root ∙ ap (root_with c.args.self.path c.args.root) c.to_opaque.ensures
+    ∙ ap (λ p. root_with p c.args.root (leaf_name n)) at.path_is
     ∙ root_with-path_of at.path c.args.root (leaf_name n) in
-    let done = collapsed_below by at first w next.0 next.1 beside leaves inners c.to_opaque.ensures (all_go left (c.free_nodes-others.ensures.freed (shape_of left) can)) root
+    let done = collapsed_below by at first w next.0 next.1 beside leaves inners c.to_opaque.ensures
+    (all_go left (c.free_nodes-others.ensures.freed (shape_of left) can)) root
     (all_counted left c.free_nodes-others.result (c.free_nodes-others.ensures.count (shape_of left) can)) in
     done
