@@ -31,6 +31,7 @@ mod ordered;
 mod parts;
 mod retain;
 mod strings;
+mod text_ranges;
 mod texts;
 
 pub use both::BothRefused;
