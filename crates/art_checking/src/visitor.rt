@@ -52,14 +52,13 @@ pub trait Visitor<K, V, const P: usize> {
 /// Folds the tree of a canonical root: a leaf is passed to `visit_leaf`. An inner node's children are visited in the
 /// order of their bytes, their outputs are combined, beginning with the first one's, and then the node is passed to
 /// `visit_inner_node`. The recursion is as deep as the tree.
-pub fn visit_with<
-    K: AsBytes + Drop,
-    V: Drop,
-    T: Visitor<K, V, PREFIX_LEN>,
-    const PREFIX_LEN: usize,
->(store: &NodeStore<K, V, PREFIX_LEN>, root: OpaqueNodePtr, visitor: &mut T) -> T::Output
-    requires { IsCanonicalRoot (of_key K.bytes) PREFIX_LEN store.now root }
-    ensures { ForTree (of_key K.bytes) PREFIX_LEN store.now root (λ pairs layout.
+pub fn visit_with<K: AsBytes + Drop, V: Drop, T: Visitor<K, V, P>, const P: usize>(
+    store: &NodeStore<K, V, P>,
+    root: OpaqueNodePtr,
+    visitor: &mut T,
+) -> T::Output
+    requires { IsCanonicalRoot (of_key K.bytes) P store.now root }
+    ensures { ForTree (of_key K.bytes) P store.now root (λ pairs layout.
         Folds T.of_leaf T.of_inner T.combines store.now layout visitor.old result visitor.new) }
 {
     visit(store, root, visitor)

@@ -1,8 +1,7 @@
 //! Whether a tree is well formed, for any store and any name.
 ghost use Rattle.std.specs.Prelude.{◌≡◌, ◌+◌, ◌^◌, ◌<◌, ◌≢◌, [], IfOk, IfErr, IfSome, IsNone, IsOkAnd, IsErrAnd};
 ghost use Rattle.art_model.specs.Pairs.{of_key};
-ghost use Rattle.art_checking.specs.Checks.{IsWellFormed, prefix_bytes, prefix_cmp};
-ghost use Rattle.std.specs.Bool.{Decides};
+ghost use Rattle.art_checking.specs.Checks.{IsWellFormed, prefix_bytes};
 
 use art_nodes::node::{AsBytes, OpaqueNodePtr};
 use art_nodes::store::NodeStore;
@@ -52,13 +51,6 @@ impl KeyPrefix {
     }
 }
 
-/// Prefixes are ordered by their bytes, and are equal if these are.
-pub fn key_prefixes_are_in_order()
-    ensures order { (a b : KeyPrefix) → ⟦<KeyPrefix as Ord>⟧.cmp a b ≡ prefix_cmp a b }
-    ensures equal { (a b : KeyPrefix) →
-        Decides (⟦<KeyPrefix as PartialEq>⟧.eq a b) (prefix_bytes a ≡ prefix_bytes b) }
-{}
-
 impl Clone for KeyPrefix {
     ghost is_clone = { λ prefix copy. prefix_bytes copy ≡ prefix_bytes prefix };
 
@@ -80,13 +72,6 @@ pub struct WellFormedTreeStats {
     pub num_leaf: usize,
     pub num_inner: usize,
 }
-
-/// By default the numbers are 0.
-pub fn stats_start_at_zero()
-    ensures { (stats : WellFormedTreeStats) →
-        ⟦<WellFormedTreeStats as Default>⟧.is_default stats →
-        stats ≡ record { num_leaf = 0; num_inner = 0 } }
-{}
 
 impl WellFormedTreeStats {
     /// Returns the number of all nodes, leaves and inner nodes.
@@ -144,16 +129,16 @@ impl WellFormedChecker {
     /// name. Of several faults it returns the first one met: at an inner node its prefix, then what is below its
     /// children, by rising bytes, then their number; the links of the leaves last, in their order. `OutOfMemory`
     /// reports nothing about the tree.
-    pub fn check_tree<K: AsBytes + Drop, V: Drop, const PREFIX_LEN: usize>(
-        store: &NodeStore<K, V, PREFIX_LEN>,
+    pub fn check_tree<K: AsBytes + Drop, V: Drop, const P: usize>(
+        store: &NodeStore<K, V, P>,
         root: OpaqueNodePtr,
     ) -> Result<WellFormedTreeStats, MalformedTreeError>
         ensures well_formed { IfOk result (λ stats.
-            IsWellFormed (of_key K.bytes) PREFIX_LEN store.now root stats) }
+            IsWellFormed (of_key K.bytes) P store.now root stats) }
         ensures fits { IfOk result (λ stats. stats.num_leaf + stats.num_inner < 2 ^ 64) }
         ensures fault { IfErr result (λ error.
-            IsTrueOf (of_key K.bytes) PREFIX_LEN store.now root (fault_of error)) }
-        ensures canonical { IsCanonicalRoot (of_key K.bytes) PREFIX_LEN store.now root →
+            IsTrueOf (of_key K.bytes) P store.now root (fault_of error)) }
+        ensures canonical { IsCanonicalRoot (of_key K.bytes) P store.now root →
             IfErr result (λ error. error ≡ OutOfMemory) }
     {
         let seen = check_nodes(store, root)?;
@@ -167,8 +152,8 @@ impl WellFormedChecker {
 
     /// Returns what `check_tree` does for the root, if there is one; the length is not compared then. Without a root it
     /// returns zeros if the length is 0, and else `EmptyTreeWithLen`.
-    pub fn check<K: AsBytes + Drop, V: Drop, const PREFIX_LEN: usize>(
-        store: &NodeStore<K, V, PREFIX_LEN>,
+    pub fn check<K: AsBytes + Drop, V: Drop, const P: usize>(
+        store: &NodeStore<K, V, P>,
         root: Option<OpaqueNodePtr>,
         len: usize,
     ) -> Result<WellFormedTreeStats, MalformedTreeError>
@@ -177,12 +162,12 @@ impl WellFormedChecker {
         ensures no_tree { IsNone root → len ≢ 0 →
             IsErrAnd result (λ error. error ≡ EmptyTreeWithLen) }
         ensures well_formed { IfSome root (λ name.
-            IfOk result (IsWellFormed (of_key K.bytes) PREFIX_LEN store.now name)) }
+            IfOk result (IsWellFormed (of_key K.bytes) P store.now name)) }
         ensures fits { IfOk result (λ stats. stats.num_leaf + stats.num_inner < 2 ^ 64) }
         ensures fault { IfSome root (λ name. IfErr result (λ error.
-            IsTrueOf (of_key K.bytes) PREFIX_LEN store.now name (fault_of error))) }
+            IsTrueOf (of_key K.bytes) P store.now name (fault_of error))) }
         ensures canonical { IfSome root (λ name.
-            IsCanonicalRoot (of_key K.bytes) PREFIX_LEN store.now name →
+            IsCanonicalRoot (of_key K.bytes) P store.now name →
             IfErr result (λ error. error ≡ OutOfMemory)) }
     {
         match root {

@@ -205,6 +205,29 @@ impl<T: KindTable, const P: usize> InnerNodeOf<Header<P>, T> {
     }
 }
 
+impl<const P: usize> InnerNode4<P> {
+    ghost use Rattle.art_inner.specs.InnerChanges.{with_child};
+    ghost use Rattle.art_inner.specs.Inner.{childless};
+
+    /// Returns a node with this header and two children. If both bytes are equal, only `last` is kept.
+    #[inline(always)]
+    pub fn of_two(
+        header: Header<P>,
+        byte: u8,
+        child: OpaqueNodePtr,
+        last_byte: u8,
+        last: OpaqueNodePtr,
+    ) -> Self
+        ensures { result ≡
+            with_child last_byte last (with_child byte child (childless header.entry)) }
+    {
+        InnerNode4 {
+            header,
+            table: Table::of_two((byte, child), (last_byte, last)),
+        }
+    }
+}
+
 impl<T: KindTable, const P: usize> InnerNode<P> for InnerNodeOf<Header<P>, T> {
     const TYPE: NodeType = T::TYPE;
 

@@ -190,6 +190,26 @@ impl<const N: usize> Table<N> {
     }
 }
 
+impl Table<4> {
+    // A table of two children. If both bytes are equal, only the last child is kept.
+    #[inline(always)]
+    pub(crate) fn of_two(child: (u8, OpaqueNodePtr), last: (u8, OpaqueNodePtr)) -> Self
+        ensures { result ≡ put_child (put_child [] child.0 child.1) last.0 last.1 }
+    {
+        let (low, high) = if child.0 < last.0 {
+            (child, last)
+        } else {
+            (last, child)
+        };
+        Table {
+            slots: [low.1.slot, high.1.slot, 0, 0],
+            bytes: [low.0, high.0, 0, 0],
+            kinds: [low.1.kind, high.1.kind, NodeType::Leaf, NodeType::Leaf],
+            len: if low.0 < high.0 { 2 } else { 1 },
+        }
+    }
+}
+
 impl KindTable for Table<4> {
     ghost use Rattle.art_parts.specs.declared.names.NodeType.TheVariants as kinds;
 
@@ -255,7 +275,7 @@ impl KindTable for Table<16> {
 }
 
 ghost use Rattle.std.specs.List.{prefix_len};
-ghost use Rattle.art_inner.specs.Inner.{child_at};
+ghost use Rattle.art_inner.specs.Inner.{child_at, put_child};
 ghost use Rattle.art_inner.specs.Rows.{inserted};
 ghost use lib.Dec.{eqb};
 ghost use mathlib.Core.Bool.{not};

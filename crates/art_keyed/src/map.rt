@@ -1,11 +1,10 @@
 //! An ordered map whose keys never conflict. Its contracts speak only of lists of pairs.
-ghost use Rattle.std.specs.Prelude.{◌≡◌, ◌≢◌, ◌↔◌, ◌<◌, ◌^◌, ℕ, List, [], length, false, IsOk, IfOk, IfErr, IfSome, IsSome, IsTrue, OnOk, OnErr, Some, None, option_copied};
+ghost use Rattle.std.specs.Prelude.{◌≡◌, ◌≢◌, ◌↔◌, ◌<◌, ◌^◌, ℕ, List, [], length, false, IfOk, IfErr, IfSome, IsSome, IsTrue, OnOk, OnErr, Some, None, option_copied};
 ghost use Rattle.std.specs.Borrow.{Bor, sem};
 ghost use Rattle.std.specs.Fn.{FnOnceReturnsAt};
 ghost use Rattle.std.specs.Option.{UnwrapsOrElse, option_copied_mut, option_map, unwrap_or};
 ghost use Rattle.art_map.specs.MapAnswers.{value_at};
 ghost use Rattle.art_map.specs.MapItems.{deref_pair, keys_of, values_of};
-ghost use Rattle.art_keyed.specs.KeyedPairs.{IsNeverInConflict};
 
 use art_keys::laws::NoPrefixesBytes;
 use art_map::map::{
@@ -417,8 +416,3 @@ impl<K: NoPrefixesBytes + fmt::Debug + Drop, V: fmt::Debug + Drop, const P: usiz
         self.map.fmt(f)
     }
 }
-
-/// No key of the type conflicts with a map of keys of the type.
-pub fn keys_are_never_in_conflict<K: NoPrefixesBytes, V>()
-    ensures { IsNeverInConflict V K.is_key K.bytes }
-{}

@@ -4,7 +4,6 @@ ghost use Rattle.std.specs.Bool.{OnFalse, OnTrue};
 ghost use Rattle.std.specs.Cmp.Lexicographic.{slice_cmp};
 ghost use Rattle.std.specs.Ordering.{nat_cmp};
 ghost use Rattle.art_keys.specs.Escapes.{IsPlain, escape, escape_byte, unescape};
-ghost use Rattle.art_model.specs.Keys.{IsFront};
 
 use super::laws::{CloneBytes, DecodeBytes, NoPrefixesBytes, OrderedBytes, StringBytes, compare};
 use super::terminated::{write_text, zero_at};
@@ -287,15 +286,6 @@ impl CloneBytes for Escaped {
 
     ghost keeps_key = { λ x y e of_x. of_x };
 }
-
-/// Strings are recovered from their escapes. Escapes are in the order of the strings, and none is a prefix of another
-/// one.
-pub fn escapes_come_back_in_order()
-    ensures back { (text : List ℕ) → unescape (escape text) ≡ text }
-    ensures order { (a b : List ℕ) →
-        slice_cmp nat_cmp (escape a) (escape b) ≡ slice_cmp nat_cmp a b }
-    ensures apart { (a b : List ℕ) → IsFront (escape a) (escape b) → a ≡ b }
-{}
 
 impl PartialEq for Escaped {
     ghost use Rattle.std.proofs.Common.{rules};

@@ -1,7 +1,6 @@
 //! Two keys joined into one.
 ghost use Rattle.std.specs.Prelude.{◌≡◌, IfOk, IsOk};
 ghost use Rattle.art_keys.specs.Joins.{AreKeys, joined_bytes, pair_cmp};
-ghost use Rattle.art_keys.specs.Prefixes.{KeepsOrder};
 
 use super::laws::{CloneBytes, DecodeBytes, NoPrefixesBytes, OrderedBytes};
 use art_nodes::node::AsBytes;
@@ -172,12 +171,6 @@ impl<A: DecodeBytes, B: DecodeBytes> CloneBytes for Joined<A, B> {
     ghost keeps_key = { λ key copy is of_key.
         subst (AreKeys A.is_key B.is_key) (sym is) of_key };
 }
-
-/// The bytes of joined keys are in the order of the first keys, and then of the second ones.
-pub fn joined_keys_keep_order<A: OrderedBytes, B: OrderedBytes>()
-    ensures { KeepsOrder (AreKeys A.is_key B.is_key) (joined_bytes A.bytes B.bytes)
-        (pair_cmp A.order B.order) }
-{}
 
 impl<A: DecodeBytes, B: DecodeBytes> PartialEq for Joined<A, B> {
     ghost use Rattle.std.proofs.Common.{rules};

@@ -4,7 +4,13 @@ ghost use Rattle.art_keys.specs.Decoded.{BeginsWithKey, ComesBack, HaveLength, I
 ghost use Rattle.art_keys.specs.Prefixes.{AreInjective, BeginsAs, HasNoPrefixes, IsInside, IsKept, KeepsFronts, KeepsOrder};
 ghost use Rattle.art_model.specs.Clones.{KeepBytes};
 
+mod encodings;
+
 use art_nodes::node::AsBytes;
+pub use encodings::{
+    escapes_come_back_in_order, joined_keys_keep_order, signed_numbers_come_back_in_order,
+    unsigned_numbers_come_back_in_order,
+};
 use std::alloc::{AllocError, Global};
 use std::cmp::Ordering;
 

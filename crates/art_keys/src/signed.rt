@@ -1,8 +1,7 @@
 //! Signed numbers as keys, in numerical order.
-ghost use Rattle.std.specs.Prelude.{◌≡◌, ℕ, ℤ};
+ghost use Rattle.std.specs.Prelude.{◌≡◌, ℤ};
 ghost use Rattle.std.specs.Ordering.{int_cmp};
 ghost use Rattle.art_keys.specs.Numbers.{HasSignedBytes, lifted, lowered, number_of, signed_bytes};
-ghost use Rattle.art_keys.specs.Prefixes.{KeepsOrder};
 
 use super::fixed::all_of;
 use super::laws::{CloneBytes, DecodeBytes, FixedBytes, NoPrefixesBytes, OrderedBytes, compare};
@@ -359,11 +358,3 @@ impl<const N: usize> Hash for Signed<N> {
         self.as_bytes().hash(state);
     }
 }
-
-/// Numbers are recovered from their bytes, which are in the order of the numbers.
-pub fn signed_numbers_come_back_in_order()
-    ensures back { (count : ℕ) (z : ℤ) → HasSignedBytes count z →
-        lowered count (number_of (signed_bytes count z)) ≡ z }
-    ensures order { (count : ℕ) →
-        KeepsOrder (HasSignedBytes count) (signed_bytes count) int_cmp }
-{}

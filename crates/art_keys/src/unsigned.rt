@@ -3,7 +3,6 @@ ghost use Rattle.std.specs.Prelude.{◌≡◌, ℕ};
 ghost use Rattle.std.specs.Int.{bytes_high_first};
 ghost use Rattle.std.specs.Ordering.{nat_cmp};
 ghost use Rattle.art_keys.specs.Numbers.{HasBytes, number_of};
-ghost use Rattle.art_keys.specs.Prefixes.{KeepsOrder};
 
 use super::fixed::all_of;
 use super::laws::{CloneBytes, DecodeBytes, FixedBytes, NoPrefixesBytes, OrderedBytes, compare};
@@ -336,9 +335,3 @@ impl<const N: usize> Hash for Unsigned<N> {
         self.as_bytes().hash(state);
     }
 }
-
-/// Numbers are recovered from their bytes, which are in the order of the numbers.
-pub fn unsigned_numbers_come_back_in_order()
-    ensures back { (count n : ℕ) → HasBytes count n → number_of (bytes_high_first count n) ≡ n }
-    ensures order { (count : ℕ) → KeepsOrder (HasBytes count) (bytes_high_first count) nat_cmp }
-{}

@@ -24,7 +24,6 @@ mod split;
 
 pub use algebra::{
     Difference, HasKey, Intersection, MergedOf, SelectedOf, SymmetricDifference, Union,
-    keys_of_two_sets,
 };
 pub use range::{KeyRange, KeyRangeOf};
 pub use split::SetSplitRefused;

@@ -2,5 +2,4 @@
 pub use art_keyed::map::{
     BothRefused, Matches, MatchesOf, Nested, PairRefused, TextRefused, TreeEntry, TreeEntryOf,
     TreeExtractPrefix, TreeExtractPrefixOf, TreeExtractRange, TreeExtractRangeOf, TreeMap,
-    keys_are_never_in_conflict,
 };

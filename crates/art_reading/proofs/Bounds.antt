@@ -193,8 +193,9 @@ module _ {K V : Type 0} {s : Nodes K V} {bytes : K × V → List ℕ} {P : ℕ} 
             let (z, last) = last_some (leaf_name p) rest in
             (z, ap last_of is ∙ last, span_last (λ (e : Entry). is_from from (bytes e.0)) (λ e. is_up_to to (bytes e.0)) (entries_of layout) rise fall (λ e. e.1) z (ap last_of is ∙ last))
 
-        pub last_not_gone : None ≡ last_of (leaves_where (λ x. is_up_to to (bytes x)) layout) → ⊥
-        last_not_gone gone = let (z, own, all) = span_end in absurd cc
+        pub last_is_there : (o : Option LeafPtr) → option_map leaf_name o ≡ last_of (leaves_where (λ x. is_up_to to (bytes x)) layout) → IsSome o
+        last_is_there None none = let (z, own, all) = span_end in absurd cc
+        last_is_there (Some q) one = refl
 
         pub span_walk : {q : LeafPtr} → Some (leaf_name q) ≡ last_of (leaves_where (λ x. is_up_to to (bytes x)) layout) →
             IsIteratorOf s (Some (p, q)) (leaves_where (λ x. is_between from to (bytes x)) layout)

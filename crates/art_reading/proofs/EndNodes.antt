@@ -1,5 +1,5 @@
 -- the descent with a key to its end node
-use Rattle.std.proofs.Common.{◌≡◌, ◌≢◌, ℕ, ◌+◌, ◌-◌, ◌<◌, ◌≤◌, List, [], ◌∷◌, ◌++◌, length, drop, get_or, refl, ap, sym, ◌∙◌, arith, subst, append_assoc, append-nil, length-append, length-drop, Option, Some, None, Ok, Err, true, false, Bool, leb}
+use Rattle.std.proofs.Common.{◌≡◌, ◌≢◌, ℕ, ◌+◌, ◌-◌, ◌<◌, ◌≤◌, List, [], ◌∷◌, ◌++◌, length, drop, get_or, refl, ap, sym, ◌∙◌, arith, subst, append_assoc, append-nil, length-append, length-drop, Option, IsSome, Some, None, Ok, Err, true, false, Bool, leb}
 use Rattle.std.specs.List.{AllByRecursion as Each}
 use Rattle.std.specs.FinMap as map
 use Rattle.std.proofs.lemmas.Bool.{eq-eqb, ne_eqb, leb-true, leb-false}
@@ -48,6 +48,7 @@ use Rattle.art_reading.specs.PartEnds.{IsPlaced}
 use Rattle.art_reading.specs.PathSteps.{step_down}
 use Rattle.art_reading.specs.Readings.{left_on_way}
 use Rattle.art_reading.proofs.Left.{left_aside, left_child, left_leaf}
+use Rattle.art_reading.proofs.Parts.{some_there}
 use Rattle.art_reading.proofs.Partings.{parted_unrelated, unrelated_after, conflict-related, no_conflict, first_conflict, same_conflict}
 
 -- as much of the key was used as it has
@@ -117,11 +118,11 @@ module _ {K V : Type 0} {s : Nodes K V} {bytes : K × V → List ℕ} {P : ℕ} 
     node_there : IsThere s d.node name
     node_there = record { named = d.named; holds = holds }
 
-    pub leaf_there : {p : LeafPtr} → leaf_name p ≡ name → None ≡ map.get s.leaves p → ⊥
-    leaf_there = leaf_met node_there
+    pub leaf_there : {p : LeafPtr} → leaf_name p ≡ name → IsSome (map.get s.leaves p)
+    leaf_there is = some_there _ (leaf_met node_there is)
 
-    pub inner_there : {p : InnerPtr} → p.kind ≢ Leaf → inner_name p ≡ name → None ≡ map.get s.inners p → ⊥
-    inner_there = inner_met node_there
+    pub inner_there : {p : InnerPtr} → p.kind ≢ Leaf → inner_name p ≡ name → IsSome (map.get s.inners p)
+    inner_there proper is = some_there _ (inner_met node_there proper is)
 
     pub shown_there : {p : InnerPtr} {shown : Inner} → p.kind ≢ Leaf → inner_name p ≡ name → Some shown ≡ map.get s.inners p → IsShown d.node p shown
     shown_there = shown_met node_there

@@ -1,5 +1,5 @@
 -- the descent to a leaf by a key's bytes, and how such a leaf relates to a node on the key's path
-use Rattle.std.proofs.Common.{◌≡◌, ◌≢◌, ℕ, ◌+◌, ◌<◌, ◌≤◌, List, [], ◌∷◌, ◌++◌, length, get_or, filter, refl, ap, sym, ◌∙◌, arith, subst, length-append, append-nil, Some, None, true, false, Bool, cond, inl, inr}
+use Rattle.std.proofs.Common.{◌≡◌, ◌≢◌, ℕ, ◌+◌, ◌<◌, ◌≤◌, List, [], ◌∷◌, ◌++◌, length, get_or, filter, refl, ap, sym, ◌∙◌, arith, subst, length-append, append-nil, IsSome, Some, None, true, false, Bool, cond, inl, inr}
 use Rattle.std.specs.Bool.{⊤}
 use Rattle.std.specs.List.{AllByRecursion as Each}
 use Rattle.std.specs.FinMap as map
@@ -250,8 +250,8 @@ module _ {K V : Type 0} {s : Nodes K V} {bytes : K × V → List ℕ} {P : ℕ} 
 
   module _ {q : LeafPtr} (g : IsGuide bytes key layout q) where
     -- the leaf is in the store
-    pub guide_not_gone : None ≡ map.get s.leaves q → ⊥
-    guide_not_gone gone = let (node, there, its) = leaf_found bytes P by g.has in absurd cc
+    pub guide_there : IsSome (map.get s.leaves q)
+    guide_there = let (node, there, its) = leaf_found bytes P by g.has in rw there refl
 
     in_tree : IsIn g.pair (pairs_of layout)
     in_tree =

@@ -1,5 +1,5 @@
 -- The ends of a segment, and what is left when one of them was returned.
-use Rattle.std.proofs.Common.{◌≡◌, ◌≢◌, List, [], ◌∷◌, Option, Some, None, IsSome, is_some, eqb, true, false, refl, ap, sym, ◌∙◌, subst, inl, inr}
+use Rattle.std.proofs.Common.{◌≡◌, ◌≢◌, List, [], ◌∷◌, Option, Some, None, IsSome, eqb, true, false, refl, ap, sym, ◌∙◌, subst, inl, inr}
 use Rattle.std.specs.Option.{option_map, option_and_then}
 use Rattle.std.specs.FinMap as map
 use Rattle.std.proofs.lemmas.Bool.{eqb-true, eq-eqb, true≢false}
@@ -73,10 +73,6 @@ module _ {K V : Type 0} where
   -- the leaves of a canonical root, from the first to the last
   pub walks_whole : WalksWhole K V
   walks_whole bytes P s root pairs layout first last is begins ends = record { ends = (begins.name_is, ends.name_is); segment = tree_segment layout is.stands.0.distinct is.linked }
-
--- nothing is no value
-gone : {A : Type 0} {o : Option A} → None ≡ o → IsSome o → ⊥
-gone none there = true≢false (sym there ∙ ap is_some (sym none))
 
 module _ {K V : Type 0} (s : Nodes K V) where
   -- a leaf that is linked is in the store
@@ -176,12 +172,12 @@ module _ {K V : Type 0} (s : Nodes K V) (a b : LeafPtr) where
     only_taken one = subst (λ z. TakesEnd end s names (Some z) None) (sym at) (takes_one end names (same_slot a b one) is)
 
     -- it is in the store
-    pub no_end_gone : None ≡ map.get s.leaves p → ⊥
-    no_end_gone none = go end at
+    pub taken_there : IsSome (map.get s.leaves p)
+    taken_there = go end at
       where
-        go : (e : End) → p ≡ of_two e (a, b) → ⊥
-        go First first = gone none (end_there s names p is (ap (λ q. Some (leaf_name q)) first ∙ sym is.ends.0))
-        go Last last = gone none (last_there s names p is (ap (λ q. Some (leaf_name q)) last ∙ sym is.ends.1))
+        go : (e : End) → p ≡ of_two e (a, b) → IsSome (map.get s.leaves p)
+        go First first = end_there s names p is (ap (λ q. Some (leaf_name q)) first ∙ sym is.ends.0)
+        go Last last = last_there s names p is (ap (λ q. Some (leaf_name q)) last ∙ sym is.ends.1)
 
     module _ (other : eqb a.slot b.slot ≡ false) where
       has : HasNext end names
@@ -193,8 +189,8 @@ module _ {K V : Type 0} (s : Nodes K V) (a b : LeafPtr) where
           let same : leaf ≡ has.leaf = cc in
           read ∙ ap (λ z. of_two end (z.next, z.previous)) same ∙ has.next_is
 
-      pub next_there : {o : Option LeafPtr} (leaf : LeafNode K V) → Some leaf ≡ map.get s.leaves p → o ≡ of_two end (leaf.next, leaf.previous) → o ≡ None → ⊥
-      next_there leaf there read none = let e = same_next leaf there read in absurd cc
+      pub next_there : {o : Option LeafPtr} (leaf : LeafNode K V) → Some leaf ≡ map.get s.leaves p → o ≡ of_two end (leaf.next, leaf.previous) → IsSome o
+      next_there leaf there read = rw (same_next leaf there read) refl
 
       -- and it is another one
       pub next_other : {o : Option LeafPtr} (leaf : LeafNode K V) (next : LeafPtr) →

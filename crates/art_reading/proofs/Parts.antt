@@ -1,5 +1,5 @@
 -- iterations over the leaves of a part of a tree
-use Rattle.std.proofs.Common.{◌≡◌, ℕ, List, [], ◌++◌, refl, ap, sym, ◌∙◌, subst, Some, None, IsSome, true, false}
+use Rattle.std.proofs.Common.{◌≡◌, ℕ, List, [], ◌++◌, refl, ap, sym, ◌∙◌, subst, Option, Some, None, IsSome, true, false}
 use Rattle.std.specs.List.{AllByRecursion as Each}
 use Rattle.std.specs.FinMap as map
 use Rattle.art_nodes.specs.Nodes.{Nodes}
@@ -31,6 +31,11 @@ use Rattle.art_reading.specs.Iterators.{IsIteratorOf}
 use Rattle.art_reading.specs.PartEnds.{HasAllBelow, StandsBetween}
 use Rattle.art_reading.proofs.Iterators.{empty_iterator}
 
+-- what is not absent is there
+pub some_there : {X : Type 0} (o : Option X) → (None ≡ o → ⊥) → IsSome o
+some_there None h = absurd (h refl)
+some_there (Some x) h = refl
+
 -- a leaf of a tree in a store is in the store
 module _ {K V : Type 0} (s : Nodes K V) {tree : Tree OpaqueNodePtr (K × V)} (holds : Holds (node_at s) tree) {p : LeafPtr} where
   leaf_in : {x : K × V} → HasLeaf tree (leaf_name p) x → (shown : LeafNode K V) × (map.get s.leaves p ≡ Some shown) × (pair_of shown ≡ x)
@@ -43,9 +48,6 @@ module _ {K V : Type 0} (s : Nodes K V) {tree : Tree OpaqueNodePtr (K × V)} (ho
   leaf_is_there has = let (shown, there, same) = leaf_in has in rw there refl
 
   module _ (first : HasFirstLeaf tree (leaf_name p)) where
-    pub least_not_gone : None ≡ map.get s.leaves p → ⊥
-    least_not_gone gone = leaf_not_gone first.has gone
-
     -- the first leaf has what all pairs of the tree have
     pub least_is : (Q : K × V → Type 0) → Each Q (pairs_of tree) → (shown : LeafNode K V) → Some shown ≡ map.get s.leaves p → Q (pair_of shown)
     least_is Q all shown read =
@@ -81,10 +83,10 @@ module _ {K V : Type 0} {s : Nodes K V} {bytes : K × V → List ℕ} {P : ℕ} 
         let split = subst (IsSegment (links_at s)) (ap leaf_names (sym at.whole) ∙ leaf_names-plug at.path at.node) all in
         segment_rest (leaves_before at.path) (leaf_names at.node) (segment_front (leaves_before at.path ++ leaf_names at.node) (leaves_after at.path) split)
 
-    -- its first leaf is in the store
     module _ {p : LeafPtr} (first : HasFirstLeaf at.node (leaf_name p)) where
-      pub first_not_gone : None ≡ map.get s.leaves p → ⊥
-      first_not_gone gone = least_not_gone s node_holds first gone
+      -- its first leaf is in the store
+      pub first_there : IsSome (map.get s.leaves p)
+      first_there = leaf_is_there s node_holds first.has
 
       -- and has what all pairs below the node have
       pub first_is : (Q : K × V → Type 0) → Each Q (pairs_of at.node) → (shown : LeafNode K V) → Some shown ≡ map.get s.leaves p → Q (pair_of shown)

@@ -91,19 +91,19 @@ pub struct LastLeaf<'a, K, V> {
 /// their lengths, and then the whole key at the leaf. If the leaf exists both read the same nodes; if not, an
 /// optimistic descent may read more.
 #[inline(always)]
-pub fn walk_to_key<'a, Q: KeyQuery, K: AsBytes + Drop, V: Drop, const PREFIX_LEN: usize>(
-    store: &'a NodeStore<K, V, PREFIX_LEN>,
+pub fn walk_to_key<'a, Q: KeyQuery, K: AsBytes + Drop, V: Drop, const P: usize>(
+    store: &'a NodeStore<K, V, P>,
     root: OpaqueNodePtr,
     query: Q,
     asked: Asked,
     start: PrefixMatchBehavior,
     visits: &mut Visits,
 ) -> Option<LastLeaf<'a, K, V>>
-    requires root { IsCanonicalRoot (of_key K.bytes) PREFIX_LEN store.now root }
+    requires root { IsCanonicalRoot (of_key K.bytes) P store.now root }
     requires room { visits.old + length (Q.key query) + 1 < 2 ^ 64 }
-    ensures leaf { ForTree (of_key K.bytes) PREFIX_LEN store.now root (λ pairs layout.
+    ensures leaf { ForTree (of_key K.bytes) P store.now root (λ pairs layout.
         IsKeysLeaf (asked_of asked (of_key K.bytes) (Q.key query) pairs) layout result) }
-    ensures visits { CountsVisitsFrom start (of_key K.bytes) PREFIX_LEN store.now root
+    ensures visits { CountsVisitsFrom start (of_key K.bytes) P store.now root
         (Q.key query) visits.old visits.new (IsSome result) }
 {
     let last = walk(store, root, query, start, visits)?;
@@ -116,17 +116,17 @@ pub fn walk_to_key<'a, Q: KeyQuery, K: AsBytes + Drop, V: Drop, const PREFIX_LEN
 
 // Descends with a key to the only leaf whose key can be a prefix of it, and counts each node that it reads.
 #[inline(always)]
-fn walk<'a, Q: KeyQuery, K: AsBytes + Drop, V: Drop, const PREFIX_LEN: usize>(
-    store: &'a NodeStore<K, V, PREFIX_LEN>,
+fn walk<'a, Q: KeyQuery, K: AsBytes + Drop, V: Drop, const P: usize>(
+    store: &'a NodeStore<K, V, P>,
     root: OpaqueNodePtr,
     query: Q,
     start: PrefixMatchBehavior,
     visits: &mut Visits,
 ) -> Option<LastLeaf<'a, K, V>>
-    requires root { IsCanonicalRoot (of_key K.bytes) PREFIX_LEN store.now root }
+    requires root { IsCanonicalRoot (of_key K.bytes) P store.now root }
     requires room { visits.old + length (Q.key query) + 1 < 2 ^ 64 }
-    ensures ends { ForTree (of_key K.bytes) PREFIX_LEN store.now root (λ pairs layout.
-        WalkEnds (of_key K.bytes) PREFIX_LEN start (Q.key query) pairs layout
+    ensures ends { ForTree (of_key K.bytes) P store.now root (λ pairs layout.
+        WalkEnds (of_key K.bytes) P start (Q.key query) pairs layout
         visits.old visits.new result) }
     ensures at_most { visits.new ≤ visits.old + length (Q.key query) + 1 }
 {
@@ -210,8 +210,8 @@ impl End {
 
 /// Descends to the leaf at an end of the tree rooted at a name, and returns the path to it too.
 #[inline(always)]
-pub fn walk_to_end<K: AsBytes + Drop, V: Drop, const PREFIX_LEN: usize>(
-    store: &NodeStore<K, V, PREFIX_LEN>,
+pub fn walk_to_end<K: AsBytes + Drop, V: Drop, const P: usize>(
+    store: &NodeStore<K, V, P>,
     root: OpaqueNodePtr,
     end: End,
 ) -> (TreePath, LeafPtr)
@@ -224,8 +224,8 @@ pub fn walk_to_end<K: AsBytes + Drop, V: Drop, const PREFIX_LEN: usize>(
 
 // The same, and counts each node that it reads.
 #[inline(always)]
-pub(crate) fn walk_to_end_visiting<K: AsBytes + Drop, V: Drop, const PREFIX_LEN: usize>(
-    store: &NodeStore<K, V, PREFIX_LEN>,
+pub(crate) fn walk_to_end_visiting<K: AsBytes + Drop, V: Drop, const P: usize>(
+    store: &NodeStore<K, V, P>,
     root: OpaqueNodePtr,
     end: End,
     visits: &mut Visits,
@@ -254,10 +254,7 @@ pub(crate) fn walk_to_end_visiting<K: AsBytes + Drop, V: Drop, const PREFIX_LEN:
 }
 
 // The child at an end of a node, with its byte.
-fn child_at_end<const PREFIX_LEN: usize>(
-    node: InnerRef<'_, PREFIX_LEN>,
-    end: End,
-) -> (u8, OpaqueNodePtr)
+fn child_at_end<const P: usize>(node: InnerRef<'_, P>, end: End) -> (u8, OpaqueNodePtr)
     requires { 0 < length (ref_view node).children }
     ensures { IsEndChild end (ref_view node.entry).children result }
 {
@@ -278,13 +275,13 @@ pub struct LastNode {
 /// Descends to the node below which all keys with a prefix are, or to `None` only if no key has it. Either all keys
 /// below the node have the prefix, or none has: the prefixes of nodes are skipped, and not compared.
 #[inline(always)]
-pub fn walk_below<K: AsBytes + Drop, V: Drop, const PREFIX_LEN: usize>(
-    store: &NodeStore<K, V, PREFIX_LEN>,
+pub fn walk_below<K: AsBytes + Drop, V: Drop, const P: usize>(
+    store: &NodeStore<K, V, P>,
     root: OpaqueNodePtr,
     prefix: &[u8],
 ) -> Option<LastNode>
-    requires { IsCanonicalRoot (of_key K.bytes) PREFIX_LEN store.now root }
-    ensures { ForTree (of_key K.bytes) PREFIX_LEN store.now root (λ pairs layout.
+    requires { IsCanonicalRoot (of_key K.bytes) P store.now root }
+    ensures { ForTree (of_key K.bytes) P store.now root (λ pairs layout.
         EndsBelow (of_key K.bytes) prefix.now layout result) }
 {
     walk_below_visiting(store, root, prefix, &mut Visits::new())
@@ -292,17 +289,17 @@ pub fn walk_below<K: AsBytes + Drop, V: Drop, const PREFIX_LEN: usize>(
 
 // The same, and counts each inner node that it reads.
 #[inline(always)]
-pub(crate) fn walk_below_visiting<K: AsBytes + Drop, V: Drop, const PREFIX_LEN: usize>(
-    store: &NodeStore<K, V, PREFIX_LEN>,
+pub(crate) fn walk_below_visiting<K: AsBytes + Drop, V: Drop, const P: usize>(
+    store: &NodeStore<K, V, P>,
     root: OpaqueNodePtr,
     prefix: &[u8],
     visits: &mut Visits,
 ) -> Option<LastNode>
-    requires { IsCanonicalRoot (of_key K.bytes) PREFIX_LEN store.now root }
-    ensures end { ForTree (of_key K.bytes) PREFIX_LEN store.now root (λ pairs layout.
+    requires { IsCanonicalRoot (of_key K.bytes) P store.now root }
+    ensures end { ForTree (of_key K.bytes) P store.now root (λ pairs layout.
         EndsBelow (of_key K.bytes) prefix.now layout result) }
     ensures visits { CountsReadings visits.old visits.new (λ number.
-        ForTree (of_key K.bytes) PREFIX_LEN store.now root (λ pairs layout.
+        ForTree (of_key K.bytes) P store.now root (λ pairs layout.
         ReadsBelow (of_key K.bytes) store.now root prefix.now layout result number)) }
 {
     let mut steps = LastSteps::new();

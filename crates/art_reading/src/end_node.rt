@@ -69,14 +69,14 @@ pub enum InsertKind {
 /// A prefix that its node does not store whole is read from a leaf: all such prefixes from the same one, which takes a
 /// further descent. Where the key differs from such a prefix, another descent finds the least leaf below.
 #[inline(always)]
-pub fn walk_to_end_node<K: AsBytes + Drop, V: Drop, const PREFIX_LEN: usize>(
-    store: &NodeStore<K, V, PREFIX_LEN>,
+pub fn walk_to_end_node<K: AsBytes + Drop, V: Drop, const P: usize>(
+    store: &NodeStore<K, V, P>,
     root: OpaqueNodePtr,
     key_bytes: &[u8],
 ) -> EndNode
-    requires { IsCanonicalRoot (of_key K.bytes) PREFIX_LEN store.now root }
-    ensures { ForTree (of_key K.bytes) PREFIX_LEN store.now root (λ pairs layout.
-        IsEndFor (of_key K.bytes) PREFIX_LEN key_bytes.now pairs layout result) }
+    requires { IsCanonicalRoot (of_key K.bytes) P store.now root }
+    ensures { ForTree (of_key K.bytes) P store.now root (λ pairs layout.
+        IsEndFor (of_key K.bytes) P key_bytes.now pairs layout result) }
 {
     walk_to_end_node_visiting(store, root, key_bytes, &mut Visits::new())
 }
@@ -85,16 +85,16 @@ pub fn walk_to_end_node<K: AsBytes + Drop, V: Drop, const PREFIX_LEN: usize>(
 /// the key, exactly these if each prefix is stored whole, and at most three for each level of the tree, the leaves
 /// being a level. A full counter stays full.
 #[inline(always)]
-pub fn walk_to_end_node_visiting<K: AsBytes + Drop, V: Drop, const PREFIX_LEN: usize>(
-    store: &NodeStore<K, V, PREFIX_LEN>,
+pub fn walk_to_end_node_visiting<K: AsBytes + Drop, V: Drop, const P: usize>(
+    store: &NodeStore<K, V, P>,
     root: OpaqueNodePtr,
     key_bytes: &[u8],
     visits: &mut Visits,
 ) -> EndNode
-    requires { IsCanonicalRoot (of_key K.bytes) PREFIX_LEN store.now root }
-    ensures end { ForTree (of_key K.bytes) PREFIX_LEN store.now root (λ pairs layout.
-        IsEndFor (of_key K.bytes) PREFIX_LEN key_bytes.now pairs layout result) }
-    ensures visits { CountsToEnd (of_key K.bytes) PREFIX_LEN store.now root key_bytes.now
+    requires { IsCanonicalRoot (of_key K.bytes) P store.now root }
+    ensures end { ForTree (of_key K.bytes) P store.now root (λ pairs layout.
+        IsEndFor (of_key K.bytes) P key_bytes.now pairs layout result) }
+    ensures visits { CountsToEnd (of_key K.bytes) P store.now root key_bytes.now
         visits.old visits.new }
 {
     let mut steps = LastSteps::new();
@@ -149,8 +149,8 @@ enum SearchStep {
 
 // The step from the node of this name, to which so many bytes of the key lead.
 #[inline(always)]
-fn next_step<K: AsBytes + Drop, V: Drop, const PREFIX_LEN: usize>(
-    store: &NodeStore<K, V, PREFIX_LEN>,
+fn next_step<K: AsBytes + Drop, V: Drop, const P: usize>(
+    store: &NodeStore<K, V, P>,
     root: OpaqueNodePtr,
     key_bytes: &[u8],
     name: OpaqueNodePtr,
@@ -158,28 +158,26 @@ fn next_step<K: AsBytes + Drop, V: Drop, const PREFIX_LEN: usize>(
     guide: &mut OptionalLeafPtr,
     visits: &mut Visits,
 ) -> SearchStep
-    requires root { IsCanonicalRoot (of_key K.bytes) PREFIX_LEN store.now root }
-    requires at { (path : TreePath) × ForTree (of_key K.bytes) PREFIX_LEN store.now root
-        (λ pairs layout. IsAt (of_key K.bytes) PREFIX_LEN key_bytes.now layout path name depth) }
-    requires guide { ForTree (of_key K.bytes) PREFIX_LEN store.now root (λ pairs layout.
+    requires root { IsCanonicalRoot (of_key K.bytes) P store.now root }
+    requires at { (path : TreePath) × ForTree (of_key K.bytes) P store.now root
+        (λ pairs layout. IsAt (of_key K.bytes) P key_bytes.now layout path name depth) }
+    requires guide { ForTree (of_key K.bytes) P store.now root (λ pairs layout.
         MayGuide (of_key K.bytes) key_bytes.now layout guide.old) }
-    ensures guide { ForTree (of_key K.bytes) PREFIX_LEN store.now root (λ pairs layout.
+    ensures guide { ForTree (of_key K.bytes) P store.now root (λ pairs layout.
         MayGuide (of_key K.bytes) key_bytes.now layout guide.new) }
     ensures visits { CountsReadings visits.old visits.new (λ number.
-        StepReads (of_key K.bytes) PREFIX_LEN store.now root name
+        StepReads (of_key K.bytes) P store.now root name
         guide.old guide.new result number) }
-    ensures step { (path : TreePath) → ForTree (of_key K.bytes) PREFIX_LEN store.now root
+    ensures step { (path : TreePath) → ForTree (of_key K.bytes) P store.now root
         (λ pairs layout.
-        (at : IsAt (of_key K.bytes) PREFIX_LEN key_bytes.now layout path name depth) →
-        IsStepFrom (of_key K.bytes) PREFIX_LEN key_bytes.now pairs layout
+        (at : IsAt (of_key K.bytes) P key_bytes.now layout path name depth) →
+        IsStepFrom (of_key K.bytes) P key_bytes.now pairs layout
         path name depth at result) }
 {
     match name.split() {
         NodePtr::Inner(inner) => step_at_inner(store, root, key_bytes, inner, depth, guide, visits),
         NodePtr::Leaf(leaf_node_ptr) => {
-            let Some(leaf) = store.leaf(leaf_node_ptr) else {
-                unreachable!()
-            };
+            let leaf = store.leaf_at(leaf_node_ptr);
             visits.count_one();
             SearchStep::End {
                 insert_kind: kind_at_leaf(leaf_node_ptr, leaf, key_bytes),
@@ -191,8 +189,8 @@ fn next_step<K: AsBytes + Drop, V: Drop, const PREFIX_LEN: usize>(
 
 // The same at an inner node.
 #[inline(always)]
-fn step_at_inner<K: AsBytes + Drop, V: Drop, const PREFIX_LEN: usize>(
-    store: &NodeStore<K, V, PREFIX_LEN>,
+fn step_at_inner<K: AsBytes + Drop, V: Drop, const P: usize>(
+    store: &NodeStore<K, V, P>,
     root: OpaqueNodePtr,
     key_bytes: &[u8],
     inner: InnerPtr,
@@ -200,27 +198,25 @@ fn step_at_inner<K: AsBytes + Drop, V: Drop, const PREFIX_LEN: usize>(
     guide: &mut OptionalLeafPtr,
     visits: &mut Visits,
 ) -> SearchStep
-    requires root { IsCanonicalRoot (of_key K.bytes) PREFIX_LEN store.now root }
+    requires root { IsCanonicalRoot (of_key K.bytes) P store.now root }
     requires inner { inner.kind ≢ Leaf }
-    requires at { (path : TreePath) × ForTree (of_key K.bytes) PREFIX_LEN store.now root
-        (λ pairs layout. IsAt (of_key K.bytes) PREFIX_LEN key_bytes.now layout
+    requires at { (path : TreePath) × ForTree (of_key K.bytes) P store.now root
+        (λ pairs layout. IsAt (of_key K.bytes) P key_bytes.now layout
         path (inner_name inner) depth) }
-    requires guide { ForTree (of_key K.bytes) PREFIX_LEN store.now root (λ pairs layout.
+    requires guide { ForTree (of_key K.bytes) P store.now root (λ pairs layout.
         MayGuide (of_key K.bytes) key_bytes.now layout guide.old) }
-    ensures guide { ForTree (of_key K.bytes) PREFIX_LEN store.now root (λ pairs layout.
+    ensures guide { ForTree (of_key K.bytes) P store.now root (λ pairs layout.
         MayGuide (of_key K.bytes) key_bytes.now layout guide.new) }
     ensures visits { CountsReadings visits.old visits.new (λ number.
-        StepReads (of_key K.bytes) PREFIX_LEN store.now root (inner_name inner)
+        StepReads (of_key K.bytes) P store.now root (inner_name inner)
         guide.old guide.new result number) }
-    ensures step { (path : TreePath) → ForTree (of_key K.bytes) PREFIX_LEN store.now root
-        (λ pairs layout. (at : IsAt (of_key K.bytes) PREFIX_LEN key_bytes.now layout
+    ensures step { (path : TreePath) → ForTree (of_key K.bytes) P store.now root
+        (λ pairs layout. (at : IsAt (of_key K.bytes) P key_bytes.now layout
         path (inner_name inner) depth) →
-        IsStepFrom (of_key K.bytes) PREFIX_LEN key_bytes.now pairs layout
+        IsStepFrom (of_key K.bytes) P key_bytes.now pairs layout
         path (inner_name inner) depth at result) }
 {
-    let Some(node) = store.inner(inner) else {
-        unreachable!()
-    };
+    let node = store.inner_at(inner);
     visits.count_one();
     match match_full_prefix(store, root, inner, node, key_bytes, depth, guide, visits) {
         Ok(matched) => step_past_prefix(key_bytes, inner, node, depth + matched.matched_bytes),
@@ -322,39 +318,39 @@ fn kind_at_leaf<K: AsBytes, V>(
 
 // Compares the whole prefix of an inner node with the key from this depth on.
 #[inline(always)]
-fn match_full_prefix<K: AsBytes + Drop, V: Drop, const PREFIX_LEN: usize>(
-    store: &NodeStore<K, V, PREFIX_LEN>,
+fn match_full_prefix<K: AsBytes + Drop, V: Drop, const P: usize>(
+    store: &NodeStore<K, V, P>,
     root: OpaqueNodePtr,
     name: InnerPtr,
-    node: InnerRef<'_, PREFIX_LEN>,
+    node: InnerRef<'_, P>,
     key_bytes: &[u8],
     depth: usize,
     guide: &mut OptionalLeafPtr,
     visits: &mut Visits,
 ) -> Result<PrefixMatch, ExplicitMismatch>
-    requires root { IsCanonicalRoot (of_key K.bytes) PREFIX_LEN store.now root }
+    requires root { IsCanonicalRoot (of_key K.bytes) P store.now root }
     requires inner { name.kind ≢ Leaf }
     requires node { Some (ref_view node) ≡ map.get store.now.inners name }
-    requires at { (path : TreePath) × ForTree (of_key K.bytes) PREFIX_LEN store.now root
-        (λ pairs layout. IsAt (of_key K.bytes) PREFIX_LEN key_bytes.now layout
+    requires at { (path : TreePath) × ForTree (of_key K.bytes) P store.now root
+        (λ pairs layout. IsAt (of_key K.bytes) P key_bytes.now layout
         path (inner_name name) depth) }
-    requires guide { ForTree (of_key K.bytes) PREFIX_LEN store.now root (λ pairs layout.
+    requires guide { ForTree (of_key K.bytes) P store.now root (λ pairs layout.
         MayGuide (of_key K.bytes) key_bytes.now layout guide.old) }
-    ensures guide { ForTree (of_key K.bytes) PREFIX_LEN store.now root (λ pairs layout.
+    ensures guide { ForTree (of_key K.bytes) P store.now root (λ pairs layout.
         MayGuide (of_key K.bytes) key_bytes.now layout guide.new) }
     ensures visits { CountsReadings visits.old visits.new (λ number.
         IsPrefixCost store.now root (inner_name name) guide.old guide.new result number
-        × ((ref_view node.entry).prefix.len ≤ PREFIX_LEN → number ≡ 0)) }
-    ensures compared { (path : TreePath) → ForTree (of_key K.bytes) PREFIX_LEN store.now root
-        (λ pairs layout. (at : IsAt (of_key K.bytes) PREFIX_LEN key_bytes.now layout
+        × ((ref_view node.entry).prefix.len ≤ P → number ≡ 0)) }
+    ensures compared { (path : TreePath) → ForTree (of_key K.bytes) P store.now root
+        (λ pairs layout. (at : IsAt (of_key K.bytes) P key_bytes.now layout
         path (inner_name name) depth) →
-        IsCompared (of_key K.bytes) PREFIX_LEN key_bytes.now at.node depth result) }
+        IsCompared (of_key K.bytes) P key_bytes.now at.node depth result) }
 {
     let len = node.prefix_len();
     if len == 0 {
         return Ok(PrefixMatch { matched_bytes: 0 });
     }
-    if len <= PREFIX_LEN {
+    if len <= P {
         return match_prefix(node.read_prefix(), &key_bytes[depth..], None);
     }
     let (result, more) = match_long_prefix(store, root, name, node, key_bytes, depth, guide);
@@ -366,41 +362,39 @@ fn match_full_prefix<K: AsBytes + Drop, V: Drop, const PREFIX_LEN: usize>(
 // searched for if there is none yet. This is a call, so that the loops into which `match_full_prefix` is inlined stay
 // small.
 #[inline(never)]
-fn match_long_prefix<K: AsBytes + Drop, V: Drop, const PREFIX_LEN: usize>(
-    store: &NodeStore<K, V, PREFIX_LEN>,
+fn match_long_prefix<K: AsBytes + Drop, V: Drop, const P: usize>(
+    store: &NodeStore<K, V, P>,
     root: OpaqueNodePtr,
     name: InnerPtr,
-    node: InnerRef<'_, PREFIX_LEN>,
+    node: InnerRef<'_, P>,
     key_bytes: &[u8],
     depth: usize,
     guide: &mut OptionalLeafPtr,
 ) -> (Result<PrefixMatch, ExplicitMismatch>, Visits)
-    requires root { IsCanonicalRoot (of_key K.bytes) PREFIX_LEN store.now root }
+    requires root { IsCanonicalRoot (of_key K.bytes) P store.now root }
     requires inner { name.kind ≢ Leaf }
     requires node { Some (ref_view node) ≡ map.get store.now.inners name }
-    requires long { PREFIX_LEN < (ref_view node).prefix.len }
-    requires at { (path : TreePath) × ForTree (of_key K.bytes) PREFIX_LEN store.now root
-        (λ pairs layout. IsAt (of_key K.bytes) PREFIX_LEN key_bytes.now layout
+    requires long { P < (ref_view node).prefix.len }
+    requires at { (path : TreePath) × ForTree (of_key K.bytes) P store.now root
+        (λ pairs layout. IsAt (of_key K.bytes) P key_bytes.now layout
         path (inner_name name) depth) }
-    requires guide { ForTree (of_key K.bytes) PREFIX_LEN store.now root (λ pairs layout.
+    requires guide { ForTree (of_key K.bytes) P store.now root (λ pairs layout.
         MayGuide (of_key K.bytes) key_bytes.now layout guide.old) }
-    ensures guide { ForTree (of_key K.bytes) PREFIX_LEN store.now root (λ pairs layout.
+    ensures guide { ForTree (of_key K.bytes) P store.now root (λ pairs layout.
         MayGuide (of_key K.bytes) key_bytes.now layout guide.new) }
     ensures visits { IsPrefixCost store.now root (inner_name name) guide.old guide.new
         result.0 result.1 }
-    ensures compared { (path : TreePath) → ForTree (of_key K.bytes) PREFIX_LEN store.now root
-        (λ pairs layout. (at : IsAt (of_key K.bytes) PREFIX_LEN key_bytes.now layout
+    ensures compared { (path : TreePath) → ForTree (of_key K.bytes) P store.now root
+        (λ pairs layout. (at : IsAt (of_key K.bytes) P key_bytes.now layout
         path (inner_name name) depth) →
-        IsCompared (of_key K.bytes) PREFIX_LEN key_bytes.now at.node depth result.0) }
+        IsCompared (of_key K.bytes) P key_bytes.now at.node depth result.0) }
 {
     let len = node.prefix_len();
     let opaque = name.to_opaque();
     let mut visits = Visits::new();
     let read_from = guide_from(store, root, key_bytes, opaque, depth, *guide, &mut visits);
     *guide = Some(read_from);
-    let Some(leaf) = store.leaf(read_from) else {
-        unreachable!()
-    };
+    let leaf = store.leaf_at(read_from);
     visits.count_one();
     let prefix = &leaf.key.as_bytes()[depth..depth + len];
     match match_prefix(prefix, &key_bytes[depth..], None) {

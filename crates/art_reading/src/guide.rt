@@ -19,8 +19,8 @@ use art_nodes::store::NodeStore;
 /// A descent finds it, without comparing a prefix. The leaf serves for the whole path, so that a search makes this
 /// descent once.
 #[inline(always)]
-pub(crate) fn guide_from<K: AsBytes + Drop, V: Drop, const PREFIX_LEN: usize>(
-    store: &NodeStore<K, V, PREFIX_LEN>,
+pub(crate) fn guide_from<K: AsBytes + Drop, V: Drop, const P: usize>(
+    store: &NodeStore<K, V, P>,
     root: OpaqueNodePtr,
     key_bytes: &[u8],
     name: OpaqueNodePtr,
@@ -28,12 +28,12 @@ pub(crate) fn guide_from<K: AsBytes + Drop, V: Drop, const PREFIX_LEN: usize>(
     known: OptionalLeafPtr,
     visits: &mut Visits,
 ) -> LeafPtr
-    requires root { IsCanonicalRoot (of_key K.bytes) PREFIX_LEN store.now root }
-    requires at { ForTree (of_key K.bytes) PREFIX_LEN store.now root (λ pairs layout.
-        (path : TreePath) × IsAt (of_key K.bytes) PREFIX_LEN key_bytes.now layout path name depth) }
-    requires known { ForTree (of_key K.bytes) PREFIX_LEN store.now root (λ pairs layout.
+    requires root { IsCanonicalRoot (of_key K.bytes) P store.now root }
+    requires at { ForTree (of_key K.bytes) P store.now root (λ pairs layout.
+        (path : TreePath) × IsAt (of_key K.bytes) P key_bytes.now layout path name depth) }
+    requires known { ForTree (of_key K.bytes) P store.now root (λ pairs layout.
         MayGuide (of_key K.bytes) key_bytes.now layout known) }
-    ensures guide { ForTree (of_key K.bytes) PREFIX_LEN store.now root (λ pairs layout.
+    ensures guide { ForTree (of_key K.bytes) P store.now root (λ pairs layout.
         IsGuide (of_key K.bytes) key_bytes.now layout result) }
     ensures visits { CountsReadings visits.old visits.new (λ number.
         number + guide_cost store.now root known ≤ levels store.now root + 1) }
@@ -51,17 +51,17 @@ pub(crate) fn guide_from<K: AsBytes + Drop, V: Drop, const PREFIX_LEN: usize>(
 // Such a leaf, below a node on the key's path, and how many nodes were read. This is a call, so that the loops into
 // which `guide_from` is inlined stay small.
 #[inline(never)]
-fn find_guide<K: AsBytes + Drop, V: Drop, const PREFIX_LEN: usize>(
-    store: &NodeStore<K, V, PREFIX_LEN>,
+fn find_guide<K: AsBytes + Drop, V: Drop, const P: usize>(
+    store: &NodeStore<K, V, P>,
     root: OpaqueNodePtr,
     key_bytes: &[u8],
     name: OpaqueNodePtr,
     depth: usize,
 ) -> (LeafPtr, Visits)
-    requires root { IsCanonicalRoot (of_key K.bytes) PREFIX_LEN store.now root }
-    requires at { ForTree (of_key K.bytes) PREFIX_LEN store.now root (λ pairs layout.
-        (path : TreePath) × IsAt (of_key K.bytes) PREFIX_LEN key_bytes.now layout path name depth) }
-    ensures guide { ForTree (of_key K.bytes) PREFIX_LEN store.now root (λ pairs layout.
+    requires root { IsCanonicalRoot (of_key K.bytes) P store.now root }
+    requires at { ForTree (of_key K.bytes) P store.now root (λ pairs layout.
+        (path : TreePath) × IsAt (of_key K.bytes) P key_bytes.now layout path name depth) }
+    ensures guide { ForTree (of_key K.bytes) P store.now root (λ pairs layout.
         IsGuide (of_key K.bytes) key_bytes.now layout result.0) }
     ensures visits { result.1 ≤ levels store.now root + 1 }
 {
@@ -75,20 +75,20 @@ fn find_guide<K: AsBytes + Drop, V: Drop, const PREFIX_LEN: usize>(
 // Descends from a node on the key's path by the key's bytes, whatever the bytes of the prefixes are, to a node below
 // which no further node is on the path.
 #[inline(always)]
-fn walk_by_places<K: AsBytes + Drop, V: Drop, const PREFIX_LEN: usize>(
-    store: &NodeStore<K, V, PREFIX_LEN>,
+fn walk_by_places<K: AsBytes + Drop, V: Drop, const P: usize>(
+    store: &NodeStore<K, V, P>,
     root: OpaqueNodePtr,
     key_bytes: &[u8],
     start: OpaqueNodePtr,
     start_depth: usize,
     visits: &mut Visits,
 ) -> OpaqueNodePtr
-    requires root { IsCanonicalRoot (of_key K.bytes) PREFIX_LEN store.now root }
-    requires at { ForTree (of_key K.bytes) PREFIX_LEN store.now root (λ pairs layout.
+    requires root { IsCanonicalRoot (of_key K.bytes) P store.now root }
+    requires at { ForTree (of_key K.bytes) P store.now root (λ pairs layout.
         (path : TreePath) ×
-        IsAt (of_key K.bytes) PREFIX_LEN key_bytes.now layout path start start_depth) }
+        IsAt (of_key K.bytes) P key_bytes.now layout path start start_depth) }
     ensures visits { visits.new + levels store.now result ≤ visits.old + levels store.now root + 1 }
-    ensures all { ForTree (of_key K.bytes) PREFIX_LEN store.now root (λ pairs layout.
+    ensures all { ForTree (of_key K.bytes) P store.now root (λ pairs layout.
         AllGuide (of_key K.bytes) key_bytes.now layout result) }
 {
     let mut name = start;
@@ -97,9 +97,7 @@ fn walk_by_places<K: AsBytes + Drop, V: Drop, const PREFIX_LEN: usize>(
         let NodePtr::Inner(inner) = name.split() else {
             return name;
         };
-        let Some(node) = store.inner(inner) else {
-            unreachable!()
-        };
+        let node = store.inner_at(inner);
         visits.count_one();
         let prefix_len = node.prefix_len();
         if prefix_len >= key_bytes.len() - depth {

@@ -5,7 +5,7 @@ ghost use Rattle.std.specs.Option.{option_map};
 ghost use Rattle.art_parts.specs.Names.{leaf_name};
 ghost use Rattle.art_parts.specs.declared.names.OpaqueNodePtr.{OpaqueNodePtr};
 ghost use Rattle.art_model.specs.Pairs.{first_of, last_of, without_first, without_last};
-ghost use Rattle.art_reading.specs.Iterators.{GoesOn, IsIteratorOf, TakesEnd, WalksWhole};
+ghost use Rattle.art_reading.specs.Iterators.{IsIteratorOf, TakesEnd};
 
 use crate::descent::End;
 use art_nodes::node::{AsBytes, LeafNode, LeafPtr, OptionalLeafPtr};
@@ -35,8 +35,8 @@ impl Model for RawIterator {
 
 impl RawIterator {
     /// Returns an iterator over the leaves from `start` to `end`, which are linked one to the next.
-    pub fn new<K: AsBytes + Drop, V: Drop, const PREFIX_LEN: usize>(
-        _store: &NodeStore<K, V, PREFIX_LEN>,
+    pub fn new<K: AsBytes + Drop, V: Drop, const P: usize>(
+        _store: &NodeStore<K, V, P>,
         start: LeafPtr,
         end: LeafPtr,
     ) -> Self
@@ -58,9 +58,9 @@ impl RawIterator {
 
     /// Returns the name of the first leaf that is left, or `None`. Its link is read before, so that the leaf may be
     /// freed at once.
-    pub fn next<K: AsBytes + Drop, V: Drop, const PREFIX_LEN: usize>(
+    pub fn next<K: AsBytes + Drop, V: Drop, const P: usize>(
         &mut self,
-        store: &NodeStore<K, V, PREFIX_LEN>,
+        store: &NodeStore<K, V, P>,
     ) -> OptionalLeafPtr
         requires { (names : List OpaqueNodePtr) × IsIteratorOf store.now self.old names }
         ensures leaf { (names : List OpaqueNodePtr) → IsIteratorOf store.now self.old names →
@@ -75,9 +75,9 @@ impl RawIterator {
 
     /// Returns the name of the last leaf that is left, or `None`. Its link is read before, so that the leaf may be
     /// freed at once.
-    pub fn next_back<K: AsBytes + Drop, V: Drop, const PREFIX_LEN: usize>(
+    pub fn next_back<K: AsBytes + Drop, V: Drop, const P: usize>(
         &mut self,
-        store: &NodeStore<K, V, PREFIX_LEN>,
+        store: &NodeStore<K, V, P>,
     ) -> OptionalLeafPtr
         requires { (names : List OpaqueNodePtr) × IsIteratorOf store.now self.old names }
         ensures leaf { (names : List OpaqueNodePtr) → IsIteratorOf store.now self.old names →
@@ -92,9 +92,9 @@ impl RawIterator {
 
     /// Returns the name of the first leaf that is left, as `next` does, and the leaf itself, which is read once.
     #[inline(always)]
-    pub fn next_leaf<'s, K: AsBytes + Drop, V: Drop, const PREFIX_LEN: usize>(
+    pub fn next_leaf<'s, K: AsBytes + Drop, V: Drop, const P: usize>(
         &mut self,
-        store: &'s NodeStore<K, V, PREFIX_LEN>,
+        store: &'s NodeStore<K, V, P>,
     ) -> Option<(LeafPtr, &'s LeafNode<K, V>)>
         requires { (names : List OpaqueNodePtr) × IsIteratorOf store.now self.old names }
         ensures name { (names : List OpaqueNodePtr) → IsIteratorOf store.now self.old names →
@@ -109,9 +109,9 @@ impl RawIterator {
 
     /// Returns the name of the last leaf that is left, as `next_back` does, and the leaf itself, which is read once.
     #[inline(always)]
-    pub fn next_back_leaf<'s, K: AsBytes + Drop, V: Drop, const PREFIX_LEN: usize>(
+    pub fn next_back_leaf<'s, K: AsBytes + Drop, V: Drop, const P: usize>(
         &mut self,
-        store: &'s NodeStore<K, V, PREFIX_LEN>,
+        store: &'s NodeStore<K, V, P>,
     ) -> Option<(LeafPtr, &'s LeafNode<K, V>)>
         requires { (names : List OpaqueNodePtr) × IsIteratorOf store.now self.old names }
         ensures name { (names : List OpaqueNodePtr) → IsIteratorOf store.now self.old names →
@@ -126,9 +126,9 @@ impl RawIterator {
 
     // Removes the leaf at an end from those that are left, and reads it once.
     #[inline(always)]
-    fn take_end<'s, K: AsBytes + Drop, V: Drop, const PREFIX_LEN: usize>(
+    fn take_end<'s, K: AsBytes + Drop, V: Drop, const P: usize>(
         &mut self,
-        store: &'s NodeStore<K, V, PREFIX_LEN>,
+        store: &'s NodeStore<K, V, P>,
         end: End,
     ) -> Option<(LeafPtr, &'s LeafNode<K, V>)>
         requires { (names : List OpaqueNodePtr) × IsIteratorOf store.now self.old names }
@@ -139,16 +139,12 @@ impl RawIterator {
     {
         let (first, last) = self.ends?;
         let taken = end.of((first, last));
-        let Some(leaf) = store.leaf(taken) else {
-            unreachable!()
-        };
+        let leaf = store.leaf_at(taken);
         if first == last {
             self.ends = None;
             return Some((taken, leaf));
         }
-        let Some(linked) = end.of((leaf.next, leaf.previous)) else {
-            unreachable!()
-        };
+        let linked = end.of((leaf.next, leaf.previous)).unwrap();
         let next = foreseen(end, taken, linked);
         self.ends = Some(end.of(((next, last), (first, next))));
         Some((taken, leaf))
@@ -173,14 +169,3 @@ fn foreseen(end: End, taken: LeafPtr, linked: LeafPtr) -> LeafPtr
         _ => linked,
     }
 }
-
-/// An iterator stands for the same leaves in every store in which they have the same links. So a returned leaf may be
-/// freed before the next call, and leaves that are not left of the iteration may change.
-pub fn a_walk_goes_on<K, V>()
-    ensures { GoesOn K V }
-{}
-
-/// From the first leaf of a canonical root to the last one an iterator returns all of its leaves, in order.
-pub fn a_tree_is_walked_whole<K, V>()
-    ensures { WalksWhole K V }
-{}

@@ -5,6 +5,7 @@ pub mod descent;
 pub mod end_node;
 mod guide;
 pub mod iterator;
+pub mod laws;
 pub mod lookup;
 pub mod matching;
 pub mod minmax;

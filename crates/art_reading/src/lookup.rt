@@ -7,7 +7,6 @@ ghost use Rattle.art_model.specs.Pairs.{first_of, match_of, of_key, with_key};
 ghost use Rattle.art_model.specs.Roots.{ForTree, IsCanonicalRoot};
 ghost use Rattle.art_model.specs.Stores.{pair_of};
 ghost use Rattle.art_reading.specs.Descents.{CountsVisits, asked_of};
-ghost use Rattle.art_reading.specs.declared.matching.PrefixMatchBehavior.TheVariants.{Pessimistic};
 
 mod shortest;
 mod texts;
@@ -21,28 +20,21 @@ use art_nodes::store::NodeStore;
 pub use shortest::{shortest_text_unchecked, shortest_text_visiting};
 pub use texts::{longest_text_unchecked, longest_text_visiting};
 
-/// By default a lookup has compared all bytes so far, and no node has been read.
-pub fn look_ups_start_by_default()
-    ensures behavior { (behavior : PrefixMatchBehavior) →
-        ⟦<PrefixMatchBehavior as Default>⟧.is_default behavior → behavior ≡ Pessimistic }
-    ensures visits { (visits : Visits) → ⟦<Visits as Default>⟧.is_default visits → visits ≡ 0 }
-{}
-
 /// Returns the leaf of a key, or `None` if no stored key is equal to it.
 ///
 /// It is a single descent: it reads at most one more node than the key has bytes. If the bytes of a prefix are not all
 /// stored it skips the others, and compares the whole key at the leaf.
 #[inline(always)]
-pub fn search_unchecked<K: AsBytes + Drop, V: Drop, const PREFIX_LEN: usize>(
-    store: &NodeStore<K, V, PREFIX_LEN>,
+pub fn search_unchecked<K: AsBytes + Drop, V: Drop, const P: usize>(
+    store: &NodeStore<K, V, P>,
     root: OpaqueNodePtr,
     key_bytes: &[u8],
 ) -> OptionalLeafPtr
-    requires { IsCanonicalRoot (of_key K.bytes) PREFIX_LEN store.now root }
-    ensures leaf { ForTree (of_key K.bytes) PREFIX_LEN store.now root (λ pairs layout.
+    requires { IsCanonicalRoot (of_key K.bytes) P store.now root }
+    ensures leaf { ForTree (of_key K.bytes) P store.now root (λ pairs layout.
         FindsLeaf layout (with_key (of_key K.bytes) key_bytes.now pairs) result) }
     ensures there { IfSome result (λ leaf. IsSome (map.get store.now.leaves leaf)) }
-    ensures pair { ForTree (of_key K.bytes) PREFIX_LEN store.now root (λ pairs _.
+    ensures pair { ForTree (of_key K.bytes) P store.now root (λ pairs _.
         pair_under store.now result ≡ first_of (with_key (of_key K.bytes) key_bytes.now pairs)) }
 {
     search_visiting(store, root, key_bytes, &mut Visits::new())
@@ -51,20 +43,20 @@ pub fn search_unchecked<K: AsBytes + Drop, V: Drop, const PREFIX_LEN: usize>(
 /// Returns what `search_unchecked` does, and adds one to the counter for each node that it reads: at most
 /// one more than the key has bytes.
 #[inline(always)]
-pub fn search_visiting<K: AsBytes + Drop, V: Drop, const PREFIX_LEN: usize>(
-    store: &NodeStore<K, V, PREFIX_LEN>,
+pub fn search_visiting<K: AsBytes + Drop, V: Drop, const P: usize>(
+    store: &NodeStore<K, V, P>,
     root: OpaqueNodePtr,
     key_bytes: &[u8],
     visits: &mut Visits,
 ) -> OptionalLeafPtr
-    requires root { IsCanonicalRoot (of_key K.bytes) PREFIX_LEN store.now root }
+    requires root { IsCanonicalRoot (of_key K.bytes) P store.now root }
     requires room { visits.old + length key_bytes.now + 1 < 2 ^ 64 }
-    ensures leaf { ForTree (of_key K.bytes) PREFIX_LEN store.now root (λ pairs layout.
+    ensures leaf { ForTree (of_key K.bytes) P store.now root (λ pairs layout.
         FindsLeaf layout (with_key (of_key K.bytes) key_bytes.now pairs) result) }
     ensures there { IfSome result (λ leaf. IsSome (map.get store.now.leaves leaf)) }
-    ensures pair { ForTree (of_key K.bytes) PREFIX_LEN store.now root (λ pairs _.
+    ensures pair { ForTree (of_key K.bytes) P store.now root (λ pairs _.
         pair_under store.now result ≡ first_of (with_key (of_key K.bytes) key_bytes.now pairs)) }
-    ensures visits { CountsVisits (of_key K.bytes) PREFIX_LEN store.now root key_bytes.now
+    ensures visits { CountsVisits (of_key K.bytes) P store.now root key_bytes.now
         visits.old visits.new (IsSome result) }
 {
     find_leaf(store, root, key_bytes, Asked::Same, visits)
@@ -74,16 +66,16 @@ pub fn search_visiting<K: AsBytes + Drop, V: Drop, const PREFIX_LEN: usize>(
 ///
 /// It descends as `search_unchecked` does, at the same cost.
 #[inline(always)]
-pub fn prefix_search_unchecked<K: AsBytes + Drop, V: Drop, const PREFIX_LEN: usize>(
-    store: &NodeStore<K, V, PREFIX_LEN>,
+pub fn prefix_search_unchecked<K: AsBytes + Drop, V: Drop, const P: usize>(
+    store: &NodeStore<K, V, P>,
     root: OpaqueNodePtr,
     key_bytes: &[u8],
 ) -> OptionalLeafPtr
-    requires { IsCanonicalRoot (of_key K.bytes) PREFIX_LEN store.now root }
-    ensures leaf { ForTree (of_key K.bytes) PREFIX_LEN store.now root (λ pairs layout.
+    requires { IsCanonicalRoot (of_key K.bytes) P store.now root }
+    ensures leaf { ForTree (of_key K.bytes) P store.now root (λ pairs layout.
         FindsLeaf layout (match_of (of_key K.bytes) key_bytes.now pairs) result) }
     ensures there { IfSome result (λ leaf. IsSome (map.get store.now.leaves leaf)) }
-    ensures pair { ForTree (of_key K.bytes) PREFIX_LEN store.now root (λ pairs _.
+    ensures pair { ForTree (of_key K.bytes) P store.now root (λ pairs _.
         pair_under store.now result ≡ first_of (match_of (of_key K.bytes) key_bytes.now pairs)) }
 {
     prefix_search_visiting(store, root, key_bytes, &mut Visits::new())
@@ -91,20 +83,20 @@ pub fn prefix_search_unchecked<K: AsBytes + Drop, V: Drop, const PREFIX_LEN: usi
 
 /// Returns what `prefix_search_unchecked` does, and counts as `search_visiting` does.
 #[inline(always)]
-pub fn prefix_search_visiting<K: AsBytes + Drop, V: Drop, const PREFIX_LEN: usize>(
-    store: &NodeStore<K, V, PREFIX_LEN>,
+pub fn prefix_search_visiting<K: AsBytes + Drop, V: Drop, const P: usize>(
+    store: &NodeStore<K, V, P>,
     root: OpaqueNodePtr,
     key_bytes: &[u8],
     visits: &mut Visits,
 ) -> OptionalLeafPtr
-    requires root { IsCanonicalRoot (of_key K.bytes) PREFIX_LEN store.now root }
+    requires root { IsCanonicalRoot (of_key K.bytes) P store.now root }
     requires room { visits.old + length key_bytes.now + 1 < 2 ^ 64 }
-    ensures leaf { ForTree (of_key K.bytes) PREFIX_LEN store.now root (λ pairs layout.
+    ensures leaf { ForTree (of_key K.bytes) P store.now root (λ pairs layout.
         FindsLeaf layout (match_of (of_key K.bytes) key_bytes.now pairs) result) }
     ensures there { IfSome result (λ leaf. IsSome (map.get store.now.leaves leaf)) }
-    ensures pair { ForTree (of_key K.bytes) PREFIX_LEN store.now root (λ pairs _.
+    ensures pair { ForTree (of_key K.bytes) P store.now root (λ pairs _.
         pair_under store.now result ≡ first_of (match_of (of_key K.bytes) key_bytes.now pairs)) }
-    ensures visits { CountsVisits (of_key K.bytes) PREFIX_LEN store.now root key_bytes.now
+    ensures visits { CountsVisits (of_key K.bytes) P store.now root key_bytes.now
         visits.old visits.new (IsSome result) }
 {
     find_leaf(store, root, key_bytes, Asked::Front, visits)
@@ -113,14 +105,14 @@ pub fn prefix_search_visiting<K: AsBytes + Drop, V: Drop, const PREFIX_LEN: usiz
 /// Returns the leaf of the key that is asked for, or `None` if there is none. It descends as `search_unchecked` does,
 /// at the same cost, and a caller need not read the leaf once more.
 #[inline(always)]
-pub fn find_unchecked<'a, Q: KeyQuery, K: AsBytes + Drop, V: Drop, const PREFIX_LEN: usize>(
-    store: &'a NodeStore<K, V, PREFIX_LEN>,
+pub fn find_unchecked<'a, Q: KeyQuery, K: AsBytes + Drop, V: Drop, const P: usize>(
+    store: &'a NodeStore<K, V, P>,
     root: OpaqueNodePtr,
     query: Q,
     asked: Asked,
 ) -> Option<&'a LeafNode<K, V>>
-    requires { IsCanonicalRoot (of_key K.bytes) PREFIX_LEN store.now root }
-    ensures { ForTree (of_key K.bytes) PREFIX_LEN store.now root (λ pairs _.
+    requires { IsCanonicalRoot (of_key K.bytes) P store.now root }
+    ensures { ForTree (of_key K.bytes) P store.now root (λ pairs _.
         option_map (λ leaf. pair_of leaf.now) result ≡
         first_of (asked_of asked (of_key K.bytes) (Q.key query) pairs)) }
 {
@@ -133,16 +125,16 @@ pub fn find_unchecked<'a, Q: KeyQuery, K: AsBytes + Drop, V: Drop, const PREFIX_
 /// Returns the leaf of the key, or `None` if no stored key is equal to it: what `search_unchecked` returns for its
 /// bytes, at the same cost.
 #[inline(always)]
-pub fn search_for<Q: KeyQuery, K: AsBytes + Drop, V: Drop, const PREFIX_LEN: usize>(
-    store: &NodeStore<K, V, PREFIX_LEN>,
+pub fn search_for<Q: KeyQuery, K: AsBytes + Drop, V: Drop, const P: usize>(
+    store: &NodeStore<K, V, P>,
     root: OpaqueNodePtr,
     query: Q,
 ) -> OptionalLeafPtr
-    requires { IsCanonicalRoot (of_key K.bytes) PREFIX_LEN store.now root }
-    ensures leaf { ForTree (of_key K.bytes) PREFIX_LEN store.now root (λ pairs layout.
+    requires { IsCanonicalRoot (of_key K.bytes) P store.now root }
+    ensures leaf { ForTree (of_key K.bytes) P store.now root (λ pairs layout.
         FindsLeaf layout (with_key (of_key K.bytes) (Q.key query) pairs) result) }
     ensures there { IfSome result (λ leaf. IsSome (map.get store.now.leaves leaf)) }
-    ensures pair { ForTree (of_key K.bytes) PREFIX_LEN store.now root (λ pairs _.
+    ensures pair { ForTree (of_key K.bytes) P store.now root (λ pairs _.
         pair_under store.now result ≡ first_of (with_key (of_key K.bytes) (Q.key query) pairs)) }
 {
     query.fits();
@@ -151,22 +143,22 @@ pub fn search_for<Q: KeyQuery, K: AsBytes + Drop, V: Drop, const PREFIX_LEN: usi
 
 // The leaf that is asked for, or `None` if there is none; each reading of a node is counted.
 #[inline(always)]
-fn find_leaf<Q: KeyQuery, K: AsBytes + Drop, V: Drop, const PREFIX_LEN: usize>(
-    store: &NodeStore<K, V, PREFIX_LEN>,
+fn find_leaf<Q: KeyQuery, K: AsBytes + Drop, V: Drop, const P: usize>(
+    store: &NodeStore<K, V, P>,
     root: OpaqueNodePtr,
     query: Q,
     asked: Asked,
     visits: &mut Visits,
 ) -> OptionalLeafPtr
-    requires root { IsCanonicalRoot (of_key K.bytes) PREFIX_LEN store.now root }
+    requires root { IsCanonicalRoot (of_key K.bytes) P store.now root }
     requires room { visits.old + length (Q.key query) + 1 < 2 ^ 64 }
-    ensures leaf { ForTree (of_key K.bytes) PREFIX_LEN store.now root (λ pairs layout.
+    ensures leaf { ForTree (of_key K.bytes) P store.now root (λ pairs layout.
         FindsLeaf layout (asked_of asked (of_key K.bytes) (Q.key query) pairs) result) }
     ensures there { IfSome result (λ leaf. IsSome (map.get store.now.leaves leaf)) }
-    ensures pair { ForTree (of_key K.bytes) PREFIX_LEN store.now root (λ pairs _.
+    ensures pair { ForTree (of_key K.bytes) P store.now root (λ pairs _.
         pair_under store.now result ≡
         first_of (asked_of asked (of_key K.bytes) (Q.key query) pairs)) }
-    ensures visits { CountsVisits (of_key K.bytes) PREFIX_LEN store.now root (Q.key query)
+    ensures visits { CountsVisits (of_key K.bytes) P store.now root (Q.key query)
         visits.old visits.new (IsSome result) }
 {
     let start = PrefixMatchBehavior::Pessimistic;

@@ -13,8 +13,8 @@ use art_nodes::store::NodeStore;
 
 /// Returns the first leaf of the tree rooted at a name. It reads one inner node for each level.
 #[inline(always)]
-pub fn minimum_unchecked<K: AsBytes + Drop, V: Drop, const PREFIX_LEN: usize>(
-    store: &NodeStore<K, V, PREFIX_LEN>,
+pub fn minimum_unchecked<K: AsBytes + Drop, V: Drop, const P: usize>(
+    store: &NodeStore<K, V, P>,
     root: OpaqueNodePtr,
 ) -> LeafPtr
     requires { (layout : Tree OpaqueNodePtr (K × V)) × IsFullTree store.now root layout }
@@ -29,8 +29,8 @@ pub fn minimum_unchecked<K: AsBytes + Drop, V: Drop, const PREFIX_LEN: usize>(
 
 /// Returns the last leaf of the tree rooted at a name. It reads one inner node for each level.
 #[inline(always)]
-pub fn maximum_unchecked<K: AsBytes + Drop, V: Drop, const PREFIX_LEN: usize>(
-    store: &NodeStore<K, V, PREFIX_LEN>,
+pub fn maximum_unchecked<K: AsBytes + Drop, V: Drop, const P: usize>(
+    store: &NodeStore<K, V, P>,
     root: OpaqueNodePtr,
 ) -> LeafPtr
     requires { (layout : Tree OpaqueNodePtr (K × V)) × IsFullTree store.now root layout }

@@ -32,13 +32,13 @@ use std::ops::Bound;
 ///
 /// It allocates nothing. It descends to the node below which these leaves are, by at most one inner node for each byte
 /// of the prefix, then to the first and the last of them, and reads one key.
-pub fn prefix_unchecked<K: AsBytes + Drop, V: Drop, const PREFIX_LEN: usize>(
-    store: &NodeStore<K, V, PREFIX_LEN>,
+pub fn prefix_unchecked<K: AsBytes + Drop, V: Drop, const P: usize>(
+    store: &NodeStore<K, V, P>,
     root: OpaqueNodePtr,
     prefix: &[u8],
 ) -> RawIterator
-    requires { IsCanonicalRoot (of_key K.bytes) PREFIX_LEN store.now root }
-    ensures { ForTree (of_key K.bytes) PREFIX_LEN store.now root (λ pairs layout.
+    requires { IsCanonicalRoot (of_key K.bytes) P store.now root }
+    ensures { ForTree (of_key K.bytes) P store.now root (λ pairs layout.
         IsIteratorOf store.now result
         (leaves_where (λ x. is_front prefix.now (K.bytes x.0)) layout)) }
 {
@@ -48,26 +48,24 @@ pub fn prefix_unchecked<K: AsBytes + Drop, V: Drop, const PREFIX_LEN: usize>(
 /// Returns what `prefix_unchecked` does, and counts each reading of a node: at least the nodes whose place is a prefix
 /// of these bytes, and at most two for each level of the tree, the leaves being a level. A full counter stays full.
 #[inline(always)]
-pub fn prefix_visiting<K: AsBytes + Drop, V: Drop, const PREFIX_LEN: usize>(
-    store: &NodeStore<K, V, PREFIX_LEN>,
+pub fn prefix_visiting<K: AsBytes + Drop, V: Drop, const P: usize>(
+    store: &NodeStore<K, V, P>,
     root: OpaqueNodePtr,
     prefix: &[u8],
     visits: &mut Visits,
 ) -> RawIterator
-    requires { IsCanonicalRoot (of_key K.bytes) PREFIX_LEN store.now root }
-    ensures leaves { ForTree (of_key K.bytes) PREFIX_LEN store.now root (λ pairs layout.
+    requires { IsCanonicalRoot (of_key K.bytes) P store.now root }
+    ensures leaves { ForTree (of_key K.bytes) P store.now root (λ pairs layout.
         IsIteratorOf store.now result
         (leaves_where (λ x. is_front prefix.now (K.bytes x.0)) layout)) }
-    ensures visits { CountsBelow (of_key K.bytes) PREFIX_LEN store.now root prefix.now
+    ensures visits { CountsBelow (of_key K.bytes) P store.now root prefix.now
         visits.old visits.new }
 {
     let Some(end) = walk_below_visiting(store, root, prefix, visits) else {
         return RawIterator::empty();
     };
     let (_, first) = walk_to_end_visiting(store, end.name, End::First, visits);
-    let Some(leaf) = store.leaf(first) else {
-        unreachable!()
-    };
+    let leaf = store.leaf_at(first);
     visits.count_one();
     if !leaf.key.as_bytes().starts_with(prefix) {
         return RawIterator::empty();
@@ -80,14 +78,14 @@ pub fn prefix_visiting<K: AsBytes + Drop, V: Drop, const PREFIX_LEN: usize>(
 /// after the second.
 ///
 /// It allocates nothing, and costs at most what `first_from_unchecked` and `last_up_to_unchecked` do together.
-pub fn range_unchecked<K: AsBytes + Drop, V: Drop, const PREFIX_LEN: usize>(
-    store: &NodeStore<K, V, PREFIX_LEN>,
+pub fn range_unchecked<K: AsBytes + Drop, V: Drop, const P: usize>(
+    store: &NodeStore<K, V, P>,
     root: OpaqueNodePtr,
     from: Bound<&[u8]>,
     to: Bound<&[u8]>,
 ) -> RawIterator
-    requires { IsCanonicalRoot (of_key K.bytes) PREFIX_LEN store.now root }
-    ensures { ForTree (of_key K.bytes) PREFIX_LEN store.now root (λ pairs layout.
+    requires { IsCanonicalRoot (of_key K.bytes) P store.now root }
+    ensures { ForTree (of_key K.bytes) P store.now root (λ pairs layout.
         IsIteratorOf store.now result (leaves_where (λ x.
         is_between (bound_map (λ b. b.now) from.entry) (bound_map (λ b. b.now) to.entry) (K.bytes x.0))
         layout)) }
@@ -98,34 +96,30 @@ pub fn range_unchecked<K: AsBytes + Drop, V: Drop, const PREFIX_LEN: usize>(
 /// Returns what `range_unchecked` does, and counts each reading of a node: at least the nodes whose place is a prefix
 /// of the first bound's key, and at most twice the most that `first_from_visiting` counts, and one.
 #[inline(always)]
-pub fn range_visiting<K: AsBytes + Drop, V: Drop, const PREFIX_LEN: usize>(
-    store: &NodeStore<K, V, PREFIX_LEN>,
+pub fn range_visiting<K: AsBytes + Drop, V: Drop, const P: usize>(
+    store: &NodeStore<K, V, P>,
     root: OpaqueNodePtr,
     from: Bound<&[u8]>,
     to: Bound<&[u8]>,
     visits: &mut Visits,
 ) -> RawIterator
-    requires { IsCanonicalRoot (of_key K.bytes) PREFIX_LEN store.now root }
-    ensures leaves { ForTree (of_key K.bytes) PREFIX_LEN store.now root (λ pairs layout.
+    requires { IsCanonicalRoot (of_key K.bytes) P store.now root }
+    ensures leaves { ForTree (of_key K.bytes) P store.now root (λ pairs layout.
         IsIteratorOf store.now result (leaves_where (λ x.
         is_between (bound_map (λ b. b.now) from.entry) (bound_map (λ b. b.now) to.entry) (K.bytes x.0))
         layout)) }
-    ensures visits { CountsToBounds (of_key K.bytes) PREFIX_LEN store.now root
+    ensures visits { CountsToBounds (of_key K.bytes) P store.now root
         (bound_map (λ b. b.now) from.entry) visits.old visits.new }
 {
     let Some(first) = first_from_visiting(store, root, from, visits) else {
         return RawIterator::empty();
     };
-    let Some(leaf) = store.leaf(first) else {
-        unreachable!()
-    };
+    let leaf = store.leaf_at(first);
     visits.count_one();
     if !ends_after(to, leaf.key.as_bytes()) {
         return RawIterator::empty();
     }
-    let Some(last) = last_up_to_visiting(store, root, to, visits) else {
-        unreachable!()
-    };
+    let last = last_up_to_visiting(store, root, to, visits).unwrap();
     RawIterator::new(store, first, last)
 }
 
@@ -134,13 +128,13 @@ pub fn range_visiting<K: AsBytes + Drop, V: Drop, const PREFIX_LEN: usize>(
 /// It allocates nothing. It descends by the bytes of the bound, and from where this ends to the first and the last leaf
 /// below. Prefixes that are not stored whole are all read from the same leaf, which takes a further descent.
 /// `first_from_visiting` counts what it reads.
-pub fn first_from_unchecked<K: AsBytes + Drop, V: Drop, const PREFIX_LEN: usize>(
-    store: &NodeStore<K, V, PREFIX_LEN>,
+pub fn first_from_unchecked<K: AsBytes + Drop, V: Drop, const P: usize>(
+    store: &NodeStore<K, V, P>,
     root: OpaqueNodePtr,
     from: Bound<&[u8]>,
 ) -> OptionalLeafPtr
-    requires { IsCanonicalRoot (of_key K.bytes) PREFIX_LEN store.now root }
-    ensures leaf { ForTree (of_key K.bytes) PREFIX_LEN store.now root (λ pairs layout.
+    requires { IsCanonicalRoot (of_key K.bytes) P store.now root }
+    ensures leaf { ForTree (of_key K.bytes) P store.now root (λ pairs layout.
         option_map leaf_name result ≡ first_of
         (leaves_where (λ x. is_from (bound_map (λ b. b.now) from.entry) (K.bytes x.0)) layout)) }
     ensures there { IfSome result (λ leaf. IsSome (map.get store.now.leaves leaf)) }
@@ -152,18 +146,18 @@ pub fn first_from_unchecked<K: AsBytes + Drop, V: Drop, const PREFIX_LEN: usize>
 /// prefix of the bound's key, and at most three for each level of the tree, the leaves being a level, and two. A full
 /// counter stays full.
 #[inline(always)]
-pub fn first_from_visiting<K: AsBytes + Drop, V: Drop, const PREFIX_LEN: usize>(
-    store: &NodeStore<K, V, PREFIX_LEN>,
+pub fn first_from_visiting<K: AsBytes + Drop, V: Drop, const P: usize>(
+    store: &NodeStore<K, V, P>,
     root: OpaqueNodePtr,
     from: Bound<&[u8]>,
     visits: &mut Visits,
 ) -> OptionalLeafPtr
-    requires { IsCanonicalRoot (of_key K.bytes) PREFIX_LEN store.now root }
-    ensures leaf { ForTree (of_key K.bytes) PREFIX_LEN store.now root (λ pairs layout.
+    requires { IsCanonicalRoot (of_key K.bytes) P store.now root }
+    ensures leaf { ForTree (of_key K.bytes) P store.now root (λ pairs layout.
         option_map leaf_name result ≡ first_of
         (leaves_where (λ x. is_from (bound_map (λ b. b.now) from.entry) (K.bytes x.0)) layout)) }
     ensures there { IfSome result (λ leaf. IsSome (map.get store.now.leaves leaf)) }
-    ensures visits { CountsToBound (of_key K.bytes) PREFIX_LEN store.now root
+    ensures visits { CountsToBound (of_key K.bytes) P store.now root
         (bound_map (λ b. b.now) from.entry) visits.old visits.new }
 {
     match from {
@@ -179,13 +173,13 @@ pub fn first_from_visiting<K: AsBytes + Drop, V: Drop, const PREFIX_LEN: usize>(
 
 /// Returns the last leaf whose key is before a bound, or at it if that is included. It costs what
 /// `first_from_unchecked` does.
-pub fn last_up_to_unchecked<K: AsBytes + Drop, V: Drop, const PREFIX_LEN: usize>(
-    store: &NodeStore<K, V, PREFIX_LEN>,
+pub fn last_up_to_unchecked<K: AsBytes + Drop, V: Drop, const P: usize>(
+    store: &NodeStore<K, V, P>,
     root: OpaqueNodePtr,
     to: Bound<&[u8]>,
 ) -> OptionalLeafPtr
-    requires { IsCanonicalRoot (of_key K.bytes) PREFIX_LEN store.now root }
-    ensures leaf { ForTree (of_key K.bytes) PREFIX_LEN store.now root (λ pairs layout.
+    requires { IsCanonicalRoot (of_key K.bytes) P store.now root }
+    ensures leaf { ForTree (of_key K.bytes) P store.now root (λ pairs layout.
         option_map leaf_name result ≡ last_of
         (leaves_where (λ x. is_up_to (bound_map (λ b. b.now) to.entry) (K.bytes x.0)) layout)) }
     ensures there { IfSome result (λ leaf. IsSome (map.get store.now.leaves leaf)) }
@@ -195,18 +189,18 @@ pub fn last_up_to_unchecked<K: AsBytes + Drop, V: Drop, const PREFIX_LEN: usize>
 
 /// Returns what `last_up_to_unchecked` does, and counts as `first_from_visiting` does.
 #[inline(always)]
-pub fn last_up_to_visiting<K: AsBytes + Drop, V: Drop, const PREFIX_LEN: usize>(
-    store: &NodeStore<K, V, PREFIX_LEN>,
+pub fn last_up_to_visiting<K: AsBytes + Drop, V: Drop, const P: usize>(
+    store: &NodeStore<K, V, P>,
     root: OpaqueNodePtr,
     to: Bound<&[u8]>,
     visits: &mut Visits,
 ) -> OptionalLeafPtr
-    requires { IsCanonicalRoot (of_key K.bytes) PREFIX_LEN store.now root }
-    ensures leaf { ForTree (of_key K.bytes) PREFIX_LEN store.now root (λ pairs layout.
+    requires { IsCanonicalRoot (of_key K.bytes) P store.now root }
+    ensures leaf { ForTree (of_key K.bytes) P store.now root (λ pairs layout.
         option_map leaf_name result ≡ last_of
         (leaves_where (λ x. is_up_to (bound_map (λ b. b.now) to.entry) (K.bytes x.0)) layout)) }
     ensures there { IfSome result (λ leaf. IsSome (map.get store.now.leaves leaf)) }
-    ensures visits { CountsToBound (of_key K.bytes) PREFIX_LEN store.now root
+    ensures visits { CountsToBound (of_key K.bytes) P store.now root
         (bound_map (λ b. b.now) to.entry) visits.old visits.new }
 {
     match to {
@@ -254,33 +248,29 @@ impl Cut {
 
 // Returns the first leaf after a cut, or the last one before it.
 #[inline(always)]
-fn leaf_at_cut<K: AsBytes + Drop, V: Drop, const PREFIX_LEN: usize>(
-    store: &NodeStore<K, V, PREFIX_LEN>,
+fn leaf_at_cut<K: AsBytes + Drop, V: Drop, const P: usize>(
+    store: &NodeStore<K, V, P>,
     root: OpaqueNodePtr,
     cut: Cut,
     key_bytes: &[u8],
     end: End,
     visits: &mut Visits,
 ) -> OptionalLeafPtr
-    requires { IsCanonicalRoot (of_key K.bytes) PREFIX_LEN store.now root }
-    ensures leaf { ForTree (of_key K.bytes) PREFIX_LEN store.now root (λ pairs layout.
+    requires { IsCanonicalRoot (of_key K.bytes) P store.now root }
+    ensures leaf { ForTree (of_key K.bytes) P store.now root (λ pairs layout.
         IsLeafAtCut (of_key K.bytes) cut key_bytes.now layout end result) }
-    ensures visits { CountsToBound (of_key K.bytes) PREFIX_LEN store.now root
+    ensures visits { CountsToBound (of_key K.bytes) P store.now root
         (bounds.Included key_bytes.now) visits.old visits.new }
 {
     let name = walk_beside(store, root, key_bytes, visits);
     let (_, first) = walk_to_end_visiting(store, name, End::First, visits);
-    let Some(leaf) = store.leaf(first) else {
-        unreachable!()
-    };
+    let leaf = store.leaf_at(first);
     visits.count_one();
     if !cut.is_after(key_bytes, leaf.key.as_bytes()) {
         return end.of((Some(first), leaf.previous));
     }
     let (_, last) = walk_to_end_visiting(store, name, End::Last, visits);
-    let Some(leaf) = store.leaf(last) else {
-        unreachable!()
-    };
+    let leaf = store.leaf_at(last);
     visits.count_one();
     end.of((leaf.next, Some(last)))
 }
@@ -288,18 +278,18 @@ fn leaf_at_cut<K: AsBytes + Drop, V: Drop, const PREFIX_LEN: usize>(
 // Returns a node next to a key: what is before the node is before the key, what is after it is after the key, and all
 // keys below it are on one side.
 #[inline(always)]
-fn walk_beside<K: AsBytes + Drop, V: Drop, const PREFIX_LEN: usize>(
-    store: &NodeStore<K, V, PREFIX_LEN>,
+fn walk_beside<K: AsBytes + Drop, V: Drop, const P: usize>(
+    store: &NodeStore<K, V, P>,
     root: OpaqueNodePtr,
     key_bytes: &[u8],
     visits: &mut Visits,
 ) -> OpaqueNodePtr
-    requires { IsCanonicalRoot (of_key K.bytes) PREFIX_LEN store.now root }
-    ensures beside { ForTree (of_key K.bytes) PREFIX_LEN store.now root (λ pairs layout.
+    requires { IsCanonicalRoot (of_key K.bytes) P store.now root }
+    ensures beside { ForTree (of_key K.bytes) P store.now root (λ pairs layout.
         StandsBeside (of_key K.bytes) key_bytes.now layout result) }
     ensures visits { CountsReadings visits.old visits.new (λ number.
         (number + 2 * levels store.now result ≤ 3 * (levels store.now root + 1)) ×
-        ForTree (of_key K.bytes) PREFIX_LEN store.now root (λ pairs layout.
+        ForTree (of_key K.bytes) P store.now root (λ pairs layout.
         length (nodes_on_way (of_key K.bytes) key_bytes.now layout) ≤ number + 1)) }
 {
     let mut name = root;
@@ -309,9 +299,7 @@ fn walk_beside<K: AsBytes + Drop, V: Drop, const PREFIX_LEN: usize>(
         let NodePtr::Inner(inner) = name.split() else {
             return name;
         };
-        let Some(node) = store.inner(inner) else {
-            unreachable!()
-        };
+        let node = store.inner_at(inner);
         visits.count_one();
         let prefix_len = node.prefix_len();
         if prefix_len >= key_bytes.len() - depth {
@@ -336,44 +324,42 @@ fn walk_beside<K: AsBytes + Drop, V: Drop, const PREFIX_LEN: usize>(
 // Returns whether the whole prefix of a node on the key's path is this one, of the same length. A prefix that is not
 // stored whole is read from the guide leaf.
 #[inline(always)]
-fn has_prefix<K: AsBytes + Drop, V: Drop, const PREFIX_LEN: usize>(
-    store: &NodeStore<K, V, PREFIX_LEN>,
+fn has_prefix<K: AsBytes + Drop, V: Drop, const P: usize>(
+    store: &NodeStore<K, V, P>,
     root: OpaqueNodePtr,
     key_bytes: &[u8],
     name: InnerPtr,
-    node: InnerRef<'_, PREFIX_LEN>,
+    node: InnerRef<'_, P>,
     prefix: &[u8],
     depth: usize,
     guide: &mut OptionalLeafPtr,
     visits: &mut Visits,
 ) -> bool
-    requires root { IsCanonicalRoot (of_key K.bytes) PREFIX_LEN store.now root }
+    requires root { IsCanonicalRoot (of_key K.bytes) P store.now root }
     requires proper { name.kind ≢ Leaf }
     requires node { Some (ref_view node) ≡ map.get store.now.inners name }
     requires len { length prefix.now ≡ (ref_view node).prefix.len }
-    requires at { ForTree (of_key K.bytes) PREFIX_LEN store.now root (λ pairs layout.
+    requires at { ForTree (of_key K.bytes) P store.now root (λ pairs layout.
         (path : TreePath) ×
-        IsAt (of_key K.bytes) PREFIX_LEN key_bytes.now layout path (inner_name name) depth) }
-    requires guide { ForTree (of_key K.bytes) PREFIX_LEN store.now root (λ pairs layout.
+        IsAt (of_key K.bytes) P key_bytes.now layout path (inner_name name) depth) }
+    requires guide { ForTree (of_key K.bytes) P store.now root (λ pairs layout.
         MayGuide (of_key K.bytes) key_bytes.now layout guide.old) }
-    ensures guide { ForTree (of_key K.bytes) PREFIX_LEN store.now root (λ pairs layout.
+    ensures guide { ForTree (of_key K.bytes) P store.now root (λ pairs layout.
         MayGuide (of_key K.bytes) key_bytes.now layout guide.new) }
     ensures visits { CountsReadings visits.old visits.new (λ number.
         number + guide_cost store.now root guide.old ≤ 1 + guide_cost store.now root guide.new) }
-    ensures same { ForTree (of_key K.bytes) PREFIX_LEN store.now root (λ pairs layout.
+    ensures same { ForTree (of_key K.bytes) P store.now root (λ pairs layout.
         (path : TreePath) →
-        (at : IsAt (of_key K.bytes) PREFIX_LEN key_bytes.now layout path (inner_name name) depth) →
+        (at : IsAt (of_key K.bytes) P key_bytes.now layout path (inner_name name) depth) →
         IsTrue result ↔ (prefix.now ≡ prefix_of (of_key K.bytes) depth at.node)) }
 {
-    if prefix.len() <= PREFIX_LEN {
+    if prefix.len() <= P {
         return prefix.starts_with(node.read_prefix());
     }
     let opaque = name.to_opaque();
     let read_from = guide_from(store, root, key_bytes, opaque, depth, *guide, visits);
     *guide = Some(read_from);
-    let Some(leaf) = store.leaf(read_from) else {
-        unreachable!()
-    };
+    let leaf = store.leaf_at(read_from);
     visits.count_one();
     leaf.key.as_bytes()[depth..].starts_with(prefix)
 }

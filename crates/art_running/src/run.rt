@@ -11,7 +11,7 @@ ghost use Rattle.art_model.specs.Clones.{KeepBytes};
 ghost use Rattle.art_model.specs.Pairs.{match_of, of_key};
 ghost use Rattle.art_model.specs.Roots.{ForTree, IsCanonicalRoot};
 ghost use Rattle.art_writing.specs.Deleted.{IsDeletePointIn};
-ghost use Rattle.art_running.specs.Runs.{IsRun, SamePairsLeaveSameTree, from_side, of_side, on};
+ghost use Rattle.art_running.specs.Runs.{IsRun, from_side, of_side, on};
 ghost use Rattle.art_running.specs.Steps.{opposite};
 ghost use Rattle.art_writing.specs.ParentWrites.{IsPlanted};
 ghost use Rattle.art_running.specs.declared.run.Command.TheVariants as commands;
@@ -99,20 +99,20 @@ pub struct RunResult<K, V> {
 ///
 /// Fails only if the allocation of the replies fails, before the first command; the error returns the commands. Later
 /// an allocation failure concerns one command: its reply is `NoMemory`, and the tree is unchanged.
-pub fn run<K: AsBytes + Clone + Drop, V: Clone + Drop, const PREFIX_LEN: usize>(
-    first: &mut NodeStore<K, V, PREFIX_LEN>,
-    second: &mut NodeStore<K, V, PREFIX_LEN>,
+pub fn run<K: AsBytes + Clone + Drop, V: Clone + Drop, const P: usize>(
+    first: &mut NodeStore<K, V, P>,
+    second: &mut NodeStore<K, V, P>,
     root: Option<OpaqueNodePtr>,
     commands: Vec<Command<K, V>>,
 ) -> Result<RunResult<K, V>, (Vec<Command<K, V>>, AllocError)>
     requires canonical { (pairs : List (K × V)) ×
-        IsCanonical (of_key K.bytes) PREFIX_LEN first.old root pairs }
+        IsCanonical (of_key K.bytes) P first.old root pairs }
     requires clones { KeepBytes K.bytes K.is_clone }
-    ensures run { IfOk result (λ done. IsRun K.bytes PREFIX_LEN (IsPairClone K.is_clone V.is_clone)
+    ensures run { IfOk result (λ done. IsRun K.bytes P (IsPairClone K.is_clone V.is_clone)
         (on First first.old second.old root) commands.items
         done.replies.items (on done.side first.new second.new done.root)) }
     ensures canonical { IfOk result (λ done. (pairs : List (K × V)) ×
-        IsCanonical (of_key K.bytes) PREFIX_LEN (of_side done.side first.new second.new)
+        IsCanonical (of_key K.bytes) P (of_side done.side first.new second.new)
         done.root pairs) }
 
     ensures refused { IfErr result (λ refused. refused.0 ≡ commands) }
@@ -135,16 +135,6 @@ pub fn run<K: AsBytes + Clone + Drop, V: Clone + Drop, const PREFIX_LEN: usize>(
         replies,
     })
 }
-
-/// Two runs that leave the same pairs leave the same tree, up to names, whatever their commands and wherever they
-/// began.
-pub fn the_same_pairs_leave_the_same_tree<
-    K: AsBytes + Clone + Drop,
-    V: Clone + Drop,
-    const PREFIX_LEN: usize,
->()
-    ensures { SamePairsLeaveSameTree K.bytes PREFIX_LEN (IsPairClone K.is_clone V.is_clone) }
-{}
 
 impl Side {
     fn opposite(self) -> Self

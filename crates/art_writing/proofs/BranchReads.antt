@@ -43,7 +43,7 @@ use Rattle.art_reading.specs.Matching.{shared_len}
 use Rattle.art_reading.specs.EndNodes.{IsKindOf, IsMismatch, IsLeafForPrefix}
 use Rattle.art_writing.specs.Points.{AnswersTo}
 use Rattle.art_writing.proofs.Branches.{end_laid, end_hole, end_depth}
-use Rattle.art_writing.proofs.LeafWrites.{some_there}
+use Rattle.art_reading.proofs.Parts.{some_there}
 
 -- ---- the neighbouring leaves
 
@@ -226,8 +226,7 @@ module _ {K V : Type 0} {bytes : K × V → List ℕ} {P : ℕ} {s : Nodes K V} 
 
     pub leaf_met : IsSome (get s.leaves p)
     leaf_met =
-        some_there (get s.leaves p)
-        (λ gone. no_leaf_gone s p at.node leaf_named (path_holds (node_at s) at.path at.node (end_laid by at).holds).1 (sym gone))
+        some_there (get s.leaves p) (no_leaf_gone s p at.node leaf_named (path_holds (node_at s) at.path at.node (end_laid by at).holds).1)
 
     module _ {shown : LeafNode K V} (there : Some shown ≡ get s.leaves p) where
       leaf_is : at.node ≡ leaf (leaf_name p) (pair_of shown)

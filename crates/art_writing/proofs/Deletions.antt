@@ -33,7 +33,7 @@ use Rattle.art_writing.specs.Deleted.{IsDeletePointIn, IsRootAfter, LeadsTo, Par
 use Rattle.art_writing.specs.Inserted.{unlinked_leaf}
 use Rattle.art_writing.specs.TakenOut.{IsLeafTaken, IsTakenOut}
 use Rattle.art_reading.specs.PathSteps.{last_step}
-use Rattle.art_writing.proofs.LeafWrites.{some_there}
+use Rattle.art_reading.proofs.Parts.{some_there}
 use Rattle.art_writing.proofs.Reserved.{nothing_after, taken_unasked}
 use Rattle.art_writing.proofs.Ways.{last_step-path_of}
 
@@ -62,9 +62,9 @@ module _ {K V : Type 0} {bytes : K × V → List ℕ} {P : ℕ} {s : Nodes K V} 
   -- and so is the parent
   pub parent_at : {parent : InnerPtr} {byte : ℕ} → last_step point.path ≡ Some (parent, byte) → IsSome (get s.inners parent)
   parent_at {parent} {byte} step =
-      some_there (get s.inners parent)
-      (above leads.path (path_holds (node_at s) leads.path (leaf (leaf_name point.leaf_node_ptr) x) whole_holds).0
-      (sym (last_step-path_of leads.path) ∙ ap last_step (sym leads.path_is) ∙ step))
+      some_there (get s.inners parent) (λ gone.
+      above leads.path (path_holds (node_at s) leads.path (leaf (leaf_name point.leaf_node_ptr) x) whole_holds).0
+      (sym (last_step-path_of leads.path) ∙ ap last_step (sym leads.path_is) ∙ step) (sym gone))
     where
       above : (fs : List (Frame OpaqueNodePtr (K × V))) → HoldsPath (node_at s) (leaf_name point.leaf_node_ptr) fs → parent_of fs ≡ Some (parent, byte) → get s.inners parent ≢ None
       above [] holds e = absurd cc

@@ -1,5 +1,5 @@
 -- The leaves after some links are changed.
-use Rattle.std.proofs.Common.{◌≡◌, ◌≢◌, Option, Some, None, IsSome, refl, ap, sym, ◌∙◌}
+use Rattle.std.proofs.Common.{◌≡◌, Option, Some, IsSome, ap, sym, ◌∙◌}
 use Rattle.std.specs.Option.{option_map}
 use Rattle.std.specs.FinMap.{get, insert}
 use Rattle.art_nodes.specs.Nodes.{change}
@@ -11,11 +11,7 @@ use Rattle.art_model.specs.Stores.{pair_of}
 use Rattle.art_model.specs.Writes.{Leaves, IsThere, with_links_around}
 use Rattle.art_model.proofs.stores.Touches.{still_placed}
 use Rattle.art_model.proofs.leaves.Leaves.{joined_pair}
-
--- a name is in the store, or it isn't
-pub some_there : {X : Type 0} (o : Option X) → o ≢ None → IsSome o
-some_there None h = absurd (h refl)
-some_there (Some x) h = refl
+use Rattle.art_reading.proofs.Parts.{some_there}
 
 module _ {K V : Type 0} (m : Leaves K V) where
   -- two changes that agree on the names in the store
@@ -28,8 +24,10 @@ module _ {K V : Type 0} (m : Leaves K V) where
 
   -- a leaf is in the store, with its pair, after the links around a place change
   module _ (before after next previous : Option LeafPtr) (q : LeafPtr) (x : LeafNode K V) (is : get m q ≡ Some x) where
-    pub joined_there : get (with_links_around m before after next previous) q ≢ None
-    joined_there gone = let pairs = sym (ap (option_map pair_of) is) ∙ sym (joined_pair m before after next previous q) ∙ ap (option_map pair_of) gone in absurd cc
+    pub joined_there : IsSome (get (with_links_around m before after next previous) q)
+    joined_there =
+        some_there _ (λ gone.
+        let pairs = sym (ap (option_map pair_of) is) ∙ sym (joined_pair m before after next previous q) ∙ ap (option_map pair_of) (sym gone) in absurd cc)
 
     pub joined_keeps : (y : LeafNode K V) → get (with_links_around m before after next previous) q ≡ Some y → pair_of y ≡ pair_of x
     joined_keeps y e = let pairs = sym (ap (option_map pair_of) e) ∙ joined_pair m before after next previous q ∙ ap (option_map pair_of) is in cc

@@ -27,8 +27,7 @@ use Rattle.art_reading.specs.PartEnds.{IsPlaced}
 use Rattle.art_writing.specs.Points.{AnswersTo}
 use Rattle.art_writing.proofs.Branches.{end_laid, end_hole, end_depth}
 use Rattle.art_writing.proofs.BranchReads.{end_full, inner_found, inner_named, inner_start, inner_least, prefix_inside}
-use Rattle.art_writing.proofs.LeafWrites.{some_there}
-use Rattle.art_reading.proofs.Parts.{leaf_is_there, least_is}
+use Rattle.art_reading.proofs.Parts.{leaf_is_there, least_is, some_there}
 use Rattle.art_reading.proofs.Prefixes as prefixes
 
 module _ {K V : Type 0} {bytes : K × V → List ℕ} {P : ℕ} {s : Nodes K V} {key : List ℕ} {point : InsertPoint} {pairs : List (K × V)}
@@ -46,7 +45,7 @@ module _ {K V : Type 0} {bytes : K × V → List ℕ} {P : ℕ} {s : Nodes K V} 
       (inner_at s (inner_name p) h (slots_of cs) (subst (Holds (node_at s)) found (path_holds (node_at s) at.path at.node (end_laid by at).holds).1).0).0
 
   pub inner_met : IsSome (get s.inners p)
-  inner_met = some_there (get s.inners p) (λ gone. prefixes.node_there part proper (sym gone))
+  inner_met = some_there (get s.inners p) (prefixes.node_there part proper)
 
   module _ {shown : Inner} (there : Some shown ≡ get s.inners p) {old : Prefix} (read : old ≡ shown.prefix) where
     own : old ≡ header_of P prefix

@@ -51,29 +51,29 @@ struct LeafEnds {
 ///
 /// Fails if an allocation fails: that of a node, of the clone of a key or a value, or of the list of the nodes above.
 /// What was placed is freed then, and the other store has the nodes that it had.
-pub fn clone_unchecked<K: AsBytes + Clone + Drop, V: Clone + Drop, const PREFIX_LEN: usize>(
-    store: &NodeStore<K, V, PREFIX_LEN>,
+pub fn clone_unchecked<K: AsBytes + Clone + Drop, V: Clone + Drop, const P: usize>(
+    store: &NodeStore<K, V, P>,
     root: OpaqueNodePtr,
-    into: &mut NodeStore<K, V, PREFIX_LEN>,
+    into: &mut NodeStore<K, V, P>,
 ) -> Result<CloneResult, AllocError>
-    requires root { IsCanonicalRoot (of_key K.bytes) PREFIX_LEN store.now root }
+    requires root { IsCanonicalRoot (of_key K.bytes) P store.now root }
     requires clones { KeepBytes K.bytes K.is_clone }
-    ensures canonical { ForTree (of_key K.bytes) PREFIX_LEN store.now root (λ pairs _.
+    ensures canonical { ForTree (of_key K.bytes) P store.now root (λ pairs _.
         IfOk result (λ done. (copies : List (K × V)) ×
         AreClones K.is_clone V.is_clone pairs copies ×
-        IsCanonical (of_key K.bytes) PREFIX_LEN into.new (Some done.root) copies)) }
+        IsCanonical (of_key K.bytes) P into.new (Some done.root) copies)) }
     ensures gained { IfOk result (λ done.
-        ForTree (of_key K.bytes) PREFIX_LEN into.new done.root (λ _ copy.
+        ForTree (of_key K.bytes) P into.new done.root (λ _ copy.
         KeepsOthers into.old into.new [] (names_of copy))) }
-    ensures apart { IfOk result (λ done. KeepsApart (of_key K.bytes) PREFIX_LEN
+    ensures apart { IfOk result (λ done. KeepsApart (of_key K.bytes) P
         into.old into.new None (Some done.root)) }
     ensures first { IfOk result (λ done.
-        ForTree (of_key K.bytes) PREFIX_LEN into.new done.root (λ _ copy.
+        ForTree (of_key K.bytes) P into.new done.root (λ _ copy.
         HasFirstLeaf copy (leaf_name done.min_leaf))) }
     ensures last { IfOk result (λ done.
-        ForTree (of_key K.bytes) PREFIX_LEN into.new done.root (λ _ copy.
+        ForTree (of_key K.bytes) P into.new done.root (λ _ copy.
         HasLastLeaf copy (leaf_name done.max_leaf))) }
-    ensures promise { ForTree (of_key K.bytes) PREFIX_LEN store.now root (λ _ layout.
+    ensures promise { ForTree (of_key K.bytes) P store.now root (λ _ layout.
         OnOk result (into.new.promise ≡ tree_taken layout into.old.promise)) }
 
     ensures leaves { OnErr result (into.new.leaves ≡ into.old.leaves) }
@@ -198,7 +198,7 @@ fn clone_of(root: OpaqueNodePtr, ends: Option<LeafEnds>) -> CloneResult
     ensures first { option_map (λ ends. ends.first) ends ≡ Some result.min_leaf }
     ensures last { option_map (λ ends. ends.last) ends ≡ Some result.max_leaf }
 {
-    let Some(ends) = ends else { unreachable!() };
+    let ends = ends.unwrap();
     CloneResult {
         root,
         min_leaf: ends.first,

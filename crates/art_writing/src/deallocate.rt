@@ -21,9 +21,9 @@ use art_nodes::store::NodeStore;
 use art_reading::iterator::RawIterator;
 
 /// Frees the remaining leaves of an iterator. It reads no other node.
-pub fn deallocate_leaves<K: AsBytes + Drop, V: Drop, const PREFIX_LEN: usize>(
+pub fn deallocate_leaves<K: AsBytes + Drop, V: Drop, const P: usize>(
     leaf_range: RawIterator,
-    store: &mut NodeStore<K, V, PREFIX_LEN>,
+    store: &mut NodeStore<K, V, P>,
 )
     requires { (names : List OpaqueNodePtr) × IsIteratorOf store.old leaf_range names }
     ensures freed { (names : List OpaqueNodePtr) → IsIteratorOf store.old leaf_range names →
@@ -41,15 +41,15 @@ pub fn deallocate_leaves<K: AsBytes + Drop, V: Drop, const PREFIX_LEN: usize>(
 
 /// Frees the inner nodes of the tree rooted at `root`. It reads no leaf: the leaves may be freed before or after. It
 /// costs as much as `deallocate_tree`.
-pub fn deallocate_tree_non_leaves<K: AsBytes + Drop, V: Drop, const PREFIX_LEN: usize>(
+pub fn deallocate_tree_non_leaves<K: AsBytes + Drop, V: Drop, const P: usize>(
     root: OpaqueNodePtr,
-    store: &mut NodeStore<K, V, PREFIX_LEN>,
+    store: &mut NodeStore<K, V, P>,
 )
     requires { (shape : Tree OpaqueNodePtr (Unit {0})) × IsLayout (shape_at store.old) root shape }
     ensures freed { (shape : Tree OpaqueNodePtr (Unit {0})) →
         IsLayout (shape_at store.old) root shape → Frees (inner_names shape) store.old store.new }
-    ensures apart { IsCanonicalRoot (of_key K.bytes) PREFIX_LEN store.old root →
-        KeepsApart (of_key K.bytes) PREFIX_LEN store.old store.new (Some root) None }
+    ensures apart { IsCanonicalRoot (of_key K.bytes) P store.old root →
+        KeepsApart (of_key K.bytes) P store.old store.new (Some root) None }
     ensures promise { store.new.promise ≡ store.old.promise }
 {
     free_nodes(store, root, false);
@@ -57,15 +57,15 @@ pub fn deallocate_tree_non_leaves<K: AsBytes + Drop, V: Drop, const PREFIX_LEN: 
 
 /// Frees all nodes of the tree rooted at `root`, and returns how many leaves it had. It allocates nothing, and its
 /// stack does not grow with the tree. It costs a step for each node.
-pub fn deallocate_tree<K: AsBytes + Drop, V: Drop, const PREFIX_LEN: usize>(
+pub fn deallocate_tree<K: AsBytes + Drop, V: Drop, const P: usize>(
     root: OpaqueNodePtr,
-    store: &mut NodeStore<K, V, PREFIX_LEN>,
+    store: &mut NodeStore<K, V, P>,
 ) -> usize
     requires { (layout : Tree OpaqueNodePtr (K × V)) × IsFullTree store.old root layout }
     ensures freed { (layout : Tree OpaqueNodePtr (K × V)) → IsFullTree store.old root layout →
         Frees (names_of layout) store.old store.new }
-    ensures apart { IsCanonicalRoot (of_key K.bytes) PREFIX_LEN store.old root →
-        KeepsApart (of_key K.bytes) PREFIX_LEN store.old store.new (Some root) None }
+    ensures apart { IsCanonicalRoot (of_key K.bytes) P store.old root →
+        KeepsApart (of_key K.bytes) P store.old store.new (Some root) None }
     ensures count { (layout : Tree OpaqueNodePtr (K × V)) → IsFullTree store.old root layout →
         result ≡ length (leaf_names layout) }
     ensures promise { store.new.promise ≡ store.old.promise }

@@ -47,43 +47,43 @@ pub struct DeleteRefused {
 /// Returns the point of a key, or `None` where no stored key is equal to it.
 ///
 /// It descends as `search_unchecked` does, at the same cost.
-pub fn search_for_delete_point<K: AsBytes + Drop, V: Drop, const PREFIX_LEN: usize>(
-    store: &NodeStore<K, V, PREFIX_LEN>,
+pub fn search_for_delete_point<K: AsBytes + Drop, V: Drop, const P: usize>(
+    store: &NodeStore<K, V, P>,
     root: OpaqueNodePtr,
     key_bytes: &[u8],
 ) -> Option<DeletePoint>
-    requires { IsCanonicalRoot (of_key K.bytes) PREFIX_LEN store.now root }
-    ensures point { ForTree (of_key K.bytes) PREFIX_LEN store.now root (λ pairs layout.
+    requires { IsCanonicalRoot (of_key K.bytes) P store.now root }
+    ensures point { ForTree (of_key K.bytes) P store.now root (λ pairs layout.
         IsDeletePoint layout (remove_reply (of_key K.bytes) key_bytes.now pairs) result) }
-    ensures pair { ForTree (of_key K.bytes) PREFIX_LEN store.now root (λ pairs _.
+    ensures pair { ForTree (of_key K.bytes) P store.now root (λ pairs _.
         pair_at store.now result ≡ remove_reply (of_key K.bytes) key_bytes.now pairs) }
-    ensures absent { ForTree (of_key K.bytes) PREFIX_LEN store.now root (λ pairs _.
-        IfNone result (IsCanonical (of_key K.bytes) PREFIX_LEN store.now (Some root)
+    ensures absent { ForTree (of_key K.bytes) P store.now root (λ pairs _.
+        IfNone result (IsCanonical (of_key K.bytes) P store.now (Some root)
         (remove_key (of_key K.bytes) key_bytes.now pairs))) }
-    ensures applies { IfSome result (IsDeletePointIn (of_key K.bytes) PREFIX_LEN store.now root) }
+    ensures applies { IfSome result (IsDeletePointIn (of_key K.bytes) P store.now root) }
 {
     search_for_delete_point_visiting(store, root, key_bytes, &mut Visits::new())
 }
 
 /// Returns what `search_for_delete_point` does, and adds one to the counter for each node that it reads:
 /// at most one more than the key has bytes.
-pub fn search_for_delete_point_visiting<K: AsBytes + Drop, V: Drop, const PREFIX_LEN: usize>(
-    store: &NodeStore<K, V, PREFIX_LEN>,
+pub fn search_for_delete_point_visiting<K: AsBytes + Drop, V: Drop, const P: usize>(
+    store: &NodeStore<K, V, P>,
     root: OpaqueNodePtr,
     key_bytes: &[u8],
     visits: &mut Visits,
 ) -> Option<DeletePoint>
-    requires root { IsCanonicalRoot (of_key K.bytes) PREFIX_LEN store.now root }
+    requires root { IsCanonicalRoot (of_key K.bytes) P store.now root }
     requires room { visits.old + length key_bytes.now + 1 < 2 ^ 64 }
-    ensures point { ForTree (of_key K.bytes) PREFIX_LEN store.now root (λ pairs layout.
+    ensures point { ForTree (of_key K.bytes) P store.now root (λ pairs layout.
         IsDeletePoint layout (remove_reply (of_key K.bytes) key_bytes.now pairs) result) }
-    ensures pair { ForTree (of_key K.bytes) PREFIX_LEN store.now root (λ pairs _.
+    ensures pair { ForTree (of_key K.bytes) P store.now root (λ pairs _.
         pair_at store.now result ≡ remove_reply (of_key K.bytes) key_bytes.now pairs) }
-    ensures absent { ForTree (of_key K.bytes) PREFIX_LEN store.now root (λ pairs _.
-        IfNone result (IsCanonical (of_key K.bytes) PREFIX_LEN store.now (Some root)
+    ensures absent { ForTree (of_key K.bytes) P store.now root (λ pairs _.
+        IfNone result (IsCanonical (of_key K.bytes) P store.now (Some root)
         (remove_key (of_key K.bytes) key_bytes.now pairs))) }
-    ensures applies { IfSome result (IsDeletePointIn (of_key K.bytes) PREFIX_LEN store.now root) }
-    ensures visits { CountsVisits (of_key K.bytes) PREFIX_LEN store.now root key_bytes.now
+    ensures applies { IfSome result (IsDeletePointIn (of_key K.bytes) P store.now root) }
+    ensures visits { CountsVisits (of_key K.bytes) P store.now root key_bytes.now
         visits.old visits.new (IsSome result) }
 {
     search_from(
@@ -101,21 +101,20 @@ pub fn search_for_delete_point_visiting<K: AsBytes + Drop, V: Drop, const PREFIX
 /// it takes fewer steps than `search_for_delete_point` if the key is stored, and may read more nodes if it isn't: at
 /// most one more than the key has bytes.
 #[inline(always)]
-pub fn search_for_delete_point_by_lengths<
-    Q: KeyQuery,
-    K: AsBytes + Drop,
-    V: Drop,
-    const PREFIX_LEN: usize,
->(store: &NodeStore<K, V, PREFIX_LEN>, root: OpaqueNodePtr, query: Q) -> Option<DeletePoint>
-    requires { IsCanonicalRoot (of_key K.bytes) PREFIX_LEN store.now root }
-    ensures point { ForTree (of_key K.bytes) PREFIX_LEN store.now root (λ pairs layout.
+pub fn search_for_delete_point_by_lengths<Q: KeyQuery, K: AsBytes + Drop, V: Drop, const P: usize>(
+    store: &NodeStore<K, V, P>,
+    root: OpaqueNodePtr,
+    query: Q,
+) -> Option<DeletePoint>
+    requires { IsCanonicalRoot (of_key K.bytes) P store.now root }
+    ensures point { ForTree (of_key K.bytes) P store.now root (λ pairs layout.
         IsDeletePoint layout (remove_reply (of_key K.bytes) (Q.key query) pairs) result) }
-    ensures pair { ForTree (of_key K.bytes) PREFIX_LEN store.now root (λ pairs _.
+    ensures pair { ForTree (of_key K.bytes) P store.now root (λ pairs _.
         pair_at store.now result ≡ remove_reply (of_key K.bytes) (Q.key query) pairs) }
-    ensures absent { ForTree (of_key K.bytes) PREFIX_LEN store.now root (λ pairs _.
-        IfNone result (IsCanonical (of_key K.bytes) PREFIX_LEN store.now (Some root)
+    ensures absent { ForTree (of_key K.bytes) P store.now root (λ pairs _.
+        IfNone result (IsCanonical (of_key K.bytes) P store.now (Some root)
         (remove_key (of_key K.bytes) (Q.key query) pairs))) }
-    ensures applies { IfSome result (IsDeletePointIn (of_key K.bytes) PREFIX_LEN store.now root) }
+    ensures applies { IfSome result (IsDeletePointIn (of_key K.bytes) P store.now root) }
 {
     query.fits();
     let start = PrefixMatchBehavior::Optimistic;
@@ -152,31 +151,31 @@ fn search_from<Q: KeyQuery, K: AsBytes + Drop, V: Drop, const P: usize>(
 }
 
 /// Returns the point of the first leaf. It reads one inner node for each level.
-pub fn find_minimum_to_delete<K: AsBytes + Drop, V: Drop, const PREFIX_LEN: usize>(
-    store: &NodeStore<K, V, PREFIX_LEN>,
+pub fn find_minimum_to_delete<K: AsBytes + Drop, V: Drop, const P: usize>(
+    store: &NodeStore<K, V, P>,
     root: OpaqueNodePtr,
 ) -> DeletePoint
-    requires { IsCanonicalRoot (of_key K.bytes) PREFIX_LEN store.now root }
-    ensures point { ForTree (of_key K.bytes) PREFIX_LEN store.now root (λ pairs layout.
+    requires { IsCanonicalRoot (of_key K.bytes) P store.now root }
+    ensures point { ForTree (of_key K.bytes) P store.now root (λ pairs layout.
         IsDeletePoint layout (first_of pairs) (Some result)) }
-    ensures pair { ForTree (of_key K.bytes) PREFIX_LEN store.now root (λ pairs _.
+    ensures pair { ForTree (of_key K.bytes) P store.now root (λ pairs _.
         pair_at store.now (Some result) ≡ first_of pairs) }
-    ensures applies { IsDeletePointIn (of_key K.bytes) PREFIX_LEN store.now root result }
+    ensures applies { IsDeletePointIn (of_key K.bytes) P store.now root result }
 {
     find_end_to_delete(store, root, End::First)
 }
 
 /// Returns the point of the last leaf. It reads one inner node for each level.
-pub fn find_maximum_to_delete<K: AsBytes + Drop, V: Drop, const PREFIX_LEN: usize>(
-    store: &NodeStore<K, V, PREFIX_LEN>,
+pub fn find_maximum_to_delete<K: AsBytes + Drop, V: Drop, const P: usize>(
+    store: &NodeStore<K, V, P>,
     root: OpaqueNodePtr,
 ) -> DeletePoint
-    requires { IsCanonicalRoot (of_key K.bytes) PREFIX_LEN store.now root }
-    ensures point { ForTree (of_key K.bytes) PREFIX_LEN store.now root (λ pairs layout.
+    requires { IsCanonicalRoot (of_key K.bytes) P store.now root }
+    ensures point { ForTree (of_key K.bytes) P store.now root (λ pairs layout.
         IsDeletePoint layout (last_of pairs) (Some result)) }
-    ensures pair { ForTree (of_key K.bytes) PREFIX_LEN store.now root (λ pairs _.
+    ensures pair { ForTree (of_key K.bytes) P store.now root (λ pairs _.
         pair_at store.now (Some result) ≡ last_of pairs) }
-    ensures applies { IsDeletePointIn (of_key K.bytes) PREFIX_LEN store.now root result }
+    ensures applies { IsDeletePointIn (of_key K.bytes) P store.now root result }
 {
     find_end_to_delete(store, root, End::Last)
 }

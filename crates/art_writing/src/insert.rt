@@ -191,18 +191,18 @@ impl<K: Drop, V: Drop> From<Refused<K, V>> for AllocError {
 /// Nothing else allocates. A prefix that its node does not store whole is read from a leaf, each such prefix from the
 /// same one.
 #[inline(always)]
-pub fn search_for_insert_point<K: AsBytes + Drop, V: Drop, const PREFIX_LEN: usize>(
-    store: &NodeStore<K, V, PREFIX_LEN>,
+pub fn search_for_insert_point<K: AsBytes + Drop, V: Drop, const P: usize>(
+    store: &NodeStore<K, V, P>,
     root: OpaqueNodePtr,
     key_bytes: &[u8],
 ) -> Result<InsertPoint, InsertSearchError>
-    requires { IsCanonicalRoot (of_key K.bytes) PREFIX_LEN store.now root }
-    ensures accepted { ForTree (of_key K.bytes) PREFIX_LEN store.now root (λ pairs layout.
+    requires { IsCanonicalRoot (of_key K.bytes) P store.now root }
+    ensures accepted { ForTree (of_key K.bytes) P store.now root (λ pairs layout.
         IsOk result ↔ (is_conflict (of_key K.bytes) key_bytes.now pairs ≡ false)) }
-    ensures point { ForTree (of_key K.bytes) PREFIX_LEN store.now root (λ pairs layout.
-        IfOk result (λ point. AnswersTo (of_key K.bytes) PREFIX_LEN layout key_bytes.now point)) }
+    ensures point { ForTree (of_key K.bytes) P store.now root (λ pairs layout.
+        IfOk result (λ point. AnswersTo (of_key K.bytes) P layout key_bytes.now point)) }
     ensures root { IfOk result (λ point. point.root ≡ root) }
-    ensures applies { IfOk result (IsPointIn (of_key K.bytes) PREFIX_LEN store.now key_bytes.now) }
+    ensures applies { IfOk result (IsPointIn (of_key K.bytes) P store.now key_bytes.now) }
     ensures refused { IfErr result (λ error. IsRefusedFor key_bytes.now error) }
 {
     search_for_insert_point_visiting(store, root, key_bytes, &mut Visits::new())
@@ -212,21 +212,21 @@ pub fn search_for_insert_point<K: AsBytes + Drop, V: Drop, const PREFIX_LEN: usi
 /// prefix of the key, only these if each prefix is stored whole, and at most three for each level of the tree, the
 /// leaves being a level. A full counter stays full.
 #[inline(always)]
-pub fn search_for_insert_point_visiting<K: AsBytes + Drop, V: Drop, const PREFIX_LEN: usize>(
-    store: &NodeStore<K, V, PREFIX_LEN>,
+pub fn search_for_insert_point_visiting<K: AsBytes + Drop, V: Drop, const P: usize>(
+    store: &NodeStore<K, V, P>,
     root: OpaqueNodePtr,
     key_bytes: &[u8],
     visits: &mut Visits,
 ) -> Result<InsertPoint, InsertSearchError>
-    requires { IsCanonicalRoot (of_key K.bytes) PREFIX_LEN store.now root }
-    ensures accepted { ForTree (of_key K.bytes) PREFIX_LEN store.now root (λ pairs layout.
+    requires { IsCanonicalRoot (of_key K.bytes) P store.now root }
+    ensures accepted { ForTree (of_key K.bytes) P store.now root (λ pairs layout.
         IsOk result ↔ (is_conflict (of_key K.bytes) key_bytes.now pairs ≡ false)) }
-    ensures point { ForTree (of_key K.bytes) PREFIX_LEN store.now root (λ pairs layout.
-        IfOk result (λ point. AnswersTo (of_key K.bytes) PREFIX_LEN layout key_bytes.now point)) }
+    ensures point { ForTree (of_key K.bytes) P store.now root (λ pairs layout.
+        IfOk result (λ point. AnswersTo (of_key K.bytes) P layout key_bytes.now point)) }
     ensures root { IfOk result (λ point. point.root ≡ root) }
-    ensures applies { IfOk result (IsPointIn (of_key K.bytes) PREFIX_LEN store.now key_bytes.now) }
+    ensures applies { IfOk result (IsPointIn (of_key K.bytes) P store.now key_bytes.now) }
     ensures refused { IfErr result (λ error. IsRefusedFor key_bytes.now error) }
-    ensures visits { CountsToEnd (of_key K.bytes) PREFIX_LEN store.now root key_bytes.now
+    ensures visits { CountsToEnd (of_key K.bytes) P store.now root key_bytes.now
         visits.old visits.new }
 {
     match search_for_prefix_insert_point_visiting(store, root, key_bytes, visits) {
@@ -239,34 +239,34 @@ pub fn search_for_insert_point_visiting<K: AsBytes + Drop, V: Drop, const PREFIX
 ///
 /// It descends as `search_for_insert_point` does, at the same cost, and allocates nothing.
 #[inline(always)]
-pub fn search_for_prefix_insert_point<K: AsBytes + Drop, V: Drop, const PREFIX_LEN: usize>(
-    store: &NodeStore<K, V, PREFIX_LEN>,
+pub fn search_for_prefix_insert_point<K: AsBytes + Drop, V: Drop, const P: usize>(
+    store: &NodeStore<K, V, P>,
     root: OpaqueNodePtr,
     key_bytes: &[u8],
 ) -> PrefixInsertPoint
-    requires { IsCanonicalRoot (of_key K.bytes) PREFIX_LEN store.now root }
-    ensures point { ForTree (of_key K.bytes) PREFIX_LEN store.now root (λ pairs layout.
-        IsPointFor (of_key K.bytes) PREFIX_LEN key_bytes.now pairs layout result) }
+    requires { IsCanonicalRoot (of_key K.bytes) P store.now root }
+    ensures point { ForTree (of_key K.bytes) P store.now root (λ pairs layout.
+        IsPointFor (of_key K.bytes) P key_bytes.now pairs layout result) }
     ensures root { root_of result ≡ root }
-    ensures applies { IsPrefixPointIn (of_key K.bytes) PREFIX_LEN store.now key_bytes.now result }
+    ensures applies { IsPrefixPointIn (of_key K.bytes) P store.now key_bytes.now result }
 {
     search_for_prefix_insert_point_visiting(store, root, key_bytes, &mut Visits::new())
 }
 
 /// Returns what `search_for_prefix_insert_point` does, and counts as `search_for_insert_point_visiting` does.
 #[inline(always)]
-pub fn search_for_prefix_insert_point_visiting<K: AsBytes + Drop, V: Drop, const PREFIX_LEN: usize>(
-    store: &NodeStore<K, V, PREFIX_LEN>,
+pub fn search_for_prefix_insert_point_visiting<K: AsBytes + Drop, V: Drop, const P: usize>(
+    store: &NodeStore<K, V, P>,
     root: OpaqueNodePtr,
     key_bytes: &[u8],
     visits: &mut Visits,
 ) -> PrefixInsertPoint
-    requires { IsCanonicalRoot (of_key K.bytes) PREFIX_LEN store.now root }
-    ensures point { ForTree (of_key K.bytes) PREFIX_LEN store.now root (λ pairs layout.
-        IsPointFor (of_key K.bytes) PREFIX_LEN key_bytes.now pairs layout result) }
+    requires { IsCanonicalRoot (of_key K.bytes) P store.now root }
+    ensures point { ForTree (of_key K.bytes) P store.now root (λ pairs layout.
+        IsPointFor (of_key K.bytes) P key_bytes.now pairs layout result) }
     ensures root { root_of result ≡ root }
-    ensures applies { IsPrefixPointIn (of_key K.bytes) PREFIX_LEN store.now key_bytes.now result }
-    ensures visits { CountsToEnd (of_key K.bytes) PREFIX_LEN store.now root key_bytes.now
+    ensures applies { IsPrefixPointIn (of_key K.bytes) P store.now key_bytes.now result }
+    ensures visits { CountsToEnd (of_key K.bytes) P store.now root key_bytes.now
         visits.old visits.new }
 {
     let end = walk_to_end_node_visiting(store, root, key_bytes, visits);

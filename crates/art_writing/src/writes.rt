@@ -102,9 +102,7 @@ pub(crate) fn place_between<K: AsBytes + Drop, V: Drop, const P: usize>(
         previous,
         next,
     };
-    let Ok(name) = store.place_leaf(leaf) else {
-        unreachable!()
-    };
+    let name = store.place_leaf(leaf).unwrap();
     set_beside(store, previous, Direction::After, Some(name));
     set_beside(store, next, Direction::Before, Some(name));
     name

@@ -1,4 +1,4 @@
 //! The words of a text, each with how often it occurs.
 
 pub mod counts;
-pub mod words;
+pub mod laws;

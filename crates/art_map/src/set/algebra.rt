@@ -1,8 +1,8 @@
 //! Union, intersection and difference of two sets. All iterators are in the order of the keys' bytes.
-ghost use Rattle.std.specs.Prelude.{◌≡◌, ℕ, cond, not, ◌&&◌, ◌||◌, List, length, drop, IfSome, ⊤};
+ghost use Rattle.std.specs.Prelude.{◌≡◌, List, length, drop, IfSome, ⊤};
 ghost use Rattle.std.specs.Iterator.{at_most};
 ghost use Rattle.std.specs.Set.{sorted_merge};
-ghost use Rattle.art_model.specs.Pairs.{IsMap, has_key};
+ghost use Rattle.art_model.specs.Pairs.{has_key};
 ghost use Rattle.art_map.specs.MapItems.{ShowsFirst};
 ghost use Rattle.art_map.specs.SetAlgebra.{IsSum, byte_order, difference, intersection, is_disjoint, is_subset, selected, symmetric_difference, union};
 
@@ -92,25 +92,6 @@ impl<K: AsBytes + Drop, const P: usize> ByteSet<K, P> {
         shared.next().is_none()
     }
 }
-
-/// The union of two sets has the keys of either, the intersection those of both, the difference those of the first that
-/// the second lacks, and the symmetric difference those of exactly one.
-pub fn keys_of_two_sets<K: AsBytes>()
-    ensures union { (keys others : List K) (key : List ℕ) →
-        has_key K.bytes key (union K.bytes keys others) ≡
-        (has_key K.bytes key keys || has_key K.bytes key others) }
-    ensures intersection { (keys others : List K) (key : List ℕ) →
-        has_key K.bytes key (intersection K.bytes keys others) ≡
-        (has_key K.bytes key keys && has_key K.bytes key others) }
-    ensures difference { (keys others : List K) (key : List ℕ) →
-        has_key K.bytes key (difference K.bytes keys others) ≡
-        (has_key K.bytes key keys && not (has_key K.bytes key others)) }
-    ensures symmetric_difference { (keys others : List K) →
-        IsMap K.bytes keys → IsMap K.bytes others → (key : List ℕ) →
-        has_key K.bytes key (symmetric_difference K.bytes keys others) ≡
-        cond (has_key K.bytes key keys) (not (has_key K.bytes key others))
-        (has_key K.bytes key others) }
-{}
 
 /// A set in which keys are looked up.
 pub trait HasKey<K> {

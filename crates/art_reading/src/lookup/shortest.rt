@@ -22,20 +22,20 @@ use art_nodes::store::NodeStore;
 /// there is none.
 ///
 /// It is a single descent along the query. It compares no prefix on the way, and one text with the query at the end.
-pub fn shortest_text_unchecked<K: AsBytes + Drop, V: Drop, const PREFIX_LEN: usize>(
-    store: &NodeStore<K, V, PREFIX_LEN>,
+pub fn shortest_text_unchecked<K: AsBytes + Drop, V: Drop, const P: usize>(
+    store: &NodeStore<K, V, P>,
     root: OpaqueNodePtr,
     query: &[u8],
     end: u8,
     at_least: usize,
 ) -> OptionalLeafPtr
-    requires root { IsCanonicalRoot (of_key K.bytes) PREFIX_LEN store.now root }
-    requires ended { ForTree (of_key K.bytes) PREFIX_LEN store.now root (λ pairs _.
+    requires root { IsCanonicalRoot (of_key K.bytes) P store.now root }
+    requires ended { ForTree (of_key K.bytes) P store.now root (λ pairs _.
         AreEnded (of_key K.bytes) end pairs) }
-    ensures leaf { ForTree (of_key K.bytes) PREFIX_LEN store.now root (λ pairs layout.
+    ensures leaf { ForTree (of_key K.bytes) P store.now root (λ pairs layout.
         FindsFirst layout (texts_from (of_key K.bytes) query.now at_least pairs) result) }
     ensures there { IfSome result (λ leaf. IsSome (map.get store.now.leaves leaf)) }
-    ensures pair { ForTree (of_key K.bytes) PREFIX_LEN store.now root (λ pairs _.
+    ensures pair { ForTree (of_key K.bytes) P store.now root (λ pairs _.
         pair_under store.now result ≡
         first_of (texts_from (of_key K.bytes) query.now at_least pairs)) }
 {
@@ -45,21 +45,21 @@ pub fn shortest_text_unchecked<K: AsBytes + Drop, V: Drop, const PREFIX_LEN: usi
 /// Returns what `shortest_text_unchecked` does, and adds one to the counter for each node that it reads: at most one
 /// for each byte of the query, and two more.
 #[inline(always)]
-pub fn shortest_text_visiting<K: AsBytes + Drop, V: Drop, const PREFIX_LEN: usize>(
-    store: &NodeStore<K, V, PREFIX_LEN>,
+pub fn shortest_text_visiting<K: AsBytes + Drop, V: Drop, const P: usize>(
+    store: &NodeStore<K, V, P>,
     root: OpaqueNodePtr,
     query: &[u8],
     end: u8,
     at_least: usize,
     visits: &mut Visits,
 ) -> OptionalLeafPtr
-    requires root { IsCanonicalRoot (of_key K.bytes) PREFIX_LEN store.now root }
-    requires ended { ForTree (of_key K.bytes) PREFIX_LEN store.now root (λ pairs _.
+    requires root { IsCanonicalRoot (of_key K.bytes) P store.now root }
+    requires ended { ForTree (of_key K.bytes) P store.now root (λ pairs _.
         AreEnded (of_key K.bytes) end pairs) }
-    ensures leaf { ForTree (of_key K.bytes) PREFIX_LEN store.now root (λ pairs layout.
+    ensures leaf { ForTree (of_key K.bytes) P store.now root (λ pairs layout.
         FindsFirst layout (texts_from (of_key K.bytes) query.now at_least pairs) result) }
     ensures there { IfSome result (λ leaf. IsSome (map.get store.now.leaves leaf)) }
-    ensures pair { ForTree (of_key K.bytes) PREFIX_LEN store.now root (λ pairs _.
+    ensures pair { ForTree (of_key K.bytes) P store.now root (λ pairs _.
         pair_under store.now result ≡
         first_of (texts_from (of_key K.bytes) query.now at_least pairs)) }
     ensures visits { visits.new ≤ visits.old + length query.now + 2 }
@@ -86,18 +86,18 @@ fn is_sought(text: &[u8], query: &[u8], at_least: usize) -> bool
 // Descends along the query to the first leaf that may be the one: its text is a prefix of all texts that are searched
 // for. Returns `None` if there is none.
 #[inline(always)]
-fn walk_to_first<K: AsBytes + Drop, V: Drop, const PREFIX_LEN: usize>(
-    store: &NodeStore<K, V, PREFIX_LEN>,
+fn walk_to_first<K: AsBytes + Drop, V: Drop, const P: usize>(
+    store: &NodeStore<K, V, P>,
     root: OpaqueNodePtr,
     query: &[u8],
     end: u8,
     at_least: usize,
     visits: &mut Visits,
 ) -> OptionalLeafPtr
-    requires root { IsCanonicalRoot (of_key K.bytes) PREFIX_LEN store.now root }
-    requires ended { ForTree (of_key K.bytes) PREFIX_LEN store.now root (λ pairs _.
+    requires root { IsCanonicalRoot (of_key K.bytes) P store.now root }
+    requires ended { ForTree (of_key K.bytes) P store.now root (λ pairs _.
         AreEnded (of_key K.bytes) end pairs) }
-    ensures ends { ForTree (of_key K.bytes) PREFIX_LEN store.now root (λ pairs layout.
+    ensures ends { ForTree (of_key K.bytes) P store.now root (λ pairs layout.
         EndsAtFirst (of_key K.bytes) query.now at_least pairs layout result) }
     ensures visits { visits.new ≤ visits.old + length query.now + 1 }
 {

@@ -19,19 +19,19 @@ use art_nodes::store::NodeStore;
 ///
 /// It descends along the query, and compares no prefix on its way. Where the text that it finds is not a
 /// prefix of the query, it descends once more, along the bytes that both share.
-pub fn longest_text_unchecked<K: AsBytes + Drop, V: Drop, const PREFIX_LEN: usize>(
-    store: &NodeStore<K, V, PREFIX_LEN>,
+pub fn longest_text_unchecked<K: AsBytes + Drop, V: Drop, const P: usize>(
+    store: &NodeStore<K, V, P>,
     root: OpaqueNodePtr,
     query: &[u8],
     end: u8,
 ) -> OptionalLeafPtr
-    requires root { IsCanonicalRoot (of_key K.bytes) PREFIX_LEN store.now root }
-    requires ended { ForTree (of_key K.bytes) PREFIX_LEN store.now root (λ pairs _.
+    requires root { IsCanonicalRoot (of_key K.bytes) P store.now root }
+    requires ended { ForTree (of_key K.bytes) P store.now root (λ pairs _.
         AreEnded (of_key K.bytes) end pairs) }
-    ensures leaf { ForTree (of_key K.bytes) PREFIX_LEN store.now root (λ pairs layout.
+    ensures leaf { ForTree (of_key K.bytes) P store.now root (λ pairs layout.
         FindsLast layout (texts_in_front (of_key K.bytes) query.now pairs) result) }
     ensures there { IfSome result (λ leaf. IsSome (map.get store.now.leaves leaf)) }
-    ensures pair { ForTree (of_key K.bytes) PREFIX_LEN store.now root (λ pairs _.
+    ensures pair { ForTree (of_key K.bytes) P store.now root (λ pairs _.
         pair_under store.now result ≡
         last_of (texts_in_front (of_key K.bytes) query.now pairs)) }
 {
@@ -41,20 +41,20 @@ pub fn longest_text_unchecked<K: AsBytes + Drop, V: Drop, const PREFIX_LEN: usiz
 /// Returns what `longest_text_unchecked` does, and adds one to the counter for each node that it reads: at
 /// most two for each byte of the query, and two more.
 #[inline(always)]
-pub fn longest_text_visiting<K: AsBytes + Drop, V: Drop, const PREFIX_LEN: usize>(
-    store: &NodeStore<K, V, PREFIX_LEN>,
+pub fn longest_text_visiting<K: AsBytes + Drop, V: Drop, const P: usize>(
+    store: &NodeStore<K, V, P>,
     root: OpaqueNodePtr,
     query: &[u8],
     end: u8,
     visits: &mut Visits,
 ) -> OptionalLeafPtr
-    requires root { IsCanonicalRoot (of_key K.bytes) PREFIX_LEN store.now root }
-    requires ended { ForTree (of_key K.bytes) PREFIX_LEN store.now root (λ pairs _.
+    requires root { IsCanonicalRoot (of_key K.bytes) P store.now root }
+    requires ended { ForTree (of_key K.bytes) P store.now root (λ pairs _.
         AreEnded (of_key K.bytes) end pairs) }
-    ensures leaf { ForTree (of_key K.bytes) PREFIX_LEN store.now root (λ pairs layout.
+    ensures leaf { ForTree (of_key K.bytes) P store.now root (λ pairs layout.
         FindsLast layout (texts_in_front (of_key K.bytes) query.now pairs) result) }
     ensures there { IfSome result (λ leaf. IsSome (map.get store.now.leaves leaf)) }
-    ensures pair { ForTree (of_key K.bytes) PREFIX_LEN store.now root (λ pairs _.
+    ensures pair { ForTree (of_key K.bytes) P store.now root (λ pairs _.
         pair_under store.now result ≡
         last_of (texts_in_front (of_key K.bytes) query.now pairs)) }
     ensures visits { visits.new ≤ visits.old + 2 * length query.now + 2 }
@@ -75,17 +75,17 @@ pub fn longest_text_visiting<K: AsBytes + Drop, V: Drop, const PREFIX_LEN: usize
 // Descends along the query to the leaf whose text starts with each text that is a prefix of the query. If
 // the query is a prefix of a stored key, the leaf's own text is a prefix of the query.
 #[inline(always)]
-fn walk_to_text<K: AsBytes + Drop, V: Drop, const PREFIX_LEN: usize>(
-    store: &NodeStore<K, V, PREFIX_LEN>,
+fn walk_to_text<K: AsBytes + Drop, V: Drop, const P: usize>(
+    store: &NodeStore<K, V, P>,
     root: OpaqueNodePtr,
     query: &[u8],
     end: u8,
     visits: &mut Visits,
 ) -> OptionalLeafPtr
-    requires root { IsCanonicalRoot (of_key K.bytes) PREFIX_LEN store.now root }
-    requires ended { ForTree (of_key K.bytes) PREFIX_LEN store.now root (λ pairs _.
+    requires root { IsCanonicalRoot (of_key K.bytes) P store.now root }
+    requires ended { ForTree (of_key K.bytes) P store.now root (λ pairs _.
         AreEnded (of_key K.bytes) end pairs) }
-    ensures ends { ForTree (of_key K.bytes) PREFIX_LEN store.now root (λ pairs layout.
+    ensures ends { ForTree (of_key K.bytes) P store.now root (λ pairs layout.
         EndsWalk (of_key K.bytes) query.now pairs layout result) }
     ensures visits { visits.new ≤ visits.old + length query.now + 1 }
 {

@@ -29,43 +29,43 @@ impl DeletePoint {
     /// It never fails and allocates nothing: a parent of 5, 17 or 49 children is replaced by a smaller node, for which
     /// the store keeps a slot. It makes a constant number of writes.
     #[inline(always)]
-    pub fn apply<K: AsBytes + Drop, V: Drop, const PREFIX_LEN: usize>(
+    pub fn apply<K: AsBytes + Drop, V: Drop, const P: usize>(
         self,
-        store: &mut NodeStore<K, V, PREFIX_LEN>,
+        store: &mut NodeStore<K, V, P>,
         root: OpaqueNodePtr,
     ) -> Result<DeleteResult<K, V>, DeleteRefused>
-        requires { IsDeletePointIn (of_key K.bytes) PREFIX_LEN store.old root self }
-        ensures canonical { ForTree (of_key K.bytes) PREFIX_LEN store.old root (λ pairs layout.
+        requires { IsDeletePointIn (of_key K.bytes) P store.old root self }
+        ensures canonical { ForTree (of_key K.bytes) P store.old root (λ pairs layout.
             IfOk result (λ done.
-            IsCanonical (of_key K.bytes) PREFIX_LEN store.new done.new_root
+            IsCanonical (of_key K.bytes) P store.new done.new_root
             (remove_key (of_key K.bytes) (K.bytes done.deleted_leaf.key) pairs))) }
         ensures left { IfOk result (λ done.
-            IfSome done.new_root (IsCanonicalRoot (of_key K.bytes) PREFIX_LEN store.new)) }
+            IfSome done.new_root (IsCanonicalRoot (of_key K.bytes) P store.new)) }
         ensures deleted { IfOk result (λ done.
             IfSome (map.get store.old.leaves self.leaf_node_ptr) (λ leaf.
             done.deleted_leaf ≡ unlinked_leaf (pair_of leaf))) }
         ensures pair { IfOk result (λ done.
             pair_at store.old (Some self) ≡ Some (pair_of done.deleted_leaf)) }
-        ensures sought { ForTree (of_key K.bytes) PREFIX_LEN store.old root (λ pairs _.
+        ensures sought { ForTree (of_key K.bytes) P store.old root (λ pairs _.
             IfOk result (λ done. (key : List ℕ) →
             pair_at store.old (Some self) ≡ remove_reply (of_key K.bytes) key pairs →
-            IsCanonical (of_key K.bytes) PREFIX_LEN store.new done.new_root
+            IsCanonical (of_key K.bytes) P store.new done.new_root
             (remove_key (of_key K.bytes) key pairs))) }
-        ensures first { ForTree (of_key K.bytes) PREFIX_LEN store.old root (λ pairs _.
+        ensures first { ForTree (of_key K.bytes) P store.old root (λ pairs _.
             IfOk result (λ done. pair_at store.old (Some self) ≡ first_of pairs →
-            IsCanonical (of_key K.bytes) PREFIX_LEN store.new done.new_root
+            IsCanonical (of_key K.bytes) P store.new done.new_root
             (without_first pairs))) }
-        ensures last { ForTree (of_key K.bytes) PREFIX_LEN store.old root (λ pairs _.
+        ensures last { ForTree (of_key K.bytes) P store.old root (λ pairs _.
             IfOk result (λ done. pair_at store.old (Some self) ≡ last_of pairs →
-            IsCanonical (of_key K.bytes) PREFIX_LEN store.new done.new_root
+            IsCanonical (of_key K.bytes) P store.new done.new_root
             (without_last pairs))) }
         ensures root { IfOk result (λ done.
             IsRootAfter (parent_change store.old self.path) self.path root done.new_root) }
-        ensures kept { ForTree (of_key K.bytes) PREFIX_LEN store.old root (λ pairs old.
+        ensures kept { ForTree (of_key K.bytes) P store.old root (λ pairs old.
             IfOk result (λ done.
-            ForRoot (of_key K.bytes) PREFIX_LEN store.new done.new_root (λ after new.
+            ForRoot (of_key K.bytes) P store.new done.new_root (λ after new.
             ChangesInPlace (of_key K.bytes) store.old store.new (Some old) new))) }
-        ensures apart { IfOk result (λ done. KeepsApart (of_key K.bytes) PREFIX_LEN
+        ensures apart { IfOk result (λ done. KeepsApart (of_key K.bytes) P
             store.old store.new (Some root) done.new_root) }
         ensures touches { OnOk result
             (TouchesFor (parent_change store.old self.path) store.old store.new) }

@@ -17,15 +17,15 @@ use art_reading::path::TreePath;
 ///
 /// It allocates nothing. It descends to the node below which these keys are, by at most one inner node for each byte of
 /// the prefix, then to the first leaf, and reads its key.
-pub fn search_for_prefix_delete_point<K: AsBytes + Drop, V: Drop, const PREFIX_LEN: usize>(
-    store: &NodeStore<K, V, PREFIX_LEN>,
+pub fn search_for_prefix_delete_point<K: AsBytes + Drop, V: Drop, const P: usize>(
+    store: &NodeStore<K, V, P>,
     root: OpaqueNodePtr,
     prefix: &[u8],
 ) -> Option<SubtreeDeletePoint>
-    requires { IsCanonicalRoot (of_key K.bytes) PREFIX_LEN store.now root }
-    ensures point { ForTree (of_key K.bytes) PREFIX_LEN store.now root (λ pairs layout.
+    requires { IsCanonicalRoot (of_key K.bytes) P store.now root }
+    ensures point { ForTree (of_key K.bytes) P store.now root (λ pairs layout.
         IsPrefixPoint (of_key K.bytes) prefix.now layout result) }
-    ensures applies { IfSome result (IsSubtreePointIn (of_key K.bytes) PREFIX_LEN store.now root) }
+    ensures applies { IfSome result (IsSubtreePointIn (of_key K.bytes) P store.now root) }
 {
     let (all, _) = points_below(store, root, prefix)?;
     Some(all)
@@ -34,17 +34,17 @@ pub fn search_for_prefix_delete_point<K: AsBytes + Drop, V: Drop, const PREFIX_L
 /// Returns the point of the first key that starts with a prefix, or `None` where no key does.
 ///
 /// It descends as `search_for_prefix_delete_point` does, at the same cost.
-pub fn search_for_first_delete_point_below<K: AsBytes + Drop, V: Drop, const PREFIX_LEN: usize>(
-    store: &NodeStore<K, V, PREFIX_LEN>,
+pub fn search_for_first_delete_point_below<K: AsBytes + Drop, V: Drop, const P: usize>(
+    store: &NodeStore<K, V, P>,
     root: OpaqueNodePtr,
     prefix: &[u8],
 ) -> Option<DeletePoint>
-    requires { IsCanonicalRoot (of_key K.bytes) PREFIX_LEN store.now root }
-    ensures point { ForTree (of_key K.bytes) PREFIX_LEN store.now root (λ pairs layout.
+    requires { IsCanonicalRoot (of_key K.bytes) P store.now root }
+    ensures point { ForTree (of_key K.bytes) P store.now root (λ pairs layout.
         IsDeletePoint layout (first_of (below (of_key K.bytes) prefix.now pairs)) result) }
-    ensures pair { ForTree (of_key K.bytes) PREFIX_LEN store.now root (λ pairs _.
+    ensures pair { ForTree (of_key K.bytes) P store.now root (λ pairs _.
         pair_at store.now result ≡ first_of (below (of_key K.bytes) prefix.now pairs)) }
-    ensures applies { IfSome result (IsDeletePointIn (of_key K.bytes) PREFIX_LEN store.now root) }
+    ensures applies { IfSome result (IsDeletePointIn (of_key K.bytes) P store.now root) }
 {
     let (_, first) = points_below(store, root, prefix)?;
     Some(first)

@@ -53,8 +53,7 @@ fn leaf_beside<K: AsBytes + Drop, V: Drop, const P: usize>(
 {
     let leaf = store.leaf_at(name);
     let beside = if after { leaf.next } else { leaf.previous };
-    let Some(beside) = beside else { unreachable!() };
-    beside
+    beside.unwrap()
 }
 
 // Prepends a prefix and a byte to the prefix of a node, if it is an inner node. The lengths have a sum, since the key

@@ -54,23 +54,23 @@ impl SubtreeDeletePoint {
     ///
     /// It never fails and allocates nothing, as `DeletePoint::apply`. It costs a step for each freed node, and a
     /// constant number of writes.
-    pub fn apply<K: AsBytes + Drop, V: Drop, const PREFIX_LEN: usize>(
+    pub fn apply<K: AsBytes + Drop, V: Drop, const P: usize>(
         self,
-        store: &mut NodeStore<K, V, PREFIX_LEN>,
+        store: &mut NodeStore<K, V, P>,
         root: OpaqueNodePtr,
     ) -> SubtreeDeleteResult
-        requires { IsSubtreePointIn (of_key K.bytes) PREFIX_LEN store.old root self }
-        ensures canonical { ForTree (of_key K.bytes) PREFIX_LEN store.old root (λ pairs layout.
+        requires { IsSubtreePointIn (of_key K.bytes) P store.old root self }
+        ensures canonical { ForTree (of_key K.bytes) P store.old root (λ pairs layout.
             (at : LeadsToNode layout self) →
-            IsCanonical (of_key K.bytes) PREFIX_LEN store.new result.new_root (pairs_beside at)) }
+            IsCanonical (of_key K.bytes) P store.new result.new_root (pairs_beside at)) }
         ensures left { IfSome result.new_root
-            (IsCanonicalRoot (of_key K.bytes) PREFIX_LEN store.new) }
-        ensures removed { ForTree (of_key K.bytes) PREFIX_LEN store.old root (λ pairs layout.
+            (IsCanonicalRoot (of_key K.bytes) P store.new) }
+        ensures removed { ForTree (of_key K.bytes) P store.old root (λ pairs layout.
             (at : LeadsToNode layout self) → result.leafs_removed ≡ length (pairs_of at.node)) }
-        ensures kept { ForTree (of_key K.bytes) PREFIX_LEN store.old root (λ pairs old.
-            ForRoot (of_key K.bytes) PREFIX_LEN store.new result.new_root (λ after new.
+        ensures kept { ForTree (of_key K.bytes) P store.old root (λ pairs old.
+            ForRoot (of_key K.bytes) P store.new result.new_root (λ after new.
             ChangesInPlace (of_key K.bytes) store.old store.new (Some old) new)) }
-        ensures apart { KeepsApart (of_key K.bytes) PREFIX_LEN
+        ensures apart { KeepsApart (of_key K.bytes) P
             store.old store.new (Some root) result.new_root }
         ensures promise { store.new.promise ≡
             promise_after (placed_for_deletion store.old self.path) store.old.promise }

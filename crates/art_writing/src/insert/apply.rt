@@ -28,31 +28,31 @@ impl InsertPoint {
     /// returns key and value, and the nodes are unchanged. All memory is allocated before the first change, and none if
     /// the key is stored. It makes a constant number of writes, and a descent to a neighbouring leaf.
     #[inline(always)]
-    pub fn apply<K: AsBytes + Drop, V: Drop, const PREFIX_LEN: usize>(
+    pub fn apply<K: AsBytes + Drop, V: Drop, const P: usize>(
         self,
-        store: &mut NodeStore<K, V, PREFIX_LEN>,
+        store: &mut NodeStore<K, V, P>,
         key: K,
         value: V,
     ) -> Result<InsertResult<K, V>, Refused<K, V>>
-        requires { IsPointIn (of_key K.bytes) PREFIX_LEN store.old (K.bytes key) self }
-        ensures canonical { ForTree (of_key K.bytes) PREFIX_LEN store.old self.root (λ pairs layout.
+        requires { IsPointIn (of_key K.bytes) P store.old (K.bytes key) self }
+        ensures canonical { ForTree (of_key K.bytes) P store.old self.root (λ pairs layout.
             IfOk result (λ done.
-            IsCanonical (of_key K.bytes) PREFIX_LEN store.new (Some done.new_root)
+            IsCanonical (of_key K.bytes) P store.new (Some done.new_root)
             (put (of_key K.bytes) (key, value) pairs))) }
         ensures root { IfOk result (λ done.
-            IsCanonicalRoot (of_key K.bytes) PREFIX_LEN store.new done.new_root) }
+            IsCanonicalRoot (of_key K.bytes) P store.new done.new_root) }
         ensures leaf { IfOk result (λ done.
-            ForTree (of_key K.bytes) PREFIX_LEN store.new done.new_root (λ pairs layout.
+            ForTree (of_key K.bytes) P store.new done.new_root (λ pairs layout.
             HasInserted layout self (stored_for (of_key K.bytes) (key, value) pairs) done)) }
-        ensures replaced { ForTree (of_key K.bytes) PREFIX_LEN store.old self.root (λ pairs layout.
+        ensures replaced { ForTree (of_key K.bytes) P store.old self.root (λ pairs layout.
             IfOk result (λ done.
             done.existing_leaf ≡
             option_map unlinked_leaf (put_reply (of_key K.bytes) (key, value) pairs))) }
-        ensures kept { ForTree (of_key K.bytes) PREFIX_LEN store.old self.root (λ pairs old.
+        ensures kept { ForTree (of_key K.bytes) P store.old self.root (λ pairs old.
             IfOk result (λ done.
-            ForTree (of_key K.bytes) PREFIX_LEN store.new done.new_root (λ after new.
+            ForTree (of_key K.bytes) P store.new done.new_root (λ after new.
             ChangesInPlace (of_key K.bytes) store.old store.new (Some old) (Some new)))) }
-        ensures apart { IfOk result (λ done. KeepsApart (of_key K.bytes) PREFIX_LEN
+        ensures apart { IfOk result (λ done. KeepsApart (of_key K.bytes) P
             store.old store.new (Some self.root) (Some done.new_root)) }
         ensures touches { OnOk result (Touches self.insert_kind store.old store.new) }
         ensures promise { OnOk result (store.new.promise ≡
@@ -112,36 +112,36 @@ impl PrefixInsertPoint {
     /// It returns what `apply` of an `InsertPoint` does and how many leaves were freed, and fails as that does. All
     /// memory is allocated before the first change, and none if the pair replaces exactly one other.
     #[inline(always)]
-    pub fn apply<K: AsBytes + Drop, V: Drop, const PREFIX_LEN: usize>(
+    pub fn apply<K: AsBytes + Drop, V: Drop, const P: usize>(
         self,
-        store: &mut NodeStore<K, V, PREFIX_LEN>,
+        store: &mut NodeStore<K, V, P>,
         key: K,
         value: V,
     ) -> Result<PrefixInsertResult<K, V>, Refused<K, V>>
-        requires { IsPrefixPointIn (of_key K.bytes) PREFIX_LEN store.old (K.bytes key) self }
-        ensures canonical { ForTree (of_key K.bytes) PREFIX_LEN store.old (root_of self)
+        requires { IsPrefixPointIn (of_key K.bytes) P store.old (K.bytes key) self }
+        ensures canonical { ForTree (of_key K.bytes) P store.old (root_of self)
             (λ pairs layout. IfOk result (λ done.
-            IsCanonical (of_key K.bytes) PREFIX_LEN store.new (Some done.insert_result.new_root)
+            IsCanonical (of_key K.bytes) P store.new (Some done.insert_result.new_root)
             (overwrite (of_key K.bytes) (key, value) pairs))) }
         ensures root { IfOk result (λ done.
-            IsCanonicalRoot (of_key K.bytes) PREFIX_LEN store.new done.insert_result.new_root) }
-        ensures leaf { IfOk result (λ done. ForTree (of_key K.bytes) PREFIX_LEN store.new
+            IsCanonicalRoot (of_key K.bytes) P store.new done.insert_result.new_root) }
+        ensures leaf { IfOk result (λ done. ForTree (of_key K.bytes) P store.new
             done.insert_result.new_root (λ pairs layout.
             HasCome (of_key K.bytes) pairs layout self (key, value) done.insert_result)) }
-        ensures replaced { ForTree (of_key K.bytes) PREFIX_LEN store.old (root_of self)
+        ensures replaced { ForTree (of_key K.bytes) P store.old (root_of self)
             (λ pairs layout. IfOk result (λ done.
             done.insert_result.existing_leaf ≡
             option_map unlinked_leaf (overwrite_reply (of_key K.bytes) (key, value) pairs).0)) }
-        ensures removed { ForTree (of_key K.bytes) PREFIX_LEN store.old (root_of self)
+        ensures removed { ForTree (of_key K.bytes) P store.old (root_of self)
             (λ pairs layout. IfOk result (λ done.
             done.leafs_removed ≡ (overwrite_reply (of_key K.bytes) (key, value) pairs).1)) }
-        ensures kept { ForTree (of_key K.bytes) PREFIX_LEN store.old (root_of self) (λ pairs old.
+        ensures kept { ForTree (of_key K.bytes) P store.old (root_of self) (λ pairs old.
             IfOk result (λ done.
-            ForTree (of_key K.bytes) PREFIX_LEN store.new done.insert_result.new_root (λ after new.
+            ForTree (of_key K.bytes) P store.new done.insert_result.new_root (λ after new.
             ChangesInPlace (of_key K.bytes) store.old store.new (Some old) (Some new)))) }
-        ensures apart { IfOk result (λ done. KeepsApart (of_key K.bytes) PREFIX_LEN
+        ensures apart { IfOk result (λ done. KeepsApart (of_key K.bytes) P
             store.old store.new (Some (root_of self)) (Some done.insert_result.new_root)) }
-        ensures touches { ForTree (of_key K.bytes) PREFIX_LEN store.old (root_of self)
+        ensures touches { ForTree (of_key K.bytes) P store.old (root_of self)
             (λ pairs layout. OnOk result
             (TouchesForPrefix self (of_key K.bytes) (K.bytes key) store.old store.new layout)) }
         ensures promise { OnOk result (store.new.promise ≡
@@ -189,36 +189,36 @@ impl OverwritePoint {
     ///
     /// It returns what `apply` of an `InsertPoint` does and how many leaves were freed, and fails as that does. All
     /// memory is allocated before the first change, and none if the end node is a leaf.
-    pub fn apply<K: AsBytes + Drop, V: Drop, const PREFIX_LEN: usize>(
+    pub fn apply<K: AsBytes + Drop, V: Drop, const P: usize>(
         self,
-        store: &mut NodeStore<K, V, PREFIX_LEN>,
+        store: &mut NodeStore<K, V, P>,
         key: K,
         value: V,
     ) -> Result<PrefixInsertResult<K, V>, Refused<K, V>>
-        requires { IsOverwritePointIn (of_key K.bytes) PREFIX_LEN store.old (K.bytes key) self }
-        ensures canonical { ForTree (of_key K.bytes) PREFIX_LEN store.old self.root (λ pairs layout.
+        requires { IsOverwritePointIn (of_key K.bytes) P store.old (K.bytes key) self }
+        ensures canonical { ForTree (of_key K.bytes) P store.old self.root (λ pairs layout.
             IfOk result (λ done.
-            IsCanonical (of_key K.bytes) PREFIX_LEN store.new (Some done.insert_result.new_root)
+            IsCanonical (of_key K.bytes) P store.new (Some done.insert_result.new_root)
             (overwrite (of_key K.bytes) (key, value) pairs))) }
         ensures root { IfOk result (λ done.
-            IsCanonicalRoot (of_key K.bytes) PREFIX_LEN store.new done.insert_result.new_root) }
-        ensures leaf { IfOk result (λ done. ForTree (of_key K.bytes) PREFIX_LEN store.new
+            IsCanonicalRoot (of_key K.bytes) P store.new done.insert_result.new_root) }
+        ensures leaf { IfOk result (λ done. ForTree (of_key K.bytes) P store.new
             done.insert_result.new_root (λ pairs layout.
             HasOverwritten layout self (key, value) done.insert_result)) }
-        ensures replaced { ForTree (of_key K.bytes) PREFIX_LEN store.old self.root (λ pairs layout.
+        ensures replaced { ForTree (of_key K.bytes) P store.old self.root (λ pairs layout.
             IfOk result (λ done.
             done.insert_result.existing_leaf ≡
             option_map unlinked_leaf (overwrite_reply (of_key K.bytes) (key, value) pairs).0)) }
-        ensures removed { ForTree (of_key K.bytes) PREFIX_LEN store.old self.root (λ pairs layout.
+        ensures removed { ForTree (of_key K.bytes) P store.old self.root (λ pairs layout.
             IfOk result (λ done.
             done.leafs_removed ≡ (overwrite_reply (of_key K.bytes) (key, value) pairs).1)) }
-        ensures kept { ForTree (of_key K.bytes) PREFIX_LEN store.old self.root (λ pairs old.
+        ensures kept { ForTree (of_key K.bytes) P store.old self.root (λ pairs old.
             IfOk result (λ done.
-            ForTree (of_key K.bytes) PREFIX_LEN store.new done.insert_result.new_root (λ after new.
+            ForTree (of_key K.bytes) P store.new done.insert_result.new_root (λ after new.
             ChangesInPlace (of_key K.bytes) store.old store.new (Some old) (Some new)))) }
-        ensures apart { IfOk result (λ done. KeepsApart (of_key K.bytes) PREFIX_LEN
+        ensures apart { IfOk result (λ done. KeepsApart (of_key K.bytes) P
             store.old store.new (Some self.root) (Some done.insert_result.new_root)) }
-        ensures touches { ForTree (of_key K.bytes) PREFIX_LEN store.old self.root (λ pairs layout.
+        ensures touches { ForTree (of_key K.bytes) P store.old self.root (λ pairs layout.
             OnOk result (TouchesForNode self.overwrite_point.kind
             (of_key K.bytes) (K.bytes key) store.old store.new layout)) }
         ensures promise { OnOk result (store.new.promise ≡

@@ -16,16 +16,16 @@ use art_nodes::store::NodeStore;
 ///
 /// Fails if an allocation fails, which can't happen where the store's promise covers a leaf. The error returns key and
 /// value, and the store is unchanged.
-pub fn plant<K: AsBytes + Drop, V: Drop, const PREFIX_LEN: usize>(
-    store: &mut NodeStore<K, V, PREFIX_LEN>,
+pub fn plant<K: AsBytes + Drop, V: Drop, const P: usize>(
+    store: &mut NodeStore<K, V, P>,
     key: K,
     value: V,
 ) -> Result<LeafPtr, Refused<K, V>>
-    ensures canonical { IfOk result (λ name. IsCanonical (of_key K.bytes) PREFIX_LEN store.new
+    ensures canonical { IfOk result (λ name. IsCanonical (of_key K.bytes) P store.new
         (Some (leaf_name name)) ((key, value) ∷ [])) }
     ensures root { IfOk result (λ name.
-        IsCanonicalRoot (of_key K.bytes) PREFIX_LEN store.new (leaf_name name)) }
-    ensures apart { IfOk result (λ name. KeepsApart (of_key K.bytes) PREFIX_LEN
+        IsCanonicalRoot (of_key K.bytes) P store.new (leaf_name name)) }
+    ensures apart { IfOk result (λ name. KeepsApart (of_key K.bytes) P
         store.old store.new None (Some (leaf_name name))) }
     ensures planted { IfOk result (λ name. IsPlanted store.old store.new name (key, value)) }
     ensures handed_back { IfErr result (λ refused.

@@ -3,7 +3,7 @@ ghost use Rattle.std.specs.Prelude.{◌≡◌, ℕ, ◌++◌, ◌∷◌, [], Lis
 ghost use Rattle.std.specs.Io.Buffered.{writer_buffer, writer_contents};
 ghost use Rattle.std.specs.Io.KnownBytes.{Appends};
 ghost use Rattle.art_operations.specs.Ended.{HasNoZero};
-ghost use Rattle.text_programs.specs.Counts.{AppendsCounts, CountIsOne, HasTimes, IsCountOf, line_of};
+ghost use Rattle.text_programs.specs.Counts.{AppendsCounts, HasTimes, IsCountOf, line_of};
 ghost use Rattle.text_programs.specs.Words.{is_gap, words};
 
 use art_operations::keys::{EndError, Terminated};
@@ -149,8 +149,3 @@ fn write_count<W: Write>(output: &mut W, word: &[u8], count: u64) -> io::Result<
     output.write_all(word)?;
     output.write_all(b"\n")
 }
-
-/// A list of words has one count, so what is written of a text is determined.
-pub fn a_list_of_words_has_one_count()
-    ensures { CountIsOne }
-{}

@@ -9,8 +9,8 @@ use Rattle.art_reading.proofs.descent.walk_below_visiting.Given as goal
 abbrev pub invariant-down : goal.invariant-down
 invariant-down g l = record {
   within : l.depth ≤ length l.prefix;
-  readings : CountsReadings l.fn.visits l.visits (λ number. ForTree (of_key g.K.AsBytes.bytes) g.row.PREFIX_LEN l.store l.fn.root
-      (λ pairs layout. IsReadBelow (of_key g.K.AsBytes.bytes) g.row.PREFIX_LEN l.store l.fn.root l.prefix layout (path_after l.steps) l.name l.depth number));
+  readings : CountsReadings l.fn.visits l.visits (λ number. ForTree (of_key g.K.AsBytes.bytes) g.row.P l.store l.fn.root
+      (λ pairs layout. IsReadBelow (of_key g.K.AsBytes.bytes) g.row.P l.store l.fn.root l.prefix layout (path_after l.steps) l.name l.depth number));
 }
 
 abbrev pub decreases-down : goal.decreases-down

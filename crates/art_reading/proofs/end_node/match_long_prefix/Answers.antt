@@ -5,7 +5,7 @@ use Rattle.std.proofs.lemmas.List.{take_rest}
 use Rattle.art_reading.specs.Readings.{levels}
 use Rattle.art_reading.proofs.Prefixes.{is_full, long_enough, matches_read, parts_read}
 use Rattle.art_reading.proofs.EndNodes.{inside, part_there}
-use Rattle.art_reading.proofs.Guides.{guide_is, guide_not_gone}
+use Rattle.art_reading.proofs.Guides.{guide_is, guide_there}
 use Rattle.art_reading.proofs.end_node.match_long_prefix.Goals as goal
 
 pub guide_from-read_from-requires : goal.guide_from-read_from-requires
@@ -15,22 +15,22 @@ guide_from-read_from-requires g c =
       (
         c.requires.root,
         (
-          λ pairs layout by. (path, subst (λ n. IsAt (of_key g.K.AsBytes.bytes) g.row.PREFIX_LEN c.args.key_bytes.now layout path n c.args.depth) (sym c.to_opaque-opaque.ensures) (at pairs layout by)),
+          λ pairs layout by. (path, subst (λ n. IsAt (of_key g.K.AsBytes.bytes) g.row.P c.args.key_bytes.now layout path n c.args.depth) (sym c.to_opaque-opaque.ensures) (at pairs layout by)),
           c.requires.guide,
         ),
       ),
     )
 
-pub unreachable-requires : goal.unreachable-requires
-unreachable-requires g c =
+pub leaf_at-leaf-requires : goal.leaf_at-leaf-requires
+leaf_at-leaf-requires g c =
     let (pairs, layout, by) = c.requires.root in
-    guide_not_gone by (c.guide_from-read_from.ensures.guide pairs layout by) c.in_default.ensures
+    (search rules, guide_there by (c.guide_from-read_from.ensures.guide pairs layout by))
 
 pub overflow_add-prefix : goal.overflow_add-prefix
 overflow_add-prefix g c =
     let (pairs, layout, by) = c.requires.root in
     let at = c.requires.at.1 pairs layout by in
-    let long = long_enough (part_there by at refl) c.requires.inner c.requires.node c.in-Some.leaf.now (guide_is by (c.guide_from-read_from.ensures.guide pairs layout by) at c.in-Some.ensures) in
+    let long = long_enough (part_there by at refl) c.requires.inner c.requires.node c.leaf_at-leaf.result.now (guide_is by (c.guide_from-read_from.ensures.guide pairs layout by) at (sym c.leaf_at-leaf.ensures)) in
     let t = ap length c.as_bytes.ensures in
     omega (arith, c.prefix_len-len.ensures, c.as_bytes.type_inv)
 
@@ -38,7 +38,7 @@ pub slice_bounds-prefix-end : goal.slice_bounds-prefix-end
 slice_bounds-prefix-end g c =
     let (pairs, layout, by) = c.requires.root in
     let at = c.requires.at.1 pairs layout by in
-    let long = long_enough (part_there by at refl) c.requires.inner c.requires.node c.in-Some.leaf.now (guide_is by (c.guide_from-read_from.ensures.guide pairs layout by) at c.in-Some.ensures) in
+    let long = long_enough (part_there by at refl) c.requires.inner c.requires.node c.leaf_at-leaf.result.now (guide_is by (c.guide_from-read_from.ensures.guide pairs layout by) at (sym c.leaf_at-leaf.ensures)) in
     let t = ap length c.as_bytes.ensures in
     let fits : c.args.depth + c.prefix_len-len.result ≤ length c.as_bytes.result.now = omega (arith, c.prefix_len-len.ensures) in
     fits
@@ -51,12 +51,12 @@ first_below_visiting-more-requires g c =
 
 pub returns-in-Ok-clause-compared : goal.returns-in-Ok-clause-compared
 returns-in-Ok-clause-compared g c path pairs layout by at =
-    matches_read (part_there by at refl) c.requires.inner c.requires.node c.in-Some.leaf.now (guide_is by (c.guide_from-read_from.ensures.guide pairs layout by) at c.in-Some.ensures)
+    matches_read (part_there by at refl) c.requires.inner c.requires.node c.leaf_at-leaf.result.now (guide_is by (c.guide_from-read_from.ensures.guide pairs layout by) at (sym c.leaf_at-leaf.ensures))
     c.args.key_bytes.now refl c.prefix_len-len.ensures c.as_bytes.ensures refl (take_rest c.args.key_bytes.now c.args.depth) c.in-Ok.ensures.len c.in-Ok.ensures.front
 
 pub returns-in-Err-clause-compared : goal.returns-in-Err-clause-compared
 returns-in-Err-clause-compared g c path pairs layout by at =
-    parts_read (part_there by at refl) c.requires.inner c.requires.node c.in-Some.leaf.now (guide_is by (c.guide_from-read_from.ensures.guide pairs layout by) at c.in-Some.ensures)
+    parts_read (part_there by at refl) c.requires.inner c.requires.node c.leaf_at-leaf.result.now (guide_is by (c.guide_from-read_from.ensures.guide pairs layout by) at (sym c.leaf_at-leaf.ensures))
     c.args.key_bytes.now refl c.prefix_len-len.ensures c.as_bytes.ensures refl (take_rest c.args.key_bytes.now c.args.depth)
     (let long = c.requires.long in let l = c.prefix_len-len.ensures in omega arith) c.in-Err.ensures.shared c.in-Err.ensures.byte refl
     (c.first_below_visiting-more.ensures.leaf at.node (is_full (part_there by at refl) c.requires.inner c.to_opaque-opaque.ensures))

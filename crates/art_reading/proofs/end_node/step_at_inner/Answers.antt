@@ -1,20 +1,20 @@
-use Rattle.std.proofs.Common.{◌+◌, ap, refl, arith}
+use Rattle.std.proofs.Common.{rules, ◌+◌, ap, refl, sym, arith}
 use Rattle.art_reading.proofs.EndNodes.{prefix_fits, mismatch_fits, inner_there, shown_there, prefix_step, mismatch_step}
 use Rattle.art_reading.proofs.Counts.{count_both}
 use Rattle.art_reading.proofs.Levels.{end_costs, lower, past_costs, stored_at}
 use Rattle.art_reading.proofs.end_node.step_at_inner.Goals as goal
 
-pub unreachable-requires : goal.unreachable-requires
-unreachable-requires g c =
+pub inner_at-node-requires : goal.inner_at-node-requires
+inner_at-node-requires g c =
     let (pairs, layout, by) = c.requires.root in
-    inner_there by (c.requires.at.1 pairs layout by) c.requires.inner refl c.in_default.ensures.view
+    (search rules, (search rules, inner_there by (c.requires.at.1 pairs layout by) c.requires.inner refl))
 
 pub overflow_add-depth : goal.overflow_add-depth
 overflow_add-depth g c = let inside = prefix_fits c.requires.root c.requires.at.1 (c.in-Ok.ensures.compared c.requires.at.0) in omega arith
 
 pub returns-in-Ok-clause-step : goal.returns-in-Ok-clause-step
 returns-in-Ok-clause-step g c path pairs layout by d =
-    prefix_step by d (shown_there by d c.requires.inner refl c.in-Some.ensures.view) (c.in-Ok.ensures.compared path pairs layout by d)
+    prefix_step by d (shown_there by d c.requires.inner refl (sym c.inner_at-node.ensures.view)) (c.in-Ok.ensures.compared path pairs layout by d)
     c.step_past_prefix.ensures.ends c.step_past_prefix.ensures.into c.step_past_prefix.ensures.down
 
 pub end_in_prefix-requires : goal.end_in_prefix-requires
@@ -22,7 +22,7 @@ end_in_prefix-requires g c = let inside = mismatch_fits c.requires.root c.requir
 
 pub returns-in-Err-clause-step : goal.returns-in-Err-clause-step
 returns-in-Err-clause-step g c path pairs layout by d =
-    mismatch_step by d (shown_there by d c.requires.inner refl c.in-Some.ensures.view) (c.in-Err.ensures.compared path pairs layout by d)
+    mismatch_step by d (shown_there by d c.requires.inner refl (sym c.inner_at-node.ensures.view)) (c.in-Err.ensures.compared path pairs layout by d)
     c.end_in_prefix.ensures.ends c.end_in_prefix.ensures.parts
 
 pub returns-in-Ok-clause-visits : goal.returns-in-Ok-clause-visits
@@ -37,9 +37,9 @@ returns-in-Ok-clause-visits g c =
       is_number = record {
         at_least = omega arith;
         at_most = past_costs c.args.store.now c.args.root _ _ _ (1 + match.number) c.args.key_bytes.now _ _
-            (λ to there. lower by d.frames d.node d.whole d.named _ d.radix _ _ (shown_there by d c.requires.inner refl c.in-Some.ensures.view) _ to there)
+            (λ to there. lower by d.frames d.node d.whole d.named _ d.radix _ _ (shown_there by d c.requires.inner refl (sym c.inner_at-node.ensures.view)) _ to there)
             (omega arith) c.step_past_prefix.ensures.ends c.step_past_prefix.ensures.into c.step_past_prefix.ensures.down;
-        if_whole = λ pairs layout by whole. ap (λ n. 1 + n) (match.is_number.1 (stored_at by (c.requires.at.1 pairs layout by) c.requires.inner c.in-Some.ensures.view whole));
+        if_whole = λ pairs layout by whole. ap (λ n. 1 + n) (match.is_number.1 (stored_at by (c.requires.at.1 pairs layout by) c.requires.inner (sym c.inner_at-node.ensures.view) whole));
       };
     }
 
@@ -53,6 +53,6 @@ returns-in-Err-clause-visits g c =
       is_number = record {
         at_least = omega arith;
         at_most = end_costs c.args.store.now c.args.root _ _ _ (1 + match.number) c.args.key_bytes.now _ c.end_in_prefix.ensures.ends c.end_in_prefix.ensures.parts (omega arith) (omega arith);
-        if_whole = λ pairs layout by whole. ap (λ n. 1 + n) (match.is_number.1 (stored_at by (c.requires.at.1 pairs layout by) c.requires.inner c.in-Some.ensures.view whole));
+        if_whole = λ pairs layout by whole. ap (λ n. 1 + n) (match.is_number.1 (stored_at by (c.requires.at.1 pairs layout by) c.requires.inner (sym c.inner_at-node.ensures.view) whole));
       };
     }

@@ -9,10 +9,10 @@ use Rattle.art_reading.proofs.end_node.walk_to_end_node_visiting.Given as goal
 
 abbrev pub invariant-down : goal.invariant-down
 invariant-down g l = record {
-  guide : ForTree (of_key g.K.AsBytes.bytes) g.row.PREFIX_LEN l.store l.fn.root
+  guide : ForTree (of_key g.K.AsBytes.bytes) g.row.P l.store l.fn.root
       (λ pairs layout. MayGuide (of_key g.K.AsBytes.bytes) l.key_bytes layout l.guide);
   readings : CountsReadings l.fn.visits l.visits
-      (λ number. IsUnderWay (of_key g.K.AsBytes.bytes) g.row.PREFIX_LEN l.store l.fn.root l.key_bytes (path_after l.steps) l.name l.depth l.guide number);
+      (λ number. IsUnderWay (of_key g.K.AsBytes.bytes) g.row.P l.store l.fn.root l.key_bytes (path_after l.steps) l.name l.depth l.guide number);
 }
 
 abbrev pub decreases-down : goal.decreases-down

@@ -1,8 +1,9 @@
-use Rattle.std.proofs.Common.{arith, sym, ◌∙◌}
+use Rattle.std.proofs.Common.{arith, rules, sym, ◌∙◌}
 use Rattle.art_model.proofs.stores.Shown.{inner_met, leaf_named, shown_met}
 use Rattle.art_reading.proofs.EndNodes.{inside}
 use Rattle.art_reading.proofs.Guides.{by_places, by_there, gap_ends, goes_below, leaf_ends, short_ends}
 use Rattle.art_reading.proofs.Levels.{lower, under_root}
+use Rattle.art_reading.proofs.Parts.{some_there}
 use Rattle.art_reading.proofs.guide.walk_by_places.Goals as goal
 
 pub down-init : goal.down-init
@@ -23,21 +24,22 @@ returns-in_default-clause-all g c pairs layout by =
     let (x, is) = leaf_named c.args.store.now c.in_default.field-0 way.node (there.named ∙ sym c.in_default.ensures.name) there.holds in
     leaf_ends way _ x is
 
-pub unreachable-requires : goal.unreachable-requires
-unreachable-requires g c =
+pub inner_at-node-requires : goal.inner_at-node-requires
+inner_at-node-requires g c =
     let (pairs, layout, by) = c.requires.root in
-    inner_met (by_there by (c.down.invariant.way pairs layout by)) c.in-Inner.ensures.proper c.in-Inner.ensures.name c.in_default-inner.ensures.view
+    let there = by_there by (c.down.invariant.way pairs layout by) in
+    (search rules, (search rules, some_there _ (inner_met there c.in-Inner.ensures.proper c.in-Inner.ensures.name)))
 
 pub returns-then-prefix_len-key_bytes-clause-all : goal.returns-then-prefix_len-key_bytes-clause-all
 returns-then-prefix_len-key_bytes-clause-all g c pairs layout by =
     let way = c.down.invariant.way pairs layout by in
-    let at = shown_met (by_there by way) c.in-Inner.ensures.proper c.in-Inner.ensures.name c.in-Some.ensures.view in
+    let at = shown_met (by_there by way) c.in-Inner.ensures.proper c.in-Inner.ensures.name (sym c.inner_at-node.ensures.view) in
     short_ends way at c.prefix_len-prefix_len.ensures (omega arith)
 
 pub returns-in_default-lookup_child-clause-all : goal.returns-in_default-lookup_child-clause-all
 returns-in_default-lookup_child-clause-all g c pairs layout by =
     let way = c.down.invariant.way pairs layout by in
-    let at = shown_met (by_there by way) c.in-Inner.ensures.proper c.in-Inner.ensures.name c.in-Some.ensures.view in
+    let at = shown_met (by_there by way) c.in-Inner.ensures.proper c.in-Inner.ensures.name (sym c.inner_at-node.ensures.view) in
     gap_ends way at c.prefix_len-prefix_len.ensures (sym c.lookup_child.ensures ∙ c.in_default-lookup_child.is)
 
 pub down-preserved : goal.down-preserved
@@ -45,12 +47,12 @@ down-preserved g c = record {
   few =
       let (pairs, layout, by) = c.requires.root in
       let way = c.down.invariant.way pairs layout by in
-      let at = shown_met (by_there by way) c.in-Inner.ensures.proper c.in-Inner.ensures.name c.in-Some.ensures.view in
-      let less = lower by way.path way.node way.whole way.named _ way.radix _ _ at _ _ (sym c.lookup_child.ensures ∙ c.in-Some-lookup_child.is) in
+      let at = shown_met (by_there by way) c.in-Inner.ensures.proper c.in-Inner.ensures.name (sym c.inner_at-node.ensures.view) in
+      let less = lower by way.path way.node way.whole way.named _ way.radix _ _ at _ _ (sym c.lookup_child.ensures ∙ c.in-Some.is) in
       omega arith;
   within = omega arith;
   way = λ pairs layout by.
       let way = c.down.invariant.way pairs layout by in
-      let at = shown_met (by_there by way) c.in-Inner.ensures.proper c.in-Inner.ensures.name c.in-Some.ensures.view in
-      goes_below way at c.prefix_len-prefix_len.ensures (sym c.lookup_child.ensures ∙ c.in-Some-lookup_child.is);
+      let at = shown_met (by_there by way) c.in-Inner.ensures.proper c.in-Inner.ensures.name (sym c.inner_at-node.ensures.view) in
+      goes_below way at c.prefix_len-prefix_len.ensures (sym c.lookup_child.ensures ∙ c.in-Some.is);
 }

@@ -9,8 +9,8 @@ abbrev pub invariant-down : goal.invariant-down
 invariant-down g l = record {
   few : l.visits + levels l.store l.name ≤ l.fn.visits + levels l.store l.fn.root;
   within : l.depth ≤ length l.key_bytes;
-  way : ForTree (of_key g.K.AsBytes.bytes) g.row.PREFIX_LEN l.store l.fn.root
-      (λ pairs layout. IsByPlaces (of_key g.K.AsBytes.bytes) g.row.PREFIX_LEN l.key_bytes layout l.name l.depth);
+  way : ForTree (of_key g.K.AsBytes.bytes) g.row.P l.store l.fn.root
+      (λ pairs layout. IsByPlaces (of_key g.K.AsBytes.bytes) g.row.P l.key_bytes layout l.name l.depth);
 }
 
 abbrev pub decreases-down : goal.decreases-down

@@ -10,7 +10,7 @@ returns-in_err-last-clause-leaf g c pairs layout by = rw c.from_residual.ensures
 
 pub returns-in_err-last-clause-pair : goal.returns-in_err-last-clause-pair
 returns-in_err-last-clause-pair g c pairs layout by =
-    rw c.from_residual.ensures (pair_found (of_key g.K.AsBytes.bytes) g.row.PREFIX_LEN by None _ (c.in_err-last.ensures.leaf pairs layout by))
+    rw c.from_residual.ensures (pair_found (of_key g.K.AsBytes.bytes) g.row.P by None _ (c.in_err-last.ensures.leaf pairs layout by))
 
 pub returns-clause-leaf : goal.returns-clause-leaf
 returns-clause-leaf g c pairs layout by = let found = c.in_ok-last.ensures.leaf pairs layout by in (pair_of c.in_ok-last.last.node.now, found.only, found.is_leaf)
@@ -18,9 +18,9 @@ returns-clause-leaf g c pairs layout by = let found = c.in_ok-last.ensures.leaf 
 pub returns-clause-there : goal.returns-clause-there
 returns-clause-there g c =
     let (pairs, layout, by) = c.requires.root in
-    found_is_there (of_key g.K.AsBytes.bytes) g.row.PREFIX_LEN by (Some c.in_ok-last.last.name) _ (returns-clause-leaf g c pairs layout by)
+    found_is_there (of_key g.K.AsBytes.bytes) g.row.P by (Some c.in_ok-last.last.name) _ (returns-clause-leaf g c pairs layout by)
 
 pub returns-clause-pair : goal.returns-clause-pair
 returns-clause-pair g c pairs layout by =
-    pair_found (of_key g.K.AsBytes.bytes) g.row.PREFIX_LEN by (Some c.in_ok-last.last.name)
+    pair_found (of_key g.K.AsBytes.bytes) g.row.P by (Some c.in_ok-last.last.name)
     (asked_of c.args.asked (of_key g.K.AsBytes.bytes) (g.Q.KeyQuery.key c.args.query) pairs) (returns-clause-leaf g c pairs layout by)

@@ -3,7 +3,7 @@ use Rattle.art_reading.specs.PartEnds.{is_before_cut}
 use Rattle.art_reading.proofs.Counts.{count_both}
 use Rattle.art_reading.proofs.Cuts.{all_on_side, from_first, from_last, side}
 use Rattle.art_reading.proofs.Levels.{root_levels}
-use Rattle.art_reading.proofs.Parts.{first_is, first_not_gone, leaf_not_gone, node_full, node_holds}
+use Rattle.art_reading.proofs.Parts.{first_is, first_there, leaf_is_there, node_full, node_holds}
 use Rattle.art_reading.proofs.range.leaf_at_cut.Goals as goal
 
 pub walk_to_end_visiting-requires : goal.walk_to_end_visiting-requires
@@ -12,19 +12,19 @@ walk_to_end_visiting-requires g c =
     let b = c.walk_beside-name.ensures.beside pairs layout by in
     (search rules, (b.at.node, node_full by b.at))
 
-pub unreachable-requires : goal.unreachable-requires
-unreachable-requires g c =
+pub leaf_at-leaf-requires : goal.leaf_at-leaf-requires
+leaf_at-leaf-requires g c =
     let (pairs, layout, by) = c.requires in
     let b = c.walk_beside-name.ensures.beside pairs layout by in
-    first_not_gone by b.at ((c.walk_to_end_visiting.ensures.leads b.at.node (node_full by b.at)).0) c.in_default.ensures
+    (search rules, first_there by b.at ((c.walk_to_end_visiting.ensures.leads b.at.node (node_full by b.at)).0))
 
 pub returns-then-not-is_after-clause-leaf : goal.returns-then-not-is_after-clause-leaf
 returns-then-not-is_after-clause-leaf g c pairs layout by =
     let b = c.walk_beside-name.ensures.beside pairs layout by in
     let first = (c.walk_to_end_visiting.ensures.leads b.at.node (node_full by b.at)).0 in
-    let told = first_is by b.at first (λ x. is_before_cut c.args.cut c.args.key_bytes.now (g.K.AsBytes.bytes x.0) ≡ side by b c.args.cut) (all_on_side by b c.args.cut) _ c.in-Some.ensures in
+    let told = first_is by b.at first (λ x. is_before_cut c.args.cut c.args.key_bytes.now (g.K.AsBytes.bytes x.0) ≡ side by b c.args.cut) (all_on_side by b c.args.cut) _ (sym c.leaf_at-leaf.ensures) in
     from_first by b c.args.cut (sym told ∙ ap (is_before_cut c.args.cut c.args.key_bytes.now) (sym c.as_bytes.ensures) ∙ sym c.is_after.ensures ∙ c.if-not-is_after.true)
-    first c.in-Some.ensures c.args.end c.of.ensures
+    first (sym c.leaf_at-leaf.ensures) c.args.end c.of.ensures
 
 pub walk_to_end_visiting-requires-2 : goal.walk_to_end_visiting-requires-2
 walk_to_end_visiting-requires-2 g c =
@@ -32,19 +32,19 @@ walk_to_end_visiting-requires-2 g c =
     let b = c.walk_beside-name.ensures.beside pairs layout by in
     (search rules, (b.at.node, node_full by b.at))
 
-pub unreachable-requires-in_default-leaf : goal.unreachable-requires-in_default-leaf
-unreachable-requires-in_default-leaf g c =
+pub leaf_at-leaf-requires-2 : goal.leaf_at-leaf-requires-2
+leaf_at-leaf-requires-2 g c =
     let (pairs, layout, by) = c.requires in
     let b = c.walk_beside-name.ensures.beside pairs layout by in
-    leaf_not_gone c.args.store.now (node_holds by b.at) ((c.walk_to_end_visiting-2.ensures.leads b.at.node (node_full by b.at)).0).has c.in_default-leaf.ensures
+    (search rules, leaf_is_there c.args.store.now (node_holds by b.at) ((c.walk_to_end_visiting-2.ensures.leads b.at.node (node_full by b.at)).0).has)
 
 pub returns-clause-leaf : goal.returns-clause-leaf
 returns-clause-leaf g c pairs layout by =
     let b = c.walk_beside-name.ensures.beside pairs layout by in
     let first = (c.walk_to_end_visiting.ensures.leads b.at.node (node_full by b.at)).0 in
-    let told = first_is by b.at first (λ x. is_before_cut c.args.cut c.args.key_bytes.now (g.K.AsBytes.bytes x.0) ≡ side by b c.args.cut) (all_on_side by b c.args.cut) _ c.in-Some.ensures in
+    let told = first_is by b.at first (λ x. is_before_cut c.args.cut c.args.key_bytes.now (g.K.AsBytes.bytes x.0) ≡ side by b c.args.cut) (all_on_side by b c.args.cut) _ (sym c.leaf_at-leaf.ensures) in
     from_last by b c.args.cut (sym told ∙ ap (is_before_cut c.args.cut c.args.key_bytes.now) (sym c.as_bytes.ensures) ∙ sym c.is_after.ensures ∙ c.if-not-is_after.false)
-    ((c.walk_to_end_visiting-2.ensures.leads b.at.node (node_full by b.at)).0) c.in-Some-leaf.ensures c.args.end c.of-2.ensures
+    ((c.walk_to_end_visiting-2.ensures.leads b.at.node (node_full by b.at)).0) (sym c.leaf_at-leaf-2.ensures) c.args.end c.of-2.ensures
 
 -- ---- the counter
 pub returns-then-not-is_after-clause-visits : goal.returns-then-not-is_after-clause-visits

@@ -4,7 +4,7 @@ use Rattle.art_model.specs.Layouts.{leaf_names}
 use Rattle.art_reading.proofs.Below.{starts_front}
 use Rattle.art_reading.proofs.Counts.{count_both}
 use Rattle.art_reading.proofs.Levels.{root_levels, under_root}
-use Rattle.art_reading.proofs.Parts.{first_is, first_not_gone, node_full, node_segment, none_begins, others_begin, these_begin}
+use Rattle.art_reading.proofs.Parts.{first_is, first_there, node_full, node_segment, none_begins, others_begin, these_begin}
 use Rattle.art_reading.proofs.range.prefix_visiting.Goals as goal
 
 pub returns-in_default-clause-leaves : goal.returns-in_default-clause-leaves
@@ -16,17 +16,17 @@ walk_to_end_visiting-requires g c =
     let at = (c.in-Some.ensures.end pairs layout by).0 in
     (search rules, (at.at.node, node_full by at.at))
 
-pub unreachable-requires : goal.unreachable-requires
-unreachable-requires g c =
+pub leaf_at-leaf-requires : goal.leaf_at-leaf-requires
+leaf_at-leaf-requires g c =
     let (pairs, layout, by) = c.requires in
     let at = (c.in-Some.ensures.end pairs layout by).0 in
-    first_not_gone by at.at ((c.walk_to_end_visiting.ensures.leads at.at.node (node_full by at.at)).0) c.in_default-leaf.ensures
+    (search rules, first_there by at.at ((c.walk_to_end_visiting.ensures.leads at.at.node (node_full by at.at)).0))
 
 pub returns-then-not-starts_with-clause-leaves : goal.returns-then-not-starts_with-clause-leaves
 returns-then-not-starts_with-clause-leaves g c pairs layout by =
     let at = (c.in-Some.ensures.end pairs layout by).0 in
     let first = (c.walk_to_end_visiting.ensures.leads at.at.node (node_full by at.at)).0 in
-    let told = first_is by at.at first (λ x. is_front c.args.prefix.now (g.K.AsBytes.bytes x.0) ≡ at.begin) at.alike _ c.in-Some-leaf.ensures in
+    let told = first_is by at.at first (λ x. is_front c.args.prefix.now (g.K.AsBytes.bytes x.0) ≡ at.begin) at.alike _ (sym c.leaf_at-leaf.ensures) in
     let tested = ap (is_front c.args.prefix.now) (sym c.as_bytes.ensures) ∙ starts_front c.as_bytes.result.now c.args.prefix.now _ c.starts_with.ensures.value in
     rw c.empty-then-not-starts_with.ensures (others_begin by _ at (sym told ∙ tested ∙ c.if-not-starts_with.true))
 
@@ -51,7 +51,7 @@ returns-clause-leaves g c pairs layout by =
     let full = node_full by at.at in
     let first = (c.walk_to_end_visiting.ensures.leads at.at.node full).0 in
     let last = (c.walk_to_end_visiting-2.ensures.leads at.at.node full).0 in
-    let told = first_is by at.at first (λ x. is_front c.args.prefix.now (g.K.AsBytes.bytes x.0) ≡ at.begin) at.alike _ c.in-Some-leaf.ensures in
+    let told = first_is by at.at first (λ x. is_front c.args.prefix.now (g.K.AsBytes.bytes x.0) ≡ at.begin) at.alike _ (sym c.leaf_at-leaf.ensures) in
     let tested = ap (is_front c.args.prefix.now) (sym c.as_bytes.ensures) ∙ starts_front c.as_bytes.result.now c.args.prefix.now _ c.starts_with.ensures.value in
     rw c.new.ensures (these_begin by _ at (sym told ∙ tested ∙ c.if-not-starts_with.false) first last)
 

@@ -1,7 +1,9 @@
 use Rattle.std.proofs.Common.{arith, ◌+◌, rules, ap, sym, ◌∙◌}
+use Rattle.std.specs.Option.{option_map}
 use Rattle.std.specs.Range.Bound.{bound_map}
+use Rattle.art_parts.specs.Names.{leaf_name}
 use Rattle.art_model.specs.Parts.{is_between, is_up_to, leaves_where}
-use Rattle.art_reading.proofs.Bounds.{first_past, last_not_gone, none_after, span_walk}
+use Rattle.art_reading.proofs.Bounds.{first_past, last_is_there, none_after, span_walk}
 use Rattle.art_reading.proofs.Counts.{count_both}
 use Rattle.art_reading.proofs.range.range_visiting.Goals as goal
 
@@ -12,14 +14,14 @@ returns-in_default-clause-leaves g c pairs layout by =
 pub returns-then-not-ends_after-clause-leaves : goal.returns-then-not-ends_after-clause-leaves
 returns-then-not-ends_after-clause-leaves g c pairs layout by =
     rw c.empty-then-not-ends_after.ensures
-    (first_past by (bound_map (λ b. b.now) c.args.from) (bound_map (λ b. b.now) c.args.to) (c.in-Some.ensures.leaf pairs layout by) c.in-Some-leaf.ensures
+    (first_past by (bound_map (λ b. b.now) c.args.from) (bound_map (λ b. b.now) c.args.to) (c.in-Some.ensures.leaf pairs layout by) (sym c.leaf_at-leaf.ensures)
     (ap (is_up_to (bound_map (λ b. b.now) c.args.to)) (sym c.as_bytes.ensures) ∙ sym c.ends_after.ensures ∙ c.if-not-ends_after.true))
 
-pub unreachable-requires-in_default-last_up_to_visiting : goal.unreachable-requires-in_default-last_up_to_visiting
-unreachable-requires-in_default-last_up_to_visiting g c =
+pub unwrap-last-requires : goal.unwrap-last-requires
+unwrap-last-requires g c =
     let (pairs, layout, by) = c.requires in
-    last_not_gone by (bound_map (λ b. b.now) c.args.from) (bound_map (λ b. b.now) c.args.to) (c.in-Some.ensures.leaf pairs layout by) c.in-Some-leaf.ensures
-    (ap (is_up_to (bound_map (λ b. b.now) c.args.to)) (sym c.as_bytes.ensures) ∙ sym c.ends_after.ensures ∙ c.if-not-ends_after.false) (c.in_default-last_up_to_visiting.ensures.leaf pairs layout by)
+    last_is_there by (bound_map (λ b. b.now) c.args.from) (bound_map (λ b. b.now) c.args.to) (c.in-Some.ensures.leaf pairs layout by) (sym c.leaf_at-leaf.ensures)
+    (ap (is_up_to (bound_map (λ b. b.now) c.args.to)) (sym c.as_bytes.ensures) ∙ sym c.ends_after.ensures ∙ c.if-not-ends_after.false) _ (c.last_up_to_visiting.ensures.leaf pairs layout by)
 
 pub new-requires : goal.new-requires
 new-requires g c =
@@ -27,15 +29,15 @@ new-requires g c =
       search rules,
       (
         leaves_where (λ x. is_between (bound_map (λ b. b.now) c.args.from) (bound_map (λ b. b.now) c.args.to) (g.K.AsBytes.bytes x.0)) layout,
-        span_walk by (bound_map (λ b. b.now) c.args.from) (bound_map (λ b. b.now) c.args.to) (c.in-Some.ensures.leaf pairs layout by) c.in-Some-leaf.ensures
-            (ap (is_up_to (bound_map (λ b. b.now) c.args.to)) (sym c.as_bytes.ensures) ∙ sym c.ends_after.ensures ∙ c.if-not-ends_after.false) (c.in-Some-last_up_to_visiting.ensures.leaf pairs layout by),
+        span_walk by (bound_map (λ b. b.now) c.args.from) (bound_map (λ b. b.now) c.args.to) (c.in-Some.ensures.leaf pairs layout by) (sym c.leaf_at-leaf.ensures)
+            (ap (is_up_to (bound_map (λ b. b.now) c.args.to)) (sym c.as_bytes.ensures) ∙ sym c.ends_after.ensures ∙ c.if-not-ends_after.false) (ap (option_map leaf_name) (sym c.unwrap-last.ensures) ∙ c.last_up_to_visiting.ensures.leaf pairs layout by),
       ),
     )
 
 pub returns-clause-leaves : goal.returns-clause-leaves
 returns-clause-leaves g c pairs layout by =
-    rw c.new.ensures (span_walk by (bound_map (λ b. b.now) c.args.from) (bound_map (λ b. b.now) c.args.to) (c.in-Some.ensures.leaf pairs layout by) c.in-Some-leaf.ensures
-    (ap (is_up_to (bound_map (λ b. b.now) c.args.to)) (sym c.as_bytes.ensures) ∙ sym c.ends_after.ensures ∙ c.if-not-ends_after.false) (c.in-Some-last_up_to_visiting.ensures.leaf pairs layout by))
+    rw c.new.ensures (span_walk by (bound_map (λ b. b.now) c.args.from) (bound_map (λ b. b.now) c.args.to) (c.in-Some.ensures.leaf pairs layout by) (sym c.leaf_at-leaf.ensures)
+    (ap (is_up_to (bound_map (λ b. b.now) c.args.to)) (sym c.as_bytes.ensures) ∙ sym c.ends_after.ensures ∙ c.if-not-ends_after.false) (ap (option_map leaf_name) (sym c.unwrap-last.ensures) ∙ c.last_up_to_visiting.ensures.leaf pairs layout by))
 
 -- ---- the counter
 pub returns-in_default-clause-visits : goal.returns-in_default-clause-visits
@@ -59,7 +61,7 @@ returns-then-not-ends_after-clause-visits g c =
 pub returns-clause-visits : goal.returns-clause-visits
 returns-clause-visits g c =
     let first = c.in-Some.ensures.visits in
-    let last = c.in-Some-last_up_to_visiting.ensures.visits in
+    let last = c.last_up_to_visiting.ensures.visits in
     record {
       number = first.number + 1 + last.number;
       counted = count_both _ _ _ (count_both _ _ _ first.counted c.count_one.ensures) last.counted;

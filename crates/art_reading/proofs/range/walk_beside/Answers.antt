@@ -8,6 +8,7 @@ use Rattle.art_reading.proofs.Counts.{count_both}
 use Rattle.art_reading.proofs.Descents.{front, stands_there}
 use Rattle.art_reading.proofs.Left.{end_left, gap_left, leaf_left, off_left}
 use Rattle.art_reading.proofs.Levels.{guide_most, lower}
+use Rattle.art_reading.proofs.Parts.{some_there}
 use Rattle.art_reading.proofs.range.walk_beside.Goals as goal
 
 pub down-init : goal.down-init
@@ -24,15 +25,16 @@ returns-in_default-clause-beside g c pairs layout by =
     let (x, is) = leaf_named c.args.store.now c.in_default.field-0 o.descent.at.node (there.named ∙ sym c.in_default.ensures.name) there.holds in
     beside_leaf o _ x is
 
-pub unreachable-requires : goal.unreachable-requires
-unreachable-requires g c =
+pub inner_at-node-requires : goal.inner_at-node-requires
+inner_at-node-requires g c =
     let (pairs, layout, by) = c.requires in
-    inner_met (stands_there by (c.down.invariant.readings.is_number pairs layout by).on_key.descent.at) c.in-Inner.ensures.proper c.in-Inner.ensures.name c.in_default-inner.ensures.view
+    let at = (c.down.invariant.readings.is_number pairs layout by).on_key.descent.at in
+    (search rules, (search rules, some_there _ (inner_met (stands_there by at) c.in-Inner.ensures.proper c.in-Inner.ensures.name)))
 
 pub returns-then-prefix_len-key_bytes-clause-beside : goal.returns-then-prefix_len-key_bytes-clause-beside
 returns-then-prefix_len-key_bytes-clause-beside g c pairs layout by =
     let o = (c.down.invariant.readings.is_number pairs layout by).on_key in
-    let at = shown_met (stands_there by o.descent.at) c.in-Inner.ensures.proper c.in-Inner.ensures.name c.in-Some.ensures.view in
+    let at = shown_met (stands_there by o.descent.at) c.in-Inner.ensures.proper c.in-Inner.ensures.name (sym c.inner_at-node.ensures.view) in
     beside_end o at c.prefix_len-prefix_len.ensures (omega arith)
 
 pub has_prefix-requires : goal.has_prefix-requires
@@ -47,7 +49,7 @@ has_prefix-requires g c =
           (
             c.in-Inner.ensures.proper,
             (
-              c.in-Some.ensures.view,
+              sym c.inner_at-node.ensures.view,
               (
                 long ∙ c.prefix_len-prefix_len.ensures,
                 (
@@ -66,7 +68,7 @@ has_prefix-requires g c =
 pub returns-then-not-has_prefix-clause-beside : goal.returns-then-not-has_prefix-clause-beside
 returns-then-not-has_prefix-clause-beside g c pairs layout by =
     let o = (c.down.invariant.readings.is_number pairs layout by).on_key in
-    let at = shown_met (stands_there by o.descent.at) c.in-Inner.ensures.proper c.in-Inner.ensures.name c.in-Some.ensures.view in
+    let at = shown_met (stands_there by o.descent.at) c.in-Inner.ensures.proper c.in-Inner.ensures.name (sym c.inner_at-node.ensures.view) in
     beside_off o at c.prefix_len-prefix_len.ensures (λ goes.
     let same = (c.has_prefix.ensures.same pairs layout by (path_of o.descent.at.path) (at_on by o c.in-Inner.ensures.name)).1
     (goes_same o at c.prefix_len-prefix_len.ensures (c.down.depth + c.prefix_len-prefix_len.result - c.down.depth) (omega arith) refl goes) in
@@ -76,14 +78,14 @@ pub beside-requires : goal.beside-requires
 beside-requires g c =
     let (pairs, layout, by) = c.requires in
     let o = (c.down.invariant.readings.is_number pairs layout by).on_key in
-    let at = shown_met (stands_there by o.descent.at) c.in-Inner.ensures.proper c.in-Inner.ensures.name c.in-Some.ensures.view in
+    let at = shown_met (stands_there by o.descent.at) c.in-Inner.ensures.proper c.in-Inner.ensures.name (sym c.inner_at-node.ensures.view) in
     let gap = sym c.lookup_child.ensures ∙ c.in_default-lookup_child.is in
     (search rules, (has_child o at c.prefix_len-prefix_len.ensures, gap))
 
 pub returns-in_default-lookup_child-clause-beside : goal.returns-in_default-lookup_child-clause-beside
 returns-in_default-lookup_child-clause-beside g c pairs layout by =
     let o = (c.down.invariant.readings.is_number pairs layout by).on_key in
-    let at = shown_met (stands_there by o.descent.at) c.in-Inner.ensures.proper c.in-Inner.ensures.name c.in-Some.ensures.view in
+    let at = shown_met (stands_there by o.descent.at) c.in-Inner.ensures.proper c.in-Inner.ensures.name (sym c.inner_at-node.ensures.view) in
     let goes = same_goes o at c.prefix_len-prefix_len.ensures (c.down.depth + c.prefix_len-prefix_len.result - c.down.depth) refl
     ((c.has_prefix.ensures.same pairs layout by (path_of o.descent.at.path) (at_on by o c.in-Inner.ensures.name)).0 c.if-not-has_prefix.false) in
     beside_gap o at c.prefix_len-prefix_len.ensures (omega arith) goes (sym c.lookup_child.ensures ∙ c.in_default-lookup_child.is) c.beside.ensures.beside
@@ -103,10 +105,10 @@ down-preserved g c =
             let read = before.is_number pairs layout by in
             let o = read.on_key in
             let d = o.descent in
-            let at = shown_met (stands_there by d.at) c.in-Inner.ensures.proper c.in-Inner.ensures.name c.in-Some.ensures.view in
+            let at = shown_met (stands_there by d.at) c.in-Inner.ensures.proper c.in-Inner.ensures.name (sym c.inner_at-node.ensures.view) in
             let goes = same_goes o at c.prefix_len-prefix_len.ensures (c.down.depth + c.prefix_len-prefix_len.result - c.down.depth) refl
             ((c.has_prefix.ensures.same pairs layout by (path_of d.at.path) (at_on by o c.in-Inner.ensures.name)).0 c.if-not-has_prefix.false) in
-            let there = sym c.lookup_child.ensures ∙ c.in-Some-lookup_child.is in
+            let there = sym c.lookup_child.ensures ∙ c.in-Some.is in
             let (next, one) = onto_child o at c.prefix_len-prefix_len.ensures (omega arith) goes there in
             let less = lower by d.at.path d.at.node d.at.whole d.at.named d.place d.radix _ _ at _ _ there in
             let seen = read.at_least in
@@ -152,7 +154,7 @@ returns-then-prefix_len-key_bytes-clause-visits g c =
         λ pairs layout by.
             let read = before.is_number pairs layout by in
             let d = read.on_key.descent in
-            let at = shown_met (stands_there by d.at) c.in-Inner.ensures.proper c.in-Inner.ensures.name c.in-Some.ensures.view in
+            let at = shown_met (stands_there by d.at) c.in-Inner.ensures.proper c.in-Inner.ensures.name (sym c.inner_at-node.ensures.view) in
             let len = c.prefix_len-prefix_len.ensures in
             let last = end_left d c.args.key_bytes.now at (omega arith) in
             let seen = read.at_least in
@@ -176,7 +178,7 @@ returns-then-not-has_prefix-clause-visits g c =
         λ pairs layout by.
             let read = before.is_number pairs layout by in
             let o = read.on_key in
-            let at = shown_met (stands_there by o.descent.at) c.in-Inner.ensures.proper c.in-Inner.ensures.name c.in-Some.ensures.view in
+            let at = shown_met (stands_there by o.descent.at) c.in-Inner.ensures.proper c.in-Inner.ensures.name (sym c.inner_at-node.ensures.view) in
             let off : IsFront (front o.descent at) c.args.key_bytes.now → ⊥ = λ goes.
             let same = (c.has_prefix.ensures.same pairs layout by (path_of o.descent.at.path) (at_on by o c.in-Inner.ensures.name)).1
             (goes_same o at c.prefix_len-prefix_len.ensures (c.down.depth + c.prefix_len-prefix_len.result - c.down.depth) (omega arith) refl goes) in
@@ -197,7 +199,7 @@ returns-in_default-lookup_child-clause-visits g c =
     let first = before.is_number pairs layout by in
     let few = first.at_most in
     let d = first.on_key.descent in
-    let shown = shown_met (stands_there by d.at) c.in-Inner.ensures.proper c.in-Inner.ensures.name c.in-Some.ensures.view in
+    let shown = shown_met (stands_there by d.at) c.in-Inner.ensures.proper c.in-Inner.ensures.name (sym c.inner_at-node.ensures.view) in
     let less = lower by d.at.path d.at.node d.at.whole d.at.named d.place d.radix _ _ shown _ _ c.beside.ensures.beside.there in
     record {
       number = before.number + 1 + prefix.number;
@@ -206,7 +208,7 @@ returns-in_default-lookup_child-clause-visits g c =
         omega arith,
         λ pairs layout by.
             let read = before.is_number pairs layout by in
-            let at = shown_met (stands_there by read.on_key.descent.at) c.in-Inner.ensures.proper c.in-Inner.ensures.name c.in-Some.ensures.view in
+            let at = shown_met (stands_there by read.on_key.descent.at) c.in-Inner.ensures.proper c.in-Inner.ensures.name (sym c.inner_at-node.ensures.view) in
             let last = gap_left read.on_key.descent c.args.key_bytes.now at (rw c.prefix_len-prefix_len.ensures at (sym c.lookup_child.ensures ∙ c.in_default-lookup_child.is)) in
             let seen = read.at_least in
             omega arith,

@@ -9,9 +9,9 @@ use Rattle.art_reading.proofs.range.walk_beside.Given as goal
 abbrev pub invariant-down : goal.invariant-down
 invariant-down g l = record {
   within : l.depth ≤ length l.key_bytes;
-  readings : CountsReadings l.fn.visits l.visits (λ number. ForTree (of_key g.K.AsBytes.bytes) g.row.PREFIX_LEN l.store l.fn.root
-      (λ pairs layout. IsReadOnKey (of_key g.K.AsBytes.bytes) g.row.PREFIX_LEN l.store l.fn.root l.key_bytes layout l.name l.depth l.guide number));
-  guide : ForTree (of_key g.K.AsBytes.bytes) g.row.PREFIX_LEN l.store l.fn.root
+  readings : CountsReadings l.fn.visits l.visits (λ number. ForTree (of_key g.K.AsBytes.bytes) g.row.P l.store l.fn.root
+      (λ pairs layout. IsReadOnKey (of_key g.K.AsBytes.bytes) g.row.P l.store l.fn.root l.key_bytes layout l.name l.depth l.guide number));
+  guide : ForTree (of_key g.K.AsBytes.bytes) g.row.P l.store l.fn.root
       (λ pairs layout. MayGuide (of_key g.K.AsBytes.bytes) l.key_bytes layout l.guide);
 }
 

@@ -8,7 +8,7 @@ use Rattle.art_running.proofs.run.run.Goals as goal
 pub loop-command-init : goal.loop-command-init
 loop-command-init g c =
     let (pairs, canonical) = c.requires.canonical in
-    let (old, shows, sound) = canonical_sound g.K.AsBytes.bytes g.row.PREFIX_LEN First c.args.first.now c.args.second.now c.args.root pairs canonical in
+    let (old, shows, sound) = canonical_sound g.K.AsBytes.bytes g.row.P First c.args.first.now c.args.second.now c.args.root pairs canonical in
     let given = c.into_iter-command-iterator.ensures.into_iter_gives in
     record { run = rw c.in-Ok.ensures.items (run_none old shows sound); commands = sym given.0; capacity = search rules }
 
@@ -27,7 +27,7 @@ answer_next-reply-requires g c =
     let run = c.loop-command.invariant.run in (
       search rules,
       (
-        on_canonical g.K.AsBytes.bytes g.row.PREFIX_LEN c.loop-command.side c.loop-command.first c.loop-command.second c.loop-command.root
+        on_canonical g.K.AsBytes.bytes g.row.P c.loop-command.side c.loop-command.first c.loop-command.second c.loop-command.root
             run.end run.ends run.end_sound,
         c.requires.clones,
       ),
@@ -48,4 +48,4 @@ loop-command-preserved g c =
 pub returns-clause-canonical : goal.returns-clause-canonical
 returns-clause-canonical g c =
     let run = c.loop-command.invariant.run in
-    on_canonical g.K.AsBytes.bytes g.row.PREFIX_LEN c.loop-command.side c.loop-command.first c.loop-command.second c.loop-command.root run.end run.ends run.end_sound
+    on_canonical g.K.AsBytes.bytes g.row.P c.loop-command.side c.loop-command.first c.loop-command.second c.loop-command.root run.end run.ends run.end_sound

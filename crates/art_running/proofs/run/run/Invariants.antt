@@ -9,7 +9,7 @@ use Rattle.art_running.proofs.run.run.Given as goal
 -- the replies so far are a run over the commands so far
 abbrev pub invariant-loop-command : goal.invariant-loop-command
 invariant-loop-command g l = record {
-  run : IsRun g.K.AsBytes.bytes g.row.PREFIX_LEN (IsPairClone g.K.Clone.is_clone g.V.Clone.is_clone) (on First l.fn.first l.fn.second l.fn.root)
+  run : IsRun g.K.AsBytes.bytes g.row.P (IsPairClone g.K.Clone.is_clone g.V.Clone.is_clone) (on First l.fn.first l.fn.second l.fn.root)
       l.yielded l.replies.items (on l.side l.first l.second l.root);
   commands : l.fn.commands.items ≡ l.yielded ++ into_iter_items l.command-iterator;
   capacity : vec_len l.replies + into_iter_len l.command-iterator ≤ vec_capacity l.replies;

@@ -15,7 +15,7 @@ returns-clause-freed g c layout full = all_go layout (c.free_nodes.ensures.freed
 
 pub returns-clause-apart : goal.returns-clause-apart
 returns-clause-apart g c (pairs, layout, is) =
-    tree_apart (of_key g.K.AsBytes.bytes) g.row.PREFIX_LEN c.args.store.now c.free_nodes.new.store (Some c.args.root) None pairs [] (Some layout) None
+    tree_apart (of_key g.K.AsBytes.bytes) g.row.P c.args.store.now c.free_nodes.new.store (Some c.args.root) None pairs [] (Some layout) None
     is refl (all_go layout (c.free_nodes.ensures.freed (shape_of layout) (all_can is.stands.0)))
 
 pub returns-clause-count : goal.returns-clause-count

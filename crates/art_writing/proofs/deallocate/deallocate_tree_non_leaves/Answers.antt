@@ -18,6 +18,6 @@ returns-clause-freed g c shape layout = c.free_nodes.ensures.freed shape (record
 pub returns-clause-apart : goal.returns-clause-apart
 returns-clause-apart g c (pairs, layout, is) =
     let (at, leaves, inners) = has_shape c.args.store.now c.args.root layout is.stands.0 in
-    others_apart {bytes = of_key g.K.AsBytes.bytes} {P = g.row.PREFIX_LEN} {s = c.args.store.now} {t = c.free_nodes.new.store} {root = Some c.args.root} {new = None} (inner_names (shape_of layout)) []
+    others_apart {bytes = of_key g.K.AsBytes.bytes} {P = g.row.P} {s = c.args.store.now} {t = c.free_nodes.new.store} {root = Some c.args.root} {new = None} (inner_names (shape_of layout)) []
     (λ k i. (pairs, layout, is, taken_in takes_inners layout k (subst (IsIn k) inners i))) (λ k n. n)
     (c.free_nodes.ensures.freed (shape_of layout) (record { layout = at; leaves = λ e. absurd cc }))

@@ -6,21 +6,21 @@ use Rattle.art_writing.proofs.writes.place_between.Goals as goal
 
 pub set_beside-requires : goal.set_beside-requires
 set_beside-requires g c =
-    let ensured = c.in-Ok.ensures in
-    (search rules, subst (λ m. IsThere m c.args.previous) (sym ensured.placed) (there_placed c.args.store.now.leaves c.in-Ok.name _ c.args.previous c.requires.previous))
+    let placed = rw c.unwrap-name.ensures at c.place_leaf.ensures.placed in
+    (search rules, subst (λ m. IsThere m c.args.previous) (sym placed) (there_placed c.args.store.now.leaves c.unwrap-name.result _ c.args.previous c.requires.previous))
 
 pub set_beside-requires-2 : goal.set_beside-requires-2
 set_beside-requires-2 g c =
-    let ensured = c.in-Ok.ensures in (
+    let placed = rw c.unwrap-name.ensures at c.place_leaf.ensures.placed in (
       search rules,
-      subst (λ m. IsThere m c.args.next) (sym (c.set_beside.ensures.leaves ∙ ap (λ m. change_some m c.args.previous (with_next (Some c.in-Ok.name))) ensured.placed))
-          (there_changed _ c.args.previous c.args.next (with_next (Some c.in-Ok.name)) (there_placed c.args.store.now.leaves c.in-Ok.name _ c.args.next c.requires.next)),
+      subst (λ m. IsThere m c.args.next) (sym (c.set_beside.ensures.leaves ∙ ap (λ m. change_some m c.args.previous (with_next (Some c.unwrap-name.result))) placed))
+          (there_changed _ c.args.previous c.args.next (with_next (Some c.unwrap-name.result)) (there_placed c.args.store.now.leaves c.unwrap-name.result _ c.args.next c.requires.next)),
     )
 
 pub returns-clause-leaves : goal.returns-clause-leaves
 unfolding with_leaf
 returns-clause-leaves g c =
-    let ensured = c.in-Ok.ensures in
+    let placed = rw c.unwrap-name.ensures at c.place_leaf.ensures.placed in
     c.set_beside-2.ensures.leaves
-    ∙ ap (λ m. change_some m c.args.next (with_previous (Some c.in-Ok.name)))
-    (c.set_beside.ensures.leaves ∙ ap (λ m. change_some m c.args.previous (with_next (Some c.in-Ok.name))) ensured.placed)
+    ∙ ap (λ m. change_some m c.args.next (with_previous (Some c.unwrap-name.result)))
+    (c.set_beside.ensures.leaves ∙ ap (λ m. change_some m c.args.previous (with_next (Some c.unwrap-name.result))) placed)

@@ -1,8 +1,8 @@
-use Rattle.std.proofs.Common.{◌≡◌, IsSomeAnd, ap, sym, ◌∙◌, subst, rules}
+use Rattle.std.proofs.Common.{◌≡◌, IsSome, IsSomeAnd, ap, sym, ◌∙◌, subst, rules}
 use Rattle.std.specs.FinMap.{get, remove}
 use Rattle.art_model.specs.Writes.{without_leaf}
 use Rattle.art_writing.specs.Inserted.{unlinked_leaf}
-use Rattle.art_writing.proofs.LeafWrites.{some_there, joined_there, joined_keeps}
+use Rattle.art_writing.proofs.LeafWrites.{joined_there, joined_keeps}
 use Rattle.art_writing.proofs.writes.take_from_between.Goals as goal
 
 pub free_leaf-leaf-requires : goal.free_leaf-leaf-requires
@@ -11,8 +11,7 @@ free_leaf-leaf-requires g c =
     let x = c.leaf_at-leaf.result.now in
     let all = c.link.ensures.leaves in (
       search rules,
-      some_there _ (λ gone. joined_there m x.previous x.next x.next x.previous c.args.name x
-          c.leaf_at-leaf.ensures (sym (ap (λ z. get z c.args.name) all) ∙ gone)),
+      subst (λ z. IsSome (get z c.args.name)) (sym all) (joined_there m x.previous x.next x.next x.previous c.args.name x c.leaf_at-leaf.ensures),
     )
 
 pub returns-clause-leaf : goal.returns-clause-leaf

@@ -42,7 +42,7 @@ returns-in_err-seen-clause-canonical g c canonical =
     passed_on _ _ _ c.from_residual.ensures.1 (canonical_error c.in_err-seen.field-0.0 canonical c.in_err-seen.ensures.fault)
 
 -- a fault of the links is one of the tree that was met
-links_fault : (g : Over) (c : In_err-check_links g) → IsTrueOf (of_key g.K.AsBytes.bytes) g.row.PREFIX_LEN c.args.store.now c.args.root (fault_of c.in_err-check_links.field-0.0)
+links_fault : (g : Over) (c : In_err-check_links g) → IsTrueOf (of_key g.K.AsBytes.bytes) g.row.P c.args.store.now c.args.root (fault_of c.in_err-check_links.field-0.0)
 links_fault g c =
     let met = c.in_ok-seen.ensures.met in
     c.in_err-check_links.ensures.fault c.args.root met.layout (met_layout met) (sym met.leaves ∙ ap names_of_leaves (sym c.deref.ensures.value))

@@ -75,7 +75,7 @@ down-preserved g c = record {
       let ended = ended_all by c.args.end c.args.query.now (c.requires.ended pairs layout by) in
       let len = front_len way at in
       let same = c.prefix_len-prefix_len.ensures in
-      subst (λ n. IsShortWay (of_key g.K.AsBytes.bytes) g.row.PREFIX_LEN c.args.end c.args.query.now c.args.at_least layout c.in-Some-lookup_child.child (c.down.depth + n + 1)) (sym same)
+      subst (λ n. IsShortWay (of_key g.K.AsBytes.bytes) g.row.P c.args.end c.args.query.now c.args.at_least layout c.in-Some-lookup_child.child (c.down.depth + n + 1)) (sym same)
       (short_goes_on by c.args.end c.args.query.now c.args.at_least ended way at c.leaf_if_long-leaf.result (λ l. c.leaf_if_long-leaf.ensures.short (omega arith)) (λ m. c.leaf_if_long-leaf.ensures.long (omega arith)) (none_is c.leaf_if_long-leaf.result (sym c.is_some.ensures ∙ c.if-is_some.false))
       (ap (λ n. child_at (ref_view c.in-Some.node).children (get_or c.args.query.now n 0)) (len ∙ ap (λ n. c.down.depth + n) (sym same)) ∙ sym c.lookup_child.ensures ∙ c.in-Some-lookup_child.is));
 }

@@ -8,8 +8,8 @@ abbrev pub invariant-down : goal.invariant-down
 invariant-down g l = record {
   within : l.depth ≤ length l.query;
   few : l.visits ≤ l.fn.visits + l.depth;
-  way : ForTree (of_key g.K.AsBytes.bytes) g.row.PREFIX_LEN l.store l.fn.root
-      (λ pairs layout. IsShortWay (of_key g.K.AsBytes.bytes) g.row.PREFIX_LEN l.end l.query l.at_least layout l.name l.depth);
+  way : ForTree (of_key g.K.AsBytes.bytes) g.row.P l.store l.fn.root
+      (λ pairs layout. IsShortWay (of_key g.K.AsBytes.bytes) g.row.P l.end l.query l.at_least layout l.name l.depth);
 }
 
 abbrev pub decreases-down : goal.decreases-down

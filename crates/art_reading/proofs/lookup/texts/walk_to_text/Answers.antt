@@ -81,7 +81,7 @@ down-preserved g c = record {
       let at = shown_met (stands_there by way.descent.at) c.in-Inner.ensures.proper c.in-Inner.ensures.name c.in-Some-inner.ensures.view in
       let ended = ended_all by c.args.end c.args.query.now (c.requires.ended pairs layout by) in
       let len = whole_len by c.args.end c.args.query.now ended way at in
-      subst (λ n. IsNestedWay (of_key g.K.AsBytes.bytes) g.row.PREFIX_LEN c.args.end c.args.query.now layout c.in-Some-lookup_child.child (c.down.depth + n + 1) c.leaf_under_or-best.result) (sym c.prefix_len-prefix_len.ensures)
+      subst (λ n. IsNestedWay (of_key g.K.AsBytes.bytes) g.row.P c.args.end c.args.query.now layout c.in-Some-lookup_child.child (c.down.depth + n + 1) c.leaf_under_or-best.result) (sym c.prefix_len-prefix_len.ensures)
       (goes_on by c.args.end c.args.query.now ended way at (better by c.args.end c.args.query.now ended way at (omega arith) (child_at (ref_view c.in-Some-inner.node).children c.args.end) refl c.leaf_under_or-best.ensures) (omega arith)
       (ap (λ n. child_at (ref_view c.in-Some-inner.node).children (get_or c.args.query.now n 0)) (len ∙ ap (λ n. c.down.depth + n) (sym c.prefix_len-prefix_len.ensures)) ∙ sym c.lookup_child.ensures ∙ c.in-Some-lookup_child.is));
 }

@@ -7,16 +7,16 @@ use Rattle.art_writing.proofs.insert.beginning.plant.Goals as goal
 pub returns-in-Ok-clause-canonical : goal.returns-in-Ok-clause-canonical
 returns-in-Ok-clause-canonical g c = (
   leaf (leaf_name c.in-Ok.name) (c.args.key, c.args.value),
-  planted g.K.AsBytes.bytes g.row.PREFIX_LEN (placed_alone c.args.store.now c.in-Ok.ensures.fresh c.in-Ok.ensures.placed c.in-Ok.ensures.inners c.in-Ok.ensures.promise c.with_no_siblings.ensures),
+  planted g.K.AsBytes.bytes g.row.P (placed_alone c.args.store.now c.in-Ok.ensures.fresh c.in-Ok.ensures.placed c.in-Ok.ensures.inners c.in-Ok.ensures.promise c.with_no_siblings.ensures),
 )
 
 pub returns-in-Ok-clause-root : goal.returns-in-Ok-clause-root
 returns-in-Ok-clause-root g c =
-    planted_root g.K.AsBytes.bytes g.row.PREFIX_LEN (placed_alone c.args.store.now c.in-Ok.ensures.fresh c.in-Ok.ensures.placed c.in-Ok.ensures.inners c.in-Ok.ensures.promise c.with_no_siblings.ensures)
+    planted_root g.K.AsBytes.bytes g.row.P (placed_alone c.args.store.now c.in-Ok.ensures.fresh c.in-Ok.ensures.placed c.in-Ok.ensures.inners c.in-Ok.ensures.promise c.with_no_siblings.ensures)
 
 pub returns-in-Ok-clause-apart : goal.returns-in-Ok-clause-apart
 returns-in-Ok-clause-apart g c =
-    planted_apart g.K.AsBytes.bytes g.row.PREFIX_LEN
+    planted_apart g.K.AsBytes.bytes g.row.P
     (placed_alone c.args.store.now c.in-Ok.ensures.fresh c.in-Ok.ensures.placed c.in-Ok.ensures.inners c.in-Ok.ensures.promise c.with_no_siblings.ensures)
 
 pub returns-in-Ok-clause-planted : goal.returns-in-Ok-clause-planted

@@ -21,6 +21,6 @@ returns g c =
       left = taken.left;
       removed = taken.removed;
       kept = taken.kept;
-      apart = root_apart (of_key g.K.AsBytes.bytes) g.row.PREFIX_LEN c.args.store.now _ c.args.root c.take_out-done.result.new_root (pairs_beside at) by (taken.canonical pairs layout by at) taken.kept;
+      apart = root_apart (of_key g.K.AsBytes.bytes) g.row.P c.args.store.now _ c.args.root c.take_out-done.result.new_root (pairs_beside at) by (taken.canonical pairs layout by at) taken.kept;
       promise = c.take_out-done.ensures.promise ∙ ap₂ promise_after (same_placed by at (c.collapse-left.ensures.collapsed pairs layout by at)) c.collapse-left.ensures.promise;
     }

@@ -1,5 +1,0 @@
-use Rattle.art_keyed.proofs.Keyed.{never_in_conflict}
-use Rattle.art_keyed.proofs.map.keys_are_never_in_conflict.Goals as goal
-
-pub returns : goal.returns
-returns g c = never_in_conflict g.row.V.Denot _ g.K.AsBytes.bytes g.met.K.NoPrefixesBytes.no_prefixes

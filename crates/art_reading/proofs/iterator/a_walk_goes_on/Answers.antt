@@ -1,5 +1,0 @@
-use Rattle.art_reading.proofs.Iterators.{goes_on}
-use Rattle.art_reading.proofs.iterator.a_walk_goes_on.Goals as goal
-
-pub returns : goal.returns
-returns g c = goes_on

@@ -1,0 +1,15 @@
+//! Laws of words and their counts: functions that do nothing, each with a law as its contract.
+ghost use Rattle.text_programs.specs.Counts.{CountIsOne};
+ghost use Rattle.text_programs.specs.Words.{GapsAreNoWords, WordsAreRuns};
+
+/// The words of a text are its longest runs of bytes that are no gaps, in order: every text is only gaps, or gaps, a
+/// word, and then nothing or a gap and more.
+pub fn words_are_the_longest_runs()
+    ensures none { GapsAreNoWords }
+    ensures first { WordsAreRuns }
+{}
+
+/// A list of words has one count, so what is written of a text is determined.
+pub fn a_list_of_words_has_one_count()
+    ensures { CountIsOne }
+{}
