@@ -15,5 +15,6 @@ mod range_with;
 mod set;
 mod set_parts;
 mod short;
+mod text_ranges;
 mod texts;
 mod visits;

@@ -10,3 +10,4 @@ pub mod TextParts
 pub mod LongestOf
 pub mod Seconds
 pub mod Extracted
+pub mod TextRanges

@@ -35,6 +35,7 @@ mod ordered;
 mod parts;
 mod retain;
 mod strings;
+mod text_ranges;
 mod texts;
 
 pub use both::BothRefused;

@@ -29,3 +29,4 @@ pub mod SetSides
 pub mod SetParts
 pub mod Copied
 pub mod Extracted
+pub mod TextBounds

@@ -11,3 +11,4 @@ pub mod SetAlgebra
 pub mod MapRetain
 pub mod MapParts
 pub mod MapExtract
+pub mod MapTexts

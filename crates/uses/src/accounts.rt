@@ -1,11 +1,16 @@
 //! Accounts by name. The contracts state what each holds after a change of many.
 ghost use Rattle.std.specs.Prelude.{◌≡◌, ◌+◌, ◌-◌, ◌^◌, map, min, sum_by};
-ghost use Rattle.art_operations.specs.KeyedPairs.{strings_below, strings_not_below};
+ghost use Rattle.std.specs.Cmp.Lexicographic.{slice_cmp};
+ghost use Rattle.std.specs.Ordering.{nat_cmp};
+ghost use Rattle.std.specs.declared.ops.Bound.TheVariants.{Excluded, Included};
+ghost use Rattle.art_operations.specs.KeyedPairs.{keys_between, strings_below, strings_not_below};
+ghost use Rattle.art_keyed.specs.KeyedParts.{keys_not_between};
 ghost use Rattle.art_operations.specs.MapItems.{keys_of};
 ghost use Rattle.uses.specs.Accounts.{after_fee, paid, with_interest};
 
 use art_operations::keys::Terminated;
 use art_operations::tree_map::TreeMap;
+use std::ops::Bound;
 
 /// What each account holds. The name of an account starts with that of its branch.
 pub type Accounts = TreeMap<Terminated, u64, 16>;
@@ -20,6 +25,26 @@ pub fn add_interest(accounts: &mut Accounts, branch: &Terminated)
 {
     accounts.for_each_mut_below(
         branch,
+        &mut |_: &Terminated, held: &mut u64| {
+            *held = held.saturating_add(*held / 100);
+        },
+    );
+}
+
+/// Adds a hundredth to each account from one name up to another, whose account gets none. An account stays at the
+/// greatest number.
+pub fn add_interest_between(accounts: &mut Accounts, from: &Terminated, to: &Terminated)
+    ensures grown { keys_between (slice_cmp nat_cmp) (Included from.now) (Excluded to.now)
+        accounts.new ≡ map with_interest (keys_between (slice_cmp nat_cmp)
+        (Included from.now) (Excluded to.now) accounts.old) }
+    ensures others { keys_not_between (slice_cmp nat_cmp) (Included from.now) (Excluded to.now)
+        accounts.new ≡ keys_not_between (slice_cmp nat_cmp)
+        (Included from.now) (Excluded to.now) accounts.old }
+    ensures names { keys_of accounts.new ≡ keys_of accounts.old }
+{
+    accounts.for_each_mut_in(
+        Bound::Included(from),
+        Bound::Excluded(to),
         &mut |_: &Terminated, held: &mut u64| {
             *held = held.saturating_add(*held / 100);
         },

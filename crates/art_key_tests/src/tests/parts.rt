@@ -5,6 +5,7 @@ use art_keys::unsigned::Unsigned;
 use art_node_support::expected::same;
 use art_node_support::numbers::Numbers;
 use std::collections::BTreeMap;
+use std::ops::Bound;
 use std::test::Fail;
 
 type Map = TreeMap<Unsigned<2>, u32, 1>;
@@ -72,6 +73,22 @@ fn agree_on_values(map: &mut Map, model: &mut Model) -> bool {
     sum == other && agree_on_pairs(map, model)
 }
 
+// Whether the sums are the same after the values between two numbers are replaced so.
+fn agree_on_values_between(map: &mut Map, model: &mut Model, low: u16, high: u16) -> bool {
+    let (mut sum, mut other) = (1u32, 1u32);
+    map.for_each_mut_in(
+        Bound::Excluded(&Unsigned::from(low)),
+        Bound::Included(&Unsigned::from(high)),
+        &mut |key: &Unsigned<2>, value: &mut u32| gather(&mut sum, key.get(), value),
+    );
+    for (number, value) in model.iter_mut() {
+        if low < *number && *number <= high {
+            gather(&mut other, *number, value);
+        }
+    }
+    sum == other
+}
+
 // Whether an entry's pair is removed from both.
 fn agree_on_entry(map: &mut Map, model: &mut Model, number: u16) -> bool {
     match map.entry(Unsigned::from(number)).remove() {
@@ -120,6 +137,7 @@ fn agree_on_change(map: &mut Map, model: &mut Model, numbers: &mut Numbers) -> b
         4 => agree_on_split(map, model, numbers),
         5..=6 => agree_on_entry(map, model, low),
         7..=8 => agree_on_values(map, model),
+        9..=10 => agree_on_values_between(map, model, low, high),
         _ => put_both(map, model, numbers),
     }
 }

@@ -1,11 +1,14 @@
 //! Changes of values of a map by a closure, which may read their keys.
 ghost use Rattle.std.specs.Prelude.{◌≡◌};
+ghost use Rattle.std.specs.Range.Bound.{bound_map};
 ghost use Rattle.art_map.specs.MapCalls.{ChangesAll, ChangesEach, ChangesPairs, ChangesValues};
 ghost use Rattle.art_map.specs.MapItems.{keys_of};
-ghost use Rattle.art_keyed.specs.KeyedPairs.{strings_below, strings_not_below};
+ghost use Rattle.art_keyed.specs.KeyedPairs.{keys_between, strings_below, strings_not_below};
+ghost use Rattle.art_keyed.specs.KeyedParts.{keys_not_between};
 
-use super::TreeMap;
-use art_keys::laws::{NoPrefixesBytes, StringBytes};
+use super::{TreeMap, bytes_of};
+use art_keys::laws::{NoPrefixesBytes, OrderedBytes, StringBytes};
+use std::ops::Bound;
 
 impl<K: NoPrefixesBytes + Drop, V: Drop, const P: usize> TreeMap<K, V, P> {
     /// Calls the closure on each pair, in the order of the keys, to change the value in place. The keys are unchanged.
@@ -50,6 +53,32 @@ impl<K: NoPrefixesBytes + Drop, V: Drop, const P: usize> TreeMap<K, V, P> {
         ensures callable { F.IsAlwaysCallable f.new }
     {
         self.map.for_each_value_by_ref(f);
+    }
+}
+
+impl<K: OrderedBytes + Drop, V: Drop, const P: usize> TreeMap<K, V, P> {
+    /// Does what `for_each_mut_by_ref` does, for the pairs whose keys are between two bounds. The others are unchanged.
+    ///
+    /// It costs what `range` does, and a step of an iteration for each of these pairs.
+    pub fn for_each_mut_in<F: FnMut(&K, &mut V)>(
+        &mut self,
+        from: Bound<&K>,
+        to: Bound<&K>,
+        f: &mut F,
+    )
+        requires { F.IsAlwaysCallable f.old }
+        ensures pairs { ChangesPairs F.FnMut f.old (keys_between K.order
+            (bound_map (λ b. b.now) from.entry) (bound_map (λ b. b.now) to.entry) self.old)
+            (keys_between K.order (bound_map (λ b. b.now) from.entry)
+            (bound_map (λ b. b.now) to.entry) self.new) f.new }
+        ensures others { keys_not_between K.order (bound_map (λ b. b.now) from.entry)
+            (bound_map (λ b. b.now) to.entry) self.new ≡
+            keys_not_between K.order (bound_map (λ b. b.now) from.entry)
+            (bound_map (λ b. b.now) to.entry) self.old }
+        ensures keys { keys_of self.new ≡ keys_of self.old }
+        ensures callable { F.IsAlwaysCallable f.new }
+    {
+        self.map.for_each_mut_in(bytes_of(from), bytes_of(to), f);
     }
 }
 

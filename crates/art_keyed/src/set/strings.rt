@@ -1,11 +1,17 @@
 //! Calls of sets of strings by a text, for which no key is made.
-ghost use Rattle.std.specs.Prelude.{◌≡◌, option_copied};
-ghost use Rattle.art_model.specs.Pairs.{first_of, has_key, last_of, match_of, remove_key};
+ghost use Rattle.std.specs.Prelude.{◌≡◌, ◌<◌, ◌^◌, length, option_copied};
+ghost use Rattle.std.specs.Cmp.Lexicographic.{slice_cmp};
+ghost use Rattle.std.specs.Ordering.{nat_cmp};
+ghost use Rattle.std.specs.Range.Bound.{bound_map};
+ghost use Rattle.art_model.specs.Pairs.{IsMap, first_of, has_key, last_of, match_of, remove_key};
 ghost use Rattle.art_keys.specs.Ended.{ended};
+ghost use Rattle.art_keyed.specs.KeyedPairs.{set_between};
 
 use super::TreeSet;
 use art_keys::terminated::Terminated;
+use art_map::set::KeyRange;
 use art_reading::lookup::EndedQuery;
+use std::ops::Bound;
 
 impl<const P: usize> TreeSet<Terminated, P> {
     /// Returns whether a text's key is stored. It costs what `contains` does.
@@ -37,5 +43,16 @@ impl<const P: usize> TreeSet<Terminated, P> {
         ensures { option_copied result ≡ first_of (match_of (λ string. string) text.now self.now) }
     {
         self.set.shortest_text(text, 0, 0)
+    }
+
+    /// Returns an iterator over the strings between two texts, in ascending order; it is empty if the first bound is
+    /// after the second. It costs what `range_text` of the map does.
+    pub fn range_text(&self, from: Bound<&[u8]>, to: Bound<&[u8]>) -> KeyRange<'_, Terminated, P>
+        ensures keys { result ≡ set_between (slice_cmp nat_cmp)
+            (bound_map (λ b. b.now) from.entry) (bound_map (λ b. b.now) to.entry) self.now }
+        ensures sorted { IsMap ended self.now }
+        ensures fits { length result < 2 ^ 64 }
+    {
+        self.set.range_text(from, to)
     }
 }

@@ -4,7 +4,7 @@ use art_operations::tree_map::TreeMap;
 use art_test_support::expected::same;
 use std::alloc::Global;
 use std::test::Fail;
-use uses::accounts::{add_interest, take_fee};
+use uses::accounts::{add_interest, add_interest_between, take_fee};
 use uses::keys::completions;
 
 type Names = TreeMap<Terminated, u64, 16>;
@@ -84,6 +84,27 @@ fn accounts_of_a_branch_grow(rt: HostRuntime) -> Result<(), Fail> {
     same(
         (opened, held(&accounts)),
         (Some(()), [Some(101), Some(252), Some(u64::MAX), Some(500)]),
+    )
+}
+
+// Adds interest to the accounts from one name up to another.
+fn grow_between(accounts: &mut Names, alloc: Global, from: &[u8], to: &[u8]) -> Option<()> {
+    add_interest_between(accounts, &name(alloc, from)?, &name(alloc, to)?);
+    Some(())
+}
+
+#[test]
+fn accounts_between_two_names_grow(rt: HostRuntime) -> Result<(), Fail> {
+    let mut accounts = TreeMap::new(rt.alloc());
+    let opened = open(&mut accounts, rt.alloc());
+    let grown = grow_between(&mut accounts, rt.alloc(), b"lima/", b"oslo/cem");
+    same(
+        (opened, grown, held(&accounts)),
+        (
+            Some(()),
+            Some(()),
+            [Some(100), Some(252), Some(u64::MAX), Some(500)],
+        ),
     )
 }
 
