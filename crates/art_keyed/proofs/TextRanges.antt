@@ -46,7 +46,8 @@ module _ (from to : Bound (List ℕ)) where
   ended_up_to : (x : List ℕ) → HasNoZero x → is_up_to to (without_last (ended x)) ≡ is_key_up_to (slice_cmp nat_cmp) to x
   ended_up_to x of_x = ap (is_up_to to) (ended_text x 0) ∙ up_to_order to x
 
-  pub ended_between : {V : Type 0} (pairs : List (List ℕ × V)) → HaveKeys HasNoZero pairs → between (text_of (of_key ended)) from to pairs ≡ keys_between (slice_cmp nat_cmp) from to pairs
+  pub ended_between : {V : Type 0} (pairs : List (List ℕ × V)) → HaveKeys HasNoZero pairs →
+      between (text_of (of_key ended)) from to pairs ≡ keys_between (slice_cmp nat_cmp) from to pairs
   ended_between = texts_by HasNoZero ended from to ended_from ended_up_to (λ x. x.0)
 
   pub ended_in_set : (keys : List (List ℕ)) → Each HasNoZero keys → between (text_of ended) from to keys ≡ set_between (slice_cmp nat_cmp) from to keys
@@ -84,7 +85,8 @@ escaped_up_to (Included text) plain x = ap (λ o. not (is_lt o)) (before_plain x
 escaped_up_to (Excluded text) plain x = ap is_lt (after_plain x text plain)
 escaped_up_to Unbounded plain x = refl
 
-pub escaped_between : (from to : Bound (List ℕ)) → OnBound IsPlain from → OnBound IsPlain to → {V : Type 0} (pairs : List (List ℕ × V)) → HaveKeys (λ text. ⊤) pairs →
+pub escaped_between : (from to : Bound (List ℕ)) → OnBound IsPlain from → OnBound IsPlain to → {V : Type 0} (pairs : List (List ℕ × V)) →
+    HaveKeys (λ text. ⊤) pairs →
     between (text_of (of_key escape)) from to pairs ≡ keys_between (slice_cmp nat_cmp) from to pairs
 escaped_between from to plain_from plain_to =
     texts_by (λ text. ⊤) escape from to (λ x of_x. escaped_from from plain_from x) (λ x of_x. escaped_up_to to plain_to x) (λ x. x.0)

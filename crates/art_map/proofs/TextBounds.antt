@@ -53,7 +53,8 @@ ended_before (zero ∷ x ∷ t) [] above = refl
 ended_before (suc x ∷ t) [] above = rw (le-ltb (suc x) 0 (omega arith), ne_eqb (suc x) 0 (λ e. omega arith)) refl
 ended_before (x ∷ t) (y ∷ u) above = go (ended_before t u above.1) (cases_order x y)
   where
-    go : is_before (t ++ 0 ∷ []) (u ++ 0 ∷ []) ≡ is_before t u → (x ≡ y) ⊎ ((x < y) ⊎ (y < x)) → is_before (x ∷ t ++ 0 ∷ []) (y ∷ u ++ 0 ∷ []) ≡ is_before (x ∷ t) (y ∷ u)
+    go : is_before (t ++ 0 ∷ []) (u ++ 0 ∷ []) ≡ is_before t u → (x ≡ y) ⊎ ((x < y) ⊎ (y < x)) →
+        is_before (x ∷ t ++ 0 ∷ []) (y ∷ u ++ 0 ∷ []) ≡ is_before (x ∷ t) (y ∷ u)
     go ih (inl e) = rw (le-ltb x y (omega arith), eq-eqb x y e) ih
     go ih (inr (inl l)) = rw (lt-ltb x y l) refl
     go ih (inr (inr l)) = rw (le-ltb x y (omega arith), ne_eqb x y (λ p. omega arith)) refl
@@ -73,14 +74,18 @@ key_after_key : (t key : List ℕ) → IsEndedBy 0 key → is_before (t ++ 0 ∷
 key_after_key t key ended = ap (is_before (t ++ 0 ∷ [])) ended.is ∙ ended_before t ended.text ended.above ∙ ap (is_before t) (sym (text_is ended))
 
 key_after_text : (t key : List ℕ) → IsEndedBy 0 key → are_same (t ++ 0 ∷ []) key ≡ false → is_before t key ≡ is_before t (without_last key)
-key_after_text t key ended off = key_after t key ended ∙ one_before t (without_last key) (λ e. true≢false (sym (front_same (t ++ 0 ∷ [])) ∙ ap (are_same (t ++ 0 ∷ [])) (ap (λ z. z ++ 0 ∷ []) (e ∙ text_is ended) ∙ sym ended.is) ∙ off))
+key_after_text t key ended off = key_after t key ended
+    ∙ one_before t (without_last key) (λ e. true≢false
+    (sym (front_same (t ++ 0 ∷ [])) ∙ ap (are_same (t ++ 0 ∷ [])) (ap (λ z. z ++ 0 ∷ []) (e ∙ text_is ended) ∙ sym ended.is) ∙ off))
 
 -- ---- of all keys
 
 module _ {A : Type 0} (bytes : A → List ℕ) (pairs : List A) (ended : AreEnded bytes 0 pairs) where
   -- the bounds that a text itself is
   pub lower_text : (t : List ℕ) → IsLowerFor bytes (Included t) (Excluded t) pairs
-  lower_text t = Each-weaker (λ x. IsEndedBy 0 (bytes x)) (λ x. is_before t (bytes x) ≡ not (is_before (text_of bytes x) t)) (λ x h. key_after t (bytes x) h) pairs ended
+  lower_text t =
+      Each-weaker (λ x. IsEndedBy 0 (bytes x)) (λ x. is_before t (bytes x) ≡ not (is_before (text_of bytes x) t))
+      (λ x h. key_after t (bytes x) h) pairs ended
 
   pub upper_text : (t : List ℕ) → IsUpperFor bytes (Excluded t) (Included t) pairs
   upper_text t =
@@ -95,7 +100,8 @@ module _ {A : Type 0} (bytes : A → List ℕ) (pairs : List A) (ended : AreEnde
   pub last_key : (t key : List ℕ) (x : A) → first_of (with_key bytes (t ++ 0 ∷ []) pairs) ≡ Some x → key ≡ bytes x → IsLastAt bytes t key pairs
   last_key t key x found is =
       let same : key ≡ t ++ 0 ∷ [] = is ∙ removed_key bytes (t ++ 0 ∷ []) pairs x found in
-      Each-weaker (λ y. IsEndedBy 0 (bytes y)) (λ y. is_before key (bytes y) ≡ is_before t (text_of bytes y)) (λ y h. ap (λ k. is_before k (bytes y)) same ∙ key_after_key t (bytes y) h) pairs ended
+      Each-weaker (λ y. IsEndedBy 0 (bytes y)) (λ y. is_before key (bytes y) ≡ is_before t (text_of bytes y))
+      (λ y h. ap (λ k. is_before k (bytes y)) same ∙ key_after_key t (bytes y) h) pairs ended
 
   -- a text whose key is not stored
   pub last_text : (t : List ℕ) → first_of (with_key bytes (t ++ 0 ∷ []) pairs) ≡ None → IsLastAt bytes t t pairs
@@ -113,7 +119,8 @@ module _ {A : Type 0} (bytes : A → List ℕ) where
     lower_last = at
 
     pub upper_last : IsUpperFor bytes (Included t) (Included last) pairs
-    upper_last = Each-weaker (λ x. is_before last (bytes x) ≡ is_before t (text_of bytes x)) (λ x. not (is_before last (bytes x)) ≡ not (is_before t (text_of bytes x))) (λ x e. ap not e) pairs at
+    upper_last = Each-weaker (λ x. is_before last (bytes x) ≡ is_before t (text_of bytes x))
+        (λ x. not (is_before last (bytes x)) ≡ not (is_before t (text_of bytes x))) (λ x e. ap not e) pairs at
 
   -- without a bound
   pub lower_open : (pairs : List A) → IsLowerFor bytes Unbounded Unbounded pairs

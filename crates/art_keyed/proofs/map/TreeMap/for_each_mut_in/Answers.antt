@@ -17,7 +17,8 @@ returns-clause-pairs g c =
     let those = keys_between g.K.OrderedBytes.order (bound_map (λ b. b.now) c.args.from) (bound_map (λ b. b.now) c.args.to) in
     let known = keys_keep _ c.self.inside.map new.self c.for_each_mut_in.ensures.keys c.self.invariant in
     let same =
-    between_keys _ g.K.AsBytes.bytes g.met.K.OrderedBytes.keeps_order c.args.from c.args.to _ _ c.bytes_of.ensures.bytes c.bytes_of-2.ensures.bytes c.bytes_of.ensures.key c.bytes_of-2.ensures.key in
+    between_keys _ g.K.AsBytes.bytes g.met.K.OrderedBytes.keeps_order c.args.from c.args.to _ _ c.bytes_of.ensures.bytes
+    c.bytes_of-2.ensures.bytes c.bytes_of.ensures.key c.bytes_of-2.ensures.key in
     subst (λ pairs. ChangesPairs g.F.FnMut c.args.f.now pairs (those new.self) new.f) (same c.self.inside.map c.self.invariant ∙ ap those c.self.view_is)
     (subst (λ pairs. ChangesPairs g.F.FnMut c.args.f.now _ pairs new.f) (same new.self known) c.for_each_mut_in.ensures.pairs)
 
@@ -26,7 +27,8 @@ returns-clause-others g c =
     let new = c.for_each_mut_in.new in
     let known = keys_keep _ c.self.inside.map new.self c.for_each_mut_in.ensures.keys c.self.invariant in
     let same =
-    not_between_keys _ g.K.AsBytes.bytes g.met.K.OrderedBytes.keeps_order c.args.from c.args.to _ _ c.bytes_of.ensures.bytes c.bytes_of-2.ensures.bytes c.bytes_of.ensures.key c.bytes_of-2.ensures.key in
+    not_between_keys _ g.K.AsBytes.bytes g.met.K.OrderedBytes.keeps_order c.args.from c.args.to _ _ c.bytes_of.ensures.bytes
+    c.bytes_of-2.ensures.bytes c.bytes_of.ensures.key c.bytes_of-2.ensures.key in
     sym (same new.self known)
     ∙ c.for_each_mut_in.ensures.others
     ∙ same c.self.inside.map c.self.invariant

@@ -13,5 +13,6 @@ use Rattle.art_keyed.proofs.map.text_ranges.TreeMap+Escaped+V+P.range_text.Goals
 pub range_text-requires : goal.range_text-requires
 range_text-requires g c = (
   search rules,
-  are_ended (λ (t : List ℕ). ⊤) escape (λ t. t) escape_inside (λ t of_text. (escape_is t, inside_no_zero t)) escape_keeps_fronts c.self.inside.map c.self.invariant,
+  are_ended (λ (t : List ℕ). ⊤) escape (λ t. t) escape_inside
+      (λ t of_text. (escape_is t, inside_no_zero t)) escape_keeps_fronts c.self.inside.map c.self.invariant,
 )
