@@ -1,7 +1,6 @@
 mod arrays;
 mod collected;
 mod drawn;
-mod drawn_set;
 mod entries;
 mod extracts;
 mod joined;

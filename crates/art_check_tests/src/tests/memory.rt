@@ -45,14 +45,10 @@ fn two_keys_without_memory(store: &mut NodeStore<Key, u32, 4>) -> Option<[bool; 
     are_refused_without_memory(store, root)
 }
 
-/// The same in a store of its own.
-fn without_memory(alloc: Global) -> Option<[bool; 2]> {
-    two_keys_without_memory(&mut NodeStore::new(alloc))
-}
-
 #[test]
 fn without_memory_there_is_no_verdict(rt: HostRuntime) -> Result<(), Fail> {
-    same(without_memory(rt.alloc()), Some([true; 2]))
+    let seen = two_keys_without_memory(&mut NodeStore::new(rt.alloc()));
+    same(seen, Some([true; 2]))
 }
 
 /// Whether clones of a prefix and of two faults fail while all memory is held, and copies of bytes too, except for the

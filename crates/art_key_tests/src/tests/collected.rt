@@ -59,8 +59,9 @@ fn a_map_is_collected(rt: HostRuntime) -> Result<(), Fail> {
     same(collect(rt.alloc()), Some(true))
 }
 
-// How many keys a set has that is collected from the short strings and then extended by them.
-fn collect_strings(alloc: Global) -> Option<usize> {
+// How many keys a set has that is collected from the short strings and then extended by them, and how many of these
+// start with a zero.
+fn collect_strings(alloc: Global) -> Option<(usize, usize)> {
     let mut strings = Vec::new(alloc);
     for number in 0..COUNT {
         let string = Short::new(number);
@@ -70,12 +71,13 @@ fn collect_strings(alloc: Global) -> Option<usize> {
     }
     let mut set: TreeSet<Escaped, 2> = strings.clone().ok()?.into_iter().collect(alloc).ok()?;
     set.extend(strings).ok()?;
-    Some(set.len())
+    let zero = Escaped::encode(alloc, b"\0").ok()?;
+    Some((set.len(), set.prefix(&zero).count()))
 }
 
 #[test]
 fn a_set_is_collected(rt: HostRuntime) -> Result<(), Fail> {
-    same(collect_strings(rt.alloc()), Some(COUNT))
+    same(collect_strings(rt.alloc()), Some((COUNT, 85)))
 }
 
 // Whether a clone is equal to the map, and whether it is once the map has changed.

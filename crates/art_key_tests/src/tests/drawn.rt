@@ -10,61 +10,31 @@ use std::test::Fail;
 
 type Map = TreeMap<Escaped, u32, 2>;
 
-type Model = BTreeMap<Vec<u8>, u32>;
+type Model = BTreeMap<Short, u32>;
 
 // The old value that an insertion into the map returns.
 fn inserted(map: &mut Map, alloc: Global, string: Short, value: u32) -> Option<Option<u32>> {
     let key = Escaped::encode(alloc, string.as_slice()).ok()?;
-    match map.insert(key, value) {
-        Ok(Some((_key, old))) => Some(Some(old)),
-        Ok(None) => Some(None),
-        Err(_refused) => None,
-    }
-}
-
-// An insertion into both, and whether they return the same old value.
-fn agree_on_insertion(
-    map: &mut Map,
-    model: &mut Model,
-    alloc: Global,
-    string: Short,
-    value: u32,
-) -> Option<bool> {
-    let replaced = inserted(map, alloc, string, value)?;
-    let bytes = string.as_slice().to_vec(alloc).ok()?;
-    let old = model.insert(bytes, value).ok()?;
-    Some(replaced == old)
+    Some(map.insert(key, value).ok()?.map(|pair| pair.1))
 }
 
 // The value that a removal from the map returns.
 fn removed(map: &mut Map, alloc: Global, string: Short) -> Option<Option<u32>> {
     let key = Escaped::encode(alloc, string.as_slice()).ok()?;
-    match map.remove(&key) {
-        Some((_key, value)) => Some(Some(value)),
-        None => Some(None),
-    }
+    Some(map.remove(&key).map(|pair| pair.1))
 }
 
-// A removal from both, and whether they return the same value.
-fn agree_on_removal(
-    map: &mut Map,
-    model: &mut Model,
-    alloc: Global,
-    string: Short,
-) -> Option<bool> {
-    let value = removed(map, alloc, string)?;
-    Some(value == model.remove(string.as_slice()))
-}
-
-// The value of the first string that starts with this one.
-fn first_below(model: &Model, string: &[u8]) -> Option<u32> {
+// Removes the first string that starts with this one, and returns it with its value.
+fn pop_below(model: &mut Model, string: Short) -> Option<(Short, u32)> {
     let mut first = None;
     for (other, value) in model.iter() {
-        if first.is_none() && other.starts_with(string) {
-            first = Some(*value);
+        if first.is_none() && other.as_slice().starts_with(string.as_slice()) {
+            first = Some((*other, *value));
         }
     }
-    first
+    let (other, value) = first?;
+    model.remove(&other);
+    Some((other, value))
 }
 
 // What the removal of the first string that starts with this one returns from the map.
@@ -73,25 +43,20 @@ fn popped(map: &mut Map, alloc: Global, string: Short) -> Option<Option<(Escaped
     Some(map.pop_first_below(&prefix))
 }
 
-// The value that a removal of the string of a key returns.
-fn removed_from(model: &mut Model, alloc: Global, key: &Escaped) -> Option<u32> {
-    let bytes = key.decode(alloc).ok()?;
-    model.remove(&bytes)
-}
-
-// A removal of the first string that starts with this one from both, and whether they return the same value.
+// A removal of the first string that starts with this one from both, and whether they return the same.
 fn agree_on_the_first_below(
     map: &mut Map,
     model: &mut Model,
     alloc: Global,
     string: Short,
 ) -> Option<bool> {
-    let first = first_below(model, string.as_slice());
-    match popped(map, alloc, string)? {
-        Some((key, value)) => {
-            Some([first, removed_from(model, alloc, &key)] == [Some(value); 2])
+    let own = popped(map, alloc, string)?;
+    match (own, pop_below(model, string)) {
+        (Some((key, own_value)), Some((other, value))) => {
+            Some(is_pair(alloc, Some((&key, &own_value)), other, value))
         }
-        None => Some(first.is_none()),
+        (None, None) => Some(true),
+        _ => Some(false),
     }
 }
 
@@ -104,7 +69,7 @@ fn agree_on_those_below(
     string: Short,
 ) -> Option<bool> {
     let prefix = Escaped::encode(alloc, string.as_slice()).ok()?;
-    let (mut sum, mut other) = (0u32, 0u32);
+    let (mut sum, mut others) = (0u32, 0u32);
     map.for_each_mut_below(
         &prefix,
         &mut |_: &Escaped, value: &mut u32| {
@@ -112,13 +77,13 @@ fn agree_on_those_below(
             *value = sum;
         },
     );
-    for (bytes, value) in model.iter_mut() {
-        if bytes.starts_with(string.as_slice()) {
-            other = other.wrapping_add(*value);
-            *value = other;
+    for (other, value) in model.iter_mut() {
+        if other.as_slice().starts_with(string.as_slice()) {
+            others = others.wrapping_add(*value);
+            *value = others;
         }
     }
-    Some(sum == other)
+    Some(sum == others)
 }
 
 // The value of a key, how many keys start with its string, and how many are at it or after it.
@@ -129,28 +94,28 @@ fn answers(map: &Map, key: Escaped) -> (Option<u32>, usize, usize) {
 }
 
 // The same for a string.
-fn expected_answers(model: &Model, string: &[u8]) -> (Option<u32>, usize, usize) {
+fn expected_answers(model: &Model, string: Short) -> (Option<u32>, usize, usize) {
     let (mut begin, mut follow) = (0usize, 0usize);
     for (other, _) in model.iter() {
-        begin = begin.saturating_add(other.starts_with(string) as usize);
-        follow = follow.saturating_add((other.as_slice() >= string) as usize);
+        begin = begin.saturating_add(other.as_slice().starts_with(string.as_slice()) as usize);
+        follow = follow.saturating_add((other.as_slice() >= string.as_slice()) as usize);
     }
-    (model.get(string).copied(), begin, follow)
+    (model.get(&string).copied(), begin, follow)
 }
 
 // Whether both find the same value, and as many strings that start with this one, and that are at it or after it.
 fn agree_on_questions(map: &Map, model: &Model, alloc: Global, string: Short) -> Option<bool> {
     let key = Escaped::encode(alloc, string.as_slice()).ok()?;
-    Some(answers(map, key) == expected_answers(model, string.as_slice()))
+    Some(answers(map, key) == expected_answers(model, string))
 }
 
 // Whether there is a pair, with this string and this value.
-fn is_pair(alloc: Global, pair: Option<(&Escaped, &u32)>, bytes: &[u8], value: u32) -> bool {
+fn is_pair(alloc: Global, pair: Option<(&Escaped, &u32)>, string: Short, value: u32) -> bool {
     let Some((key, own_value)) = pair else {
         return false;
     };
     match key.decode(alloc) {
-        Ok(string) => (string.as_slice(), *own_value) == (bytes, value),
+        Ok(bytes) => (bytes.as_slice(), *own_value) == (string.as_slice(), value),
         Err(_) => false,
     }
 }
@@ -159,10 +124,10 @@ fn is_pair(alloc: Global, pair: Option<(&Escaped, &u32)>, bytes: &[u8], value: u
 fn agree_on_pairs(map: &Map, model: &Model, alloc: Global) -> bool {
     let mut own = map.iter();
     let mut agree = true;
-    for (bytes, value) in model.iter() {
-        agree = is_pair(alloc, own.next(), bytes, *value) && agree;
+    for (string, value) in model.iter() {
+        agree &= is_pair(alloc, own.next(), *string, *value);
     }
-    agree && own.next().is_none()
+    agree & own.next().is_none()
 }
 
 // A call of both, and whether they return the same.
@@ -174,8 +139,11 @@ fn agree_on_call(
 ) -> Option<bool> {
     let string = Short::new(numbers.below(COUNT));
     match numbers.below(9) {
-        0..=3 => agree_on_insertion(map, model, alloc, string, numbers.value()),
-        4..=5 => agree_on_removal(map, model, alloc, string),
+        0..=3 => {
+            let value = numbers.value();
+            Some(inserted(map, alloc, string, value)? == model.insert(string, value).ok()?)
+        }
+        4..=5 => Some(removed(map, alloc, string)? == model.remove(&string)),
         6 => agree_on_the_first_below(map, model, alloc, string),
         7 => agree_on_those_below(map, model, alloc, string),
         _ => agree_on_questions(map, model, alloc, string),

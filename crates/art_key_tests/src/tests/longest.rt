@@ -187,62 +187,27 @@ fn lengths_of_list(alloc: Global, list: &[Vec<u8>], query: &[u8]) -> Option<Vec<
     Some(lengths)
 }
 
-// The same for a map, by its values, from the front.
-fn lengths_from_front<const P: usize>(
-    alloc: Global,
-    map: &Bytes<P>,
-    query: &Escaped,
-) -> Option<Vec<u32>>
+// Whether a map has these values of the matches of a query, from either end.
+fn agree_from_each_end<const P: usize>(map: &Bytes<P>, query: &Escaped, lengths: &[u32]) -> bool
     requires { P < 256 }
 {
-    let mut lengths = Vec::new(alloc);
-    for (_, len) in map.matches_key(query) {
-        lengths.push(*len).ok()?;
-    }
-    Some(lengths)
-}
-
-// The same from the back.
-fn lengths_from_back<const P: usize>(
-    alloc: Global,
-    map: &Bytes<P>,
-    query: &Escaped,
-) -> Option<Vec<u32>>
-    requires { P < 256 }
-{
-    let mut lengths = Vec::new(alloc);
-    let mut matches = map.matches_key(query);
-    for _ in 0..COUNT {
-        if let Some((_, len)) = matches.next_back() {
-            lengths.push(*len).ok()?;
-        }
-    }
-    lengths.reverse();
-    Some(lengths)
+    let (front, back) = (map.matches_key(query), map.matches_key(query).rev());
+    front.map(|(_, len)| *len).eq(lengths.iter().copied())
+        && back.map(|(_, len)| *len).eq(lengths.iter().copied().rev())
 }
 
 // The same from both ends in turn.
-fn lengths_from_ends<const P: usize>(
-    alloc: Global,
-    map: &Bytes<P>,
-    query: &Escaped,
-) -> Option<Vec<u32>>
+fn agree_from_both_ends<const P: usize>(map: &Bytes<P>, query: &Escaped, lengths: &[u32]) -> bool
     requires { P < 256 }
 {
-    let mut lengths = Vec::new(alloc);
-    let mut back = Vec::new(alloc);
     let mut matches = map.matches_key(query);
+    let mut rest = lengths.iter();
+    let mut agree = true;
     for _ in 0..COUNT {
-        if let Some((_, len)) = matches.next() {
-            lengths.push(*len).ok()?;
-        }
-        if let Some((_, len)) = matches.next_back() {
-            back.push(*len).ok()?;
-        }
+        agree &= matches.next().map(|pair| *pair.1) == rest.next().copied();
+        agree &= matches.next_back().map(|pair| *pair.1) == rest.next_back().copied();
     }
-    back.reverse();
-    lengths.extend_from_slice(&back).ok()?;
-    Some(lengths)
+    agree
 }
 
 // The length of the longest string of a list that is a prefix of a query.
@@ -269,13 +234,11 @@ fn agree<const P: usize>(
     let by_text = map.longest_match(alloc, query).ok()?.map(|pair| *pair.1);
     let by_key = map.longest_match_key(&key).map(|pair| *pair.1);
     let is_longest = [by_text, by_key] == [longest_in_list(list, query); 2];
-    let expected = lengths_of_list(alloc, list, query)?;
+    let lengths = lengths_of_list(alloc, list, query)?;
     let shortest = map.shortest_match_key(&key).map(|pair| *pair.1);
-    let is_shortest = shortest == expected.first().copied();
-    let front = lengths_from_front(alloc, map, &key)? == expected;
-    let back = lengths_from_back(alloc, map, &key)? == expected;
-    let ends = lengths_from_ends(alloc, map, &key)? == expected;
-    Some(is_longest && is_shortest && front && back && ends)
+    let is_shortest = shortest == lengths.first().copied();
+    let are_matches = agree_from_each_end(map, &key, &lengths);
+    Some(is_longest && is_shortest && are_matches && agree_from_both_ends(map, &key, &lengths))
 }
 
 // On how many random queries they agree.

@@ -1,112 +1,108 @@
-//! Removals of the keys of a set of numbers by their bounds, and moves of keys into another set, at random, beside a
+//! Calls of a set of numbers, removals by their bounds, and moves of keys into another set, at random, beside a
 //! `BTreeSet`.
 use art_keyed::set::TreeSet;
-use art_keys::unsigned::Unsigned;
+use art_keys::unsigned::U16Key;
 use art_node_support::expected::same;
 use art_node_support::numbers::Numbers;
 use std::collections::BTreeSet;
 use std::test::Fail;
 
-type Set = TreeSet<Unsigned<2>, 1>;
+type Set = TreeSet<U16Key, 1>;
 
-type Model = BTreeSet<u16>;
+type Model = BTreeSet<U16Key>;
 
-fn drawn_number(numbers: &mut Numbers) -> u16 {
-    numbers.below(900) as u16
+fn drawn_key(numbers: &mut Numbers) -> U16Key {
+    U16Key::from(numbers.below(900) as u16)
 }
 
-// Inserts a number into both.
-fn put_both(set: &mut Set, model: &mut Model, numbers: &mut Numbers) -> bool {
-    let number = drawn_number(numbers);
-    let own = set.insert(Unsigned::from(number)).ok();
-    own.is_some() && own == model.insert(number).ok()
+// Inserts a number into both, and returns whether both return the same.
+fn agree_on_insertion(set: &mut Set, model: &mut Model, key: U16Key) -> bool {
+    let own = set.insert(key).ok();
+    own.is_some() && own == model.insert(key).ok()
+}
+
+// Whether both have the number, and equally many before it.
+fn agree_on_questions(set: &Set, model: &Model, key: U16Key) -> bool {
+    let mut before = 0usize;
+    for other in model.iter() {
+        before = before.saturating_add((other.get() < key.get()) as usize);
+    }
+    set.contains(&key) == model.contains(&key) && set.range(..key).count() == before
 }
 
 // The first number from one to before another.
-fn first_between(model: &Model, low: u16, high: u16) -> Option<u16> {
-    for number in model.iter() {
-        if low <= *number && *number < high {
-            return Some(*number);
+fn first_between(model: &Model, low: U16Key, high: U16Key) -> Option<U16Key> {
+    for key in model.iter() {
+        if low.get() <= key.get() && key.get() < high.get() {
+            return Some(*key);
         }
     }
     None
 }
 
 // Whether the same number is removed from both, the first one of a range.
-fn agree_on_pop(set: &mut Set, model: &mut Model, low: u16, high: u16) -> bool {
+fn agree_on_pop(set: &mut Set, model: &mut Model, low: U16Key, high: U16Key) -> bool {
     let first = first_between(model, low, high);
-    if let Some(number) = first {
-        model.remove(&number);
+    if let Some(key) = first {
+        model.remove(&key);
     }
-    match set.pop_first_in(Unsigned::from(low)..Unsigned::from(high)) {
-        Some(key) => Some(key.get()) == first,
-        None => first.is_none(),
-    }
+    set.pop_first_in(low..high) == first
 }
 
 // Whether as many numbers of a range are removed from both.
-fn agree_on_range(set: &mut Set, model: &mut Model, low: u16, high: u16) -> bool {
+fn agree_on_range(set: &mut Set, model: &mut Model, low: U16Key, high: U16Key) -> bool {
     let before = model.len();
-    model.retain(|number| *number < low || high < *number);
-    let removed = set.remove_range(Unsigned::from(low)..=Unsigned::from(high));
-    removed == before.saturating_sub(model.len())
+    model.retain(|key| key.get() < low.get() || high.get() < key.get());
+    set.remove_range(low..=high) == before.saturating_sub(model.len())
 }
 
-// Whether both are split at a number into the same sets, and are the same once the second part is appended, after an
-// insertion of a number that the first part may have.
-fn agree_on_split(set: &mut Set, model: &mut Model, numbers: &mut Numbers) -> bool {
-    let number = drawn_number(numbers);
-    let Ok(mut tail) = set.split_off(&Unsigned::from(number)) else {
+// Whether both are split at a number into the same sets, once the second part has one more number, which the first part
+// may have, and is appended.
+fn agree_on_split(set: &mut Set, model: &mut Model, low: U16Key, high: U16Key) -> bool {
+    let Ok(mut tail) = set.split_off(&low) else {
         return false;
     };
-    let Ok(mut rest) = model.split_off(&number) else {
+    let Ok(mut rest) = model.split_off(&low) else {
         return false;
     };
     let split = agree_on_keys(set, model) && agree_on_keys(&tail, &rest);
-    let put = put_both(&mut tail, &mut rest, numbers);
+    let put = agree_on_insertion(&mut tail, &mut rest, high);
     let joined = set.append(&mut tail).is_ok() && model.append(&mut rest).is_ok();
-    split && put && joined && tail.is_empty() && agree_on_keys(set, model)
-}
-
-fn copied(key: Option<&Unsigned<2>>) -> Option<u16> {
-    Some(key?.get())
+    split && put && joined && tail.is_empty()
 }
 
 // Whether both have the same numbers, in the same order.
 fn agree_on_keys(set: &Set, model: &Model) -> bool {
-    let mut own = set.iter();
-    let mut agree = true;
-    for number in model.iter() {
-        agree &= copied(own.next()) == Some(*number);
-    }
-    agree & own.next().is_none()
+    set.iter().eq(model.iter())
 }
 
-// A change of both, and whether they agree.
-fn agree_on_change(set: &mut Set, model: &mut Model, numbers: &mut Numbers) -> bool {
-    let (low, high) = (drawn_number(numbers), drawn_number(numbers));
+// A call of both, and whether they agree.
+fn agree_on_call(set: &mut Set, model: &mut Model, numbers: &mut Numbers) -> bool {
+    let (low, high) = (drawn_key(numbers), drawn_key(numbers));
     match numbers.below(40) {
         0..=2 => agree_on_pop(set, model, low, high),
         3 => agree_on_range(set, model, low, high),
-        4 => agree_on_split(set, model, numbers),
-        _ => put_both(set, model, numbers),
+        4 => agree_on_split(set, model, low, high),
+        5..=8 => set.remove(&low) == model.remove(&low),
+        9..=12 => agree_on_questions(set, model, low),
+        _ => agree_on_insertion(set, model, low),
     }
 }
 
-// The number of the first change after which they differ, if they do.
-fn differ_at(set: &mut Set, model: &mut Model, changes: usize) -> Option<usize> {
+// The number of the first call after which they differ, if they do.
+fn differ_at(set: &mut Set, model: &mut Model, calls: usize) -> Option<usize> {
     let mut numbers = Numbers::new(14);
-    for change in 0..changes {
-        if !agree_on_change(set, model, &mut numbers) || !agree_on_keys(set, model) {
-            return Some(change);
+    for call in 0..calls {
+        if !agree_on_call(set, model, &mut numbers) || !agree_on_keys(set, model) {
+            return Some(call);
         }
     }
     None
 }
 
 #[test]
-fn drawn_parts_go_as_those_of_a_btree_set(rt: HostRuntime) -> Result<(), Fail> {
+fn drawn_calls_return_what_those_of_a_btree_set_do(rt: HostRuntime) -> Result<(), Fail> {
     let alloc = rt.alloc();
-    let differ = differ_at(&mut TreeSet::new(alloc), &mut BTreeSet::new(alloc), 2_000);
-    same(Some(differ), Some(None))
+    let differ = differ_at(&mut TreeSet::new(alloc), &mut BTreeSet::new(alloc), 3_000);
+    same(differ, None)
 }

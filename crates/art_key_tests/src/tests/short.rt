@@ -13,8 +13,8 @@ pub const COUNT: usize = 341;
 
 static BYTES: [u8; 4] = [0, 1, 2, 255];
 
-/// One of them.
-#[derive(Clone, Copy, PartialEq, Debug)]
+/// One of them. The bytes after its length are zeros, so that two of them compare as their bytes do.
+#[derive(Clone, Copy, PartialEq, Eq, PartialOrd, Ord, Debug)]
 pub struct Short {
     bytes: [u8; 4],
     len: usize,

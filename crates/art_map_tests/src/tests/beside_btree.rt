@@ -1,8 +1,9 @@
 //! Drawn calls of a map, compared with the same calls of a `BTreeMap`. The keys have one length, so that none is a
 //! prefix of another.
 use super::calls::Removal;
+use super::{entries, extracts, splits};
 use art_operations::map::ByteMap;
-use art_test_support::expected::as_expected;
+use art_test_support::expected::same;
 use art_test_support::numbers::Numbers;
 use std::alloc::Global;
 use std::collections::BTreeMap;
@@ -25,7 +26,7 @@ fn copied(pair: Option<(&Key, &u32)>) -> Option<(Key, u32)> {
 }
 
 // Queries both, and returns whether they return the same.
-fn agree_on_question(map: &Map, model: &BTreeMap<Key, u32>, key: Key, question: usize) -> bool {
+fn agree_on_question(map: &Map, model: &Model, key: Key, question: usize) -> bool {
     match question {
         0 => map.get(&key).copied() == model.get(&key).copied(),
         1 => map.contains_key(&key) == model.contains_key(&key),
@@ -48,7 +49,7 @@ pub(super) fn agree_on_removal(map: &mut Map, model: &mut Model, removal: Remova
     }
 }
 
-fn agree_on_insertion(map: &mut Map, model: &mut BTreeMap<Key, u32>, key: Key, value: u32) -> bool {
+fn agree_on_insertion(map: &mut Map, model: &mut Model, key: Key, value: u32) -> bool {
     let replaced = map.insert(key, value).ok();
     match model.insert(key, value) {
         Ok(old) => replaced == Some(pair_with(key, old)),
@@ -56,10 +57,19 @@ fn agree_on_insertion(map: &mut Map, model: &mut BTreeMap<Key, u32>, key: Key, v
     }
 }
 
-// Calls both, and returns whether they return the same.
-pub(super) fn agree_on_call(
+// Inserts a drawn pair into both, and returns whether they return the same.
+pub(super) fn agree_on_drawn_insertion(
     map: &mut Map,
-    model: &mut BTreeMap<Key, u32>,
+    model: &mut Model,
+    numbers: &mut Numbers,
+) -> bool {
+    agree_on_insertion(map, model, drawn_key(numbers), numbers.value())
+}
+
+// Calls both, and returns whether they return the same.
+fn agree_on_call(
+    map: &mut Map,
+    model: &mut Model,
     numbers: &mut Numbers,
     is_growing: bool,
 ) -> bool {
@@ -76,56 +86,13 @@ pub(super) fn agree_on_call(
     }
 }
 
-// Whether both have the same pairs, in the same order, from the front.
-fn agree_from_front(map: &Map, model: &BTreeMap<Key, u32>) -> bool {
-    let mut own = map.iter();
-    let mut agree = true;
-    for pair in model.iter() {
-        agree &= own.next() == Some(pair);
-    }
-    agree & own.next().is_none()
-}
-
-// The same from the back.
-fn agree_from_back(map: &Map, model: &BTreeMap<Key, u32>) -> bool {
-    let mut own = map.iter();
-    let mut agree = true;
-    for pair in model.iter().rev() {
-        agree &= own.next_back() == Some(pair);
-    }
-    agree & own.next_back().is_none()
-}
-
-// The same from both ends, and equally many.
-pub(super) fn agree_on_pairs(map: &Map, model: &BTreeMap<Key, u32>) -> bool {
-    agree_from_front(map, model) && agree_from_back(map, model) && map.len() == model.len()
-}
-
-// The number of the first call after which they differ, if they do.
-fn differ_at(map: &mut Map, model: &mut BTreeMap<Key, u32>, calls: usize) -> Option<usize> {
-    let mut numbers = Numbers::new(1);
-    for call in 0..calls {
-        let is_growing = (call / 1_000) % 2 == 0;
-        if !agree_on_call(map, model, &mut numbers, is_growing) {
-            return Some(call);
-        }
-        if call % 100 == 0 && !agree_on_pairs(map, model) {
-            return Some(call);
-        }
-    }
-    None
-}
-
-// The same, and whether they then have the same pairs.
-fn compared(map: &mut Map, model: &mut BTreeMap<Key, u32>, calls: usize) -> (Option<usize>, bool) {
-    (differ_at(map, model, calls), agree_on_pairs(map, model))
-}
-
-#[test]
-fn drawn_calls_answer_as_those_of_a_btree_map(rt: HostRuntime) -> Result<(), Fail> {
-    let alloc = rt.alloc();
-    let seen = compared(&mut ByteMap::new(alloc), &mut BTreeMap::new(alloc), 10_000);
-    as_expected(Some((seen, (None, true))))
+// Whether both have the same pairs from both ends, the same keys and values, and equally many.
+pub(super) fn agree_on_pairs(map: &Map, model: &Model) -> bool {
+    map.iter().eq(model.iter())
+        && map.iter().rev().eq(model.iter().rev())
+        && map.keys().eq(model.keys())
+        && map.values().rev().eq(model.values().rev())
+        && map.len() == model.len()
 }
 
 // Writes the value of a key in both, and returns whether both had the same.
@@ -192,61 +159,13 @@ fn agree_on_write(map: &mut Map, model: &mut Model, key: Key, value: u32, call: 
     }
 }
 
-// Whether both have the same keys from the front.
-fn agree_on_keys(map: &Map, model: &BTreeMap<Key, u32>) -> bool {
-    let mut own = map.keys();
-    let mut agree = true;
-    for key in model.keys() {
-        agree &= own.next() == Some(key);
+// A drawn write or another call of both, and whether they agree.
+fn agree_on_writes(map: &mut Map, model: &mut Model, numbers: &mut Numbers) -> bool {
+    let (key, value) = (drawn_key(numbers), numbers.value());
+    match numbers.below(5) {
+        4 => agree_on_call(map, model, numbers, true),
+        call => agree_on_write(map, model, key, value, call),
     }
-    agree & own.next().is_none()
-}
-
-// Whether both have the same values from the back.
-fn agree_on_values(map: &Map, model: &BTreeMap<Key, u32>) -> bool {
-    let mut own = map.values();
-    let mut agree = true;
-    for value in model.values().rev() {
-        agree &= own.next_back() == Some(value);
-    }
-    agree & own.next_back().is_none()
-}
-
-// Whether both have the same keys, and the same values.
-fn agree_on_parts(map: &Map, model: &BTreeMap<Key, u32>) -> bool {
-    agree_on_keys(map, model) && agree_on_values(map, model)
-}
-
-// The number of the first write or call after which they differ, if they do. Every 300 calls they are cleared.
-fn differ_at_write(map: &mut Map, model: &mut BTreeMap<Key, u32>, calls: usize) -> Option<usize> {
-    let mut numbers = Numbers::new(2);
-    for call in 0..calls {
-        let (key, value) = (drawn_key(&mut numbers), numbers.value());
-        let which = numbers.below(5);
-        if which == 4 {
-            if !agree_on_call(map, model, &mut numbers, true) {
-                return Some(call);
-            }
-        } else if !agree_on_write(map, model, key, value, which) {
-            return Some(call);
-        }
-        if call % 50 == 0 && !(agree_on_pairs(map, model) && agree_on_parts(map, model)) {
-            return Some(call);
-        }
-        if call % 300 == 299 {
-            map.clear();
-            model.clear();
-        }
-    }
-    None
-}
-
-#[test]
-fn drawn_writes_answer_as_those_of_a_btree_map(rt: HostRuntime) -> Result<(), Fail> {
-    let alloc = rt.alloc();
-    let (mut map, mut model) = (ByteMap::new(alloc), BTreeMap::new(alloc));
-    let differ = differ_at_write(&mut map, &mut model, 5_000);
-    as_expected(Some(((differ, agree_on_pairs(&map, &model)), (None, true))))
 }
 
 // Whether two maps compare in the same way.
@@ -260,8 +179,7 @@ fn agree_on_order(map: &Map, other: &Map, model: &Model, beside: &Model) -> bool
 fn fill_both(map: &mut Map, model: &mut Model, numbers: &mut Numbers) -> bool {
     let mut agree = true;
     for _ in 0..numbers.below(30) {
-        let (key, value) = (drawn_key(numbers), numbers.value());
-        agree = agree_on_insertion(map, model, key, value) && agree;
+        agree = agree_on_drawn_insertion(map, model, numbers) && agree;
     }
     agree
 }
@@ -363,27 +281,85 @@ fn agree_in_round(map: &mut Map, model: &mut Model, numbers: &mut Numbers, alloc
     agree == [true; 7]
 }
 
-// The number of the first round after which they differ, if they do.
-fn differ_in_round(
-    map: &mut Map,
-    model: &mut Model,
+// What is drawn.
+#[derive(Clone, Copy, PartialEq, Debug)]
+enum Drawn {
+    Calls,
+    /// The same, and the map is compacted at times.
+    CallsOfACompactMap,
+    Writes,
+    Entries,
+    /// Pairs of a range, and splits.
+    Parts,
+    Extracts,
+    /// Calls of all pairs, and of two maps.
+    Rounds,
+}
+
+// Draws a call of both, the one with this number, and returns whether they agree.
+fn agree_on_drawn(
+    (map, model): (&mut Map, &mut Model),
     numbers: &mut Numbers,
-    rounds: usize,
     alloc: Global,
+    (drawn, call): (Drawn, usize),
+) -> bool {
+    match drawn {
+        Drawn::Calls => agree_on_call(map, model, numbers, call / 1_000 % 2 == 0),
+        Drawn::CallsOfACompactMap => {
+            agree_on_call(map, model, numbers, call / 500 % 2 == 0)
+                && (call % 50 != 49 || map.compact().is_ok())
+        }
+        Drawn::Writes => agree_on_writes(map, model, numbers),
+        Drawn::Entries => entries::agree_on_call(map, model, numbers),
+        Drawn::Parts => splits::agree_on_change(map, model, numbers) && agree_on_pairs(map, model),
+        Drawn::Extracts => {
+            fill_both(map, model, numbers)
+                && extracts::agree_on_change(map, model, numbers)
+                && agree_on_pairs(map, model)
+        }
+        Drawn::Rounds => agree_in_round(map, model, numbers, alloc),
+    }
+}
+
+// The number of the first call after which they differ, if they do. Where pairs only come, both are cleared at times.
+fn differ_at(
+    (map, model): (&mut Map, &mut Model),
+    alloc: Global,
+    drawn: Drawn,
+    calls: usize,
 ) -> Option<usize> {
-    for round in 0..rounds {
-        if !agree_in_round(map, model, numbers, alloc) {
-            return Some(round);
+    let mut numbers = Numbers::new(calls as u64);
+    for call in 0..calls {
+        let agree = agree_on_drawn((map, model), &mut numbers, alloc, (drawn, call));
+        if !agree || (call % 50 == 49 && !agree_on_pairs(map, model)) {
+            return Some(call);
+        }
+        if call % 400 == 399 && matches!(drawn, Drawn::Writes | Drawn::Entries) {
+            map.clear();
+            model.clear();
         }
     }
     None
 }
 
+// What is drawn, and how many calls.
+static RUNS: [(Drawn, usize); 7] = [
+    (Drawn::Calls, 6_000),
+    (Drawn::CallsOfACompactMap, 3_000),
+    (Drawn::Writes, 3_000),
+    (Drawn::Entries, 3_000),
+    (Drawn::Parts, 1_000),
+    (Drawn::Extracts, 300),
+    (Drawn::Rounds, 100),
+];
+
 #[test]
-fn maps_are_extended_and_retained_as_btree_maps(rt: HostRuntime) -> Result<(), Fail> {
+fn drawn_calls_answer_as_those_of_a_btree_map(rt: HostRuntime) -> Result<(), Fail> {
     let alloc = rt.alloc();
-    let (mut map, mut model) = (ByteMap::new(alloc), BTreeMap::new(alloc));
-    let mut numbers = Numbers::new(3);
-    let seen = differ_in_round(&mut map, &mut model, &mut numbers, 200, alloc);
-    as_expected(Some((seen, None)))
+    for (drawn, calls) in &RUNS {
+        let both = (&mut ByteMap::new(alloc), &mut BTreeMap::new(alloc));
+        let differ = differ_at(both, alloc, *drawn, *calls);
+        same((*drawn, differ), (*drawn, None))?;
+    }
+    Ok(())
 }

@@ -1,7 +1,8 @@
 //! Drawn calls of sets, compared with the same calls of `BTreeSet`s. The keys have one length, so that none is a prefix
 //! of another.
+use super::set_splits;
 use art_operations::set::ByteSet;
-use art_test_support::expected::as_expected;
+use art_test_support::expected::same;
 use art_test_support::numbers::Numbers;
 use std::collections::BTreeSet;
 use std::ops::Bound;
@@ -46,15 +47,7 @@ fn agree_on_questions(set: &Set, model: &Model, key: Key) -> bool {
 
 // Whether both have the same keys from both ends.
 pub(super) fn agree_on_keys(set: &Set, model: &Model) -> bool {
-    let (mut front, mut back) = (set.iter(), set.iter());
-    let mut agree = true;
-    for key in model.iter() {
-        agree &= front.next() == Some(key);
-    }
-    for key in model.iter().rev() {
-        agree &= back.next_back() == Some(key);
-    }
-    agree & front.next().is_none() & back.next_back().is_none()
+    set.iter().eq(model.iter()) && set.iter().rev().eq(model.iter().rev())
 }
 
 // Whether both have the same keys with the first byte of this key.
@@ -163,6 +156,9 @@ fn differ_at(
         if change % 50 == 49 {
             agree &= agree_on_retained(right, right_model, key[0]);
         }
+        if change % 10 == 9 {
+            agree &= set_splits::agree_on_parts(left, left_model, &mut numbers);
+        }
         agree &= agree_on_questions(left, left_model, key);
         agree &= agree_on_keys(left, left_model);
         agree &= agree_on_parts(right, right_model, key);
@@ -185,5 +181,5 @@ fn drawn_calls_of_sets_return_as_those_of_btree_sets(rt: HostRuntime) -> Result<
         (&mut left_model, &mut right_model),
         2_000,
     );
-    as_expected(Some((seen, None)))
+    same(seen, None)
 }

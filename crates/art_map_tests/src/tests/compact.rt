@@ -1,21 +1,17 @@
 //! Maps whose pairs were moved into the order of their keys.
-use super::beside_btree::{Map as Drawn, Model, agree_on_call, agree_on_pairs};
 use super::calls::Map;
 use art_operations::map::ByteMap;
 use art_operations::set::ByteSet;
-use art_test_support::expected::{as_expected, same};
+use art_test_support::expected::same;
 use art_test_support::memory::{all_memory, begin_refusals, end_refusals};
-use art_test_support::numbers::Numbers;
 use std::alloc::Global;
-use std::collections::BTreeMap;
 use std::test::Fail;
 
-// Inserts keys in no order, each with its byte as its value, and returns whether all are stored.
-fn fill_unsorted(map: &mut Map) -> bool {
+// Inserts keys in no order, each with its byte as its value.
+fn fill_unsorted(map: &mut Map) {
     for byte in [7u8, 2, 9, 4, 6, 1] {
         drop(map.insert([byte], byte as u32));
     }
-    map.len() == 6
 }
 
 // The values as the digits of a number, from the front, and from the back.
@@ -33,43 +29,18 @@ fn digits(map: &Map) -> [u32; 2] {
     [front, back]
 }
 
-// Whether a map is filled and compacted, its digits then, and the values of two keys.
-fn compacted(map: &mut Map) -> ([bool; 2], [u32; 2], [Option<u32>; 2]) {
-    let is_filled = fill_unsorted(map);
+// Whether a map is compacted, its digits then, and the values of two keys.
+fn compacted(map: &mut Map) -> (bool, [u32; 2], [Option<u32>; 2]) {
+    fill_unsorted(map);
     let is_compact = map.compact().is_ok();
     let values = [map.get(&[4]).copied(), map.get(&[5]).copied()];
-    ([is_filled, is_compact], digits(map), values)
+    (is_compact, digits(map), values)
 }
 
 #[test]
 fn a_compact_map_has_the_same_pairs(rt: HostRuntime) -> Result<(), Fail> {
     let seen = compacted(&mut ByteMap::new(rt.alloc()));
-    as_expected(Some((seen, ([true; 2], [124_679, 976_421], [Some(4), None]))))
-}
-
-// The number of the first call after which a map and a `BTreeMap` differ, if they do. The map is compacted every 40
-// calls.
-fn differ_at(map: &mut Drawn, model: &mut Model, calls: usize) -> Option<usize> {
-    let mut numbers = Numbers::new(5);
-    for call in 0..calls {
-        let is_growing = (call / 500) % 2 == 0;
-        if !agree_on_call(map, model, &mut numbers, is_growing) {
-            return Some(call);
-        }
-        if call % 40 == 39 && !(map.compact().is_ok() && agree_on_pairs(map, model)) {
-            return Some(call);
-        }
-    }
-    None
-}
-
-#[test]
-fn drawn_calls_of_a_compact_map_answer_as_those_of_a_btree_map(
-    rt: HostRuntime,
-) -> Result<(), Fail> {
-    let alloc = rt.alloc();
-    let seen = differ_at(&mut ByteMap::new(alloc), &mut BTreeMap::new(alloc), 4_000);
-    as_expected(Some((seen, None)))
+    same(seen, (true, [124_679, 976_421], [Some(4), None]))
 }
 
 // Whether `compact` fails while all memory is held, and the digits then.
@@ -84,7 +55,7 @@ fn starve(alloc: Global, map: &mut Map) -> Option<(bool, [u32; 2])> {
 #[test]
 fn without_memory_no_map_is_made_compact(rt: HostRuntime) -> Result<(), Fail> {
     let seen = starve(rt.alloc(), &mut ByteMap::new(rt.alloc()));
-    as_expected(Some((seen, Some((true, [124_679, 976_421])))))
+    same(seen, Some((true, [124_679, 976_421])))
 }
 
 // Whether `compact` fails while an allocation may fail, and the digits then.
@@ -125,5 +96,5 @@ fn keys_of_compact(set: &mut ByteSet<[u8; 1], 4>) -> (bool, [Option<[u8; 1]>; 4]
 #[test]
 fn a_compact_set_has_the_same_keys(rt: HostRuntime) -> Result<(), Fail> {
     let seen = keys_of_compact(&mut ByteSet::new(rt.alloc()));
-    as_expected(Some((seen, (true, [Some([1]), Some([2]), Some([3]), None]))))
+    same(seen, (true, [Some([1]), Some([2]), Some([3]), None]))
 }

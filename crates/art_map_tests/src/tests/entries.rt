@@ -1,9 +1,8 @@
 //! Drawn calls of a map's entries, compared with those of a `BTreeMap`.
-use super::beside_btree::{Key, Map, Model, agree_on_pairs, drawn_key};
+use super::beside_btree::{Key, Map, Model, drawn_key};
 use art_operations::map::{ByteMap, MapMakeError};
-use art_test_support::expected::{as_expected, same};
+use art_test_support::expected::same;
 use art_test_support::numbers::Numbers;
-use std::collections::BTreeMap;
 use std::test::Fail;
 
 // Whether both have the same value of a key, which is inserted with a value that is made.
@@ -105,7 +104,8 @@ fn agree_on_walks(map: &Map, model: &Model) -> bool {
     hint && copy.next() == pairs.next() && copy.len() == pairs.len()
 }
 
-fn agree_on_call(map: &mut Map, model: &mut Model, numbers: &mut Numbers) -> bool {
+// A drawn call of both, and whether they agree.
+pub(super) fn agree_on_call(map: &mut Map, model: &mut Model, numbers: &mut Numbers) -> bool {
     let (key, value) = (drawn_key(numbers), numbers.value());
     match numbers.below(40) {
         0..=9 => agree_on_made(map, model, key, value),
@@ -115,32 +115,6 @@ fn agree_on_call(map: &mut Map, model: &mut Model, numbers: &mut Numbers) -> boo
         30..=37 => agree_on_changed(map, model, key, value),
         _ => agree_on_walks(map, model),
     }
-}
-
-// The number of the first call after which they differ, if they do. Every 400 calls they are cleared.
-fn differ_at_call(map: &mut Map, model: &mut Model, calls: usize) -> Option<usize> {
-    let mut numbers = Numbers::new(5);
-    for call in 0..calls {
-        if !agree_on_call(map, model, &mut numbers) {
-            return Some(call);
-        }
-        if call % 50 == 0 && !agree_on_pairs(map, model) {
-            return Some(call);
-        }
-        if call % 400 == 399 {
-            map.clear();
-            model.clear();
-        }
-    }
-    None
-}
-
-#[test]
-fn drawn_entries_answer_as_those_of_a_btree_map(rt: HostRuntime) -> Result<(), Fail> {
-    let alloc = rt.alloc();
-    let (mut map, mut model) = (ByteMap::new(alloc), BTreeMap::new(alloc));
-    let differ = differ_at_call(&mut map, &mut model, 4_000);
-    as_expected(Some(((differ, agree_on_pairs(&map, &model)), (None, true))))
 }
 
 // What is returned if a closure fails: nothing if the key is stored.

@@ -1,33 +1,15 @@
 //! Iterators that remove the pairs of a range or with a prefix, drawn, some dropped early, and compared with a
 //! `BTreeMap`.
-use super::beside_btree::{Key, Map, Model, agree_on_pairs, drawn_key};
-use super::ranges::{drawn_bound, is_between};
+use super::beside_btree::{Key, Map, Model, drawn_key};
+use super::ranges::drawn_bound;
+use super::splits::first_between;
 use art_operations::map::ByteMap;
 use art_test_support::expected::as_expected;
 use art_test_support::numbers::Numbers;
-use std::collections::BTreeMap;
 use std::ops::Bound;
 use std::test::Fail;
 
-// Inserts some pairs into both.
-fn fill_both(map: &mut Map, model: &mut Model, numbers: &mut Numbers) -> bool {
-    let mut done = true;
-    for _ in 0..numbers.below(30) {
-        let (key, value) = (drawn_key(numbers), numbers.value());
-        done &= map.insert(key, value).is_ok() && model.insert(key, value).is_ok();
-    }
-    done
-}
-
-fn first_between(model: &Model, from: Bound<&[u8]>, to: Bound<&[u8]>) -> Option<(Key, u32)> {
-    for (key, value) in model.iter() {
-        if is_between(from, to, key) {
-            return Some((*key, *value));
-        }
-    }
-    None
-}
-
+// The first pair with a prefix.
 fn first_below(model: &Model, prefix: &[u8]) -> Option<(Key, u32)> {
     for (key, value) in model.iter() {
         if key.starts_with(prefix) {
@@ -75,7 +57,7 @@ fn agree_on_prefix(map: &mut Map, model: &mut Model, prefix: &[u8], most: usize)
 }
 
 // Changes both, and returns whether they agree.
-fn agree_on_change(map: &mut Map, model: &mut Model, numbers: &mut Numbers) -> bool {
+pub(super) fn agree_on_change(map: &mut Map, model: &mut Model, numbers: &mut Numbers) -> bool {
     let (low, high) = (drawn_key(numbers), drawn_key(numbers));
     let (from, to) = (drawn_bound(numbers, &low), drawn_bound(numbers, &high));
     let most = numbers.below(6);
@@ -84,25 +66,6 @@ fn agree_on_change(map: &mut Map, model: &mut Model, numbers: &mut Numbers) -> b
     } else {
         agree_on_prefix(map, model, &low[..numbers.below(3)], most)
     }
-}
-
-// The number of the first change after which they differ, if they do.
-fn differ_at(map: &mut Map, model: &mut Model, changes: usize) -> Option<usize> {
-    let mut numbers = Numbers::new(15);
-    for change in 0..changes {
-        let filled = fill_both(map, model, &mut numbers);
-        if !filled || !agree_on_change(map, model, &mut numbers) || !agree_on_pairs(map, model) {
-            return Some(change);
-        }
-    }
-    None
-}
-
-#[test]
-fn extracted_pairs_are_those_of_a_btree_map(rt: HostRuntime) -> Result<(), Fail> {
-    let alloc = rt.alloc();
-    let seen = differ_at(&mut ByteMap::new(alloc), &mut BTreeMap::new(alloc), 400);
-    as_expected(Some((seen, None)))
 }
 
 // The sum of the values that are removed in a loop, and how many pairs are left.

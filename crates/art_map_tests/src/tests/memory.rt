@@ -1,7 +1,7 @@
 //! Calls while allocations fail.
-use super::calls::{Map, Removal, fill, fill_many, remove, value_of};
+use super::calls::{Map, Removal, fill, remove, value_of};
 use art_operations::map::{ByteMap, MapInsertError};
-use art_test_support::expected::{as_expected, same};
+use art_test_support::expected::same;
 use art_test_support::memory::{all_memory, begin_refusals, end_refusals};
 use std::alloc::Global;
 use std::test::Fail;
@@ -43,7 +43,7 @@ fn starve_new(alloc: Global, map: &mut Map) -> Option<([bool; 2], usize)> {
 #[test]
 fn without_memory_a_first_insertion_is_refused(rt: HostRuntime) -> Result<(), Fail> {
     let seen = starve_new(rt.alloc(), &mut ByteMap::new(rt.alloc()));
-    as_expected(Some((seen, Some(([true, true], 0)))))
+    same(seen, Some(([true, true], 0)))
 }
 
 // Whether the first insertion into a map fails and returns its pair, and how many pairs it then has.
@@ -87,6 +87,7 @@ fn answers(map: &mut Map) -> ([Option<u32>; 3], bool) {
 
 // The same while all memory is held, and whether pairs are then removed.
 fn starve(alloc: Global, map: &mut Map) -> Option<([Option<u32>; 3], [bool; 4])> {
+    fill(map, 5);
     let held = all_memory(alloc).ok()?;
     let (values, is_over) = answers(map);
     let are_made = [
@@ -99,16 +100,10 @@ fn starve(alloc: Global, map: &mut Map) -> Option<([Option<u32>; 3], [bool; 4])>
     Some((values, are_made))
 }
 
-// Whether a map was filled, and the same of it.
-fn starve_filled(alloc: Global, map: &mut Map) -> (bool, Option<([Option<u32>; 3], [bool; 4])>) {
-    (fill(map), starve(alloc, map))
-}
-
 #[test]
 fn without_memory_pairs_are_found_and_removed(rt: HostRuntime) -> Result<(), Fail> {
-    let seen = starve_filled(rt.alloc(), &mut ByteMap::new(rt.alloc()));
-    let values = [Some(3), Some(3), Some(5)];
-    as_expected(Some((seen, (true, Some((values, [true; 4]))))))
+    let seen = starve(rt.alloc(), &mut ByteMap::new(rt.alloc()));
+    same(seen, Some(([Some(3), Some(3), Some(5)], [true; 4])))
 }
 
 // A map with keys of any length.
@@ -136,7 +131,7 @@ fn starve_over_longer(
 #[test]
 fn without_memory_a_longer_key_gives_way(rt: HostRuntime) -> Result<(), Fail> {
     let seen = starve_over_longer(rt.alloc(), &mut ByteMap::new(rt.alloc()));
-    as_expected(Some((seen, Some((1, 1, [None, Some(9)])))))
+    same(seen, Some((1, 1, [None, Some(9)])))
 }
 
 type Deep = ByteMap<[u8; 5], u32, 4>;
@@ -201,26 +196,22 @@ fn take_fifth(map: &mut Deep, is_whole: bool) -> bool {
 }
 
 // Whether an insertion fails while all memory is held, and then a removal succeeds for which a smaller node is placed.
-fn starve_deep(alloc: Global, map: &mut Deep, is_whole: bool) -> Option<[bool; 3]> {
+fn starve_deep(alloc: Global, map: &mut Deep, is_whole: bool) -> Option<[bool; 4]> {
+    let is_filled = fill_deep(map);
     let held = all_memory(alloc).ok()?;
     let is_full = crowd_deep(map);
     let before = map.len();
     let is_taken = take_fifth(map, is_whole);
     drop(held);
     let is_gone = map.len().saturating_add(1) == before && !map.contains_key(&[5, 2, 0, 0, 0]);
-    Some([is_full, is_taken, is_gone])
-}
-
-// Whether a deep map was filled, and the same of it.
-fn starve_filled_deep(alloc: Global, map: &mut Deep, is_whole: bool) -> (bool, Option<[bool; 3]>) {
-    (fill_deep(map), starve_deep(alloc, map, is_whole))
+    Some([is_filled, is_full, is_taken, is_gone])
 }
 
 #[test]
 fn without_memory_a_shrinking_removal_is_made(rt: HostRuntime) -> Result<(), Fail> {
     for is_whole in [false, true] {
-        let seen = starve_filled_deep(rt.alloc(), &mut ByteMap::new(rt.alloc()), is_whole);
-        as_expected(Some((seen, (true, Some([true; 3])))))?;
+        let seen = starve_deep(rt.alloc(), &mut ByteMap::new(rt.alloc()), is_whole);
+        same(seen, Some([true; 4]))?;
     }
     Ok(())
 }
@@ -229,43 +220,35 @@ fn is_clone_refused(map: &Map) -> bool {
     map.clone().is_err()
 }
 
-// Whether clones of a map and of an empty one fail while all memory is held.
-fn starve_clones(alloc: Global, map: &Map, empty: &Map) -> Option<[bool; 2]> {
+// Whether clones of a map and of an empty one fail while all memory is held, and how many pairs the first one then has.
+fn starve_clones(alloc: Global, map: &mut Map, empty: &Map) -> Option<([bool; 2], usize)> {
+    fill(map, 5);
     let held = all_memory(alloc).ok()?;
     let refused = [is_clone_refused(map), is_clone_refused(empty)];
     drop(held);
-    Some(refused)
-}
-
-// Whether a map was filled, the same of it and of an empty one, and how many pairs it then has.
-fn starve_clones_of_filled(
-    alloc: Global,
-    map: &mut Map,
-    empty: &Map,
-) -> (bool, Option<[bool; 2]>, usize) {
-    (fill(map), starve_clones(alloc, map, empty), map.len())
+    Some((refused, map.len()))
 }
 
 #[test]
 fn without_memory_no_pair_is_cloned(rt: HostRuntime) -> Result<(), Fail> {
     let alloc = rt.alloc();
-    let seen = starve_clones_of_filled(alloc, &mut ByteMap::new(alloc), &ByteMap::new(alloc));
-    as_expected(Some((seen, (true, Some([true, false]), 5))))
+    let seen = starve_clones(alloc, &mut ByteMap::new(alloc), &ByteMap::new(alloc));
+    same(seen, Some(([true, false], 5)))
 }
 
-// Whether a map was filled, whether a clone of it fails, and how many pairs it then has.
-fn clone_many(alloc: Global, map: &mut Map) -> (bool, bool, usize) {
-    let is_filled = fill_many(map);
+// Whether a clone of a map fails, and how many pairs the map then has.
+fn clone_many(alloc: Global, map: &mut Map) -> (bool, usize) {
+    fill(map, 60);
     begin_refusals(alloc);
     let is_refused = is_clone_refused(map);
     end_refusals(alloc);
-    (is_filled, is_refused, map.len())
+    (is_refused, map.len())
 }
 
 #[test]
 fn refused_each_clone_of_many_leaves_the_map(rt: HostRuntime) -> Result<(), Fail> {
-    let (is_filled, is_refused, len) = clone_many(rt.alloc(), &mut ByteMap::new(rt.alloc()));
-    same((is_filled, len), (true, 60))?;
+    let (is_refused, len) = clone_many(rt.alloc(), &mut ByteMap::new(rt.alloc()));
+    same(len, 60)?;
     if is_refused {
         println!(rt; "asserted")?;
     }

@@ -8,7 +8,7 @@ use std::test::Fail;
 // A map with the keys from 1 to 5.
 fn filled(alloc: Global) -> Map {
     let mut map = ByteMap::new(alloc);
-    fill(&mut map);
+    fill(&mut map, 5);
     map
 }
 

@@ -1,7 +1,7 @@
 //! Parts of a map: the pairs with a prefix, those between two bounds, and those next to a bound. They are drawn and
 //! compared with a `BTreeMap`.
 use art_operations::map::{ByteMap, Range};
-use art_test_support::expected::as_expected;
+use art_test_support::expected::same;
 use art_test_support::numbers::Numbers;
 use std::alloc::{AllocError, Global};
 use std::collections::BTreeMap;
@@ -14,6 +14,8 @@ type Key = [u8; 4];
 /// A map whose nodes store one byte of a prefix.
 type Map = ByteMap<Key, u32, 1>;
 
+type Model = BTreeMap<Key, u32>;
+
 // Four keys start with 1, 1, one key with 2, and two with 3.
 static KEYS: [Key; 7] = [
     [1, 1, 1, 4],
@@ -25,18 +27,6 @@ static KEYS: [Key; 7] = [
     [3, 9, 0, 0],
 ];
 
-// Inserts the keys, with their positions as values, and returns whether all are stored.
-fn fill(map: &mut Map) -> bool {
-    let mut value = 0;
-    for key in KEYS.iter() {
-        if map.insert(*key, value).is_err() {
-            return false;
-        }
-        value = value.saturating_add(1);
-    }
-    map.len() == 7
-}
-
 // The bounds that a part has for the number of its pairs, before its first pair and after it.
 fn hints(mut part: Range<'_, Key, u32, 1>) -> [(usize, Option<usize>); 2] {
     let before = part.size_hint();
@@ -44,10 +34,12 @@ fn hints(mut part: Range<'_, Key, u32, 1>) -> [(usize, Option<usize>); 2] {
     [before, part.size_hint()]
 }
 
-// Whether a map was filled, and these bounds of two of its parts.
-fn bounded(map: &mut Map) -> (bool, [[(usize, Option<usize>); 2]; 2]) {
-    let filled = fill(map);
-    (filled, [hints(map.prefix(&[])), hints(map.prefix(&[1, 2]))])
+// These bounds of two parts of a map with these keys.
+fn bounded(map: &mut Map) -> [[(usize, Option<usize>); 2]; 2] {
+    for key in &KEYS {
+        drop(map.insert(*key, 0));
+    }
+    [hints(map.prefix(&[])), hints(map.prefix(&[1, 2]))]
 }
 
 #[test]
@@ -55,7 +47,7 @@ fn a_part_has_at_most_the_pairs_that_are_left(rt: HostRuntime) -> Result<(), Fai
     let whole = [(0, Some(7)), (0, Some(6))];
     let empty = [(0, Some(7)), (0, Some(7))];
     let seen = bounded(&mut ByteMap::new(rt.alloc()));
-    as_expected(Some((seen, (true, [whole, empty]))))
+    same(seen, [whole, empty])
 }
 
 // ---- drawn calls
@@ -122,11 +114,7 @@ fn part_of<'a>(map: &'a Map, part: Part<'_>) -> Range<'a, Key, u32, 1> {
 }
 
 // The pairs of a part, in order.
-fn pairs_of(
-    alloc: Global,
-    model: &BTreeMap<Key, u32>,
-    part: Part<'_>,
-) -> Result<Vec<(Key, u32)>, AllocError> {
+fn pairs_of(alloc: Global, model: &Model, part: Part<'_>) -> Result<Vec<(Key, u32)>, AllocError> {
     let mut pairs = Vec::new(alloc);
     for (key, value) in model.iter() {
         if is_part(part, key) {
@@ -136,9 +124,8 @@ fn pairs_of(
     Ok(pairs)
 }
 
-fn copied(pair: Option<(&Key, &u32)>) -> Option<(Key, u32)> {
-    let (key, value) = pair?;
-    Some((*key, *value))
+fn plain((key, value): (&Key, &u32)) -> (Key, u32) {
+    (*key, *value)
 }
 
 // Whether a part of the map has these pairs, each returned from a drawn end.
@@ -151,63 +138,29 @@ fn agree_from_both(
     let mut agree = true;
     for _ in 0..pairs.len() {
         agree &= if numbers.is_heads() {
-            copied(own.next()) == rest.next().copied()
+            own.next().map(plain) == rest.next().copied()
         } else {
-            copied(own.next_back()) == rest.next_back().copied()
+            own.next_back().map(plain) == rest.next_back().copied()
         };
     }
     agree & own.next().is_none() & own.next_back().is_none()
 }
 
-// Whether a part of the map has the same pairs as that of the model, in order from the front.
-fn agree_from_front(map: &Map, model: &BTreeMap<Key, u32>, part: Part<'_>) -> bool {
-    let mut own = part_of(map, part);
-    let mut agree = true;
-    for (key, value) in model.iter() {
-        if is_part(part, key) {
-            agree &= own.next() == Some((key, value));
-        }
-    }
-    agree & own.next().is_none()
-}
-
-// The same from the back.
-fn agree_from_back(map: &Map, model: &BTreeMap<Key, u32>, part: Part<'_>) -> bool {
-    let mut own = part_of(map, part);
-    let mut agree = true;
-    for (key, value) in model.iter().rev() {
-        if is_part(part, key) {
-            agree &= own.next_back() == Some((key, value));
-        }
-    }
-    agree & own.next_back().is_none()
-}
-
-// Whether a part of the map has the pairs of that of the model, each returned from a drawn end.
-fn agree_from_drawn_ends(
-    map: &Map,
-    model: &BTreeMap<Key, u32>,
-    part: Part<'_>,
-    alloc: Global,
-    numbers: &mut Numbers,
-) -> bool {
-    match pairs_of(alloc, model, part) {
-        Ok(pairs) => agree_from_both(part_of(map, part), &pairs, numbers),
-        Err(_) => false,
-    }
-}
-
-// The same from either end, and from drawn ends.
+// Whether a part of the map has the pairs of that of the model, from either end and from drawn ends.
 fn agree_on_part(
     map: &Map,
-    model: &BTreeMap<Key, u32>,
+    model: &Model,
     part: Part<'_>,
     alloc: Global,
     numbers: &mut Numbers,
 ) -> bool {
-    agree_from_front(map, model, part)
-        && agree_from_back(map, model, part)
-        && agree_from_drawn_ends(map, model, part, alloc, numbers)
+    let Ok(pairs) = pairs_of(alloc, model, part) else {
+        return false;
+    };
+    let (front, back) = (part_of(map, part), part_of(map, part).rev());
+    front.map(plain).eq(pairs.iter().copied())
+        && back.map(plain).eq(pairs.iter().copied().rev())
+        && agree_from_both(part_of(map, part), &pairs, numbers)
 }
 
 // Whether the pairs next to two bounds are the ends of the parts that start and end there.
@@ -217,12 +170,7 @@ fn agree_on_ends(map: &Map, from: Bound<&[u8]>, to: Bound<&[u8]>) -> bool {
 }
 
 // The same for drawn parts.
-fn agree_on_drawn(
-    map: &Map,
-    model: &BTreeMap<Key, u32>,
-    alloc: Global,
-    numbers: &mut Numbers,
-) -> bool {
+fn agree_on_drawn(map: &Map, model: &Model, alloc: Global, numbers: &mut Numbers) -> bool {
     let (low, high) = (drawn_key(numbers), drawn_key(numbers));
     let (from, to) = (drawn_bound(numbers, &low), drawn_bound(numbers, &high));
     let below = Part::Below(&low[..numbers.below(5)]);
@@ -232,19 +180,14 @@ fn agree_on_drawn(
 }
 
 // Removes all pairs with a prefix from both, and returns whether they report the same number.
-fn agree_on_removal_below(map: &mut Map, model: &mut BTreeMap<Key, u32>, prefix: &[u8]) -> bool {
+fn agree_on_removal_below(map: &mut Map, model: &mut Model, prefix: &[u8]) -> bool {
     let before = model.len();
     model.retain(|key, _| !key.starts_with(prefix));
     map.remove_prefix(prefix) == before.saturating_sub(model.len())
 }
 
 // Changes both, and returns whether they return the same.
-fn agree_on_change(
-    map: &mut Map,
-    model: &mut BTreeMap<Key, u32>,
-    numbers: &mut Numbers,
-    grows: bool,
-) -> bool {
+fn agree_on_change(map: &mut Map, model: &mut Model, numbers: &mut Numbers, grows: bool) -> bool {
     let key = drawn_key(numbers);
     let value = numbers.value();
     if grows || numbers.below(4) == 0 {
@@ -265,12 +208,7 @@ fn agree_on_change(
 }
 
 // The number of the first change after which they differ, if they do.
-fn differ_at(
-    map: &mut Map,
-    model: &mut BTreeMap<Key, u32>,
-    alloc: Global,
-    changes: usize,
-) -> Option<usize> {
+fn differ_at(map: &mut Map, model: &mut Model, alloc: Global, changes: usize) -> Option<usize> {
     let mut numbers = Numbers::new(7);
     for change in 0..changes {
         let grows = (change / 150) % 2 == 0;
@@ -293,5 +231,5 @@ fn drawn_parts_are_those_of_a_btree_map(rt: HostRuntime) -> Result<(), Fail> {
         alloc,
         900,
     );
-    as_expected(Some((seen, None)))
+    same(seen, None)
 }

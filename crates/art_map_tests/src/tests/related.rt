@@ -1,7 +1,7 @@
 //! Keys of several lengths, some of which are prefixes of others.
 use super::calls::value_of;
 use art_operations::map::{ByteMap, MapInsertError};
-use art_test_support::expected::as_expected;
+use art_test_support::expected::same;
 use std::alloc::Global;
 use std::test::Fail;
 
@@ -108,7 +108,7 @@ fn related_keys_are_refused(rt: HostRuntime) -> Result<(), Fail> {
     let seen = refused(&mut ByteMap::new(rt.alloc()), rt.alloc());
     let told = [Told::New, Told::New, Told::Conflict(BOTH, 3, BOTH)];
     let left = (2, [Some(2), Some(1), None], [Some(1), Some(2), None]);
-    as_expected(Some((seen, (told, left))))
+    same(seen, (told, left))
 }
 
 // The pairs that are removed from both ends in turn, and how many are left.
@@ -136,7 +136,7 @@ fn an_equal_key_gets_the_value(rt: HostRuntime) -> Result<(), Fail> {
     let seen = replaced(&mut ByteMap::new(rt.alloc()), rt.alloc());
     let told = [Told::New, Told::New, Told::Replaced(TWO, 1)];
     let popped = ([Some((ONE, 2)), Some((TWO, 5)), None], 0);
-    as_expected(Some((seen, (told, (2, Some(5)), popped))))
+    same(seen, (told, (2, Some(5)), popped))
 }
 
 // How many keys each of six replaces, and the pairs that the map then has.
@@ -157,7 +157,7 @@ fn all_related_keys_give_way(rt: HostRuntime) -> Result<(), Fail> {
     let seen = put_six_over(&mut ByteMap::new(rt.alloc()), rt.alloc());
     let gone = [Some(0), Some(0), Some(0), Some(2), Some(1), Some(1)];
     let left = (2, [Some(4), Some(6), None], [Some(6), Some(4), None]);
-    as_expected(Some((seen, (gone, left))))
+    same(seen, (gone, left))
 }
 
 // What the insertions of two keys return, and then the matches of five queries.
@@ -177,5 +177,5 @@ fn queried(map: &mut Map, alloc: Global) -> ([Told; 2], [Option<(usize, u32)>; 5
 fn a_query_finds_the_key_that_it_begins_with(rt: HostRuntime) -> Result<(), Fail> {
     let seen = queried(&mut ByteMap::new(rt.alloc()), rt.alloc());
     let found = [Some((1, 7)), Some((1, 7)), None, Some((2, 8)), None];
-    as_expected(Some((seen, ([Told::New, Told::New], found))))
+    same(seen, ([Told::New, Told::New], found))
 }

@@ -1,11 +1,12 @@
 //! Removals while all memory is held: maps and sets are emptied, though nodes are replaced by smaller ones.
 use super::beside_btree::{
-    Key, Map as DrawnMap, Model, agree_on_pairs, agree_on_removal, drawn_key,
+    Key, Map as DrawnMap, Model, agree_on_drawn_insertion, agree_on_pairs, agree_on_removal,
+    drawn_key,
 };
 use super::calls::{Map, Removal};
 use art_operations::map::ByteMap;
 use art_operations::set::ByteSet;
-use art_test_support::expected::{as_expected, same};
+use art_test_support::expected::same;
 use art_test_support::memory::all_memory;
 use art_test_support::numbers::Numbers;
 use std::alloc::Global;
@@ -34,13 +35,10 @@ static WAYS: [Way; 6] = [
 
 // ---- the 256 keys of one byte, which are children of one node
 
-fn fill_all(map: &mut Map) -> bool {
+fn fill_all(map: &mut Map) {
     for byte in 0..=255u8 {
-        if map.insert([byte], byte as u32).is_err() {
-            return false;
-        }
+        drop(map.insert([byte], byte as u32));
     }
-    map.len() == 256
 }
 
 // Removes one pair, or all of them. Returns how many there were.
@@ -70,22 +68,18 @@ fn remove_all(map: &mut Map, way: Way) -> usize {
 
 // The same while all memory is held, with how many pairs are left.
 fn starve(alloc: Global, map: &mut Map, way: Way) -> Option<(usize, usize)> {
+    fill_all(map);
     let held = all_memory(alloc).ok()?;
     let removed = remove_all(map, way);
     drop(held);
     Some((removed, map.len()))
 }
 
-// Whether a map was filled, and the same of it.
-fn starve_filled(alloc: Global, map: &mut Map, way: Way) -> (bool, Option<(usize, usize)>) {
-    (fill_all(map), starve(alloc, map, way))
-}
-
 #[test]
 fn without_memory_256_pairs_are_removed(rt: HostRuntime) -> Result<(), Fail> {
     for way in &WAYS {
-        let seen = starve_filled(rt.alloc(), &mut ByteMap::new(rt.alloc()), *way);
-        same((*way, seen), (*way, (true, Some((256, 0)))))?;
+        let seen = starve(rt.alloc(), &mut ByteMap::new(rt.alloc()), *way);
+        same((*way, seen), (*way, Some((256, 0))))?;
     }
     Ok(())
 }
@@ -94,13 +88,10 @@ fn without_memory_256_pairs_are_removed(rt: HostRuntime) -> Result<(), Fail> {
 
 type Set = ByteSet<[u8; 1], 4>;
 
-fn fill_set(set: &mut Set) -> bool {
+fn fill_set(set: &mut Set) {
     for byte in 0..=255u8 {
-        if set.insert([byte]).is_err() {
-            return false;
-        }
+        drop(set.insert([byte]));
     }
-    set.len() == 256
 }
 
 // Whether the keys at both ends and two others are removed, each in its own way.
@@ -125,33 +116,27 @@ fn is_emptied(set: &mut Set) -> bool {
 
 // The same while all memory is held.
 fn is_emptied_without_memory(alloc: Global, set: &mut Set) -> Option<bool> {
+    fill_set(set);
     let held = all_memory(alloc).ok()?;
     let is_emptied = is_emptied(set);
     drop(held);
     Some(is_emptied)
 }
 
-// Whether a set was filled, and the same of it.
-fn starve_filled_set(alloc: Global, set: &mut Set) -> (bool, Option<bool>) {
-    (fill_set(set), is_emptied_without_memory(alloc, set))
-}
-
 #[test]
 fn without_memory_256_keys_are_removed(rt: HostRuntime) -> Result<(), Fail> {
-    let seen = starve_filled_set(rt.alloc(), &mut ByteSet::new(rt.alloc()));
-    as_expected(Some((seen, (true, Some(true)))))
+    let seen = is_emptied_without_memory(rt.alloc(), &mut ByteSet::new(rt.alloc()));
+    same(seen, Some(true))
 }
 
 // ---- drawn maps
 
-// Inserts drawn pairs into both. Returns how many there then are.
-fn fill_drawn(map: &mut DrawnMap, model: &mut Model, numbers: &mut Numbers) -> Option<usize> {
+// Inserts drawn pairs into both. Returns whether both have the same, and more than 200.
+fn fill_drawn(map: &mut DrawnMap, model: &mut Model, numbers: &mut Numbers) -> bool {
     for _ in 0..400 {
-        let (key, value) = (drawn_key(numbers), numbers.value());
-        map.insert(key, value).ok()?;
-        model.insert(key, value).ok()?;
+        agree_on_drawn_insertion(map, model, numbers);
     }
-    Some(map.len())
+    map.len() > 200 && agree_on_pairs(map, model)
 }
 
 // A drawn removal.
@@ -177,37 +162,27 @@ fn agree_on_removals(
     agree && agree_on_pairs(map, model)
 }
 
-// The same while all memory is held, and whether nothing is left.
+// Whether both were filled, the same while all memory is held, and whether nothing is left.
 fn starve_drawn(
     alloc: Global,
     map: &mut DrawnMap,
     model: &mut Model,
-    numbers: &mut Numbers,
-) -> Option<(bool, bool)> {
-    let held = all_memory(alloc).ok()?;
-    let agree = agree_on_removals(map, model, numbers, 8_000);
-    drop(held);
-    Some((agree, map.is_empty()))
-}
-
-// Whether both were filled, and the same of them.
-fn starve_filled_drawn(
-    alloc: Global,
-    map: &mut DrawnMap,
-    model: &mut Model,
     seed: u64,
-) -> Option<(bool, (bool, bool))> {
+) -> Option<[bool; 3]> {
     let mut numbers = Numbers::new(seed);
-    let is_filled = fill_drawn(map, model, &mut numbers)? > 200;
-    Some((is_filled, starve_drawn(alloc, map, model, &mut numbers)?))
+    let are_filled = fill_drawn(map, model, &mut numbers);
+    let held = all_memory(alloc).ok()?;
+    let agree = agree_on_removals(map, model, &mut numbers, 8_000);
+    drop(held);
+    Some([are_filled, agree, map.is_empty()])
 }
 
 #[test]
 fn without_memory_drawn_maps_are_emptied(rt: HostRuntime) -> Result<(), Fail> {
     for seed in 1..=8u64 {
         let (mut map, mut model) = (ByteMap::new(rt.alloc()), BTreeMap::new(rt.alloc()));
-        let seen = starve_filled_drawn(rt.alloc(), &mut map, &mut model, seed);
-        as_expected(Some((seen, Some((true, (true, true))))))?;
+        let seen = starve_drawn(rt.alloc(), &mut map, &mut model, seed);
+        same(seen, Some([true; 3]))?;
     }
     Ok(())
 }

@@ -3,11 +3,10 @@
 use super::beside_btree_set::{Key, Model, Set, agree_on_keys, drawn_key};
 use super::ranges::{drawn_bound, is_between};
 use art_operations::set::ByteSet;
-use art_test_support::expected::as_expected;
+use art_test_support::expected::same;
 use art_test_support::memory::all_memory;
 use art_test_support::numbers::Numbers;
 use std::alloc::Global;
-use std::collections::BTreeSet;
 use std::ops::Bound;
 use std::test::Fail;
 
@@ -60,47 +59,26 @@ fn agree_on_split(set: &mut Set, model: &mut Model, numbers: &mut Numbers) -> bo
 }
 
 // Changes both, and returns whether they agree.
-fn agree_on_change(set: &mut Set, model: &mut Model, numbers: &mut Numbers) -> bool {
+pub(super) fn agree_on_parts(set: &mut Set, model: &mut Model, numbers: &mut Numbers) -> bool {
     let (low, high) = (drawn_key(numbers), drawn_key(numbers));
     let (from, to) = (drawn_bound(numbers, &low), drawn_bound(numbers, &high));
-    match numbers.below(40) {
+    match numbers.below(5) {
         0..=2 => agree_on_pop(set, model, from, to),
         3 => agree_on_range(set, model, from, to),
-        4 => agree_on_split(set, model, numbers),
-        _ => put_both(set, model, numbers),
+        _ => agree_on_split(set, model, numbers),
     }
-}
-
-// The number of the first change after which they differ, if they do.
-fn differ_at(set: &mut Set, model: &mut Model, changes: usize) -> Option<usize> {
-    let mut numbers = Numbers::new(13);
-    for change in 0..changes {
-        if !agree_on_change(set, model, &mut numbers) || !agree_on_keys(set, model) {
-            return Some(change);
-        }
-    }
-    None
-}
-
-#[test]
-fn drawn_parts_go_as_those_of_a_btree_set(rt: HostRuntime) -> Result<(), Fail> {
-    let alloc = rt.alloc();
-    let seen = differ_at(&mut ByteSet::new(alloc), &mut BTreeSet::new(alloc), 2_000);
-    as_expected(Some((seen, None)))
 }
 
 // Inserts the keys [0, 0] to [0, 9].
-fn fill(set: &mut Set) -> bool {
+fn fill(set: &mut Set) {
     for byte in 0..10u8 {
-        if set.insert([0, byte]).is_err() {
-            return false;
-        }
+        drop(set.insert([0, byte]));
     }
-    true
 }
 
 // What a split leaves while all memory is held: how many keys moved, the key that did not, and how many are left.
 fn split_refused(alloc: Global, set: &mut Set) -> Option<(usize, Key, usize)> {
+    fill(set);
     let held = all_memory(alloc).ok()?;
     let refused = match set.split_off(&[0, 4]) {
         Ok(_) => return None,
@@ -110,8 +88,9 @@ fn split_refused(alloc: Global, set: &mut Set) -> Option<(usize, Key, usize)> {
     Some((refused.moved.len(), refused.key, set.len()))
 }
 
-fn append_refused(alloc: Global, set: &mut Set) -> Option<(bool, usize, usize)> {
-    let mut empty = Set::new(alloc);
+// Whether an append to an empty set fails while all memory is held, and how many keys both then have.
+fn append_refused(alloc: Global, set: &mut Set, empty: &mut Set) -> Option<(bool, usize, usize)> {
+    fill(set);
     let held = all_memory(alloc).ok()?;
     let refused = empty.append(set).is_err();
     drop(held);
@@ -120,16 +99,13 @@ fn append_refused(alloc: Global, set: &mut Set) -> Option<(bool, usize, usize)> 
 
 #[test]
 fn without_memory_a_split_of_a_set_loses_no_key(rt: HostRuntime) -> Result<(), Fail> {
-    let mut set = ByteSet::new(rt.alloc());
-    let filled = fill(&mut set);
-    let seen = (filled, split_refused(rt.alloc(), &mut set));
-    as_expected(Some((seen, (true, Some((0, [0, 4], 9))))))
+    let seen = split_refused(rt.alloc(), &mut ByteSet::new(rt.alloc()));
+    same(seen, Some((0, [0, 4], 9)))
 }
 
 #[test]
 fn without_memory_an_append_to_a_set_loses_no_key(rt: HostRuntime) -> Result<(), Fail> {
-    let mut set = ByteSet::new(rt.alloc());
-    let filled = fill(&mut set);
-    let seen = (filled, append_refused(rt.alloc(), &mut set));
-    as_expected(Some((seen, (true, Some((true, 0, 9))))))
+    let alloc = rt.alloc();
+    let seen = append_refused(alloc, &mut ByteSet::new(alloc), &mut ByteSet::new(alloc));
+    same(seen, Some((true, 0, 9)))
 }

@@ -1,23 +1,21 @@
 //! Pairs that are removed by the bounds of their keys, and those that move into another map: drawn and compared with a
 //! `BTreeMap`, and while all memory is held.
-use super::beside_btree::{Key, Map, Model, agree_on_pairs, drawn_key};
+use super::beside_btree::{Key, Map, Model, agree_on_drawn_insertion, agree_on_pairs, drawn_key};
 use super::ranges::{drawn_bound, is_between};
 use art_operations::map::ByteMap;
-use art_test_support::expected::as_expected;
+use art_test_support::expected::same;
 use art_test_support::memory::all_memory;
 use art_test_support::numbers::Numbers;
 use std::alloc::Global;
-use std::collections::BTreeMap;
 use std::ops::Bound;
 use std::test::Fail;
 
-// Inserts a pair into both.
-fn put_both(map: &mut Map, model: &mut Model, numbers: &mut Numbers) -> bool {
-    let (key, value) = (drawn_key(numbers), numbers.value());
-    map.insert(key, value).is_ok() && model.insert(key, value).is_ok()
-}
-
-fn first_between(model: &Model, from: Bound<&[u8]>, to: Bound<&[u8]>) -> Option<(Key, u32)> {
+// The first pair between two bounds.
+pub(super) fn first_between(
+    model: &Model,
+    from: Bound<&[u8]>,
+    to: Bound<&[u8]>,
+) -> Option<(Key, u32)> {
     for (key, value) in model.iter() {
         if is_between(from, to, key) {
             return Some((*key, *value));
@@ -54,55 +52,35 @@ fn agree_on_split(map: &mut Map, model: &mut Model, numbers: &mut Numbers) -> bo
         return false;
     };
     let split = agree_on_pairs(map, model) && agree_on_pairs(&tail, &rest);
-    let put = put_both(&mut tail, &mut rest, numbers);
+    let put = agree_on_drawn_insertion(&mut tail, &mut rest, numbers);
     let joined = map.append(&mut tail).is_ok() && model.append(&mut rest).is_ok();
     split && put && joined && tail.is_empty() && agree_on_pairs(map, model)
 }
 
 // Changes both, and returns whether they agree.
-fn agree_on_change(map: &mut Map, model: &mut Model, numbers: &mut Numbers) -> bool {
+pub(super) fn agree_on_change(map: &mut Map, model: &mut Model, numbers: &mut Numbers) -> bool {
     let (low, high) = (drawn_key(numbers), drawn_key(numbers));
     let (from, to) = (drawn_bound(numbers, &low), drawn_bound(numbers, &high));
     match numbers.below(40) {
         0..=2 => agree_on_pop(map, model, from, to),
         3 => agree_on_range(map, model, from, to),
         4 => agree_on_split(map, model, numbers),
-        _ => put_both(map, model, numbers),
+        _ => agree_on_drawn_insertion(map, model, numbers),
     }
-}
-
-// The number of the first change after which they differ, if they do.
-fn differ_at(map: &mut Map, model: &mut Model, changes: usize) -> Option<usize> {
-    let mut numbers = Numbers::new(11);
-    for change in 0..changes {
-        if !agree_on_change(map, model, &mut numbers) || !agree_on_pairs(map, model) {
-            return Some(change);
-        }
-    }
-    None
-}
-
-#[test]
-fn drawn_parts_go_as_those_of_a_btree_map(rt: HostRuntime) -> Result<(), Fail> {
-    let alloc = rt.alloc();
-    let seen = differ_at(&mut ByteMap::new(alloc), &mut BTreeMap::new(alloc), 2_000);
-    as_expected(Some((seen, None)))
 }
 
 // Inserts the keys [0, 0] to [0, 9], with the last byte as value.
-fn fill(map: &mut Map) -> bool {
+fn fill(map: &mut Map) {
     for byte in 0..10u8 {
-        if map.insert([0, byte], byte as u32).is_err() {
-            return false;
-        }
+        drop(map.insert([0, byte], byte as u32));
     }
-    true
 }
 
 // What a split leaves while all memory is held: how many pairs moved, the pair that did not, and how many are left.
 type Refused = (usize, (Key, u32), usize);
 
 fn split_refused(alloc: Global, map: &mut Map) -> Option<Refused> {
+    fill(map);
     let held = all_memory(alloc).ok()?;
     let refused = match map.split_off(&[0, 4]) {
         Ok(_) => return None,
@@ -113,8 +91,9 @@ fn split_refused(alloc: Global, map: &mut Map) -> Option<Refused> {
     Some((refused.moved.len(), (key, value), map.len()))
 }
 
-fn append_refused(alloc: Global, map: &mut Map) -> Option<(bool, usize, usize)> {
-    let mut empty = ByteMap::<Key, u32, 1>::new(alloc);
+// Whether an append to an empty map fails while all memory is held, and how many pairs both then have.
+fn append_refused(alloc: Global, map: &mut Map, empty: &mut Map) -> Option<(bool, usize, usize)> {
+    fill(map);
     let held = all_memory(alloc).ok()?;
     let refused = empty.append(map).is_err();
     drop(held);
@@ -123,16 +102,13 @@ fn append_refused(alloc: Global, map: &mut Map) -> Option<(bool, usize, usize)> 
 
 #[test]
 fn without_memory_a_split_loses_no_pair(rt: HostRuntime) -> Result<(), Fail> {
-    let mut map = ByteMap::new(rt.alloc());
-    let filled = fill(&mut map);
-    let seen = (filled, split_refused(rt.alloc(), &mut map));
-    as_expected(Some((seen, (true, Some((0, ([0, 4], 4), 9))))))
+    let seen = split_refused(rt.alloc(), &mut ByteMap::new(rt.alloc()));
+    same(seen, Some((0, ([0, 4], 4), 9)))
 }
 
 #[test]
 fn without_memory_an_append_loses_no_pair(rt: HostRuntime) -> Result<(), Fail> {
-    let mut map = ByteMap::new(rt.alloc());
-    let filled = fill(&mut map);
-    let seen = (filled, append_refused(rt.alloc(), &mut map));
-    as_expected(Some((seen, (true, Some((true, 0, 9))))))
+    let alloc = rt.alloc();
+    let seen = append_refused(alloc, &mut ByteMap::new(alloc), &mut ByteMap::new(alloc));
+    same(seen, Some((true, 0, 9)))
 }

@@ -46,11 +46,6 @@ fn gone_over<const P: usize>(
     Some((left, leaf.key.as_slice() == [2].as_slice(), counts))
 }
 
-// The same in stores of its own.
-fn gone_over_with(alloc: Global, rows: &[Row<'_>]) -> Option<GoneOver> {
-    gone_over::<4>(&mut NodeStore::new(alloc), &mut NodeStore::new(alloc), rows)
-}
-
 // A clone, and a deletion from what it makes.
 static GOING_OVER: [Row<'static>; 4] = [
     (Asked::Insert(&[1], 1), Told::Inserted(None)),
@@ -66,7 +61,12 @@ fn goes_over_to_the_other_store(rt: HostRuntime) -> Result<(), Fail> {
         has_root: true,
         side: Side::Second,
     };
-    let seen = gone_over_with(rt.alloc(), &GOING_OVER);
+    let alloc = rt.alloc();
+    let seen = gone_over::<4>(
+        &mut NodeStore::new(alloc),
+        &mut NodeStore::new(alloc),
+        &GOING_OVER,
+    );
     same(seen, Some((wanted, true, [(0, 0), (1, 0)])))
 }
 

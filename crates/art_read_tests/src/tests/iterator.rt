@@ -219,14 +219,10 @@ fn touched_in<const P: usize>(
     touched_between(store, root)
 }
 
-// The same in a store of its own.
-fn touched_with(alloc: Global, slices: &[&[u8]]) -> Option<(usize, usize, usize)> {
-    touched_in::<4>(&mut NodeStore::new(alloc), slices)
-}
-
 #[test]
 fn a_part_is_freed_and_no_other_leaf_written(rt: HostRuntime) -> Result<(), Fail> {
-    same(touched_with(rt.alloc(), &FIVE), Some((0, 3, 0)))
+    let touched = touched_in::<4>(&mut NodeStore::new(rt.alloc()), &FIVE);
+    same(touched, Some((0, 3, 0)))
 }
 
 // The value of the first leaf that is left, which is freed.
@@ -266,14 +262,9 @@ fn freed_of<const P: usize>(store: &mut NodeStore<Key, u32, P>, slices: &[&[u8]]
     Some((came, count_nodes(store, 4)))
 }
 
-// The same in a store of its own.
-fn freed_with(alloc: Global, slices: &[&[u8]]) -> Option<Freed> {
-    freed_of::<4>(&mut NodeStore::new(alloc), slices)
-}
-
 #[test]
 fn a_leaf_that_came_may_be_freed(rt: HostRuntime) -> Result<(), Fail> {
-    let freed = freed_with(rt.alloc(), &[&[1], &[2], &[3]]);
+    let freed = freed_of::<4>(&mut NodeStore::new(rt.alloc()), &[&[1], &[2], &[3]]);
     let came = [Some(0), Some(1), Some(2), None];
     same(freed, Some((came, (0, 1))))
 }

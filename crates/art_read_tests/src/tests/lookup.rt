@@ -83,11 +83,6 @@ fn readings_in<const P: usize>(
     Some(readings(store, root, searches))
 }
 
-// The same in a store of its own.
-fn readings_with(alloc: Global, searches: &[Search<'_>; 5]) -> Option<[(Option<u32>, usize); 5]> {
-    readings_in::<4>(&mut NodeStore::new(alloc), searches)
-}
-
 // Searches that end at a leaf, or for a key that is the prefix of others.
 static AT_LEAVES_OR_FRONTS: [Search<'static>; 5] = [
     Search::Whole(&[255]),
@@ -106,10 +101,8 @@ fn counts_readings(rt: HostRuntime) -> Result<(), Fail> {
         (None, 1),
         (Some(0), 2),
     ];
-    same(
-        readings_with(rt.alloc(), &AT_LEAVES_OR_FRONTS),
-        Some(wanted),
-    )
+    let seen = readings_in::<4>(&mut NodeStore::new(rt.alloc()), &AT_LEAVES_OR_FRONTS);
+    same(seen, Some(wanted))
 }
 
 // What searches that differ from the stored bytes of the root's prefix find, and one that does not, with what each
@@ -156,15 +149,11 @@ fn readings_past_in<const P: usize>(store: &mut NodeStore<Key, u32, P>) -> Optio
     Some(readings_past(store, root))
 }
 
-// The same in a store of its own.
-fn readings_past_with(alloc: Global) -> Option<Past> {
-    readings_past_in::<2>(&mut NodeStore::new(alloc))
-}
-
 #[test]
 fn compares_the_whole_key_after_skipped_bytes(rt: HostRuntime) -> Result<(), Fail> {
     let wanted = ([(None, 2), (None, 2)], [Some(0), Some(1)]);
-    same(readings_past_with(rt.alloc()), Some(wanted))
+    let seen = readings_past_in::<2>(&mut NodeStore::new(rt.alloc()));
+    same(seen, Some(wanted))
 }
 
 // The length of a node's prefix, and how many bytes of it are stored.
@@ -197,14 +186,9 @@ fn below_in<const P: usize>(store: &mut NodeStore<Key, u32, P>) -> Option<Below>
     Some((prefix_lens(store, root), found_below(store, root)))
 }
 
-// The same in a store of its own.
-fn below_with(alloc: Global) -> Option<Below> {
-    below_in::<0>(&mut NodeStore::new(alloc))
-}
-
 #[test]
 fn finds_below_a_prefix_of_which_nothing_is_stored(rt: HostRuntime) -> Result<(), Fail> {
-    let seen = below_with(rt.alloc());
+    let seen = below_in::<0>(&mut NodeStore::new(rt.alloc()));
     same(seen, Some((Some((2, 0)), [None, Some(1)])))
 }
 

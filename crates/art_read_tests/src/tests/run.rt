@@ -193,12 +193,6 @@ fn replies_seen<const P: usize>(
     }
 }
 
-// The same in stores of its own.
-fn replies_with(alloc: Global, rows: &[Row<'_>], wanted: &str) -> Option<(Option<usize>, bool)> {
-    let first = &mut NodeStore::new(alloc);
-    replies_seen::<4>(first, &mut NodeStore::new(alloc), rows, wanted)
-}
-
 // Insertions of a key, and of one that it is the prefix of.
 static IN_CONFLICT: [Row<'static>; 2] = [
     (Asked::Insert(&[1], 0), Told::Inserted(None)),
@@ -210,7 +204,13 @@ static IN_CONFLICT: [Row<'static>; 2] = [
 
 #[test]
 fn a_longer_key_is_in_conflict(rt: HostRuntime) -> Result<(), Fail> {
-    let seen = replies_with(rt.alloc(), &IN_CONFLICT, ERROR_TEXT);
+    let alloc = rt.alloc();
+    let seen = replies_seen::<4>(
+        &mut NodeStore::new(alloc),
+        &mut NodeStore::new(alloc),
+        &IN_CONFLICT,
+        ERROR_TEXT,
+    );
     same(seen, Some((None, true)))
 }
 
@@ -266,11 +266,6 @@ fn handed_back_beside<const P: usize>(
     Some((back, value_of(first, leaf)))
 }
 
-// The same in stores of its own.
-fn handed_back_with(alloc: Global, rows: &[Row<'_>]) -> Option<HandedBack> {
-    handed_back_beside::<4>(&mut NodeStore::new(alloc), &mut NodeStore::new(alloc), rows)
-}
-
 // An insertion and a deletion, which are returned.
 static TWO_COMMANDS: [Row<'static>; 2] = [
     (Asked::Insert(&[1], 10), Told::Inserted(None)),
@@ -279,7 +274,12 @@ static TWO_COMMANDS: [Row<'static>; 2] = [
 
 #[test]
 fn without_memory_a_run_hands_the_commands_back(rt: HostRuntime) -> Result<(), Fail> {
-    let back = handed_back_with(rt.alloc(), &TWO_COMMANDS);
+    let alloc = rt.alloc();
+    let back = handed_back_beside::<4>(
+        &mut NodeStore::new(alloc),
+        &mut NodeStore::new(alloc),
+        &TWO_COMMANDS,
+    );
     same(back, Some((Some((2, Some(10))), Some(90))))
 }
 

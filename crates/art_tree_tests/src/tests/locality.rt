@@ -174,11 +174,6 @@ fn behind_last<const P: usize>(
     }
 }
 
-// The same in a store of its own.
-fn behind_last_with(alloc: Global, keys: Vec<Key>) -> Option<SeenBehind> {
-    behind_last::<16>(&mut NodeStore::new(alloc), keys)
-}
-
 /// What is expected: the root and the last leaf have another node.
 static BEHIND: SeenBehind = SeenBehind {
     nodes_before: 306 + 154,
@@ -191,7 +186,8 @@ static BEHIND: SeenBehind = SeenBehind {
 #[test]
 fn a_child_more_of_a_large_root_changes_it_and_the_last_leaf(rt: HostRuntime) -> Result<(), Fail> {
     let keys = keys_of_three(rt.alloc(), [51, 2, 3])?;
-    same(behind_last_with(rt.alloc(), keys), Some(BEHIND))
+    let seen = behind_last::<16>(&mut NodeStore::new(rt.alloc()), keys);
+    same(seen, Some(BEHIND))
 }
 
 /// What an insertion touches, what the deletion of the same key touches, what both do together, and whether the root
@@ -235,19 +231,16 @@ fn put_and_remove_with<const P: usize>(alloc: Global) -> Option<PutAndRemoved>
     put_and_remove_in::<P>(&mut NodeStore::new(alloc))
 }
 
-// The same with each number of stored bytes.
-fn put_and_remove_at_each(alloc: Global) -> [Option<PutAndRemoved>; 3] {
-    [
+#[test]
+fn a_split_prefix_is_merged_again(rt: HostRuntime) -> Result<(), Fail> {
+    let alloc = rt.alloc();
+    let seen = [
         put_and_remove_with::<0>(alloc),
         put_and_remove_with::<1>(alloc),
         put_and_remove_with::<16>(alloc),
-    ]
-}
-
-#[test]
-fn a_split_prefix_is_merged_again(rt: HostRuntime) -> Result<(), Fail> {
+    ];
     let wanted = ([(2, 0, 4), (0, 2, 4), (0, 0, 0)], true);
-    same(put_and_remove_at_each(rt.alloc()), [Some(wanted); 3])
+    same(seen, [Some(wanted); 3])
 }
 
 /// Each kind that the root of keys of one byte can have, with the least number of keys for it.
@@ -323,14 +316,9 @@ fn grown_and_shrunk<const P: usize>(store: &mut NodeStore<Key, u32, P>) -> Optio
     Some((grown, shrunk, root, count_nodes(store)))
 }
 
-// The same in a store of its own.
-fn grown_and_shrunk_with(alloc: Global) -> Option<GrownAndShrunk> {
-    grown_and_shrunk::<16>(&mut NodeStore::new(alloc))
-}
-
 #[test]
 fn a_root_grows_and_shrinks_through_every_kind(rt: HostRuntime) -> Result<(), Fail> {
-    let done = grown_and_shrunk_with(rt.alloc());
+    let done = grown_and_shrunk::<16>(&mut NodeStore::new(rt.alloc()));
     same(done, Some((256, 256, None, (0, 0))))
 }
 

@@ -205,35 +205,29 @@ fn check<const P: usize>(
     Ok(met)
 }
 
-/// Whether a trial is wide.
+/// Whether a trial in stores of its own is wide.
 fn is_wide<const P: usize>(
-    first: &mut NodeStore<Tagged, u32, P>,
-    shape: KeyShape,
-    greatest_kind: NodeType,
-) -> Result<bool, Fail> {
-    let alloc = first.alloc();
-    let met = check(first, &mut NodeStore::new(alloc), shape)?;
-    Ok(met.is_wide(greatest_kind))
-}
-
-/// The same in a store of its own.
-fn is_wide_with<const P: usize>(
     alloc: Global,
     shape: KeyShape,
     greatest_kind: NodeType,
 ) -> Result<bool, Fail>
     requires { P < 256 }
 {
-    is_wide::<P>(&mut NodeStore::new(alloc), shape, greatest_kind)
+    let met = check::<P>(
+        &mut NodeStore::new(alloc),
+        &mut NodeStore::new(alloc),
+        shape,
+    )?;
+    Ok(met.is_wide(greatest_kind))
 }
 
 /// Whether a trial for each number of stored bytes is wide.
 fn are_wide(alloc: Global, shape: KeyShape, greatest_kind: NodeType) -> Result<[bool; 4], Fail> {
     Ok([
-        is_wide_with::<0>(alloc, shape, greatest_kind)?,
-        is_wide_with::<2>(alloc, shape, greatest_kind)?,
-        is_wide_with::<4>(alloc, shape, greatest_kind)?,
-        is_wide_with::<16>(alloc, shape, greatest_kind)?,
+        is_wide::<0>(alloc, shape, greatest_kind)?,
+        is_wide::<2>(alloc, shape, greatest_kind)?,
+        is_wide::<4>(alloc, shape, greatest_kind)?,
+        is_wide::<16>(alloc, shape, greatest_kind)?,
     ])
 }
 

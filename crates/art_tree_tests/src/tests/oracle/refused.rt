@@ -136,17 +136,11 @@ fn wrong_reply(alloc: Global, replies: &[Reply<Key, u32>]) -> Result<Option<usiz
     Ok(first_wrong(replies, &rows))
 }
 
-/// The same with a second store of its own.
-fn left_beside<const P: usize>(first: &mut NodeStore<Key, u32, P>) -> Option<Left> {
-    let alloc = first.alloc();
-    left_by(first, &mut NodeStore::new(alloc))
-}
-
-/// The same with both stores of its own.
+/// The same in stores of its own.
 fn left_with<const P: usize>(alloc: Global) -> Option<Left>
     requires { P < 256 }
 {
-    left_beside::<P>(&mut NodeStore::new(alloc))
+    left_by::<P>(&mut NodeStore::new(alloc), &mut NodeStore::new(alloc))
 }
 
 #[test]
@@ -368,17 +362,11 @@ fn tried<const P: usize>(
     }
 }
 
-/// The same with a second store of its own.
-fn tried_beside<const P: usize>(first: &mut NodeStore<Key, u32, P>) -> Result<Outcome, AllocError> {
-    let alloc = first.alloc();
-    tried(first, &mut NodeStore::new(alloc))
-}
-
-/// The same with both stores of its own.
+/// The same in stores of its own.
 fn tried_with<const P: usize>(alloc: Global) -> Result<Outcome, AllocError>
     requires { P < 256 }
 {
-    tried_beside::<P>(&mut NodeStore::new(alloc))
+    tried::<P>(&mut NodeStore::new(alloc), &mut NodeStore::new(alloc))
 }
 
 /// Asserts the result of a run, and reports it once for each failure that was met.

@@ -9,7 +9,6 @@ use art_test_support::cases::FOUR;
 use art_test_support::expected::same;
 use art_test_support::nodes::{count_nodes, count_touched, nodes_seen};
 use art_test_support::trees::{Key, planted_all};
-use std::alloc::Global;
 use std::test::Fail;
 
 // The result of freeing a tree.
@@ -42,11 +41,6 @@ fn freed<const P: usize>(store: &mut NodeStore<Key, u32, P>, slices: &[&[u8]]) -
     free_all(store, root)
 }
 
-// The same in a store of its own.
-fn freed_of(alloc: Global, slices: &[&[u8]]) -> Option<Left> {
-    freed::<4>(&mut NodeStore::new(alloc), slices)
-}
-
 // What is left of a tree of so many leaves and inner nodes.
 fn nothing_of(leaves: usize, inners: usize) -> Left {
     Left {
@@ -64,7 +58,7 @@ fn a_freed_tree_leaves_nothing(rt: HostRuntime) -> Result<(), Fail> {
         (&[&[0], &[1], &[2], &[3], &[4], &[5]], 6, 1),
     ];
     for (slices, leaves, inners) in cases {
-        let left = freed_of(rt.alloc(), slices);
+        let left = freed::<4>(&mut NodeStore::new(rt.alloc()), slices);
         same(left, Some(nothing_of(leaves, inners)))?;
     }
     Ok(())

@@ -181,11 +181,6 @@ fn touched_of_many<const P: usize>(
     touched_in_full(store, root, &before, kind)
 }
 
-// The same in a store of its own.
-fn touched_with(alloc: Global, count: u16, kind: NodeType) -> Option<(usize, usize)> {
-    touched_of_many::<4>(&mut NodeStore::new(alloc), count, kind)
-}
-
 // The numbers of children from which a node becomes one of a smaller kind, with that kind.
 static SHRINKING: [(u16, NodeType); 3] = [
     (5, NodeType::Node4),
@@ -196,7 +191,7 @@ static SHRINKING: [(u16, NodeType); 3] = [
 #[test]
 fn without_memory_a_shrink_is_made(rt: HostRuntime) -> Result<(), Fail> {
     for (count, kind) in &SHRINKING {
-        let touched = touched_with(rt.alloc(), *count, *kind);
+        let touched = touched_of_many::<4>(&mut NodeStore::new(rt.alloc()), *count, *kind);
         same((*kind, touched), (*kind, Some((2, 2))))?;
     }
     Ok(())

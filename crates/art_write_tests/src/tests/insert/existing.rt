@@ -6,7 +6,6 @@ use art_operations::insert::InsertParentNodeChange;
 use art_test_support::expected::{as_expected, same};
 use art_test_support::points::{Insertion, Way};
 use art_test_support::trees::{Key, child, value_of};
-use std::alloc::Global;
 use std::test::Fail;
 
 // What an insertion did, and what there is then.
@@ -123,11 +122,6 @@ fn grow<const P: usize>(
     Some((seen, growth_expected(store, effect, key, wanted)?))
 }
 
-// The same in a store of its own.
-fn grown(alloc: Global, slices: &[&[u8]], key: &[u8], wanted: Wanted) -> Option<(Growth, Growth)> {
-    grow::<16>(&mut NodeStore::new(alloc), slices, key, wanted)
-}
-
 // Keys of a tree, one that is inserted into it, and what is expected of that.
 static CASES: [(&[&[u8]], &[u8], Wanted); 5] = [
     (&[&[1], &[2]], &[3], Wanted::Child),
@@ -144,7 +138,8 @@ static CASES: [(&[&[u8]], &[u8], Wanted); 5] = [
 #[test]
 fn gives_a_node_a_child_or_replaces_a_value(rt: HostRuntime) -> Result<(), Fail> {
     for (slices, key, wanted) in &CASES {
-        as_expected(grown(rt.alloc(), slices, key, *wanted))?;
+        let seen = grow::<16>(&mut NodeStore::new(rt.alloc()), slices, key, *wanted);
+        as_expected(seen)?;
     }
     Ok(())
 }
