@@ -1,3 +1,4 @@
 mod Backs
+mod Beginnings
 pub mod EndedTests
 mod Writes
