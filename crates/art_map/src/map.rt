@@ -845,9 +845,7 @@ fn take_out<K: AsBytes + Drop, V: Drop, const P: usize>(
         HasTaken K.bytes P (Some x) (remove_key (of_key K.bytes) (K.bytes x.0) pairs) (Some result)
         store.new root.new len.new) }
 {
-    let Ok(done) = point.apply(store, name) else {
-        unreachable!()
-    };
+    let done = point.apply(store, name).unwrap();
     *root = done.new_root;
     *len -= 1;
     (done.deleted_leaf.key, done.deleted_leaf.value)

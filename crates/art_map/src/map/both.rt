@@ -184,16 +184,12 @@ fn put_reserved<K: AsBytes + Drop, V: Drop, const P: usize>(
         store.new root.new len.new }
 {
     let Some(point) = place else {
-        let Ok(leaf) = plant(store, key, value) else {
-            unreachable!()
-        };
+        let leaf = plant(store, key, value).unwrap();
         *root = Some(leaf.to_opaque());
         *len = 1;
         return None;
     };
-    let Ok(done) = point.apply(store, key, value) else {
-        unreachable!()
-    };
+    let done = point.apply(store, key, value).unwrap();
     *root = Some(done.new_root);
     let Some(leaf) = done.existing_leaf else {
         *len = one_more(store, *len);

@@ -43,9 +43,7 @@ impl<K: AsBytes + Drop, V: Drop, const P: usize> ByteMap<K, V, P> {
         ensures { Modifies F.FnOnce f K.bytes key_bytes.now self.old self.new }
     {
         let leaf = search_unchecked(&self.store, self.root?, key_bytes)?;
-        let Some(value) = self.store.value_mut(leaf) else {
-            unreachable!()
-        };
+        let value = self.store.value_mut(leaf).unwrap();
         f(value);
         Some(leaf)
     }
@@ -77,10 +75,7 @@ impl<K: AsBytes + Drop, V: Drop, const P: usize> ByteMap<K, V, P> {
             Ok(leaf) => leaf,
             Err(error) => return Err(error),
         };
-        let Some(value) = self.store.value_mut(leaf) else {
-            unreachable!()
-        };
-        Ok(value)
+        Ok(self.store.value_mut(leaf).unwrap())
     }
 
     // The same, with a value that is made if no equal key is stored.
@@ -114,10 +109,7 @@ impl<K: AsBytes + Drop, V: Drop, const P: usize> ByteMap<K, V, P> {
             Ok(leaf) => leaf,
             Err(error) => return Err(error),
         };
-        let Some(value) = self.store.value_mut(leaf) else {
-            unreachable!()
-        };
-        Ok(value)
+        Ok(self.store.value_mut(leaf).unwrap())
     }
 
     // The same, with a closure that may fail to make the value.
@@ -149,9 +141,6 @@ impl<K: AsBytes + Drop, V: Drop, const P: usize> ByteMap<K, V, P> {
             Ok(leaf) => leaf,
             Err(error) => return Err(error),
         };
-        let Some(value) = self.store.value_mut(leaf) else {
-            unreachable!()
-        };
-        Ok(value)
+        Ok(self.store.value_mut(leaf).unwrap())
     }
 }

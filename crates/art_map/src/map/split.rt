@@ -159,8 +159,6 @@ fn take_between<K: AsBytes + Drop, V: Drop, const P: usize>(
         return None;
     };
     let key_bytes = pair_at(store, leaf).0.as_bytes();
-    let Some(point) = search_for_delete_point_by_lengths(store, name, key_bytes) else {
-        unreachable!()
-    };
+    let point = search_for_delete_point_by_lengths(store, name, key_bytes).unwrap();
     Some(take_out(store, root, len, name, point))
 }

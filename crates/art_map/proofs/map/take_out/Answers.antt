@@ -1,11 +1,8 @@
-use Rattle.std.proofs.lemmas.Bool.{false≢true}
 use Rattle.art_map.proofs.Takings.{taken}
 use Rattle.art_map.proofs.map.take_out.Goals as goal
 
-pub unreachable-requires : goal.unreachable-requires
-unreachable-requires g c = false≢true c.in_default.ensures.succeeds
-
 pub returns : goal.returns
 returns g c pairs layout by x leads =
-    taken g.K.AsBytes.bytes g.row.P by c.in-Ok.done.deleted_leaf c.requires.holds leads c.in-Ok.ensures.deleted
-    (c.in-Ok.ensures.canonical pairs layout by) (c.in-Ok.ensures.kept pairs layout by)
+    let is = c.unwrap-done.ensures in
+    taken g.K.AsBytes.bytes g.row.P by c.unwrap-done.result.deleted_leaf c.requires.holds leads (rw is at c.apply.ensures.deleted)
+    (rw is at (c.apply.ensures.canonical pairs layout by)) (rw is at (c.apply.ensures.kept pairs layout by))

@@ -1,5 +1,4 @@
-use Rattle.std.proofs.Common.{Some, ap, subst, ◌∙◌, is_some, inr}
-use Rattle.std.proofs.lemmas.Bool.{false≢true}
+use Rattle.std.proofs.Common.{Some, ap, subst, sym, ◌∙◌, is_some, inr}
 use Rattle.art_model.specs.Pairs.{of_key, put}
 use Rattle.std.specs.Option.{unwrap_or}
 use Rattle.art_map.specs.MapAnswers.{IsRefusalOf, value_at, with_value_at}
@@ -13,10 +12,10 @@ use Rattle.art_map.proofs.map.ByteMap.value_or_insert.Goals as goal
 pub invariant_of-self : goal.invariant_of-self
 invariant_of-self g c = enters_holds g.K.AsBytes.bytes g.row.P _ c.enter.new.store c.enter.new.root c.enter.new.len _ _ c.enter.result c.enter.ensures
 
-pub unreachable-requires : goal.unreachable-requires
-unreachable-requires g c =
+pub unwrap-requires : goal.unwrap-requires
+unwrap-requires g c =
     let there = is_there g.K.AsBytes.bytes g.row.P (g.K.AsBytes.bytes c.args.key) c.in-Ok.ensures.1 in
-    false≢true (ap is_some c.in_default.ensures.value ∙ is_some-map (λ node. node.value) _ ∙ there)
+    sym (is_some-map (λ lent. lent.now) c.value_mut.result) ∙ ap is_some c.value_mut.ensures.value ∙ is_some-map (λ node. node.value) _ ∙ there
 
 pub returns-in-Err : goal.returns-in-Err
 returns-in-Err g c =
@@ -50,7 +49,7 @@ returns g c =
       lends_same left,
       record {
         writes_back = tt;
-        value = one_value (c.in-Some.ensures.value ∙ value_read bytes g.row.P key named seen ∙ new_value bytes c.args.key _ rising c.args.value
+        value = one_value ((rw c.unwrap.ensures at c.value_mut.ensures.value) ∙ value_read bytes g.row.P key named seen ∙ new_value bytes c.args.key _ rising c.args.value
             ∙ ap (λ pairs. Some (unwrap_or (value_at bytes key pairs) c.args.value)) c.self.view_is);
         accepted = rw c.self.view_is at free;
         refused = tt;

@@ -1,5 +1,4 @@
-use Rattle.std.proofs.Common.{Some, ap, subst, ◌∙◌, is_some, inr}
-use Rattle.std.proofs.lemmas.Bool.{false≢true}
+use Rattle.std.proofs.Common.{Some, ap, subst, sym, ◌∙◌, is_some, inr}
 use Rattle.std.specs.Fn.{FnOnceReturnsAt}
 use Rattle.std.specs.Option.{unwrap_or}
 use Rattle.art_model.specs.Pairs.{of_key, put}
@@ -16,11 +15,11 @@ invariant_of-self g c =
     made_holds g.K.AsBytes.bytes g.row.P _ c.leaf_made.new.store c.leaf_made.new.root c.leaf_made.new.len _ _ c.leaf_made.result
     c.leaf_made.ensures
 
-pub unreachable-requires : goal.unreachable-requires
-unreachable-requires g c =
+pub unwrap-requires : goal.unwrap-requires
+unwrap-requires g c =
     let (value, made, (held, named, free)) = c.in-Ok.ensures in
     let there = is_there g.K.AsBytes.bytes g.row.P (g.K.AsBytes.bytes c.args.key) named in
-    false≢true (ap is_some c.in_default.ensures.value ∙ is_some-map (λ node. node.value) _ ∙ there)
+    sym (is_some-map (λ lent. lent.now) c.value_mut.result) ∙ ap is_some c.value_mut.ensures.value ∙ is_some-map (λ node. node.value) _ ∙ there
 
 pub returns-in-Err : goal.returns-in-Err
 returns-in-Err g c =
@@ -56,9 +55,9 @@ returns g c =
       lends_same left,
       record {
         writes_back = tt;
-        value = unwraps (FnOnceReturnsAt g.F.FnOnce c.args.make c.args.key) (value_at bytes key c.args.self.now) value c.in-Some.value.now
+        value = unwraps (FnOnceReturnsAt g.F.FnOnce c.args.make c.args.key) (value_at bytes key c.args.self.now) value c.unwrap.result.now
             (λ none. made (none_stored bytes key _ (ap (value_at bytes key) c.self.view_is ∙ none)))
-            (one_value (c.in-Some.ensures.value ∙ value_read bytes g.row.P key named seen ∙ new_value bytes c.args.key _ rising value
+            (one_value ((rw c.unwrap.ensures at c.value_mut.ensures.value) ∙ value_read bytes g.row.P key named seen ∙ new_value bytes c.args.key _ rising value
             ∙ ap (λ pairs. Some (unwrap_or (value_at bytes key pairs) value)) c.self.view_is));
         accepted = rw c.self.view_is at free;
         refused = tt;
