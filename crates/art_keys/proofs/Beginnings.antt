@@ -25,7 +25,8 @@ module _ (front back rest these : List ℕ) (is : these ≡ (front ++ back) ++ r
   both_within m n is_m is_n = omega (arith, ap length is, length-append (front ++ back) rest, length-append front back, is_m, is_n)
 
 -- the two lengths, each read from where its key begins, are the length of the joined keys
-pub lengths_joined : (first_length second_length : List ℕ → ℕ) (these : List ℕ) (m n : ℕ) → m ≡ first_length these → n ≡ second_length (take (length these - m) (drop m these)) →
+pub lengths_joined : (first_length second_length : List ℕ → ℕ) (these : List ℕ) (m n : ℕ) → m ≡ first_length these →
+    n ≡ second_length (take (length these - m) (drop m these)) →
     m + n ≡ joined_length first_length second_length these
 lengths_joined first_length second_length these m n is_m is_n =
     ap₂ (λ s t. s + t) is_m (is_n ∙ ap second_length (take_rest these m) ∙ ap (λ k. second_length (drop k these)) is_m)

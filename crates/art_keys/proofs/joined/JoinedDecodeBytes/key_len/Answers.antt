@@ -24,7 +24,9 @@ key_len-requires g c =
     let h = c.requires in
     let front = g.A.AsBytes.bytes h.key.0 in
     let back = g.B.AsBytes.bytes h.key.1 in
-    let counted = first_counted front back h.rest c.args.bytes.now h.is g.A.DecodeBytes.length_of (g.met.A.DecodeBytes.comes_back h.key.0 h.of_key.0).1 in record {
+    let counted =
+    first_counted front back h.rest c.args.bytes.now h.is g.A.DecodeBytes.length_of
+    (g.met.A.DecodeBytes.comes_back h.key.0 h.of_key.0).1 in record {
       key = h.key.1;
       rest = h.rest;
       of_key = h.of_key.1;
@@ -33,4 +35,5 @@ key_len-requires g c =
 
 pub returns : goal.returns
 returns g c =
-    lengths_joined g.A.DecodeBytes.length_of g.B.DecodeBytes.length_of c.args.bytes.now c.key_len-middle.result c.key_len.result c.key_len-middle.ensures c.key_len.ensures
+    lengths_joined g.A.DecodeBytes.length_of g.B.DecodeBytes.length_of c.args.bytes.now c.key_len-middle.result c.key_len.result
+    c.key_len-middle.ensures c.key_len.ensures

@@ -11,7 +11,8 @@ search_unchecked-requires g c = (search rules, canonical_root c.in_ok-self.was c
 
 pub unwrap-value-requires : goal.unwrap-value-requires
 unwrap-value-requires g c =
-    sym (is_some-map (λ lent. lent.now) c.value_mut.result) ∙ ap is_some c.value_mut.ensures.value ∙ is_some-map (λ node. node.value) _ ∙ c.in_ok-leaf.ensures.there
+    sym (is_some-map (λ lent. lent.now) c.value_mut.result) ∙ ap is_some c.value_mut.ensures.value ∙ is_some-map (λ node. node.value) _
+    ∙ c.in_ok-leaf.ensures.there
 
 pub invariant_of-self : goal.invariant_of-self
 invariant_of-self g c =
@@ -26,6 +27,8 @@ returns g c =
     let key = c.args.key_bytes.now in
     let left = c.f.new.arg2 in
     let named = leaf_named bytes g.row.P key c.in_ok-self.was c.self.invariant c.in_ok-leaf.ensures.leaf left in
-    let after = view_of (of_key bytes) g.row.P _ (value_written bytes g.row.P key named c.self.invariant left) ∙ ap (with_value_at bytes key left) c.self.view_is in
+    let after =
+    view_of (of_key bytes) g.row.P _ (value_written bytes g.row.P key named c.self.invariant left)
+    ∙ ap (with_value_at bytes key left) c.self.view_is in
     let found = (rw c.unwrap-value.ensures at c.value_mut.ensures.value) ∙ value_read bytes g.row.P key named c.self.view_is in
     rw (sym found) (left, record { shown = c.unwrap-value.result; shows = refl; left = _; met = c.f.ensures; leaves = refl }, after)

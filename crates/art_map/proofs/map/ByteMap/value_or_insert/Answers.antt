@@ -49,7 +49,8 @@ returns g c =
       lends_same left,
       record {
         writes_back = tt;
-        value = one_value ((rw c.unwrap.ensures at c.value_mut.ensures.value) ∙ value_read bytes g.row.P key named seen ∙ new_value bytes c.args.key _ rising c.args.value
+        value = one_value ((rw c.unwrap.ensures at c.value_mut.ensures.value) ∙ value_read bytes g.row.P key named seen
+            ∙ new_value bytes c.args.key _ rising c.args.value
             ∙ ap (λ pairs. Some (unwrap_or (value_at bytes key pairs) c.args.value)) c.self.view_is);
         accepted = rw c.self.view_is at free;
         refused = tt;

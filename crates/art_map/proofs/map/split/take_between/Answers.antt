@@ -42,10 +42,13 @@ unwrap-point-requires g c =
     let pairs = pairs_at c.args.store.now c.args.root.now in
     let test = is_between (bound_map (λ b. b.now) c.args.from) (bound_map (λ b. b.now) c.args.to) in
     let has = at_some c.in-Some.is c.requires in
-    let first = first_pair has.by (λ x. test (g.K.AsBytes.bytes x.0)) (c.in-Some-next.ensures.leaf _ (c.range_unchecked.ensures _ has.layout has.by)) c.pair_at.ensures in
+    let first =
+    first_pair has.by (λ x. test (g.K.AsBytes.bytes x.0))
+    (c.in-Some-next.ensures.leaf _ (c.range_unchecked.ensures _ has.layout has.by)) c.pair_at.ensures in
     some_there c.search_for_delete_point_by_lengths.result (λ none.
     point_not_none B test pairs (deref_pair c.pair_at.result) c.as_bytes-key_bytes.result.now has.by.is_map first c.as_bytes-key_bytes.ensures
-    (point_none has.layout (remove_reply B c.as_bytes-key_bytes.result.now pairs) (rw (sym none) at (c.search_for_delete_point_by_lengths.ensures.point pairs has.layout has.by))))
+    (point_none has.layout (remove_reply B c.as_bytes-key_bytes.result.now pairs)
+    (rw (sym none) at (c.search_for_delete_point_by_lengths.ensures.point pairs has.layout has.by))))
 
 pub returns : goal.returns
 returns g c =
@@ -53,10 +56,15 @@ returns g c =
     let pairs = pairs_at c.args.store.now c.args.root.now in
     let test = is_between (bound_map (λ b. b.now) c.args.from) (bound_map (λ b. b.now) c.args.to) in
     let has = at_some c.in-Some.is c.requires in
-    let first = first_pair has.by (λ x. test (g.K.AsBytes.bytes x.0)) (c.in-Some-next.ensures.leaf _ (c.range_unchecked.ensures _ has.layout has.by)) c.pair_at.ensures in
+    let first =
+    first_pair has.by (λ x. test (g.K.AsBytes.bytes x.0))
+    (c.in-Some-next.ensures.leaf _ (c.range_unchecked.ensures _ has.layout has.by)) c.pair_at.ensures in
     let (x, e, leads) =
     point_some has.layout c.unwrap-point.result (remove_reply B c.as_bytes-key_bytes.result.now pairs)
     (rw c.unwrap-point.ensures at (c.search_for_delete_point_by_lengths.ensures.point pairs has.layout has.by)) in
-    let is_first = point_is_first B test pairs (deref_pair c.pair_at.result) c.as_bytes-key_bytes.result.now has.by.is_map first c.as_bytes-key_bytes.ensures x e in
-    subst (λ o. HasTaken g.K.AsBytes.bytes g.row.P o (without B o pairs) (Some c.take_out.result) c.take_out.new.store c.take_out.new.root c.take_out.new.len) is_first
+    let is_first =
+    point_is_first B test pairs (deref_pair c.pair_at.result)
+    c.as_bytes-key_bytes.result.now has.by.is_map first c.as_bytes-key_bytes.ensures x e in
+    subst (λ o. HasTaken g.K.AsBytes.bytes g.row.P o (without B o pairs)
+    (Some c.take_out.result) c.take_out.new.store c.take_out.new.root c.take_out.new.len) is_first
     (c.take_out.ensures pairs has.layout has.by x leads)
