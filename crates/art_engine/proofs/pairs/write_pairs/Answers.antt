@@ -50,6 +50,6 @@ pub loop-written-preserved : goal.loop-written-preserved
 loop-written-preserved g c = (
   c.in-Some-next_leaf.ensures.rest,
   λ pairs by. row_goes_on c.args.store.now c.loop-written.leaves c.next_leaf.new.leaves pairs c.loop-written.written (g.W.Write.contents c.args.output.now)
-      (g.W.Write.contents c.loop-written.output) (g.W.Write.contents c.write_leaf.new.output) c.args.order c.in-Some-next_leaf.name (pair_of c.in-Some-leaf.leaf.now)
-      (c.loop-written.invariant.1 pairs by) c.in-Some-next_leaf.ensures.taken (ap (option_map pair_of) (sym c.in-Some-leaf.ensures)) c.in_ok-write_leaf.ensures,
+      (g.W.Write.contents c.loop-written.output) (g.W.Write.contents c.write_leaf.new.output) c.args.order c.in-Some-next_leaf.name (pair_of c.leaf_at.result.now)
+      (c.loop-written.invariant.1 pairs by) c.in-Some-next_leaf.ensures.taken (ap (option_map pair_of) c.leaf_at.ensures) c.in_ok-write_leaf.ensures,
 )
