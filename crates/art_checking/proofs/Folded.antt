@@ -25,6 +25,7 @@ use Rattle.art_model.proofs.places.PlaceLaws.{join_none}
 use Rattle.art_model.proofs.stores.Shown.{no_inner_gone, inner_shown, no_leaf_gone, leaf_shown}
 use Rattle.art_model.proofs.stores.Stores.{HoldsBelow-right}
 use Rattle.art_model.proofs.stores.Views.{held_in_inner}
+use Rattle.art_reading.proofs.Parts.{some_there}
 use Rattle.art_checking.specs.Folds.{Folds, JoinsAll, Joins}
 
 module _ {N A : Type 0} where
@@ -182,20 +183,16 @@ module _ {K V T Out : Type 0} (OfLeaf : T → LeafNode K V → Out → T → Typ
       subst (λ z. FoldsIt z old out new) (sym (leaf_shown s p layout (full.0.named ∙ sym is) full.0.holds shown there))
       (shown, held_at_leaf s p shown there, answers)
 
-not_gone : {X : Type 0} (o : Option X) → (None ≡ o → ⊥) → IsSome o
-not_gone None h = absurd (h refl)
-not_gone (Some x) h = refl
-
 -- what has a leaf's name is a leaf of the store
 pub full_leaf : {K V : Type 0} (s : Nodes K V) {name : OpaqueNodePtr} {layout : Tree OpaqueNodePtr (K × V)} → IsFullTree s name layout →
     (p : LeafPtr) → leaf_name p ≡ name → IsSome (map.get s.leaves p)
-full_leaf s {name} {layout} full p is = not_gone (map.get s.leaves p) (λ gone. no_leaf_gone s p layout (full.0.named ∙ sym is) full.0.holds gone)
+full_leaf s {name} {layout} full p is = some_there (map.get s.leaves p) (no_leaf_gone s p layout (full.0.named ∙ sym is) full.0.holds)
 
 module _ {K V : Type 0} (s : Nodes K V) {name : OpaqueNodePtr} {layout : Tree OpaqueNodePtr (K × V)} (full : IsFullTree s name layout) (p : InnerPtr)
     (proper : p.kind ≢ Leaf) (is : inner_name p ≡ name) where
   -- an inner node is in the store
   pub full_inner : IsSome (map.get s.inners p)
-  full_inner = not_gone (map.get s.inners p) (λ gone. no_inner_gone s p proper layout (full.0.named ∙ sym is) full.0.holds gone)
+  full_inner = some_there (map.get s.inners p) (no_inner_gone s p proper layout (full.0.named ∙ sym is) full.0.holds)
 
   module _ (kind : NodeType) (shown : Inner) (there : Some shown ≡ map.get s.inners p) (same : kind ≡ p.kind) where
     -- it is as the store shows it

@@ -84,22 +84,20 @@ fn write_node<W: Write, const P: usize>(
         byte: node.byte,
     };
     match node.name.split() {
-        NodePtr::Leaf(name) => match store.leaf(name) {
-            Some(leaf) => writeln!(output, "{place}Leaf {}={}", ShownKey(&leaf.key), leaf.value),
-            None => unreachable!(),
-        },
-        NodePtr::Inner(name) => match store.inner(name) {
-            Some(node) => {
-                let kind = node.node_type();
-                let len = node.prefix_len();
-                let stored = ShownKey(node.read_prefix());
-                let count = node.num_children();
-                writeln!(
-                    output,
-                    "{place}{kind} prefix {len} stored {stored} children {count}"
-                )
-            }
-            None => unreachable!(),
-        },
+        NodePtr::Leaf(name) => {
+            let leaf = store.leaf_at(name);
+            writeln!(output, "{place}Leaf {}={}", ShownKey(&leaf.key), leaf.value)
+        }
+        NodePtr::Inner(name) => {
+            let node = store.inner_at(name);
+            let kind = node.node_type();
+            let len = node.prefix_len();
+            let stored = ShownKey(node.read_prefix());
+            let count = node.num_children();
+            writeln!(
+                output,
+                "{place}{kind} prefix {len} stored {stored} children {count}"
+            )
+        }
     }
 }

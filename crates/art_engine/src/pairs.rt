@@ -48,10 +48,7 @@ pub fn write_pairs<W: Write, const P: usize>(
         let Some(name) = next_leaf(&mut leaves, store, order) else {
             return writeln!(output);
         };
-        let Some(leaf) = store.leaf(name) else {
-            unreachable!()
-        };
-        write_leaf(output, written, leaf)?;
+        write_leaf(output, written, store.leaf_at(name))?;
     }
     Err(io::Error::from(ErrorKind::FileTooLarge))
 }

@@ -325,9 +325,7 @@ fn delete<K: AsBytes + Clone + Drop, V: Clone + Drop, const P: usize>(
         StepsAlone K.bytes P (IsPairClone K.is_clone V.is_clone)
         store.old (Some name) command result store.new root.new }
 {
-    let Ok(done) = point.apply(store, name) else {
-        unreachable!()
-    };
+    let done = point.apply(store, name).unwrap();
     *root = done.new_root;
     Reply::Deleted(Some((done.deleted_leaf.key, done.deleted_leaf.value)))
 }

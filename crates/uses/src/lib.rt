@@ -125,10 +125,7 @@ pub fn get<'a, K: AsBytes + Drop, V: Drop, const P: usize>(
         option_copied result ≡ value_at K.bytes key_bytes.now pairs) }
 {
     let leaf = search_unchecked(store, root, key_bytes)?;
-    let Some(node) = store.leaf(leaf) else {
-        unreachable!()
-    };
-    Some(&node.value)
+    Some(&store.leaf_at(leaf).value)
 }
 
 /// Returns the pair whose key is a prefix of the query or equal to it, or `None`. There is at most one.
@@ -142,9 +139,7 @@ pub fn longest_match<'a, K: AsBytes + Drop, V: Drop, const P: usize>(
         option_map deref_pair result ≡ first_of (match_of (of_key K.bytes) query.now pairs)) }
 {
     let leaf = prefix_search_unchecked(store, root, query)?;
-    let Some(node) = store.leaf(leaf) else {
-        unreachable!()
-    };
+    let node = store.leaf_at(leaf);
     Some((&node.key, &node.value))
 }
 

@@ -85,10 +85,7 @@ impl KeptTree {
                     Side::Second => mem::swap(&mut self.first, &mut self.second),
                 }
                 let mut replies = done.replies;
-                let Some(reply) = replies.pop() else {
-                    unreachable!()
-                };
-                Ok(reply)
+                Ok(replies.pop().unwrap())
             }
             Err((_, error)) => Err(error),
         }

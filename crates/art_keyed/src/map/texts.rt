@@ -105,10 +105,7 @@ impl<V: Drop, const P: usize> TreeMap<Terminated, V, P> {
             Ok(()) => {}
             Err(error) => return Err(error),
         }
-        let Some(lent) = self.get_text_mut(text) else {
-            unreachable!()
-        };
-        Ok(lent)
+        Ok(self.get_text_mut(text).unwrap())
     }
 
     // Inserts a copy of a text with a value, unless an equal key is stored.
@@ -145,10 +142,7 @@ impl<V: Drop, const P: usize> TreeMap<Terminated, V, P> {
         self.len();
         let (key, _) = self.longest_match(text)?;
         let len = key.as_bytes_without_end().len();
-        let Some(lent) = self.get_text_mut(&text[..len]) else {
-            unreachable!()
-        };
-        Some(lent)
+        Some(self.get_text_mut(&text[..len]).unwrap())
     }
 
     /// Removes the pair with the longest string that is a prefix of a text, or equal to it, and returns it, or `None`

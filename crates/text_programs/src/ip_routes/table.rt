@@ -112,8 +112,5 @@ fn key_of(alloc: Global, network: Network) -> Result<Terminated, AllocError>
     ensures { IfOk result (λ key. key ≡ string_of network) }
 {
     let string = first_bits(network.version, network.number, network.length);
-    match Terminated::encode(alloc, &string)? {
-        Some(key) => Ok(key),
-        None => unreachable!(),
-    }
+    Ok(Terminated::encode(alloc, &string)?.unwrap())
 }

@@ -11,8 +11,8 @@ returns-in-Ok-clause-kept c = elim c.match-done.branch [
 
 pub returns-in-Ok-clause-run : goal.returns-in-Ok-clause-run
 returns-in-Ok-clause-run c =
-    let run = rw (c.push_reserved.ensures.items, c.in_ok-commands.ensures.items, c.in-Some.ensures.items) at c.in-Ok.ensures.run in
-    let one = only_reply key_bytes 4 _ _ _ c.args.command c.in-Some.reply c.pop.new.self.items run in (
+    let run = rw (c.push_reserved.ensures.items, c.in_ok-commands.ensures.items, rw c.unwrap.ensures at c.pop.ensures.items) at c.in-Ok.ensures.run in
+    let one = only_reply key_bytes 4 _ _ _ c.args.command c.unwrap.result c.pop.new.self.items run in (
       c.in-Ok.done.side,
       elim c.match-done.branch [
         | in-First w ↦ rw (w.self-is, w.in-First.is) (rw w.in-First.is at one)
