@@ -11,10 +11,14 @@ use Rattle.art_keyed.proofs.map.text_ranges.TreeMap+Terminated+V+P.range_text.Go
 pub range_text-requires : goal.range_text-requires
 range_text-requires g c = (
   search rules,
-  are_ended HasNoZero ended (λ (t : List ℕ). t) (λ t. t) (λ t of_text. (refl, of_text)) (λ a b. refl) c.self.inside.map c.self.invariant,
+  (
+    search rules,
+    are_ended HasNoZero ended (λ (t : List ℕ). t) (λ t. t) (λ t of_text. (refl, of_text)) (λ a b. refl) c.self.inside.map c.self.invariant,
+  ),
 )
 
 pub returns-clause-pairs : goal.returns-clause-pairs
 returns-clause-pairs g c =
-    let (from, to) = (bound_map (λ b. b.now) c.args.from, bound_map (λ b. b.now) c.args.to) in
+    let from = bound_map (λ b. b.now) c.args.from in
+    let to = bound_map (λ b. b.now) c.args.to in
     c.range_text.ensures.pairs ∙ ended_between from to c.self.inside.map c.self.invariant ∙ ap (keys_between (slice_cmp nat_cmp) from to) c.self.view_is

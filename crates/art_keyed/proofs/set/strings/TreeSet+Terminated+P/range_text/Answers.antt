@@ -8,9 +8,10 @@ use Rattle.art_keyed.proofs.TextRanges.{ended_in_set}
 use Rattle.art_keyed.proofs.set.strings.TreeSet+Terminated+P.range_text.Goals as goal
 
 pub range_text-requires : goal.range_text-requires
-range_text-requires g c = (search rules, keys_are_ended c.self.inside.set c.self.invariant)
+range_text-requires g c = (search rules, (search rules, keys_are_ended c.self.inside.set c.self.invariant))
 
 pub returns-clause-keys : goal.returns-clause-keys
 returns-clause-keys g c =
-    let (from, to) = (bound_map (λ b. b.now) c.args.from, bound_map (λ b. b.now) c.args.to) in
+    let from = bound_map (λ b. b.now) c.args.from in
+    let to = bound_map (λ b. b.now) c.args.to in
     c.range_text.ensures.keys ∙ ended_in_set from to c.self.inside.set c.self.invariant ∙ ap (set_between (slice_cmp nat_cmp) from to) c.self.view_is
