@@ -3,8 +3,6 @@ ghost use Rattle.std.specs.Prelude.{◌≡◌, ◌≢◌, ◌==◌, ◌++◌, �
 ghost use Rattle.std.specs.Fmt.{decimal};
 ghost use Rattle.std.specs.List.{slice_split};
 ghost use Rattle.art_engine.specs.KeyTexts.{IsByteWord, IsKeyWord, key_word};
-ghost use Rattle.art_engine.specs.CommandLines.{line_of, HasSmallValue};
-ghost use Rattle.art_engine.specs.declared.lines.Request.{Request};
 
 use std::alloc::{AllocError, Global};
 use std::str;
@@ -60,6 +58,10 @@ impl<'a> KeyWord<'a> {
 }
 
 impl<'a> Request<'a> {
+    // Not at the head of the file: the struct above would import what names it.
+    ghost use Rattle.art_engine.specs.CommandLines.{line_of, HasSmallValue};
+    ghost use Rattle.art_engine.specs.declared.lines.Request.{Request};
+
     /// Returns what a line without its line feed asks for, or `None` if it is no valid request.
     pub fn parse(line: &'a [u8]) -> Option<Self>
         ensures line { IfSome result (λ request. line.now ≡ line_of request) }
