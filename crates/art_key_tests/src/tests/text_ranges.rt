@@ -12,11 +12,11 @@ use std::collections::BTreeMap;
 use std::ops::Bound;
 use std::test::Fail;
 
-type Ended = TreeMap<Terminated, u32, 2>;
+type Ended = TreeMap<Terminated, usize, 2>;
 
-type Any = TreeMap<Escaped, u32, 2>;
+type Any = TreeMap<Escaped, usize, 2>;
 
-type Model = BTreeMap<Vec<u8>, u32>;
+type Model = BTreeMap<Vec<u8>, usize>;
 
 // A bound with a text, drawn by a number.
 fn bound_of(drawn: usize, text: &[u8]) -> Bound<&[u8]> {
@@ -43,8 +43,8 @@ fn is_between(string: &[u8], from: Bound<&[u8]>, to: Bound<&[u8]>) -> bool {
 }
 
 // A number that the values between two bounds make, in their order.
-fn digest_of(model: &Model, from: Bound<&[u8]>, to: Bound<&[u8]>) -> u32 {
-    let mut digest = 0u32;
+fn digest_of(model: &Model, from: Bound<&[u8]>, to: Bound<&[u8]>) -> usize {
+    let mut digest = 0usize;
     for (string, value) in model.iter() {
         if is_between(string.as_slice(), from, to) {
             digest = digest.wrapping_mul(31).wrapping_add(*value);
@@ -54,8 +54,8 @@ fn digest_of(model: &Model, from: Bound<&[u8]>, to: Bound<&[u8]>) -> u32 {
 }
 
 // The same of the strings of a map that end with a zero.
-fn digest_of_ended(map: &Ended, from: Bound<&[u8]>, to: Bound<&[u8]>) -> u32 {
-    let mut digest = 0u32;
+fn digest_of_ended(map: &Ended, from: Bound<&[u8]>, to: Bound<&[u8]>) -> usize {
+    let mut digest = 0usize;
     for (_, value) in map.range_text(from, to) {
         digest = digest.wrapping_mul(31).wrapping_add(*value);
     }
@@ -63,8 +63,8 @@ fn digest_of_ended(map: &Ended, from: Bound<&[u8]>, to: Bound<&[u8]>) -> u32 {
 }
 
 // The same of those that are escaped.
-fn digest_of_any(map: &Any, alloc: Global, from: Bound<&[u8]>, to: Bound<&[u8]>) -> Option<u32> {
-    let mut digest = 0u32;
+fn digest_of_any(map: &Any, alloc: Global, from: Bound<&[u8]>, to: Bound<&[u8]>) -> Option<usize> {
+    let mut digest = 0usize;
     for (_, value) in map.range_text(alloc, from, to).ok()? {
         digest = digest.wrapping_mul(31).wrapping_add(*value);
     }
@@ -75,9 +75,9 @@ fn digest_of_any(map: &Any, alloc: Global, from: Bound<&[u8]>, to: Bound<&[u8]>)
 fn put_any(map: &mut Any, model: &mut Model, alloc: Global, number: usize) -> Option<()> {
     let string = Short::new(number);
     let key = Escaped::encode(alloc, string.as_slice()).ok()?;
-    map.insert(key, number as u32).ok()?;
+    map.insert(key, number).ok()?;
     let bytes = string.as_slice().to_vec(alloc).ok()?;
-    model.insert(bytes, number as u32).ok()?;
+    model.insert(bytes, number).ok()?;
     Some(())
 }
 
@@ -125,11 +125,11 @@ fn put_ended(
         return Some(());
     }
     let key = Terminated::encode(alloc, string.as_slice()).ok()??;
-    map.insert(key, number as u32).ok()?;
+    map.insert(key, number).ok()?;
     let key = Terminated::encode(alloc, string.as_slice()).ok()??;
     set.insert(key).ok()?;
     let bytes = string.as_slice().to_vec(alloc).ok()?;
-    model.insert(bytes, number as u32).ok()?;
+    model.insert(bytes, number).ok()?;
     Some(())
 }
 
