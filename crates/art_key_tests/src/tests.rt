@@ -1,6 +1,7 @@
 mod arrays;
 mod collected;
 mod drawn;
+mod drawn_set;
 mod entries;
 mod extracts;
 mod joined;
