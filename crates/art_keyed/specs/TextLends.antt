@@ -1,7 +1,9 @@
 -- The final state of a map of strings, from which a `&mut` to a value is borrowed by a text.
-use Rattle.std.specs.Prelude.{ℕ, List, Option, Result}
+use Rattle.std.specs.Prelude.{ℕ, List, Option, Result, ⊤}
 use Rattle.std.specs.Borrow.{Fml, RattleType, MutBor}
 use Rattle.art_keys.specs.Ended.{HasNoZero, ended}
+use Rattle.art_keys.specs.Escapes.{escape}
+use Rattle.art_keys.specs.contracts.escaped.Escaped.{the_row as EscapedRow}
 use Rattle.art_keys.specs.contracts.terminated.Terminated.{the_row as TerminatedRow}
 use Rattle.art_keyed.specs.KeyedLends.{lends_put, lends_value}
 use Rattle.art_keyed.specs.TextCalls.{longest_key}
@@ -19,3 +21,13 @@ module _ (V P : RattleType) (s : MutBor (List (List ℕ × V.Denot))) where
   -- once the borrow r ends, the longest string that is a prefix of the text has the last value written through r
   abbrev pub lends_longest : List ℕ → Option (MutBor V.Denot) → Fml
   lends_longest text r = lends_value TerminatedRow V P (record { bytes = ended; is_key = HasNoZero }) s (longest_key ended (λ string. string) text s.now) r
+
+  -- once the borrow r ends, the key of the text, an escape, has the last value written through r; at `None` the pairs
+  -- are unchanged
+  abbrev pub lends_plain : List ℕ → Option (MutBor V.Denot) → Fml
+  lends_plain text r = lends_value EscapedRow V P (record { bytes = escape; is_key = λ t. ⊤ }) s (escape text) r
+
+  -- once the borrow r ends, the key of the text, an escape, is inserted with the last value written through r; at
+  -- `Err` the pairs are unchanged
+  abbrev pub lends_escaped_put : {E : Type 0} → List ℕ → Result (MutBor V.Denot) E → Fml
+  lends_escaped_put text r = lends_put EscapedRow V P (record { bytes = escape; is_key = λ t. ⊤ }) s text r

@@ -437,3 +437,52 @@ fn texts_of_any_bytes_are_found_by_their_parts(rt: HostRuntime) -> Result<(), Fa
         Some(([true, true, false, true, true], [3, 1, 2, 1])),
     )
 }
+
+// Counts a word of any bytes.
+fn count_any(map: &mut Bytes<4>, alloc: Global, word: &[u8]) -> Option<()> {
+    let Ok(count) = map.get_text_or_insert(alloc, word, 0) else {
+        return None;
+    };
+    *count = count.wrapping_add(1);
+    Some(())
+}
+
+// Sets the value of a word without a byte to escape, and returns whether it is stored.
+fn set_plain(map: &mut Bytes<4>, word: &[u8], to: u32) -> bool {
+    if !Escaped::is_plain(word) {
+        return false;
+    }
+    let Some(value) = map.get_text_mut(word) else {
+        return false;
+    };
+    *value = to;
+    true
+}
+
+// The counts of three words of any bytes, how many words there are, and which words could be set.
+fn any_words(map: &mut Bytes<4>, alloc: Global) -> Option<([u32; 4], [bool; 3])> {
+    for word in [b"a\0", b"ab", b"a\0", b"b\x01", b"ab", b"a\0"] {
+        count_any(map, alloc, word.as_slice())?;
+    }
+    let set = [
+        set_plain(map, b"ab", 12),
+        set_plain(map, b"a", 1),
+        set_plain(map, b"a\0", 1),
+    ];
+    let counts = [
+        map.get_text(alloc, b"a\0").ok()?.copied()?,
+        map.get_text(alloc, b"ab").ok()?.copied()?,
+        map.get_text(alloc, b"b\x01").ok()?.copied()?,
+        u32::try_from(map.len()).ok()?,
+    ];
+    Some((counts, set))
+}
+
+#[test]
+fn words_of_any_bytes_are_counted(rt: HostRuntime) -> Result<(), Fail> {
+    let alloc = rt.alloc();
+    same(
+        any_words(&mut TreeMap::new(alloc), alloc),
+        Some(([3, 12, 1, 3], [true, false, false])),
+    )
+}

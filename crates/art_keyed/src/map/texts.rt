@@ -1,5 +1,6 @@
 //! Calls of maps of strings by a text, for which no key is made.
-ghost use Rattle.std.specs.Prelude.{◌≡◌, ◌<◌, ◌^◌, length, false, IfErr, IfOk, IsOk, OnErr, OnOk, option_copied};
+ghost use Rattle.std.specs.Prelude.{◌≡◌, ◌<◌, ◌^◌, length, false, true, IfErr, IfOk, IsOk, OnErr, OnOk, option_copied};
+ghost use Rattle.std.specs.Bool.{OnFalse, OnTrue};
 ghost use Rattle.std.specs.Borrow.{sem};
 ghost use Rattle.std.specs.Option.{option_copied_mut, option_map, unwrap_or};
 ghost use Rattle.art_keys.specs.Ended.{HasNoZero, ended};
@@ -10,7 +11,7 @@ ghost use Rattle.art_map.specs.MapChanges.{put_new};
 ghost use Rattle.art_map.specs.MapItems.{deref_pair};
 ghost use Rattle.art_keyed.specs.KeyedPairs.{strings_below, strings_in_front, strings_not_below};
 ghost use Rattle.art_keyed.specs.TextCalls.{IsTextRefusal, without_longest};
-ghost use Rattle.art_keyed.specs.TextLends.{lends_longest, lends_text, lends_text_put};
+ghost use Rattle.art_keyed.specs.TextLends.{lends_escaped_put, lends_longest, lends_plain, lends_text, lends_text_put};
 
 use super::{PairRefused, TreeMap};
 use art_keys::escaped::Escaped;
@@ -18,7 +19,7 @@ use art_keys::terminated::{Terminated, has_zero};
 use art_map::map::Range;
 use art_nodes::node::AsBytes;
 use art_reading::lookup::EndedQuery;
-use std::alloc::{AllocError, Global};
+use std::alloc::{AllocError, AllocFailed, Global};
 use std::ops::Bound;
 use thiserror::Error;
 
@@ -31,6 +32,14 @@ pub enum TextRefused<V> {
     /// An allocation failed.
     #[error("memory allocation failed")]
     Memory { value: V },
+}
+
+impl<K: Drop, V> From<PairRefused<K, V>> for AllocFailed<V> {
+    ghost from_gives = { λ refused failed. failed.value ≡ refused.value };
+
+    fn from(refused: PairRefused<K, V>) -> Self {
+        AllocFailed { value: refused.value }
+    }
 }
 
 /// Calls by a text, for which no key is made. They cost what the calls by key do. Only `get_text_or_insert` allocates
@@ -232,6 +241,56 @@ impl<V: Drop, const P: usize> TreeMap<Escaped, V, P> {
             return Ok(self.contains_key(&key));
         }
         Ok(self.map.contains_key_by(EndedQuery { text, end: 0 }))
+    }
+
+    /// Returns a mutable reference to the value of a text's key, or `None` if it is not stored. It never fails.
+    ///
+    /// The text must have no byte 0 or 1 (`Escaped::is_plain`). `get_mut` takes any key.
+    pub fn get_text_mut(&mut self, text: &[u8]) -> Option<&mut V>
+        requires { IsPlain text.now }
+        ensures* writes_back { sem 𝓛 (lends_plain V.row P.row self.entry text.now result) }
+        ensures value { option_copied_mut result ≡ value_at escape (escape text.now) self.old }
+    {
+        self.map.get_mut_by(EndedQuery { text, end: 0 })
+    }
+
+    /// Returns a mutable reference to the value of a text's key. If no equal key is stored, the text's key is inserted
+    /// with this value first; a key that is stored stays, with its value. It costs two lookups, or a lookup and an
+    /// insertion if the text is new; with a byte 0 or 1 in the text, an insertion.
+    ///
+    /// Fails only if an allocation fails. The error returns the value, and the map is unchanged.
+    pub fn get_text_or_insert(
+        &mut self,
+        alloc: Global,
+        text: &[u8],
+        value: V,
+    ) -> Result<&mut V, AllocFailed<V>>
+        ensures* writes_back { sem 𝓛 (lends_escaped_put V.row P.row self.entry text.now result) }
+        ensures value { IfOk result (λ lent.
+            lent.now ≡ unwrap_or (value_at escape (escape text.now) self.old) value) }
+        ensures returned { IfErr result (λ refused. refused.value ≡ value) }
+        ensures refused { OnErr result (IsPlain text.now →
+            has_key (of_key escape) (escape text.now) self.old ≡ false) }
+    {
+        if self.has_plain_text(text) {
+            return Ok(self.get_text_mut(text).unwrap());
+        }
+        let Ok(key) = Escaped::encode(alloc, text) else {
+            return Err(AllocFailed { value });
+        };
+        Ok(self.get_or_insert(key, value)?)
+    }
+
+    // Returns whether no byte of a text is 0 or 1, and its key is stored.
+    fn has_plain_text(&self, text: &[u8]) -> bool
+        ensures sorted { IsMap (of_key escape) self.now }
+        ensures plain { OnTrue result (IsPlain text.now) }
+        ensures stored { OnTrue result (has_key (of_key escape) (escape text.now) self.now ≡ true) }
+        ensures new { OnFalse result (IsPlain text.now →
+            has_key (of_key escape) (escape text.now) self.now ≡ false) }
+    {
+        self.len();
+        Escaped::is_plain(text) && self.map.contains_key_by(EndedQuery { text, end: 0 })
     }
 
     /// Returns the pair of a text's key, or `None` if it is not stored.
