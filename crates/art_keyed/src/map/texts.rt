@@ -1,6 +1,6 @@
 //! Calls of maps of strings by a text, for which no key is made.
-ghost use Rattle.std.specs.Prelude.{◌≡◌, ◌<◌, ◌^◌, length, false, true, IfErr, IfOk, IsOk, OnErr, OnOk, option_copied};
-ghost use Rattle.std.specs.Bool.{OnFalse, OnTrue};
+ghost use Rattle.std.specs.Prelude.{◌≡◌, ◌<◌, ◌^◌, length, false, IfErr, IfOk, IsOk, OnErr, OnOk, option_copied};
+ghost use Rattle.std.specs.Bool.{OnTrue};
 ghost use Rattle.std.specs.Borrow.{sem};
 ghost use Rattle.std.specs.Option.{option_copied_mut, option_map, unwrap_or};
 ghost use Rattle.art_keys.specs.Ended.{HasNoZero, ended};
@@ -38,7 +38,9 @@ impl<K: Drop, V> From<PairRefused<K, V>> for AllocFailed<V> {
     ghost from_gives = { λ refused failed. failed.value ≡ refused.value };
 
     fn from(refused: PairRefused<K, V>) -> Self {
-        AllocFailed { value: refused.value }
+        AllocFailed {
+            value: refused.value,
+        }
     }
 }
 
@@ -285,9 +287,8 @@ impl<V: Drop, const P: usize> TreeMap<Escaped, V, P> {
     fn has_plain_text(&self, text: &[u8]) -> bool
         ensures sorted { IsMap (of_key escape) self.now }
         ensures plain { OnTrue result (IsPlain text.now) }
-        ensures stored { OnTrue result (has_key (of_key escape) (escape text.now) self.now ≡ true) }
-        ensures new { OnFalse result (IsPlain text.now →
-            has_key (of_key escape) (escape text.now) self.now ≡ false) }
+        ensures stored { IsPlain text.now →
+            result ≡ has_key (of_key escape) (escape text.now) self.now }
     {
         self.len();
         Escaped::is_plain(text) && self.map.contains_key_by(EndedQuery { text, end: 0 })

@@ -1,4 +1,4 @@
-use Rattle.std.proofs.Common.{[], ◌∷◌, ◌++◌, ap, sym, ◌∙◌}
+use Rattle.std.proofs.Common.{◌≡◌, ◌⊎◌, [], ◌∷◌, ◌++◌, Option, None, Some, ap, inl, inr, refl, sym, ◌∙◌}
 use Rattle.std.specs.Bool.{⊤}
 use Rattle.art_keys.specs.Escapes.{escape}
 use Rattle.art_keys.specs.EscapeLaws.{escape-plain}
@@ -13,14 +13,20 @@ invariant_of-self-lent g c lent = (
   c.self.invariant,
 )
 
+none_or_some : {A : Type 0} (o : Option A) → (o ≡ None) ⊎ ((x : A) × (o ≡ Some x))
+none_or_some None = inl refl
+none_or_some (Some x) = inr (x, refl)
+
 pub returns : goal.returns
 returns g c =
-    let plain = sym (escape-plain c.args.text.now c.requires) in (
-      lends_same (λ w. ap (λ key. with_value_at escape key w c.self.inside.map) plain ∙ ap (with_value_at escape (escape c.args.text.now) w) c.self.view_is),
-      record {
-        writes_back = tt;
-        value = c.get_mut_by.ensures.value
-            ∙ ap (λ bytes. value_at escape bytes c.self.inside.map) plain
-            ∙ ap (value_at escape (escape c.args.text.now)) c.self.view_is;
-      },
-    )
+    let plain = sym (escape-plain c.args.text.now c.requires) in
+    let found = c.get_mut_by.ensures.value ∙ ap (λ key. value_at escape key c.self.inside.map) plain
+    ∙ ap (value_at escape (escape c.args.text.now)) c.self.view_is in
+    elim (none_or_some c.get_mut_by.result) [
+      | inl none ↦ (rw none (ap (λ s. inr s) c.self.view_is), record { writes_back = tt; value = found })
+      | inr (lent, some) ↦ (
+        rw some (lends_same (λ w. ap (λ key. with_value_at escape key w c.self.inside.map) plain
+            ∙ ap (with_value_at escape (escape c.args.text.now) w) c.self.view_is)),
+        record { writes_back = tt; value = found },
+      )
+    ]
