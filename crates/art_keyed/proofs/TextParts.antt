@@ -1,12 +1,10 @@
--- Parts of a map of strings by a text, and pairs that are inserted by one.
+-- Parts of a map of strings by a text.
 use Rattle.std.proofs.Common.{◌≡◌, ℕ, List, [], ◌∷◌, Bool, true, false, ◌&&◌, not, refl, ap, subst}
 use Rattle.std.specs.List.{AllByRecursion as Each}
 use Rattle.std.specs.declared.ops.Bound.TheVariants.{Included, Excluded}
 use Rattle.art_keys.specs.Ended.{HasNoZero}
 use Rattle.art_keyed.specs.KeyedPairs.{HaveKeys, strings_below, strings_not_below}
-use Rattle.art_map.specs.MapChanges.{put_new}
 use Rattle.art_model.specs.Keys.{is_before, is_front}
-use Rattle.art_model.specs.Pairs.{has_key, of_key, put}
 use Rattle.art_model.specs.Parts.{between}
 use Rattle.art_model.proofs.keys.Texts.{not_front}
 use Rattle.art_model.proofs.lists.Filters.{filter_all}
@@ -36,8 +34,3 @@ none_between bytes bound xs = filter_none _ xs (all xs)
     all : (ys : List _) → Each (λ y. (not (is_before (bytes y) bound) && is_before (bytes y) bound) ≡ false) ys
     all [] = tt
     all (y ∷ ys) = (neither (is_before (bytes y) bound), all ys)
-
--- a pair whose key is not stored is inserted
-pub put_as_new : {K V : Type 0} (bytes : K → List ℕ) (key : K) (value : V) (pairs : List (K × V)) → has_key (of_key bytes) (bytes key) pairs ≡ false →
-    put (of_key bytes) (key, value) pairs ≡ put_new bytes (key, value) pairs
-put_as_new bytes key value pairs none = rw none refl

@@ -1,16 +1,16 @@
 //! Calls of maps of strings by a text, for which no key is made.
-ghost use Rattle.std.specs.Prelude.{◌≡◌, ◌<◌, ◌^◌, length, false, IfErr, IfOk, IsOk, OnErr, OnOk, option_copied};
+ghost use Rattle.std.specs.Prelude.{◌≡◌, ◌<◌, ◌^◌, length, false, IfErr, IfOk, OnErr, option_copied};
 ghost use Rattle.std.specs.Bool.{OnTrue};
 ghost use Rattle.std.specs.Borrow.{sem};
 ghost use Rattle.std.specs.Option.{option_copied_mut, option_map, unwrap_or};
-ghost use Rattle.art_keys.specs.Ended.{HasNoZero, ended};
+ghost use Rattle.art_keys.specs.Ended.{ended};
 ghost use Rattle.art_keys.specs.Escapes.{IsPlain, escape};
 ghost use Rattle.art_model.specs.Pairs.{IsMap, first_of, has_key, last_of, of_key, remove_key, remove_reply, with_key};
 ghost use Rattle.art_map.specs.MapAnswers.{value_at};
-ghost use Rattle.art_map.specs.MapChanges.{put_new};
 ghost use Rattle.art_map.specs.MapItems.{deref_pair};
 ghost use Rattle.art_keyed.specs.KeyedPairs.{strings_below, strings_in_front, strings_not_below};
 ghost use Rattle.art_keyed.specs.TextCalls.{IsTextRefusal, without_longest};
+ghost use Rattle.art_keyed.specs.declared.map.texts.TextRefused.TheVariants.{Memory};
 ghost use Rattle.art_keyed.specs.TextLends.{lends_escaped_put, lends_longest, lends_plain, lends_text, lends_text_put};
 
 use super::{PairRefused, TreeMap};
@@ -32,6 +32,16 @@ pub enum TextRefused<V> {
     /// An allocation failed.
     #[error("memory allocation failed")]
     Memory { value: V },
+}
+
+impl<K: Drop, V> From<PairRefused<K, V>> for TextRefused<V> {
+    ghost from_gives = { λ refused error. error ≡ Memory refused.value };
+
+    fn from(refused: PairRefused<K, V>) -> Self {
+        TextRefused::Memory {
+            value: refused.value,
+        }
+    }
 }
 
 impl<K: Drop, V> From<PairRefused<K, V>> for AllocFailed<V> {
@@ -95,8 +105,8 @@ impl<V: Drop, const P: usize> TreeMap<Terminated, V, P> {
     }
 
     /// Returns a mutable reference to the value of a text's key. If no equal key is stored, a copy of the text is
-    /// inserted with this value first; a key that is stored stays, with its value. It costs two lookups, and an
-    /// insertion if the text is new.
+    /// inserted with this value first; a key that is stored stays, with its value. It costs two lookups, or a lookup
+    /// and an insertion if the text is new.
     ///
     /// Fails with `InnerZero` if there is a zero in the text, and with `Memory` if an allocation fails. Both return the
     /// value, and the map is unchanged.
@@ -112,34 +122,16 @@ impl<V: Drop, const P: usize> TreeMap<Terminated, V, P> {
         ensures returned { IfErr result (IsTextRefusal text.now value) }
         ensures refused { OnErr result (has_key (of_key ended) (ended text.now) self.old ≡ false) }
     {
-        match self.store_text(alloc, text, value) {
-            Ok(()) => {}
-            Err(error) => return Err(error),
-        }
-        Ok(self.get_text_mut(text).unwrap())
-    }
-
-    // Inserts a copy of a text with a value, unless an equal key is stored.
-    fn store_text(&mut self, alloc: Global, text: &[u8], value: V) -> Result<(), TextRefused<V>>
-        ensures pairs { OnOk result (self.new ≡ put_new ended (text.now, value) self.old) }
-        ensures sorted { IsMap (of_key ended) self.old }
-        ensures returned { IfErr result (IsTextRefusal text.now value) }
-        ensures refused { OnErr result (has_key (of_key ended) (ended text.now) self.old ≡ false) }
-        ensures kept { OnErr result (self.new ≡ self.old) }
-    {
         self.len();
         if self.contains_text(text) {
-            return Ok(());
+            return Ok(self.get_text_mut(text).unwrap());
         }
         let key = match Terminated::encode(alloc, text) {
             Ok(Some(key)) => key,
             Ok(None) => return Err(TextRefused::InnerZero { value }),
             Err(_) => return Err(TextRefused::Memory { value }),
         };
-        match self.insert(key, value) {
-            Ok(_) => Ok(()),
-            Err(PairRefused { value, .. }) => Err(TextRefused::Memory { value }),
-        }
+        Ok(self.get_or_insert(key, value)?)
     }
 
     /// Returns a mutable reference to the value of the longest string that is a prefix of a text, or equal to it, or

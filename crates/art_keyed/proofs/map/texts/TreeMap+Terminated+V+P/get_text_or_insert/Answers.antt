@@ -1,6 +1,9 @@
-use Rattle.std.proofs.Common.{ap, is_some, sym, ◌∙◌}
+use Rattle.std.proofs.Common.{◌≡◌, ap, is_some, refl, sym, ◌∙◌}
+use Rattle.std.specs.Option.{unwrap_or}
 use Rattle.art_keys.specs.Ended.{ended}
+use Rattle.art_model.specs.Pairs.{of_key, put}
 use Rattle.art_map.specs.MapAnswers.{value_at, with_value_at}
+use Rattle.art_map.specs.MapChanges.{put_new}
 use Rattle.art_map.proofs.Puts.{is_some-map}
 use Rattle.art_map.proofs.ValueLaws.{new_value, new_written}
 use Rattle.art_map.proofs.Written.{lends_same, one_value}
@@ -8,20 +11,35 @@ use Rattle.art_keyed.proofs.map.texts.TreeMap+Terminated+V+P.get_text_or_insert.
 
 pub unwrap-requires : goal.unwrap-requires
 unwrap-requires g c =
-    let found = c.get_text_mut.ensures.value ∙ ap (value_at ended (ended c.args.text.now)) c.in-Ok.ensures.pairs
-    ∙ new_value ended c.args.text.now c.args.self.now c.in-Ok.ensures.sorted c.args.value in
+    let stored = sym c.contains_text.ensures ∙ c.if-contains_text.true in
+    let stays : put_new ended (c.args.text.now, c.args.value) c.args.self.now ≡ c.args.self.now = rw stored refl in
+    let found = c.get_text_mut.ensures.value ∙ ap (value_at ended (ended c.args.text.now)) (sym stays)
+    ∙ new_value ended c.args.text.now c.args.self.now c.len.ensures.sorted c.args.value in
     sym (is_some-map (λ lent. lent.now) c.get_text_mut.result) ∙ ap is_some found
 
+pub returns-then-contains_text : goal.returns-then-contains_text
+returns-then-contains_text g c =
+    let stored = sym c.contains_text.ensures ∙ c.if-contains_text.true in
+    let stays : put_new ended (c.args.text.now, c.args.value) c.args.self.now ≡ c.args.self.now = rw stored refl in (
+      lends_same (λ w. ap (with_value_at ended (ended c.args.text.now) w) (sym stays)
+          ∙ new_written ended c.args.text.now c.args.self.now c.len.ensures.sorted c.args.value w),
+      record {
+        writes_back = tt;
+        value = one_value ((rw c.unwrap.ensures at c.get_text_mut.ensures.value) ∙ ap (value_at ended (ended c.args.text.now)) (sym stays)
+            ∙ new_value ended c.args.text.now c.args.self.now c.len.ensures.sorted c.args.value);
+        returned = tt;
+        refused = tt;
+      },
+    )
+
 pub returns : goal.returns
-returns g c = (
-  lends_same (λ w. ap (with_value_at ended (ended c.args.text.now) w) c.in-Ok.ensures.pairs
-      ∙ new_written ended c.args.text.now c.args.self.now c.in-Ok.ensures.sorted c.args.value w),
-  record {
-    writes_back = tt;
-    value = one_value ((rw c.unwrap.ensures at c.get_text_mut.ensures.value)
-        ∙ ap (value_at ended (ended c.args.text.now)) c.in-Ok.ensures.pairs
-        ∙ new_value ended c.args.text.now c.args.self.now c.in-Ok.ensures.sorted c.args.value);
-    returned = tt;
-    refused = tt;
-  },
-)
+returns g c =
+    let same : c.in-Ok-Some.key ≡ c.args.text.now = rw c.in-Ok-Some.field-0-is at c.in-Ok-Some.ensures.key in (
+      lends_same (λ w. ap (λ key. put (of_key ended) (key, w) c.args.self.now) same),
+      record {
+        writes_back = tt;
+        value = c.in_ok-get_or_insert.ensures.value ∙ ap (λ key. unwrap_or (value_at ended (ended key) c.args.self.now) c.args.value) same;
+        returned = tt;
+        refused = tt;
+      },
+    )
