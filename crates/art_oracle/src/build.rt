@@ -63,14 +63,15 @@ fn build_node<K: AsBytes + Drop, V: Drop, const P: usize>(
     leaves: &[LeafPtr],
     depth: usize,
 ) -> Result<OpaqueNodePtr, AllocError> {
+    let first = *leaves.first().ok_or(AllocError)?;
     if leaves.len() == 1 {
-        return Ok(leaves[0].to_opaque());
+        return Ok(first.to_opaque());
     }
     let len = shared_len(store, leaves, depth).ok_or(AllocError)?;
     let at = depth.checked_add(len).ok_or(AllocError)?;
     let below = at.checked_add(1).ok_or(AllocError)?;
     let groups = group(store, leaves, at)?;
-    let name = place_node(store, leaves[0], depth..at, groups.len())?;
+    let name = place_node(store, first, depth..at, groups.len())?;
     for (byte, group) in &groups {
         let child = build_node(store, group, below)?;
         add_child(store, name, *byte, child)?;
