@@ -36,12 +36,7 @@ pub fn replace_at<K: Drop, V: Drop>(
 }
 
 /// Inserts a pair at a place. If an allocation fails, or if the place is after the end, the pair is returned.
-pub fn insert_at<K, V>(
-    pairs: &mut Vec<(K, V)>,
-    at: usize,
-    key: K,
-    value: V,
-) -> Result<(), (K, V)> {
+pub fn insert_at<K, V>(pairs: &mut Vec<(K, V)>, at: usize, key: K, value: V) -> Result<(), (K, V)> {
     if at > pairs.len() {
         return Err((key, value));
     }
