@@ -42,7 +42,7 @@ fn place_leaves<K: AsBytes + Drop, V: Drop, const P: usize>(
     Ok(names)
 }
 
-/// Links the leaves of a list, each to the one before it and the one after it.
+/// Links the leaves of a list that are in the store, each to the one before it and the one after it.
 fn link_leaves<K: AsBytes + Drop, V: Drop, const P: usize>(
     store: &mut NodeStore<K, V, P>,
     names: &[LeafPtr],
@@ -70,7 +70,7 @@ fn build_node<K: AsBytes + Drop, V: Drop, const P: usize>(
     let len = shared_len(store, leaves, depth).ok_or(AllocError)?;
     let at = depth.checked_add(len).ok_or(AllocError)?;
     let below = at.checked_add(1).ok_or(AllocError)?;
-    let groups = group(store, leaves, at)?;
+    let groups = group_by_byte(store, leaves, at)?;
     let name = place_node(store, first, depth..at, groups.len())?;
     for (byte, group) in &groups {
         let child = build_node(store, group, below)?;
@@ -100,7 +100,7 @@ fn key_from<K: AsBytes + Drop, V: Drop, const P: usize>(
 }
 
 /// Groups sorted leaves by their keys' bytes at a depth.
-fn group<K: AsBytes + Drop, V: Drop, const P: usize>(
+fn group_by_byte<K: AsBytes + Drop, V: Drop, const P: usize>(
     store: &NodeStore<K, V, P>,
     leaves: &[LeafPtr],
     at: usize,
