@@ -2,9 +2,9 @@
 ghost use Rattle.std.specs.Prelude.{ℕ, ◌<◌, List};
 ghost use Rattle.art_model.specs.Canonical.{IsCanonical};
 ghost use Rattle.art_model.specs.Clones.{KeepBytes};
-ghost use Rattle.art_model.specs.Pairs.{IsMap, of_key};
+ghost use Rattle.art_model.specs.Pairs.{of_key};
 
-use super::by_list::{answer, copy};
+use super::by_list::answer;
 use super::drawn::{Drawer, Drawn, KeyShape};
 use art_nodes::node::{AsBytes, NodeType, OpaqueNodePtr};
 use art_nodes::store::NodeStore;
@@ -46,10 +46,7 @@ impl Hundred {
         drawn: &mut Drawn,
         pairs: &mut Vec<(Tagged, u32)>,
         is_growing: bool,
-    ) -> Result<(), AllocError>
-        requires { IsMap (of_key ⟦<Tagged as AsBytes>⟧.bytes) pairs.old.items }
-        ensures { IsMap (of_key ⟦<Tagged as AsBytes>⟧.bytes) pairs.new.items }
-    {
+    ) -> Result<(), AllocError> {
         let command = drawer.command(pairs, is_growing)?;
         drawn.count(&command);
         self.commands.push(copy_of(&command)?)?;
@@ -64,10 +61,7 @@ fn draw_hundred(
     drawn: &mut Drawn,
     pairs: &mut Vec<(Tagged, u32)>,
     is_growing: bool,
-) -> Result<Hundred, AllocError>
-    requires { IsMap (of_key ⟦<Tagged as AsBytes>⟧.bytes) pairs.old.items }
-    ensures { IsMap (of_key ⟦<Tagged as AsBytes>⟧.bytes) pairs.new.items }
-{
+) -> Result<Hundred, AllocError> {
     let alloc = drawer.alloc();
     let mut hundred = Hundred {
         commands: Vec::new(alloc),
@@ -131,8 +125,7 @@ fn compare<const P: usize>(
 ) -> Result<Option<NodeType>, AllocError> {
     let alloc = store.alloc();
     let mut built = NodeStore::new(alloc);
-    let copied = copy(alloc, pairs)?;
-    let built_root = build(&mut built, copied)?;
+    let built_root = build(&mut built, pairs.to_vec(alloc)?)?;
     kind_if_same((store, root), (&built, built_root), pairs)
 }
 

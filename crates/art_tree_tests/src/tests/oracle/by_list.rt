@@ -1,12 +1,11 @@
 //! What commands do to a plain sorted list of pairs.
-ghost use Rattle.std.specs.Prelude.{IfOk};
-ghost use Rattle.art_model.specs.Pairs.{IsMap, of_key};
 
 use art_nodes::node::AsBytes;
 use art_operations::insert::InsertPrefixError;
 use art_operations::run::{Command, Reply};
-use art_oracle::pairs::{contains, has_related, insert_at, remove, replace_at, search};
-use art_test_support::tagged::Tagged;
+use art_oracle::pairs::{
+    are_related, contains, has_related, insert_at, remove, remove_at, replace_at, search,
+};
 use std::alloc::{AllocError, Global};
 use std::boxed::BoxedSlice;
 use std::mem;
@@ -16,16 +15,13 @@ pub fn answer<K: AsBytes + Drop>(
     alloc: Global,
     pairs: &mut Vec<(K, u32)>,
     command: Command<K, u32>,
-) -> Result<Reply<K, u32>, AllocError>
-    requires { IsMap (of_key K.bytes) pairs.old.items }
-    ensures { IsMap (of_key K.bytes) pairs.new.items }
-{
+) -> Result<Reply<K, u32>, AllocError> {
     match command {
         Command::Insert(key, value) => insert(alloc, pairs, key, value),
         Command::InsertPrefix(key, value) => overwrite(alloc, pairs, (key, value)),
         Command::Delete(key) => Ok(Reply::Deleted(remove(pairs, &key))),
-        Command::DeleteMin => delete_listed(alloc, pairs, 0),
-        Command::DeleteMax => delete_listed(alloc, pairs, pairs.len().saturating_sub(1)),
+        Command::DeleteMin => Ok(Reply::Deleted(remove_at(pairs, 0))),
+        Command::DeleteMax => Ok(Reply::Deleted(pairs.pop())),
         Command::Clone => Ok(Reply::Cloned),
         Command::Contains(key) => Ok(Reply::Found(contains(pairs, &key))),
         Command::LongestMatch(key) => Ok(Reply::MatchLen(match_len(pairs, &key))),
@@ -37,13 +33,10 @@ fn insert<K: AsBytes + Drop>(
     pairs: &mut Vec<(K, u32)>,
     key: K,
     value: u32,
-) -> Result<Reply<K, u32>, AllocError>
-    requires { IsMap (of_key K.bytes) pairs.old.items }
-    ensures { IsMap (of_key K.bytes) pairs.new.items }
-{
+) -> Result<Reply<K, u32>, AllocError> {
     match search(pairs, key.as_bytes()) {
-        Ok(at) => Ok(Reply::Inserted(Some(replace_at(pairs, at, key, value)))),
-        Err(at) if has_related(pairs, at, key.as_bytes()) => conflict(alloc, key, value),
+        Ok(at) => Ok(Reply::Inserted(replace_at(pairs, at, key, value))),
+        Err(_) if has_related(pairs, key.as_bytes()) => conflict(alloc, key, value),
         Err(at) => match insert_at(pairs, at, key, value) {
             Ok(()) => Ok(Reply::Inserted(None)),
             Err(_) => Err(AllocError),
@@ -66,13 +59,10 @@ fn overwrite<K: AsBytes + Drop>(
     alloc: Global,
     pairs: &mut Vec<(K, u32)>,
     pair: (K, u32),
-) -> Result<Reply<K, u32>, AllocError>
-    requires { IsMap (of_key K.bytes) pairs.old.items }
-    ensures { IsMap (of_key K.bytes) pairs.new.items }
-{
+) -> Result<Reply<K, u32>, AllocError> {
     let (key, value) = pair;
     if let Ok(at) = search(pairs, key.as_bytes()) {
-        return Ok(Reply::Overwrote(Some(replace_at(pairs, at, key, value)), 0));
+        return Ok(Reply::Overwrote(replace_at(pairs, at, key, value), 0));
     }
     let (last, count) = take_related(alloc, pairs, key.as_bytes())?;
     insert(alloc, pairs, key, value)?;
@@ -87,10 +77,7 @@ fn take_related<K: AsBytes + Drop>(
     alloc: Global,
     pairs: &mut Vec<(K, u32)>,
     key_bytes: &[u8],
-) -> Result<(Option<(K, u32)>, usize), AllocError>
-    requires { IsMap (of_key K.bytes) pairs.old.items }
-    ensures { IsMap (of_key K.bytes) pairs.new.items }
-{
+) -> Result<(Option<(K, u32)>, usize), AllocError> {
     let mut kept = Vec::new(alloc);
     let mut last = None;
     let mut count = 0usize;
@@ -99,31 +86,11 @@ fn take_related<K: AsBytes + Drop>(
             last = Some((other, its));
             count = count.saturating_add(1);
         } else {
-            insert(alloc, &mut kept, other, its)?;
+            kept.push((other, its))?;
         }
     }
     *pairs = kept;
     Ok((last, count))
-}
-
-fn are_related(one: &[u8], other: &[u8]) -> bool {
-    one.starts_with(other) || other.starts_with(one)
-}
-
-/// Removes the pair at a place of the list, if there is one.
-fn delete_listed<K: AsBytes + Drop>(
-    alloc: Global,
-    pairs: &mut Vec<(K, u32)>,
-    at: usize,
-) -> Result<Reply<K, u32>, AllocError>
-    requires { IsMap (of_key K.bytes) pairs.old.items }
-    ensures { IsMap (of_key K.bytes) pairs.new.items }
-{
-    let Some((key, _)) = pairs.get(at) else {
-        return Ok(Reply::Deleted(None));
-    };
-    let key = key.as_bytes().to_vec(alloc)?;
-    Ok(Reply::Deleted(remove(pairs, &key)))
 }
 
 /// The length of the stored key that is a prefix of these bytes.
@@ -134,15 +101,4 @@ fn match_len<K: AsBytes>(pairs: &[(K, u32)], query: &[u8]) -> Option<usize> {
         }
     }
     None
-}
-
-/// A copy of the pairs.
-pub fn copy(alloc: Global, pairs: &[(Tagged, u32)]) -> Result<Vec<(Tagged, u32)>, AllocError>
-    ensures { IfOk result (λ copy. IsMap (of_key ⟦<Tagged as AsBytes>⟧.bytes) copy.items) }
-{
-    let mut copy = Vec::new(alloc);
-    for (key, value) in pairs {
-        insert(alloc, &mut copy, key.clone()?, *value)?;
-    }
-    Ok(copy)
 }

@@ -1,13 +1,13 @@
 //! A run of many commands while tools/refusals makes allocations fail, one at a time. The commands that did not fail
 //! are carried out on a list too. After each failure that was met a test reports once that it asserted what holds.
 ghost use Rattle.std.specs.Prelude.{◌<◌};
-ghost use Rattle.art_model.specs.Pairs.{IsMap, of_key};
 
 use super::by_list::answer;
 use art_nodes::node::OpaqueNodePtr;
 use art_nodes::store::NodeStore;
 use art_operations::run::{Command, Reply, RunResult, Side, run};
 use art_operations::well_formed::WellFormedChecker;
+use art_oracle::pairs::are_related;
 use art_test_support::commands::{
     Asked, Row, Told, command, commands, first_apart, first_wrong, told_by,
 };
@@ -156,10 +156,6 @@ fn commands_are_answered_with_memory(rt: HostRuntime) -> Result<(), Fail> {
     same(left, [wanted; 4])
 }
 
-fn are_related(one: &[u8], other: &[u8]) -> bool {
-    one.starts_with(other) || other.starts_with(one)
-}
-
 fn count_related(pairs: &[(Key, u32)], key: &[u8]) -> usize {
     pairs
         .iter()
@@ -197,10 +193,7 @@ fn is_answer(
     pairs: &mut Vec<(Key, u32)>,
     asked: Asked<'_>,
     reply: &Reply<Key, u32>,
-) -> Result<bool, AllocError>
-    requires { IsMap (of_key (λ key. key.items)) pairs.old.items }
-    ensures { IsMap (of_key (λ key. key.items)) pairs.new.items }
-{
+) -> Result<bool, AllocError> {
     let wanted = answer(alloc, pairs, command(alloc, asked)?)?;
     Ok(told_by(reply) == told_by(&wanted))
 }
@@ -212,9 +205,7 @@ fn count_refused(
     pairs: &mut Vec<(Key, u32)>,
     rows: &[Row<'_>],
     replies: &[Reply<Key, u32>],
-) -> Result<Option<usize>, AllocError>
-    requires { IsMap (of_key (λ key. key.items)) pairs.old.items }
-{
+) -> Result<Option<usize>, AllocError> {
     if replies.len() != rows.len() {
         return Ok(None);
     }
@@ -283,24 +274,13 @@ fn judge<const P: usize>(
     other: &NodeStore<Key, u32, P>,
     done: &RunResult<Key, u32>,
 ) -> Result<Outcome, AllocError> {
-    let rows = script(store.alloc(), &BYTES)?;
-    judge_beside(store, other, done, &rows, &mut Vec::new(store.alloc()))
-}
-
-/// The same with a list without pairs, which carries out the commands of these rows that did not fail.
-fn judge_beside<const P: usize>(
-    store: &NodeStore<Key, u32, P>,
-    other: &NodeStore<Key, u32, P>,
-    done: &RunResult<Key, u32>,
-    rows: &[Row<'_>],
-    pairs: &mut Vec<(Key, u32)>,
-) -> Result<Outcome, AllocError>
-    requires { IsMap (of_key (λ key. key.items)) pairs.old.items }
-{
-    let Some(refused) = count_refused(store.alloc(), pairs, rows, &done.replies)? else {
+    let alloc = store.alloc();
+    let rows = script(alloc, &BYTES)?;
+    let mut pairs = Vec::new(alloc);
+    let Some(refused) = count_refused(alloc, &mut pairs, &rows, &done.replies)? else {
         return Ok(Outcome::Wrong);
     };
-    if is_tree_of(store, other, done.root, pairs)? {
+    if is_tree_of(store, other, done.root, &pairs)? {
         Ok(Outcome::Ran(refused))
     } else {
         Ok(Outcome::Wrong)

