@@ -11,7 +11,7 @@ use Rattle.std.proofs.lemmas.List.Elements.{filter-append}
 use Rattle.art_operations.specs.Ended.{ended}
 use Rattle.art_operations.specs.KeyedPairs.{RiseBy}
 use Rattle.art_operations.specs.Keys.{are_same, is_before}
-use Rattle.art_operations.specs.MapAnswers.{value_at, with_value_at}
+use Rattle.art_operations.specs.MapAnswers.{value_at}
 use Rattle.art_operations.specs.Pairs.{Pairwise, first_of, of_key, put, stored_for, with_key}
 use Rattle.art_model.proofs.keys.Keys.{before_apart, front_same, not_same, same_equal}
 use Rattle.art_model.proofs.keys.KeyLaws.{order_is_total, order_is_transitive}
@@ -69,97 +69,27 @@ found_ended word (x ∷ xs) = rw (same_ended word x.0) (ap (λ r. cond (are_same
 value_found : (word : List ℕ) (pairs : List (List ℕ × ℕ)) → value_at ended (ended word) pairs ≡ first_of (found word pairs)
 value_found word pairs = value_is_first ended (ended word) pairs ∙ ap (λ xs. first_of (map (λ x. x.1) xs)) (found_ended word pairs)
 
--- a new word is counted once
-new_number : (ws : List (List ℕ)) (word : List ℕ) (pairs : List (List ℕ × ℕ)) → value_at ended (ended word) pairs ≡ None → HasTimes ws pairs → (w : List ℕ) →
-    found w (put (of_key ended) (word, 1) pairs) ≡ numbers_for (times w (ws ++ word ∷ []))
-new_number ws word pairs none kept w =
-    ap (map (λ x. x.1)) (sym (found_ended w (put (of_key ended) (word, 1) pairs)) ∙ put_is_found ended (ended w) (word, 1) pairs ∙ rw (same_ended w word) refl)
+-- a word is counted once more: none was found, or one number
+number_found : (ws : List (List ℕ)) (word : List ℕ) (next : ℕ) (pairs : List (List ℕ × ℕ)) →
+    next ≡ min (unwrap_or (value_at ended (ended word) pairs) 0 + 1) (2 ^ 64 - 1) → HasTimes ws pairs → (w : List ℕ) →
+    found w (put (of_key ended) (word, next) pairs) ≡ numbers_for (times w (ws ++ word ∷ []))
+number_found ws word next pairs is kept w =
+    ap (map (λ x. x.1)) (sym (found_ended w (put (of_key ended) (word, next) pairs)) ∙ put_is_found ended (ended w) (word, next) pairs
+    ∙ rw (same_ended w word) refl)
     ∙ go (are_same w word) refl ∙ sym (ap numbers_for (times_more w ws word))
   where
     go : (t : Bool) → are_same w word ≡ t → map (λ x. x.1)
-        (cond t (stored_for (of_key ended) (word, 1) pairs ∷ []) (with_key (of_key ended) (ended w) pairs))
+        (cond t (stored_for (of_key ended) (word, next) pairs ∷ []) (with_key (of_key ended) (ended w) pairs))
         ≡ numbers_for (times w ws + cond t 1 0)
     go true e =
-        let same = same_equal w word e in
-        let v : None ≡ first_of (numbers_for (times w ws)) =
-        sym none ∙ ap (λ b. value_at ended (ended b) pairs) same ∙ value_found w pairs ∙ ap first_of (kept.each w) in
-        ap (λ n. n ∷ []) (stored_value ended (word, 1) pairs ∙ ap (λ o. min (unwrap_or o 0 + 1) (2 ^ 64 - 1)) v) ∙ next_number (times w ws)
+        let v = ap (λ b. value_at ended (ended b) pairs) (same_equal w word e) ∙ value_found w pairs ∙ ap first_of (kept.each w) in
+        ap (λ n. n ∷ []) (stored_value ended (word, next) pairs ∙ is ∙ ap (λ o. min (unwrap_or o 0 + 1) (2 ^ 64 - 1)) v) ∙ next_number (times w ws)
     go false e = ap (map (λ x. x.1)) (found_ended w pairs) ∙ kept.each w ∙ ap numbers_for (omega arith)
 
--- ---- a word that is counted already
-
-module _ {K : Type 0} (bytes : K → List ℕ) (key : List ℕ) (value : ℕ) where
-  -- where a value is written, it is found as often as there was one
-  written_here : (pairs : List (K × ℕ)) → map (λ x. x.1) (with_key (of_key bytes) key (with_value_at bytes key value pairs))
-      ≡ map (λ x. value) (with_key (of_key bytes) key pairs)
-  written_here [] = refl
-  written_here (x ∷ xs) = go (are_same key (bytes x.0)) refl (written_here xs)
-    where
-      go : (t : Bool) → are_same key (bytes x.0) ≡ t →
-          map (λ x. x.1) (with_key (of_key bytes) key (with_value_at bytes key value xs))
-          ≡ map (λ x. value) (with_key (of_key bytes) key xs) →
-          map (λ x. x.1) (with_key (of_key bytes) key (with_value_at bytes key value (x ∷ xs))) ≡ map (λ x. value) (with_key (of_key bytes) key (x ∷ xs))
-      go true e ih = rw e (rw e (ap (λ vs. value ∷ vs) ih))
-      go false e ih = rw e (rw e ih)
-
-  -- and under every other key what was found before
-  written_elsewhere : (other : List ℕ) (pairs : List (K × ℕ)) → are_same other key ≡ false →
-      map (λ x. x.1) (with_key (of_key bytes) other (with_value_at bytes key value pairs)) ≡ map (λ x. x.1) (with_key (of_key bytes) other pairs)
-  written_elsewhere other [] apart = refl
-  written_elsewhere other (x ∷ xs) apart = go (are_same key (bytes x.0)) (are_same other (bytes x.0)) refl refl (written_elsewhere other xs apart)
-    where
-      go : (b d : Bool) → are_same key (bytes x.0) ≡ b → are_same other (bytes x.0) ≡ d →
-          map (λ x. x.1) (with_key (of_key bytes) other (with_value_at bytes key value xs)) ≡ map (λ x. x.1) (with_key (of_key bytes) other xs) →
-          map (λ x. x.1) (with_key (of_key bytes) other (with_value_at bytes key value (x ∷ xs))) ≡ map (λ x. x.1) (with_key (of_key bytes) other (x ∷ xs))
-      go true true e f ih = absurd (false≢true (sym apart ∙ ap (are_same other) (sym (same_equal key (bytes x.0) e)) ∙ f))
-      go true false e f ih = rw (e, f) ih
-      go false true e f ih = rw (e, f) (ap (λ vs. x.1 ∷ vs) ih)
-      go false false e f ih = rw (e, f) ih
-
--- the one number that is stored is replaced by the next one
-only_number : {A : Type 0} (value : A → ℕ) (xs : List A) (n count next : ℕ) → map value xs ≡ numbers_for n → first_of (map value xs) ≡ Some count →
-    next ≡ min (count + 1) (2 ^ 64 - 1) → map (λ x. next) xs ≡ numbers_for (n + 1)
-only_number value [] n count next all first is = absurd cc
-only_number value (x ∷ []) n count next all first is =
-    ap (λ k. k ∷ []) (is ∙ ap (λ o. min (unwrap_or o 0 + 1) (2 ^ 64 - 1)) (sym first ∙ ap first_of all)) ∙ next_number n
-only_number value (x ∷ y ∷ xs) n count next all first is = go (eqb n 0) all
-  where
-    go : (t : Bool) → value x ∷ value y ∷ map value xs ≡ cond t [] (min n (2 ^ 64 - 1) ∷ []) → map (λ x. next) (x ∷ y ∷ xs) ≡ numbers_for (n + 1)
-    go true e = absurd cc
-    go false e = absurd cc
-
--- a word that is counted already is counted once more
-next_found : (ws : List (List ℕ)) (word : List ℕ) (count next : ℕ) (pairs : List (List ℕ × ℕ)) → value_at ended (ended word) pairs ≡ Some count →
-    next ≡ min (count + 1) (2 ^ 64 - 1) → HasTimes ws pairs → (w : List ℕ) →
-    found w (with_value_at ended (ended word) next pairs) ≡ numbers_for (times w (ws ++ word ∷ []))
-next_found ws word count next pairs here number kept w =
-    ap (map (λ x. x.1)) (sym (found_ended w (with_value_at ended (ended word) next pairs))) ∙ go (are_same w word) refl
-    ∙ sym (ap numbers_for (times_more w ws word))
-  where
-    go : (t : Bool) → are_same w word ≡ t → map (λ x. x.1) (with_key (of_key ended) (ended w) (with_value_at ended (ended word) next pairs))
-        ≡ numbers_for (times w ws + cond t 1 0)
-    go true e =
-        subst (λ v. map (λ x. x.1) (with_key (of_key ended) (ended v) (with_value_at ended (ended word) next pairs))
-        ≡ numbers_for (times v ws + 1)) (same_equal w word e)
-        (written_here ended (ended word) next pairs ∙ ap (map (λ x. next)) (found_ended word pairs)
-        ∙ only_number (λ x. x.1) (with_key (λ x. x.0) word pairs) (times word ws) count next (kept.each word) (sym (value_found word pairs) ∙ here) number)
-    go false e =
-        written_elsewhere ended (ended word) next (ended w) pairs (same_ended w word ∙ e) ∙ ap (map (λ x. x.1)) (found_ended w pairs)
-        ∙ kept.each w ∙ ap numbers_for (omega arith)
-
--- ---- the same, under the key of the word
-
-pub counted_first : (ws : List (List ℕ)) (word key : List ℕ) (pairs : List (List ℕ × ℕ)) → key ≡ word →
-    value_at ended (ended key) pairs ≡ None → HasTimes ws pairs →
-    HasTimes (ws ++ word ∷ []) (put (of_key ended) (key, 1) pairs)
-counted_first ws word key pairs is none kept =
-    subst (λ w. HasTimes (ws ++ w ∷ []) (put (of_key ended) (key, 1) pairs)) is (record { each = new_number ws key pairs none kept })
-
-pub counted_again : (ws : List (List ℕ)) (word key : List ℕ) (count next : ℕ) (pairs : List (List ℕ × ℕ)) → key ≡ word →
-    value_at ended (ended key) pairs ≡ Some count →
-    next ≡ min (count + 1) (2 ^ 64 - 1) → HasTimes ws pairs → HasTimes (ws ++ word ∷ []) (with_value_at ended (ended key) next pairs)
-counted_again ws word key count next pairs is here number kept =
-    subst (λ w. HasTimes (ws ++ w ∷ []) (with_value_at ended (ended key) next pairs)) is (record { each = next_found ws key count next pairs here number kept })
+pub counted : (ws : List (List ℕ)) (word : List ℕ) (next : ℕ) (pairs : List (List ℕ × ℕ)) →
+    next ≡ min (unwrap_or (value_at ended (ended word) pairs) 0 + 1) (2 ^ 64 - 1) → HasTimes ws pairs →
+    HasTimes (ws ++ word ∷ []) (put (of_key ended) (word, next) pairs)
+counted ws word next pairs is kept = record { each = number_found ws word next pairs is kept }
 
 -- ---- the order of words
 

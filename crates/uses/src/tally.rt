@@ -18,11 +18,8 @@ pub fn add(tally: &mut Tally, alloc: Global, word: &[u8]) -> Result<(), AllocErr
         count_of other tally.new ≡ count_of other tally.old) }
     ensures kept { OnErr result (tally.new ≡ tally.old) }
 {
-    let key = Escaped::encode(alloc, word)?;
-    let count = tally.get(&key).copied().unwrap_or(0);
-    let Ok(_) = tally.insert(key, count.saturating_add(1)) else {
-        return Err(AllocError);
-    };
+    let count = tally.get_text_or_insert(alloc, word, 0)?;
+    *count = count.saturating_add(1);
     Ok(())
 }
 

@@ -6,11 +6,10 @@ ghost use Rattle.art_operations.specs.Ended.{HasNoZero};
 ghost use Rattle.text_programs.specs.Counts.{AppendsCounts, HasTimes, IsCountOf, line_of};
 ghost use Rattle.text_programs.specs.Words.{is_gap, words};
 
-use art_operations::keys::{EndError, Terminated};
+use art_operations::keys::Terminated;
 use art_operations::tree_map::TreeMap;
 use std::alloc::{AllocError, Global};
-use std::io::{BufRead, BufWriter, ErrorKind, Write};
-use std::{io, mem};
+use std::io::{self, BufRead, BufWriter, ErrorKind, Write};
 use text_lines::lines::next_line;
 
 /// Words with their counts. A word may be a prefix of another.
@@ -52,75 +51,42 @@ pub fn count_words<R: BufRead>(alloc: Global, input: &mut R) -> io::Result<Count
 {
     let mut counts = TreeMap::new(alloc);
     let mut line = Vec::new(alloc);
-    let mut buffer = Vec::new(alloc);
     for _number in 1..u64::MAX {
         if !next_line(input, &mut line)? {
             // `rises` says that the words rise.
             counts.rises();
             return Ok(counts);
         }
-        count_line(&mut counts, &mut buffer, alloc, &line)?;
+        count_line(&mut counts, alloc, &line)?;
     }
     Err(io::Error::from(ErrorKind::FileTooLarge))
 }
 
-/// Counts each word of a line once more. The buffer is for their keys. Fails only if an allocation fails.
-pub fn count_line(
-    counts: &mut Counts,
-    buffer: &mut Vec<u8>,
-    alloc: Global,
-    line: &[u8],
-) -> Result<(), AllocError>
+/// Counts each word of a line once more. Fails only if an allocation fails.
+pub fn count_line(counts: &mut Counts, alloc: Global, line: &[u8]) -> Result<(), AllocError>
     ensures { OnOk result ((before : List (List ℕ)) → HasTimes before counts.old →
         HasTimes (before ++ words line.now) counts.new) }
 {
     for word in line.split(is_gap) {
         if !word.is_empty() {
-            count_word(counts, buffer, alloc, word)?;
+            count_word(counts, alloc, word)?;
         }
     }
     Ok(())
 }
 
-// Counts a word once more, by a single descent of the tree if it is stored already. The buffer is for its key, so that
-// only a new word allocates.
-fn count_word(
-    counts: &mut Counts,
-    buffer: &mut Vec<u8>,
-    alloc: Global,
-    word: &[u8],
-) -> Result<(), AllocError>
+// Counts a word once more. Only a new word allocates.
+fn count_word(counts: &mut Counts, alloc: Global, word: &[u8]) -> Result<(), AllocError>
     requires { HasNoZero word.now }
     ensures counted { OnOk result ((before : List (List ℕ)) → HasTimes before counts.old →
         HasTimes (before ++ word.now ∷ []) counts.new) }
     ensures kept { OnErr result (counts.new ≡ counts.old) }
 {
-    buffer.clear();
-    buffer.extend_from_slice(word)?;
-    let key = key_of(mem::replace(buffer, Vec::new(alloc)))?;
-    if let Some(count) = counts.get_mut(&key) {
-        *count = count.saturating_add(1);
-        *buffer = key.into_bytes_without_end();
-        return Ok(());
-    }
-    let new_key = key.clone()?;
-    *buffer = key.into_bytes_without_end();
-    match counts.insert(new_key, 1) {
-        Ok(_) => Ok(()),
-        Err(_) => Err(AllocError),
-    }
-}
-
-// Returns the key of a word.
-fn key_of(word: Vec<u8>) -> Result<Terminated, AllocError>
-    requires { HasNoZero word.items }
-    ensures { IfOk result (λ key. key ≡ word.items) }
-{
-    match Terminated::new(word) {
-        Ok(key) => Ok(key),
-        Err(EndError::InnerZero { .. }) => unreachable!(),
-        Err(EndError::Memory { .. }) => Err(AllocError),
-    }
+    let Ok(count) = counts.get_text_or_insert(alloc, word, 0) else {
+        return Err(AllocError);
+    };
+    *count = count.saturating_add(1);
+    Ok(())
 }
 
 fn is_gap(byte: &u8) -> bool
