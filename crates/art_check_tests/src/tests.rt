@@ -17,4 +17,5 @@ mod spoiled;
 mod spoiling;
 mod texts;
 mod told;
+mod verdicts;
 mod visitors;

@@ -3,13 +3,13 @@ ghost use Rattle.std.specs.Prelude.{◌≡◌, ℕ, List, Vec, IfOk};
 ghost use Rattle.std.specs.declared.alloc.Global.{Global};
 ghost use Rattle.art_model.specs.Canonical.{IsCanonical};
 ghost use Rattle.art_model.specs.Pairs.{of_key};
-ghost use Rattle.art_operations.specs.Runs.{of_side};
+ghost use Rattle.art_running.specs.Runs.{of_side};
 
 use crate::trees::Key;
 use art_node_support::memory::all_memory;
 use art_nodes::node::OpaqueNodePtr;
 use art_nodes::store::NodeStore;
-use art_operations::run::{Command, Reply, RunResult, Side, run};
+use art_running::run::{Command, Reply, RunResult, Side, run};
 use std::alloc::{AllocError, Global};
 
 /// A command, with the bytes of its key.

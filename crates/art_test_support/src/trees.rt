@@ -8,7 +8,7 @@ ghost use Rattle.art_model.specs.Roots.{IsCanonicalRoot};
 pub use art_node_support::nodes::Key;
 use art_nodes::node::{AsBytes, LeafPtr, NodeType, OpaqueNodePtr};
 use art_nodes::store::NodeStore;
-use art_operations::run::{Command, Side, run};
+use art_running::run::{Command, Side, run};
 use std::alloc::{AllocError, Global};
 use std::test::Fail;
 

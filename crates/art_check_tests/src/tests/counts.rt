@@ -2,9 +2,9 @@
 ghost use Rattle.std.specs.Prelude.{◌<◌};
 
 use super::told::{Told, check_says};
+use art_checking::well_formed::{WellFormedChecker, WellFormedTreeStats};
 use art_nodes::node::OpaqueNodePtr;
 use art_nodes::store::NodeStore;
-use art_operations::well_formed::{WellFormedChecker, WellFormedTreeStats};
 use art_test_support::commands::{Asked, Row, Told as Reply, ran_from};
 use art_test_support::expected::same;
 use art_test_support::trees::{Key, keys_after, keys_of_three, keys_of_zeros, planted_keys};

@@ -3,9 +3,9 @@
 ghost use Rattle.std.specs.Prelude.{◌<◌};
 
 use super::told::{Told, is_cloned, listed, told_by};
+use art_checking::well_formed::WellFormedChecker;
 use art_nodes::node::{NodeType, OpaqueNodePtr};
 use art_nodes::store::NodeStore;
-use art_operations::well_formed::WellFormedChecker;
 use art_test_support::expected::same;
 use art_test_support::placing::{Plain, placed_all};
 use art_test_support::trees::Key;

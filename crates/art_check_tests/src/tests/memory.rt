@@ -3,15 +3,15 @@
 ghost use Rattle.std.specs.Prelude.{◌<◌};
 
 use super::told::{Told, check_says, fault, named, told_by, told_by_fault};
+use art_checking::well_formed::{KeyPrefix, MalformedTreeError, WellFormedChecker};
 use art_nodes::node::{NodeType, OpaqueNodePtr};
 use art_nodes::store::NodeStore;
-use art_operations::insert::InsertPrefixError;
-use art_operations::well_formed::{KeyPrefix, MalformedTreeError, WellFormedChecker};
 use art_test_support::expected::same;
 use art_test_support::memory::all_memory;
 use art_test_support::placing::{Plain, lone_leaf, placed_all, plain_node};
 use art_test_support::shapes::count_nodes;
 use art_test_support::trees::{Key, keys_after, planted_all, planted_keys};
+use art_writing::insert::InsertPrefixError;
 use std::alloc::{AllocError, Global};
 use std::boxed::BoxedSlice;
 use std::cmp::Ordering;

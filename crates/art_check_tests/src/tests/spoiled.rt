@@ -3,9 +3,9 @@ ghost use Rattle.std.specs.Prelude.{◌<◌};
 
 use super::spoiling::{draw_keys, names_below, spoil};
 use super::told::{Told, check_tree_says, named, slots};
+use super::verdicts::{Flaw, Verdict, judge};
 use art_nodes::node::OpaqueNodePtr;
 use art_nodes::store::NodeStore;
-use art_oracle::verdicts::{Flaw, Verdict, judge};
 use art_test_support::expected::same;
 use art_test_support::numbers::Numbers;
 use art_test_support::trees::{Key, try_planted_keys};

@@ -1,9 +1,9 @@
 //! What faults print.
 
 use super::told::{Told, fault, is_cloned, told_by_fault};
+use art_checking::well_formed::{MalformedTreeError, WellFormedChecker};
 use art_nodes::node::{NodeType, OpaqueNodePtr};
 use art_nodes::store::NodeStore;
-use art_operations::well_formed::{MalformedTreeError, WellFormedChecker};
 use art_test_support::expected::same;
 use art_test_support::trees::Key;
 use std::alloc::Global;

@@ -1,10 +1,10 @@
 //! What a check returns, as plain values.
 
-use art_nodes::node::{LeafPtr, NodeType, OpaqueNodePtr, OptionalLeafPtr};
-use art_nodes::store::NodeStore;
-use art_operations::well_formed::{
+use art_checking::well_formed::{
     KeyPrefix, MalformedTreeError, WellFormedChecker, WellFormedTreeStats,
 };
+use art_nodes::node::{LeafPtr, NodeType, OpaqueNodePtr, OptionalLeafPtr};
+use art_nodes::store::NodeStore;
 use art_test_support::trees::Key;
 use std::alloc::{AllocError, Global};
 use std::cmp::Ordering;

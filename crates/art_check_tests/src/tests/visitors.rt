@@ -1,15 +1,14 @@
 //! Folds of trees, and the bytes that lead to nodes.
 ghost use Rattle.std.specs.Prelude.{◌<◌, ⊤};
 
+use art_checking::visitor::{Visitor, visit_with};
+use art_checking::well_formed::KeyPrefix;
 use art_nodes::node::{AsBytes, InnerRef, LeafNode};
 use art_nodes::store::NodeStore;
-use art_operations::visitor::{Visitor, visit_with};
-use art_operations::well_formed::KeyPrefix;
 use art_test_support::expected::same;
 use art_test_support::trees::{Key, planted_all};
 use std::alloc::{AllocError, Global};
 use std::test::Fail;
-use uses::longest_key;
 
 /// An output is ten times the output so far plus the next child's, and an inner node adds a number of its own.
 #[derive(Clone, Copy)]
@@ -47,28 +46,20 @@ impl<K: AsBytes + Drop, const P: usize> Visitor<K, u32, P> for Digits {
     }
 }
 
-/// What folds of a tree return: its number where an inner node adds nothing and where it adds one, and the length of the
-/// longest key.
-#[derive(Clone, Copy)]
-struct Folds {
-    numbers: [u64; 2],
-    longest: usize,
-}
-
-/// The same of the tree of these keys.
-fn folds_of<const P: usize>(store: &mut NodeStore<Key, u32, P>, slices: &[&[u8]]) -> Option<Folds> {
+/// The numbers of the tree of these keys: where an inner node adds nothing, and where it adds one.
+fn folds_of<const P: usize>(
+    store: &mut NodeStore<Key, u32, P>,
+    slices: &[&[u8]],
+) -> Option<[u64; 2]> {
     let root = planted_all(store, slices).ok()??;
-    Some(Folds {
-        numbers: [
-            visit_with(store, root, &mut Digits { of_node: 0 }),
-            visit_with(store, root, &mut Digits { of_node: 1 }),
-        ],
-        longest: longest_key(store, root),
-    })
+    Some([
+        visit_with(store, root, &mut Digits { of_node: 0 }),
+        visit_with(store, root, &mut Digits { of_node: 1 }),
+    ])
 }
 
 /// The same in a store of its own.
-fn folds_with<const P: usize>(alloc: Global, slices: &[&[u8]]) -> Option<Folds>
+fn folds_with<const P: usize>(alloc: Global, slices: &[&[u8]]) -> Option<[u64; 2]>
     requires { P < 256 }
 {
     folds_of::<P>(&mut NodeStore::new(alloc), slices)
@@ -77,15 +68,7 @@ fn folds_with<const P: usize>(alloc: Global, slices: &[&[u8]]) -> Option<Folds>
 #[test]
 fn outputs_of_children_are_joined_in_order(rt: HostRuntime) -> Result<(), Fail> {
     let folds = folds_with::<16>(rt.alloc(), &[&[1], &[2], &[3, 1], &[3, 2]]);
-    same(folds.map(|folds| folds.numbers), Some([154, 156]))
-}
-
-// The longest keys are neither the least nor the greatest.
-#[test]
-fn the_longest_key_is_found(rt: HostRuntime) -> Result<(), Fail> {
-    let keys: [&[u8]; 4] = [&[1, 7], &[2, 7, 7, 7, 1], &[2, 7, 7, 7, 2], &[9]];
-    let folds = folds_with::<2>(rt.alloc(), &keys);
-    same(folds.map(|folds| folds.longest), Some(5))
+    same(folds, Some([154, 156]))
 }
 
 /// Whether no bytes are empty, a copy of bytes holds them, and a clone of it is equal and holds them.

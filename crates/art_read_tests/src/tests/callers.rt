@@ -1,10 +1,13 @@
-//! What a caller builds of maps: sessions in two of them, events by user and time, routes.
+//! What a caller builds: sessions in two maps, events by user and time, routes, a fold of a tree.
 use art_nodes::node::AsBytes;
+use art_nodes::store::NodeStore;
 use art_operations::tree_map::TreeMap;
 use art_test_support::expected::same;
+use art_test_support::trees::{Key, planted_all};
 use std::alloc::Global;
 use std::test::Fail;
 use uses::events::{Events, count_between, event_at, events_of, first_event, place, put_event};
+use uses::longest_key;
 use uses::routes::{Routes, add, all, longest};
 use uses::sessions::Sessions;
 
@@ -152,4 +155,18 @@ fn a_query_finds_the_routes_that_it_starts_with(rt: HostRuntime) -> Result<(), F
         (added, refused, count_right(&routes), routes.len()),
         (4, true, 6, 3),
     )
+}
+
+// The length of the longest key of the tree of these keys.
+fn longest_of(store: &mut NodeStore<Key, u32, 2>, slices: &[&[u8]]) -> Option<usize> {
+    let root = planted_all(store, slices).ok()??;
+    Some(longest_key(store, root))
+}
+
+// The longest keys are neither the least nor the greatest.
+#[test]
+fn the_longest_key_is_found(rt: HostRuntime) -> Result<(), Fail> {
+    let keys: [&[u8]; 4] = [&[1, 7], &[2, 7, 7, 7, 1], &[2, 7, 7, 7, 2], &[9]];
+    let found = longest_of(&mut NodeStore::new(rt.alloc()), &keys);
+    same(found, Some(5))
 }

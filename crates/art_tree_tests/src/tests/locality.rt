@@ -4,7 +4,7 @@ ghost use Rattle.art_tree_tests.specs.Trees.{HasTree};
 
 use art_nodes::node::{NodeType, OpaqueNodePtr};
 use art_nodes::store::NodeStore;
-use art_operations::run::{Reply, Side};
+use art_running::run::{Reply, Side};
 use art_test_support::commands::{
     Asked, Row, Told, commands, first_wrong, ran_from, run_without_memory,
 };

@@ -1,5 +1,7 @@
 mod against_oracle;
+mod build;
 mod by_list;
 mod drawn;
+mod pairs;
 mod refused;
 mod sorted_pairs;

@@ -2,7 +2,7 @@
 ghost use Rattle.std.specs.Prelude.{◌<◌, ◌^◌, length};
 
 use super::shapes::{Keys, keys_of};
-use art_operations::map::{ByteMap, Range};
+use art_map::map::{ByteMap, Range};
 use art_test_support::expected::same;
 use art_test_support::trees::{Key, keys};
 use std::alloc::{AllocError, Global};

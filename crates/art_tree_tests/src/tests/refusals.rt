@@ -5,7 +5,7 @@ ghost use Rattle.art_model.specs.Roots.{IsCanonicalRoot};
 
 use art_nodes::node::OpaqueNodePtr;
 use art_nodes::store::NodeStore;
-use art_operations::run::{Command, Reply, RunResult, run};
+use art_running::run::{Command, Reply, RunResult, run};
 use art_test_support::expected::same;
 use art_test_support::shapes::count_nodes;
 use art_test_support::trees::{Key, planted_keys};

@@ -1,4 +1,4 @@
-use Rattle.art_operations.proofs.Elsewhere.{placement_elsewhere, tree_stays}
+use Rattle.art_writing.proofs.Elsewhere.{placement_elsewhere, tree_stays}
 use Rattle.art_test_support.proofs.Beside.{inner_elsewhere}
 use Rattle.art_test_support.proofs.crowds.place_one.Goals as goal
 

@@ -1,4 +1,4 @@
-use Rattle.art_operations.proofs.Standing.{tree_stays}
+use Rattle.art_writing.proofs.Standing.{tree_stays}
 use Rattle.art_test_support.proofs.points.put_apart.Goals as goal
 
 pub returns-in-Err : goal.returns-in-Err

@@ -4,12 +4,12 @@ ghost use Rattle.art_model.specs.Canonical.{IsCanonical};
 ghost use Rattle.art_model.specs.Clones.{KeepBytes};
 ghost use Rattle.art_model.specs.Pairs.{of_key};
 
+use super::build::build;
 use super::by_list::answer;
 use super::drawn::{Drawer, Drawn, KeyShape};
 use art_nodes::node::{AsBytes, NodeType, OpaqueNodePtr};
 use art_nodes::store::NodeStore;
-use art_operations::run::{Command, Reply, Side, run};
-use art_oracle::build::build;
+use art_running::run::{Command, Reply, Side, run};
 use art_test_support::commands::first_apart;
 use art_test_support::expected::same;
 use art_test_support::side_by_side::kind_if_same;

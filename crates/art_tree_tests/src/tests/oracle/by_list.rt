@@ -1,11 +1,11 @@
 //! What commands do to a plain sorted list of pairs.
 
-use art_nodes::node::AsBytes;
-use art_operations::insert::InsertPrefixError;
-use art_operations::run::{Command, Reply};
-use art_oracle::pairs::{
+use super::pairs::{
     are_related, contains, has_related, insert_at, remove, remove_at, replace_at, search,
 };
+use art_nodes::node::AsBytes;
+use art_running::run::{Command, Reply};
+use art_writing::insert::InsertPrefixError;
 use std::alloc::{AllocError, Global};
 use std::boxed::BoxedSlice;
 use std::mem;

@@ -1,6 +1,6 @@
 //! Keys and commands that are drawn.
 
-use art_operations::run::Command;
+use art_running::run::Command;
 use art_test_support::numbers::Numbers;
 use art_test_support::tagged::Tagged;
 use art_test_support::trees::Key;

@@ -3,11 +3,11 @@
 ghost use Rattle.std.specs.Prelude.{◌<◌};
 
 use super::by_list::answer;
+use super::pairs::are_related;
+use art_checking::well_formed::WellFormedChecker;
 use art_nodes::node::OpaqueNodePtr;
 use art_nodes::store::NodeStore;
-use art_operations::run::{Command, Reply, RunResult, Side, run};
-use art_operations::well_formed::WellFormedChecker;
-use art_oracle::pairs::are_related;
+use art_running::run::{Command, Reply, RunResult, Side, run};
 use art_test_support::commands::{
     Asked, Row, Told, command, commands, first_apart, first_wrong, told_by,
 };

@@ -1,7 +1,7 @@
 //! The sorted list of pairs, by its public calls.
 
+use super::pairs::{has_related, insert_at, search};
 use art_nodes::node::AsBytes;
-use art_oracle::pairs::{has_related, insert_at, search};
 use art_test_support::expected::same;
 use art_test_support::memory::all_memory;
 use std::alloc::{AllocError, Global};

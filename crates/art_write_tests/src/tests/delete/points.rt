@@ -2,14 +2,14 @@
 ghost use Rattle.std.specs.Prelude.{IfSome};
 ghost use Rattle.art_model.specs.Pairs.{of_key};
 ghost use Rattle.art_model.specs.Roots.{IsCanonicalRoot};
-ghost use Rattle.art_operations.specs.Deleted.{IsDeletePointIn};
+ghost use Rattle.art_writing.specs.Deleted.{IsDeletePointIn};
 
 use art_nodes::node::{AsBytes, OpaqueNodePtr};
 use art_nodes::store::NodeStore;
-use art_operations::delete::{DeletePoint, search_for_delete_point};
 use art_test_support::nodes::{count_touched, nodes_seen};
 use art_test_support::points::{Gone, gone_pair};
 use art_test_support::trees::{Key, planted_all};
+use art_writing::delete::{DeletePoint, search_for_delete_point};
 
 /// The point of a key, if there is one.
 pub fn point_of<K: AsBytes + Drop, const P: usize>(

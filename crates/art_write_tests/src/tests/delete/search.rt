@@ -4,16 +4,16 @@ ghost use Rattle.art_model.specs.Roots.{IsCanonicalRoot};
 
 use art_nodes::node::OpaqueNodePtr;
 use art_nodes::store::NodeStore;
-use art_operations::delete::{
+use art_reading::lookup::Visits;
+use art_reading::path::TreePath;
+use art_test_support::cases::{FOUR, names_of_four};
+use art_test_support::expected::{as_expected, same};
+use art_test_support::trees::{Key, child, keys_of_three, planted_all, planted_keys, value_of};
+use art_writing::delete::{
     DeletePoint, find_maximum_to_delete, find_minimum_to_delete, search_for_delete_point,
     search_for_delete_point_by_lengths, search_for_delete_point_visiting,
     search_for_first_delete_point_below,
 };
-use art_operations::lookup::Visits;
-use art_operations::path::TreePath;
-use art_test_support::cases::{FOUR, names_of_four};
-use art_test_support::expected::{as_expected, same};
-use art_test_support::trees::{Key, child, keys_of_three, planted_all, planted_keys, value_of};
 use std::test::Fail;
 
 // The point of a key, and how many nodes the search reads.

@@ -5,13 +5,13 @@ ghost use Rattle.art_model.specs.Roots.{IsCanonicalRoot};
 
 use art_nodes::node::{NodeType, OpaqueNodePtr};
 use art_nodes::store::NodeStore;
-use art_operations::delete::search_for_prefix_delete_point;
 use art_test_support::crowds::place_beside;
 use art_test_support::expected::same;
 use art_test_support::memory::all_memory;
 use art_test_support::nodes::{Seen, count_touched, nodes_seen};
 use art_test_support::side_by_side::kind_if_same;
 use art_test_support::trees::{Key, keys_after, planted_all, planted_keys};
+use art_writing::delete::search_for_prefix_delete_point;
 use std::alloc::{AllocError, Global};
 use std::test::Fail;
 

@@ -3,12 +3,12 @@
 use super::effect::{Effect, apart, done_below, effect_of, node_under, put_without_memory};
 use art_nodes::node::{NodeType, OpaqueNodePtr};
 use art_nodes::store::NodeStore;
-use art_operations::insert::{InsertKind, InsertPoint, PrefixInsertPoint};
-use art_operations::path::{ExplicitMismatch, TreePath};
+use art_reading::path::{ExplicitMismatch, TreePath};
 use art_test_support::cases::{Outline, outline_of, pair_below};
 use art_test_support::expected::as_expected;
 use art_test_support::points::{Insertion, Way};
 use art_test_support::trees::{Key, child, planted_all, promise};
+use art_writing::insert::{InsertKind, InsertPoint, PrefixInsertPoint};
 use std::test::Fail;
 
 // An inner node, and whether it has children under two bytes.

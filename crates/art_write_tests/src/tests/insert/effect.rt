@@ -4,13 +4,13 @@ ghost use Rattle.art_model.specs.Roots.{IsCanonicalRoot};
 
 use art_nodes::node::OpaqueNodePtr;
 use art_nodes::store::NodeStore;
-use art_operations::insert::{
-    InsertParentNodeChange, PrefixInsertPoint, search_for_prefix_insert_point,
-};
 use art_test_support::memory::all_memory;
 use art_test_support::nodes::{Seen, nodes_seen};
 use art_test_support::points::{Gone, Insertion, Put, Way, insertion_seen, put};
 use art_test_support::trees::{Key, child, planted_all};
+use art_writing::insert::{
+    InsertParentNodeChange, PrefixInsertPoint, search_for_prefix_insert_point,
+};
 
 /// A key that is inserted into a tree, with the value 9.
 #[derive(Clone, Copy)]

@@ -2,10 +2,10 @@
 use super::effect::{Effect, apart, done_below, done_in_place, effect_of, told_without_memory};
 use art_nodes::node::{NodeType, OpaqueNodePtr};
 use art_nodes::store::NodeStore;
-use art_operations::insert::InsertParentNodeChange;
 use art_test_support::expected::{as_expected, same};
 use art_test_support::points::{Insertion, Way};
 use art_test_support::trees::{Key, child, value_of};
+use art_writing::insert::InsertParentNodeChange;
 use std::test::Fail;
 
 // What an insertion did, and what there is then.

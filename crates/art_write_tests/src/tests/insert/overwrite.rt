@@ -7,16 +7,16 @@ use super::effect::{
 };
 use art_nodes::node::{OpaqueNodePtr, OptionalLeafPtr};
 use art_nodes::store::NodeStore;
-use art_operations::insert::{
-    InsertKind, InsertParentNodeChange, OverwritePoint, PrefixInsertPoint, search_for_insert_point,
-    search_for_prefix_insert_point,
-};
-use art_operations::lookup::search_unchecked;
-use art_operations::path::TreePath;
+use art_reading::lookup::search_unchecked;
+use art_reading::path::TreePath;
 use art_test_support::expected::{as_expected, same};
 use art_test_support::nodes::count_nodes;
 use art_test_support::points::{Insertion, Way, put};
 use art_test_support::trees::{Key, keys_of_three, planted_all, planted_keys, value_of};
+use art_writing::insert::{
+    InsertKind, InsertParentNodeChange, OverwritePoint, PrefixInsertPoint, search_for_insert_point,
+    search_for_prefix_insert_point,
+};
 use std::alloc::Global;
 use std::test::Fail;
 

@@ -5,15 +5,15 @@ ghost use Rattle.art_model.specs.Roots.{IsCanonicalRoot};
 
 use art_nodes::node::{OpaqueNodePtr, OptionalLeafPtr};
 use art_nodes::store::NodeStore;
-use art_operations::insert::{
-    InsertKind, InsertPoint, InsertSearchError, search_for_insert_point,
-    search_for_insert_point_visiting,
-};
-use art_operations::lookup::Visits;
-use art_operations::path::{ExplicitMismatch, TreePath};
+use art_reading::lookup::Visits;
+use art_reading::path::{ExplicitMismatch, TreePath};
 use art_test_support::expected::{as_expected, same};
 use art_test_support::memory::all_memory;
 use art_test_support::trees::{Key, child, planted_all};
+use art_writing::insert::{
+    InsertKind, InsertPoint, InsertSearchError, search_for_insert_point,
+    search_for_insert_point_visiting,
+};
 use std::alloc::Global;
 use std::test::Fail;
 

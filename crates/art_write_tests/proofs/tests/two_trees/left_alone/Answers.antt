@@ -1,5 +1,5 @@
 use Rattle.std.proofs.Common.{rules}
-use Rattle.art_operations.proofs.CallerLemmas.{has_children}
+use Rattle.art_model.proofs.stores.StoreLaws.{has_children}
 use Rattle.art_write_tests.proofs.tests.two_trees.left_alone.Goals as goal
 
 pub deallocate_tree-freed-requires : goal.deallocate_tree-freed-requires
