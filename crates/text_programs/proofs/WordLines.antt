@@ -1,11 +1,14 @@
 -- A text whose words are counted line by line.
 use Rattle.std.proofs.Common.{◌≡◌, ◌≢◌, ℕ, ◌+◌, ◌<◌, true, false, zero, suc, List, [], ◌∷◌, ◌++◌, length, get_or, flat_map, Option, Some}
-use Rattle.std.proofs.Common.{None, IfSome, OnOk, Result, Ok, Err, refl, ap, sym, ◌∙◌, subst, arith, append-nil}
+use Rattle.std.proofs.Common.{None, IfSome, OnOk, Result, Ok, Err, refl, ap, sym, ◌∙◌, subst, arith, append-nil, append_assoc, map, ◌==◌}
+use Rattle.std.specs.Borrow.{Bor}
 use Rattle.std.specs.Io.KnownBytes.{Appends, Keeps}
 use Rattle.std.specs.List.{AllByRecursion as Each, slice_split}
 use Rattle.std.specs.List as list
 use Rattle.std.proofs.lemmas.Bool.{false≢true}
+use Rattle.std.proofs.lemmas.List.{map-append}
 use Rattle.std.proofs.lemmas.List.Concat.{flat_map-append}
+use Rattle.std.proofs.lemmas.List.Elements.{filter-append}
 use Rattle.art_model.proofs.lists.Lists.{Each-weaker}
 use Rattle.art_operations.specs.Ended.{HasNoZero}
 use Rattle.art_operations.specs.Keys.{is_before}
@@ -15,6 +18,21 @@ use Rattle.text_lines.specs.Lines.{lines}
 use Rattle.text_programs.specs.Counts.{AppendsCounts, HasTimes, IsCountOf, line_of}
 use Rattle.text_programs.specs.Words.{is_filled, is_gap, words}
 use Rattle.text_programs.proofs.WordTexts.{IsWhole, whole_parts, words_of_lines}
+
+filled : (word : List ℕ) → (length word == 0) ≡ false → is_filled word ≡ true
+filled [] e = absurd cc
+filled (byte ∷ bytes) e = refl
+
+-- with one more part, which is filled
+pub one_part_more : (before : List (List ℕ)) (ps : List (Bor (List ℕ))) (p : Bor (List ℕ)) (counts : List (List ℕ × ℕ)) → (length p.now == 0) ≡ false →
+    HasTimes ((before ++ list.filter is_filled (map (λ w. w.now) ps)) ++ p.now ∷ []) counts →
+    HasTimes (before ++ list.filter is_filled (map (λ w. w.now) (ps ++ p ∷ []))) counts
+one_part_more before ps p counts some h =
+    let parts = list.filter is_filled (map (λ w. w.now) ps) in
+    let own : list.filter is_filled (p.now ∷ []) ≡ p.now ∷ [] = rw (filled p.now some) refl in
+    subst (λ ws. HasTimes ws counts) (append_assoc before parts (p.now ∷ []) ∙ ap (λ ws. before ++ ws)
+    (ap (λ ws. parts ++ ws) (sym own) ∙ sym (filter-append is_filled (map (λ w. w.now) ps) (p.now ∷ []))
+    ∙ ap (list.filter is_filled) (sym (map-append (λ w. w.now) ps (p ∷ []))))) h
 
 -- the words of a text are its parts that are filled
 pub counted_parts : (before : List (List ℕ)) (text : List ℕ) (ps : List (List ℕ)) (counts : List (List ℕ × ℕ)) → ps ≡ slice_split is_gap text →

@@ -1,4 +1,5 @@
 use Rattle.std.proofs.Common.{ap, ◌∙◌, ◌+◌, ◌-◌, ◌^◌, min}
+use Rattle.std.specs.Bool.{⊤}
 use Rattle.std.specs.Option.{unwrap_or}
 use Rattle.art_operations.specs.Escapes.{escape}
 use Rattle.art_operations.proofs.CallerLemmas.{escape_injective, others_by_put, value_here}
