@@ -10,6 +10,7 @@ ghost use Rattle.art_reading.specs.declared.path.TreePath.{TreePath};
 
 use crate::descent::Visits;
 use crate::minmax::first_below_visiting;
+use crate::query::KeyBytes;
 use art_nodes::node::{AsBytes, LeafPtr, NodePtr, OpaqueNodePtr, OptionalLeafPtr};
 use art_nodes::store::NodeStore;
 
@@ -19,10 +20,10 @@ use art_nodes::store::NodeStore;
 /// A descent finds it, without comparing a prefix. The leaf serves for the whole path, so that a search makes this
 /// descent once.
 #[inline(always)]
-pub(crate) fn guide_from<K: AsBytes + Drop, V: Drop, const P: usize>(
+pub(crate) fn guide_from<B: KeyBytes, K: AsBytes + Drop, V: Drop, const P: usize>(
     store: &NodeStore<K, V, P>,
     root: OpaqueNodePtr,
-    key_bytes: &[u8],
+    key_bytes: B,
     name: OpaqueNodePtr,
     depth: usize,
     known: OptionalLeafPtr,
@@ -30,11 +31,11 @@ pub(crate) fn guide_from<K: AsBytes + Drop, V: Drop, const P: usize>(
 ) -> LeafPtr
     requires root { IsCanonicalRoot (of_key K.bytes) P store.now root }
     requires at { ForTree (of_key K.bytes) P store.now root (λ pairs layout.
-        (path : TreePath) × IsAt (of_key K.bytes) P key_bytes.now layout path name depth) }
+        (path : TreePath) × IsAt (of_key K.bytes) P (B.key key_bytes) layout path name depth) }
     requires known { ForTree (of_key K.bytes) P store.now root (λ pairs layout.
-        MayGuide (of_key K.bytes) key_bytes.now layout known) }
+        MayGuide (of_key K.bytes) (B.key key_bytes) layout known) }
     ensures guide { ForTree (of_key K.bytes) P store.now root (λ pairs layout.
-        IsGuide (of_key K.bytes) key_bytes.now layout result) }
+        IsGuide (of_key K.bytes) (B.key key_bytes) layout result) }
     ensures visits { CountsReadings visits.old visits.new (λ number.
         number + guide_cost store.now root known ≤ levels store.now root + 1) }
 {
@@ -51,18 +52,18 @@ pub(crate) fn guide_from<K: AsBytes + Drop, V: Drop, const P: usize>(
 // Such a leaf, below a node on the key's path, and how many nodes were read. This is a call, so that the loops into
 // which `guide_from` is inlined stay small.
 #[inline(never)]
-fn find_guide<K: AsBytes + Drop, V: Drop, const P: usize>(
+fn find_guide<B: KeyBytes, K: AsBytes + Drop, V: Drop, const P: usize>(
     store: &NodeStore<K, V, P>,
     root: OpaqueNodePtr,
-    key_bytes: &[u8],
+    key_bytes: B,
     name: OpaqueNodePtr,
     depth: usize,
 ) -> (LeafPtr, Visits)
     requires root { IsCanonicalRoot (of_key K.bytes) P store.now root }
     requires at { ForTree (of_key K.bytes) P store.now root (λ pairs layout.
-        (path : TreePath) × IsAt (of_key K.bytes) P key_bytes.now layout path name depth) }
+        (path : TreePath) × IsAt (of_key K.bytes) P (B.key key_bytes) layout path name depth) }
     ensures guide { ForTree (of_key K.bytes) P store.now root (λ pairs layout.
-        IsGuide (of_key K.bytes) key_bytes.now layout result.0) }
+        IsGuide (of_key K.bytes) (B.key key_bytes) layout result.0) }
     ensures visits { result.1 ≤ levels store.now root + 1 }
 {
     let mut visits = Visits::new();
@@ -75,10 +76,10 @@ fn find_guide<K: AsBytes + Drop, V: Drop, const P: usize>(
 // Descends from a node on the key's path by the key's bytes, whatever the bytes of the prefixes are, to a node below
 // which no further node is on the path.
 #[inline(always)]
-fn walk_by_places<K: AsBytes + Drop, V: Drop, const P: usize>(
+pub(crate) fn walk_by_places<B: KeyBytes, K: AsBytes + Drop, V: Drop, const P: usize>(
     store: &NodeStore<K, V, P>,
     root: OpaqueNodePtr,
-    key_bytes: &[u8],
+    mut key_bytes: B,
     start: OpaqueNodePtr,
     start_depth: usize,
     visits: &mut Visits,
@@ -86,10 +87,10 @@ fn walk_by_places<K: AsBytes + Drop, V: Drop, const P: usize>(
     requires root { IsCanonicalRoot (of_key K.bytes) P store.now root }
     requires at { ForTree (of_key K.bytes) P store.now root (λ pairs layout.
         (path : TreePath) ×
-        IsAt (of_key K.bytes) P key_bytes.now layout path start start_depth) }
+        IsAt (of_key K.bytes) P (B.key key_bytes) layout path start start_depth) }
     ensures visits { visits.new + levels store.now result ≤ visits.old + levels store.now root + 1 }
     ensures all { ForTree (of_key K.bytes) P store.now root (λ pairs layout.
-        AllGuide (of_key K.bytes) key_bytes.now layout result) }
+        AllGuide (of_key K.bytes) (B.key key_bytes) layout result) }
 {
     let mut name = start;
     let mut depth = start_depth;
@@ -100,14 +101,13 @@ fn walk_by_places<K: AsBytes + Drop, V: Drop, const P: usize>(
         let node = store.inner_at(inner);
         visits.count_one();
         let prefix_len = node.prefix_len();
-        if prefix_len >= key_bytes.len() - depth {
+        let Some(byte) = key_bytes.byte_after(depth, prefix_len) else {
             return name;
-        }
-        let place = depth + prefix_len;
-        let Some(child) = node.lookup_child(key_bytes[place]) else {
+        };
+        let Some(child) = node.lookup_child(byte) else {
             return name;
         };
         name = child;
-        depth = place + 1;
+        depth = depth + prefix_len + 1;
     }
 }

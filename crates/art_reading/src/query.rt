@@ -1,5 +1,5 @@
-//! Keys to look up: one slice of bytes, or a text and its end byte.
-ghost use Rattle.std.specs.Prelude.{◌≡◌, ◌+◌, ◌<◌, ◌≤◌, ◌^◌, ◌↔◌, [], ◌∷◌, ◌++◌, min, length, IsTrue, List, ℕ};
+//! Keys to look up: one slice of bytes, a text and its end byte, or bytes that are made as they are read.
+ghost use Rattle.std.specs.Prelude.{◌≡◌, ◌+◌, ◌<◌, ◌≤◌, ◌^◌, ◌↔◌, [], ◌∷◌, ◌++◌, min, length, IsTrue, List, ℕ, slice_get, OnSome};
 ghost use Rattle.std.specs.List.{cons_option};
 ghost use Rattle.art_model.specs.Keys.{IsFront};
 ghost use Rattle.art_reading.specs.Descents.{IsAskedFor};
@@ -8,6 +8,28 @@ ghost use Rattle.art_reading.specs.declared.matching.PrefixMatchBehavior.TheVari
 
 use crate::matching::{Asked, PrefixMatchBehavior, are_equal, begins_with};
 use art_nodes::node::{AsBytes, LeafNode};
+
+/// The bytes of a key, read one at a time: they need not stand in a slice.
+pub trait KeyBytes: Copy {
+    /// The bytes.
+    ghost key: { Self → List ℕ };
+
+    /// Returns the byte that stands `skipped` places after a place, or `None` if there are no more bytes there.
+    fn byte_after(&mut self, place: usize, skipped: usize) -> Option<u8>
+        ensures byte { result ≡ slice_get (key self.old) (place + skipped) }
+        ensures within { OnSome result (place + skipped < length (key self.old)) }
+        ensures fits { length (key self.old) < 2 ^ 64 }
+        ensures same { key self.new ≡ key self.old };
+}
+
+impl KeyBytes for &[u8] {
+    ghost key = { λ bytes. bytes.now };
+
+    #[inline(always)]
+    fn byte_after(&mut self, place: usize, skipped: usize) -> Option<u8> {
+        self.get(place..)?.get(skipped).copied()
+    }
+}
 
 /// The bytes of a key to look up.
 pub trait KeyQuery: Copy {

@@ -1,4 +1,6 @@
-use Rattle.std.proofs.Common.{arith, rules, sym, ◌∙◌}
+use Rattle.std.proofs.Common.{arith, ap, refl, rules, sym, ◌∙◌, ◌≡◌, ℕ, ◌+◌, ◌<◌, ◌≤◌, ◌⊎◌, inl, inr, List, length, get_or, slice_get, Some, None}
+use Rattle.std.proofs.lemmas.Option.{get_or_from_slice_get, slice_get_cases}
+use Rattle.art_inner.specs.Inner.{child_at}
 use Rattle.art_model.proofs.stores.Shown.{inner_met, leaf_named, shown_met}
 use Rattle.art_reading.proofs.EndNodes.{inside}
 use Rattle.art_reading.proofs.Guides.{by_places, by_there, gap_ends, goes_below, leaf_ends, short_ends}
@@ -14,6 +16,7 @@ down-init g c = record {
       let l = under_root by d.frames d.node d.whole d.named in
       omega arith;
   within = let (pairs, layout, by) = c.requires.root in inside by (c.requires.at pairs layout by).1;
+  same = refl;
   way = λ pairs layout by. by_places (c.requires.at pairs layout by).1;
 }
 
@@ -30,29 +33,49 @@ inner_at-node-requires g c =
     let there = by_there by (c.down.invariant.way pairs layout by) in
     (search rules, (search rules, some_there _ (inner_met there c.in-Inner.ensures.proper c.in-Inner.ensures.name)))
 
-pub returns-then-prefix_len-key_bytes-clause-all : goal.returns-then-prefix_len-key_bytes-clause-all
-returns-then-prefix_len-key_bytes-clause-all g c pairs layout by =
+-- the key has no byte at a place
+past : (xs : List ℕ) (i : ℕ) → slice_get xs i ≡ None → length xs ≤ i
+past xs i none = go (slice_get_cases xs i).1
+  where
+    go : ((x : ℕ) × (i < length xs) × (slice_get xs i ≡ Some x) × (get_or xs i x ≡ x)) ⊎ ((length xs ≤ i) × (slice_get xs i ≡ None)) → length xs ≤ i
+    go (inl (x, less, some, get)) = absurd cc
+    go (inr (ended, also)) = ended
+
+pub returns-in_default-byte_after-clause-all : goal.returns-in_default-byte_after-clause-all
+returns-in_default-byte_after-clause-all g c pairs layout by =
     let way = c.down.invariant.way pairs layout by in
     let at = shown_met (by_there by way) c.in-Inner.ensures.proper c.in-Inner.ensures.name (sym c.inner_at-node.ensures.view) in
-    short_ends way at c.prefix_len-prefix_len.ensures (omega arith)
+    short_ends way at c.prefix_len-prefix_len.ensures
+    (past (g.B.KeyBytes.key c.args.key_bytes) (c.down.depth + c.prefix_len-prefix_len.result)
+    (ap (λ key. slice_get key (c.down.depth + c.prefix_len-prefix_len.result)) (sym c.down.invariant.same) ∙ sym c.byte_after.ensures.byte ∙ c.in_default-byte_after.is))
 
 pub returns-in_default-lookup_child-clause-all : goal.returns-in_default-lookup_child-clause-all
 returns-in_default-lookup_child-clause-all g c pairs layout by =
+    let byte_is = get_or_from_slice_get (g.B.KeyBytes.key c.args.key_bytes) (c.down.depth + c.prefix_len-prefix_len.result) _ 0
+    (ap (λ key. slice_get key (c.down.depth + c.prefix_len-prefix_len.result)) (sym c.down.invariant.same) ∙ sym c.byte_after.ensures.byte ∙ c.in-Some.is) in
     let way = c.down.invariant.way pairs layout by in
     let at = shown_met (by_there by way) c.in-Inner.ensures.proper c.in-Inner.ensures.name (sym c.inner_at-node.ensures.view) in
-    gap_ends way at c.prefix_len-prefix_len.ensures (sym c.lookup_child.ensures ∙ c.in_default-lookup_child.is)
+    gap_ends way at c.prefix_len-prefix_len.ensures (ap (child_at _) byte_is ∙ sym c.lookup_child.ensures ∙ c.in_default-lookup_child.is)
 
 pub down-preserved : goal.down-preserved
-down-preserved g c = record {
-  few =
-      let (pairs, layout, by) = c.requires.root in
-      let way = c.down.invariant.way pairs layout by in
-      let at = shown_met (by_there by way) c.in-Inner.ensures.proper c.in-Inner.ensures.name (sym c.inner_at-node.ensures.view) in
-      let less = lower by way.path way.node way.whole way.named _ way.radix _ _ at _ _ (sym c.lookup_child.ensures ∙ c.in-Some.is) in
-      omega arith;
-  within = omega arith;
-  way = λ pairs layout by.
-      let way = c.down.invariant.way pairs layout by in
-      let at = shown_met (by_there by way) c.in-Inner.ensures.proper c.in-Inner.ensures.name (sym c.inner_at-node.ensures.view) in
-      goes_below way at c.prefix_len-prefix_len.ensures (sym c.lookup_child.ensures ∙ c.in-Some.is);
-}
+down-preserved g c =
+    let byte_is = get_or_from_slice_get (g.B.KeyBytes.key c.args.key_bytes) (c.down.depth + c.prefix_len-prefix_len.result) _ 0
+    (ap (λ key. slice_get key (c.down.depth + c.prefix_len-prefix_len.result)) (sym c.down.invariant.same) ∙ sym c.byte_after.ensures.byte ∙ c.in-Some.is) in
+    let there = ap (child_at _) byte_is ∙ sym c.lookup_child.ensures ∙ c.in-Some-lookup_child.is in
+    record {
+      few =
+          let (pairs, layout, by) = c.requires.root in
+          let way = c.down.invariant.way pairs layout by in
+          let at = shown_met (by_there by way) c.in-Inner.ensures.proper c.in-Inner.ensures.name (sym c.inner_at-node.ensures.view) in
+          let less = lower by way.path way.node way.whole way.named _ way.radix _ _ at _ _ there in
+          omega arith;
+      within =
+          let less = rw c.in-Some.is at c.byte_after.ensures.within in
+          let long = ap length c.down.invariant.same in
+          omega arith;
+      same = c.byte_after.ensures.same ∙ c.down.invariant.same;
+      way = λ pairs layout by.
+          let way = c.down.invariant.way pairs layout by in
+          let at = shown_met (by_there by way) c.in-Inner.ensures.proper c.in-Inner.ensures.name (sym c.inner_at-node.ensures.view) in
+          goes_below way at c.prefix_len-prefix_len.ensures there;
+    }
