@@ -25,4 +25,5 @@ pub mod Endings
 pub mod TextWays
 pub mod LongestTexts
 pub mod ShortTexts
+pub mod StandIns
 pub mod Levels

@@ -52,7 +52,7 @@ pub(crate) fn guide_from<B: KeyBytes, K: AsBytes + Drop, V: Drop, const P: usize
 // Such a leaf, below a node on the key's path, and how many nodes were read. This is a call, so that the loops into
 // which `guide_from` is inlined stay small.
 #[inline(never)]
-fn find_guide<B: KeyBytes, K: AsBytes + Drop, V: Drop, const P: usize>(
+pub(crate) fn find_guide<B: KeyBytes, K: AsBytes + Drop, V: Drop, const P: usize>(
     store: &NodeStore<K, V, P>,
     root: OpaqueNodePtr,
     key_bytes: B,
@@ -76,7 +76,7 @@ fn find_guide<B: KeyBytes, K: AsBytes + Drop, V: Drop, const P: usize>(
 // Descends from a node on the key's path by the key's bytes, whatever the bytes of the prefixes are, to a node below
 // which no further node is on the path.
 #[inline(always)]
-pub(crate) fn walk_by_places<B: KeyBytes, K: AsBytes + Drop, V: Drop, const P: usize>(
+fn walk_by_places<B: KeyBytes, K: AsBytes + Drop, V: Drop, const P: usize>(
     store: &NodeStore<K, V, P>,
     root: OpaqueNodePtr,
     mut key_bytes: B,

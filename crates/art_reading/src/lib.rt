@@ -12,3 +12,4 @@ pub mod minmax;
 pub mod path;
 pub mod query;
 pub mod range;
+pub mod stand_in;

@@ -1,9 +1,9 @@
-use Rattle.std.proofs.Common.{arith, ap, refl, rules, sym, ◌∙◌, ◌≡◌, ℕ, ◌+◌, ◌<◌, ◌≤◌, ◌⊎◌, inl, inr, List, length, get_or, slice_get, Some, None}
-use Rattle.std.proofs.lemmas.Option.{get_or_from_slice_get, slice_get_cases}
+use Rattle.std.proofs.Common.{arith, ap, refl, rules, sym, ◌∙◌, ◌+◌, length, slice_get}
+use Rattle.std.proofs.lemmas.Option.{get_or_from_slice_get}
 use Rattle.art_inner.specs.Inner.{child_at}
 use Rattle.art_model.proofs.stores.Shown.{inner_met, leaf_named, shown_met}
 use Rattle.art_reading.proofs.EndNodes.{inside}
-use Rattle.art_reading.proofs.Guides.{by_places, by_there, gap_ends, goes_below, leaf_ends, short_ends}
+use Rattle.art_reading.proofs.Guides.{by_places, by_there, gap_ends, goes_below, leaf_ends, past, short_ends}
 use Rattle.art_reading.proofs.Levels.{lower, under_root}
 use Rattle.art_reading.proofs.Parts.{some_there}
 use Rattle.art_reading.proofs.guide.walk_by_places.Goals as goal
@@ -32,14 +32,6 @@ inner_at-node-requires g c =
     let (pairs, layout, by) = c.requires.root in
     let there = by_there by (c.down.invariant.way pairs layout by) in
     (search rules, (search rules, some_there _ (inner_met there c.in-Inner.ensures.proper c.in-Inner.ensures.name)))
-
--- the key has no byte at a place
-past : (xs : List ℕ) (i : ℕ) → slice_get xs i ≡ None → length xs ≤ i
-past xs i none = go (slice_get_cases xs i).1
-  where
-    go : ((x : ℕ) × (i < length xs) × (slice_get xs i ≡ Some x) × (get_or xs i x ≡ x)) ⊎ ((length xs ≤ i) × (slice_get xs i ≡ None)) → length xs ≤ i
-    go (inl (x, less, some, get)) = absurd cc
-    go (inr (ended, also)) = ended
 
 pub returns-in_default-byte_after-clause-all : goal.returns-in_default-byte_after-clause-all
 returns-in_default-byte_after-clause-all g c pairs layout by =

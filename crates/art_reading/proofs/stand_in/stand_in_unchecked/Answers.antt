@@ -1,0 +1,19 @@
+use Rattle.std.proofs.Common.{rules, sym, ◌∷◌, ◌++◌, []}
+use Rattle.art_reading.proofs.EndNodes.{start}
+use Rattle.art_reading.proofs.Guides.{guide_there}
+use Rattle.art_reading.proofs.StandIns.{stands_in}
+use Rattle.art_reading.proofs.stand_in.stand_in_unchecked.Goals as goal
+
+pub find_guide-requires : goal.find_guide-requires
+find_guide-requires g c =
+    (search rules, (c.requires.root, λ pairs layout by. (_, start by (g.B.KeyBytes.key c.args.bytes))))
+
+pub leaf_at-requires : goal.leaf_at-requires
+leaf_at-requires g c =
+    let (pairs, layout, by) = c.requires.root in
+    (search rules, guide_there by (c.find_guide.ensures.guide pairs layout by))
+
+pub returns : goal.returns
+returns g c pairs layout by =
+    stands_in by (c.find_guide.ensures.guide pairs layout by) (sym c.leaf_at.ensures) c.as_bytes.ensures
+    (c.shared_and_next.result.text.now ++ c.shared_and_next.result.end ∷ []) c.shared_and_next.ensures.prefix c.shared_and_next.ensures.alone
