@@ -44,16 +44,6 @@ impl<K: Drop, V> From<PairRefused<K, V>> for TextRefused<V> {
     }
 }
 
-impl<K: Drop, V> From<PairRefused<K, V>> for AllocFailed<V> {
-    ghost from_gives = { λ refused failed. failed.value ≡ refused.value };
-
-    fn from(refused: PairRefused<K, V>) -> Self {
-        AllocFailed {
-            value: refused.value,
-        }
-    }
-}
-
 /// Calls by a text, for which no key is made. They cost what the calls by key do. Only `get_text_or_insert` allocates
 /// or fails.
 impl<V: Drop, const P: usize> TreeMap<Terminated, V, P> {
