@@ -34,6 +34,7 @@ pub enum TextRefused<V> {
     Memory { value: V },
 }
 
+/// Drops the key, and returns the value.
 impl<K: Drop, V> From<PairRefused<K, V>> for TextRefused<V> {
     ghost from_gives = { λ refused error. error ≡ Memory refused.value };
 
