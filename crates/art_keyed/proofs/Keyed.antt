@@ -1,5 +1,5 @@
 -- Keys of a type never conflict, and are in the order of their type.
-use Rattle.std.proofs.Common.{◌≡◌, ℕ, List, [], ◌∷◌, Bool, true, false, ◌||◌, ◌&&◌, if◌then◌else◌, not, ◌⊎◌, inl, inr, Option, Some, None, refl, sym, ◌∙◌}
+use Rattle.std.proofs.Common.{◌≡◌, ℕ, List, [], ◌∷◌, Bool, true, false, ◌||◌, ◌&&◌, if◌then◌else◌, not, ◌⊎◌, inl, inr, Option, Some, None, refl, ap, sym, ◌∙◌}
 use Rattle.std.specs.List.{AllByRecursion as Each}
 use Rattle.std.specs.declared.cmp.Ordering.{Ordering}
 use Rattle.std.specs.declared.cmp.Ordering.TheVariants.{Less}
@@ -10,14 +10,14 @@ use Rattle.art_model.specs.Keys.{IsFront, Precedes, are_related, are_same}
 use Rattle.art_model.specs.Pairs.{IsMap, first_of, has_key, is_conflict, with_key, of_key, put, stored_for, remove_key, replace_key, without_first, without_last}
 use Rattle.art_map.specs.SetKeys.{add_key}
 use Rattle.std.proofs.lemmas.Bool.{true≢false}
-use Rattle.art_map.specs.MapAnswers.{IsRefusalOf, with_value_at}
+use Rattle.art_map.specs.MapAnswers.{IsRefusalOf, refused_pair, with_value_at}
 use Rattle.art_map.specs.declared.map.MapInsertError.{MapInsertError}
 use Rattle.art_map.specs.declared.map.MapInsertError.TheVariants.{Conflict, Memory}
 use Rattle.art_map.specs.MapBoth.{IsRefusalOfBoth}
 use Rattle.art_map.specs.declared.map.both.BothInsertError.{BothInsertError}
 use Rattle.art_map.specs.declared.map.both.BothInsertError.TheVariants.{First, Second}
-use Rattle.art_keyed.specs.KeyedRefusals.{IsHandedBack, IsOneNew}
-use Rattle.art_keyed.specs.declared.map.PairRefused.{PairRefused}
+use Rattle.art_keyed.specs.KeyedRefusals.{IsOneNew}
+use Rattle.art_writing.specs.declared.insert.PairRefused.{PairRefused}
 use Rattle.art_model.proofs.keys.Keys.{front_same}
 use Rattle.art_model.proofs.keys.KeyLaws.{relation_is_decided, before_less}
 use Rattle.art_model.proofs.lists.Filters.{Each-filter, Each-add, Each-without_last}
@@ -57,11 +57,11 @@ module _ {K : Type 0} (V : Type 0) (is_key : K → Type 0) (bytes : K → List �
 
   -- so an insertion fails only if an allocation fails
   pub refusal_told : HasNoPrefixes is_key bytes → (key : K) (value : V) (pairs : List (K × V)) → is_key key → HaveKeys is_key pairs →
-      (error : MapInsertError K V) → IsRefusalOf bytes key value pairs error → (refused : PairRefused K V) → IsHandedBack error refused →
+      (error : MapInsertError K V) → IsRefusalOf bytes key value pairs error → (refused : PairRefused K V) → (refused.key, refused.value) ≡ refused_pair error →
       ((refused.key ≡ key) × (refused.value ≡ value)) × (has_key (of_key bytes) (bytes key) pairs ≡ false)
   refusal_told law key value pairs of_key' all (Conflict k v error) told refused back =
       absurd (true≢false (sym told.3 ∙ never_in_conflict law key pairs of_key' all))
-  refusal_told law key value pairs of_key' all (Memory k v) told refused back = ((back.0 ∙ told.0, back.1 ∙ told.1), told.2)
+  refusal_told law key value pairs of_key' all (Memory k v) told refused back = ((ap (λ pair. pair.0) back ∙ told.0, ap (λ pair. pair.1) back ∙ told.1), told.2)
 
   -- and the key is not stored
   pub refused_is_new : HasNoPrefixes is_key bytes → (key : K) (value : V) (pairs : List (K × V)) → is_key key → HaveKeys is_key pairs →

@@ -6,7 +6,7 @@ use Rattle.art_model.specs.Pairs.{has_key, of_key}
 use Rattle.art_map.specs.MapCalls.{put_all}
 use Rattle.art_map.specs.SetKeys.{add_all}
 use Rattle.art_keyed.specs.KeyedPairs.{is_key_from, is_key_up_to}
-use Rattle.art_keyed.specs.declared.map.PairRefused.{PairRefused}
+use Rattle.art_writing.specs.declared.insert.PairRefused.{PairRefused}
 use Rattle.art_keyed.specs.declared.set.KeyRefused.{KeyRefused}
 
 -- the pairs whose keys are not between two bounds in this order

@@ -2,20 +2,14 @@
 use Rattle.std.specs.Prelude.{◌≡◌, ◌⊎◌, ℕ, false, List, Option, Some}
 use Rattle.std.specs.Iterator.{YieldsThen}
 use Rattle.art_model.specs.Pairs.{has_key, of_key}
+use Rattle.art_map.specs.MapAnswers.{refused_pair}
 use Rattle.art_map.specs.MapCalls.{put_all}
 use Rattle.art_map.specs.SetKeys.{add_all}
 use Rattle.art_map.specs.declared.map.both.BothInsertError.{BothInsertError}
 use Rattle.art_map.specs.declared.map.both.BothInsertError.TheVariants.{First, Second}
-use Rattle.art_map.specs.declared.map.MapInsertError.{MapInsertError}
-use Rattle.art_map.specs.declared.map.MapInsertError.TheVariants.{Conflict, Memory}
-use Rattle.art_keyed.specs.declared.map.PairRefused.{PairRefused}
+use Rattle.art_writing.specs.declared.insert.PairRefused.{PairRefused}
 use Rattle.art_keyed.specs.declared.map.both.BothRefused.{BothRefused}
 use Rattle.art_keyed.specs.declared.set.KeyRefused.{KeyRefused}
-
--- the pair of an error
-abbrev pub IsHandedBack : {K V : Type 0} → MapInsertError K V → PairRefused K V → Type 0
-IsHandedBack (Conflict key value error) refused = (refused.key ≡ key) × (refused.value ≡ value)
-IsHandedBack (Memory key value) refused = (refused.key ≡ key) × (refused.value ≡ value)
 
 module _ {I K V : Type 0} (steps : I → Option (K × V) → I → Type 0) (bytes : K → List ℕ) where
   -- the pairs before one were inserted; the error returns that one, whose key is not stored, and the iterator has the
@@ -30,11 +24,6 @@ module _ {I K : Type 0} (steps : I → Option K → I → Type 0) (bytes : K →
   abbrev pub AddsUntilRefused : I → List K → KeyRefused K → I → List K → Type 0
   AddsUntilRefused from before refused to after =
       (ks : List K) × YieldsThen steps from ks (Some refused.key) to × (after ≡ add_all bytes ks before) × (has_key bytes (bytes refused.key) after ≡ false)
-
--- the pair of an error
-abbrev pub refused_pair : {K V : Type 0} → MapInsertError K V → K × V
-refused_pair (Conflict key value error) = (key, value)
-refused_pair (Memory key value) = (key, value)
 
 -- the pairs of an error
 abbrev pub AreHandedBack : {K V L W : Type 0} → BothInsertError K V L W → BothRefused K V L W → Type 0

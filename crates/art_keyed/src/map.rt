@@ -5,7 +5,6 @@ ghost use Rattle.std.specs.Fn.{FnOnceReturnsAt};
 ghost use Rattle.std.specs.Option.{UnwrapsOrElse, option_copied_mut, option_map, unwrap_or};
 ghost use Rattle.art_map.specs.MapAnswers.{value_at};
 ghost use Rattle.art_map.specs.MapItems.{deref_pair, keys_of, values_of};
-ghost use Rattle.art_keyed.specs.KeyedRefusals.{IsHandedBack};
 ghost use Rattle.art_model.specs.Pairs.{IsMap, first_of, has_key, last_of, of_key, put, put_reply, remove_key, remove_reply, with_key, without_first, without_last};
 ghost use Rattle.art_keyed.specs.KeyedPairs.{HaveKeys};
 ghost use Rattle.art_keyed.specs.KeyedLends.{lends_put, lends_value};
@@ -19,7 +18,6 @@ use std::alloc::{AllocError, Global};
 use std::fmt;
 use std::marker::Model;
 use std::ops::Index;
-use thiserror::Error;
 
 mod both;
 mod clones;
@@ -38,40 +36,13 @@ mod strings;
 mod text_ranges;
 mod texts;
 
+pub use art_map::map::PairRefused;
 pub use both::BothRefused;
 pub use entry::{TreeEntry, TreeEntryOf};
 pub use extract::{TreeExtractPrefix, TreeExtractPrefixOf, TreeExtractRange, TreeExtractRangeOf};
 pub use matches::{Matches, MatchesOf, Nested};
 pub(crate) use ordered::bytes_of;
 pub use texts::TextRefused;
-
-/// A pair that was not inserted, since an allocation failed.
-#[derive(Debug, Drop, Error)]
-#[error("memory allocation failed")]
-pub struct PairRefused<K, V> {
-    pub key: K,
-    pub value: V,
-}
-
-/// Drops the pair, so that `?` works in a function that fails only if an allocation fails.
-impl<K: Drop, V: Drop> From<PairRefused<K, V>> for AllocError {
-    fn from(refused: PairRefused<K, V>) -> Self {
-        AllocError
-    }
-}
-
-/// Returns the pair of an error of a `ByteMap`. If the keys are of a type that has no conflicts, what failed is always
-/// an allocation.
-impl<K: NoPrefixesBytes, V> From<MapInsertError<K, V>> for PairRefused<K, V> {
-    ghost from_gives = { IsHandedBack };
-
-    fn from(error: MapInsertError<K, V>) -> Self {
-        match error {
-            MapInsertError::Conflict { key, value, .. } => PairRefused { key, value },
-            MapInsertError::Memory { key, value } => PairRefused { key, value },
-        }
-    }
-}
 
 /// A map whose keys are in the order of their bytes. No key of the type is a prefix of another one, so an insertion
 /// fails only if an allocation fails.
@@ -267,7 +238,10 @@ impl<K: NoPrefixesBytes + Drop, V: Drop, const P: usize> TreeMap<K, V, P> {
             (has_key (of_key K.bytes) (K.bytes key) self.old ≡ false) }
     {
         key.as_key();
-        Ok(self.map.get_or_insert(key, value)?)
+        match self.map.get_or_insert(key, value) {
+            Ok(lent) => Ok(lent),
+            Err(error) => Err(error.into_pair()),
+        }
     }
 
     /// Does what `get_or_insert` does, with a value that the closure makes of the key. The closure is called only if no
@@ -290,7 +264,10 @@ impl<K: NoPrefixesBytes + Drop, V: Drop, const P: usize> TreeMap<K, V, P> {
             (has_key (of_key K.bytes) (K.bytes key) self.old ≡ false) }
     {
         key.as_key();
-        Ok(self.map.get_or_insert_with(key, make)?)
+        match self.map.get_or_insert_with(key, make) {
+            Ok(lent) => Ok(lent),
+            Err(error) => Err(error.into_pair()),
+        }
     }
 
     /// Returns an entry, which is the map with a key: it reads or changes the value of the key, or inserts the key.

@@ -5,7 +5,7 @@ use Rattle.art_parts.specs.declared.names.OpaqueNodePtr.{OpaqueNodePtr}
 use Rattle.art_model.specs.Pairs.{IsMap, first_of, is_conflict, of_key, overwrite, put, put_reply, related_to, remove_key, replace_key, with_key}
 use Rattle.art_model.specs.Parts.{below, not_below}
 use Rattle.art_model.proofs.keys.Keys.{not_same}
-use Rattle.art_writing.specs.declared.insert.Refused.{Refused}
+use Rattle.art_writing.specs.declared.insert.PairRefused.{PairRefused}
 use Rattle.art_map.specs.MapAnswers.{IsRefusalOf, value_at}
 use Rattle.art_map.specs.MapChanges.{HasPut, HasPutOver, HasReplaced, HasTaken, HasTakenBelow}
 use Rattle.art_map.specs.MapPairs.{HoldsPairs, pairs_at}
@@ -30,7 +30,7 @@ module _ {K V : Type 0} (bytes : K → List ℕ) where
     pub kept : OnErr result (after ≡ before)
 
   -- What a caller knows after a pair replaces those with related keys.
-  pub record TellsOver (key : K) (value : V) (before after : List (K × V)) (result : Result ℕ (Refused K V)) : Type 0 where
+  pub record TellsOver (key : K) (value : V) (before after : List (K × V)) (result : Result ℕ (PairRefused K V)) : Type 0 where
     pub pairs : OnOk result (after ≡ overwrite (of_key bytes) (key, value) before)
     pub gone : IfOk result (λ gone. gone ≡ length (related_to (of_key bytes) (bytes key) before))
     pub handed_back : IfErr result (λ refused. (refused.key ≡ key) × (refused.value ≡ value))
@@ -97,16 +97,16 @@ module _ {K V : Type 0} (bytes : K → List ℕ) (P : ℕ) (pairs : List (K × V
         go (Ok replaced) h = record { pairs = view_of (of_key bytes) P t h.0; replaced = h.1; accepted = h.2; refused = tt; kept = tt }
         go (Err error) h = record { pairs = tt; replaced = tt; accepted = tt; refused = h.1; kept = view_of (of_key bytes) P t h.0 }
 
-    pub over_holds : (result : Result ℕ (Refused K V)) → HasPutOver bytes P pairs key value result t root len →
+    pub over_holds : (result : Result ℕ (PairRefused K V)) → HasPutOver bytes P pairs key value result t root len →
         HoldsPairs (of_key bytes) P t root len (pairs_at t root)
     over_holds (Ok gone) h = holds (of_key bytes) P t h.0
     over_holds (Err refused) h = holds (of_key bytes) P t h.0
 
-    pub tells_over : {before : List (K × V)} → pairs ≡ before → (result : Result ℕ (Refused K V)) → HasPutOver bytes P pairs key value result t root len →
+    pub tells_over : {before : List (K × V)} → pairs ≡ before → (result : Result ℕ (PairRefused K V)) → HasPutOver bytes P pairs key value result t root len →
         TellsOver bytes key value before (pairs_at t root) result
     tells_over same result h = subst (λ xs. TellsOver bytes key value xs (pairs_at t root) result) same (go result h)
       where
-        go : (result : Result ℕ (Refused K V)) → HasPutOver bytes P pairs key value result t root len → TellsOver bytes key value pairs (pairs_at t root) result
+        go : (result : Result ℕ (PairRefused K V)) → HasPutOver bytes P pairs key value result t root len → TellsOver bytes key value pairs (pairs_at t root) result
         go (Ok gone) h = record { pairs = view_of (of_key bytes) P t h.0; gone = h.1; handed_back = tt; kept = tt; refused = tt }
         go (Err refused) (held, same_key, same_value, many) =
             record { pairs = tt; gone = tt; handed_back = (same_key, same_value); kept = view_of (of_key bytes) P t held; refused = many }

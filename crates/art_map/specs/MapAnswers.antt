@@ -20,6 +20,11 @@ IsRefusalOf bytes key value pairs (Memory k v) =
 abbrev pub IsRefusalOfMade : {K V : Type 0} → (K → List ℕ) → K → (V → Type 0) → List (K × V) → MapInsertError K V → Type 0
 IsRefusalOfMade {K} {V} bytes key IsMade pairs error = (value : V) × IsMade value × IsRefusalOf bytes key value pairs error
 
+-- the pair of an error
+abbrev pub refused_pair : {K V : Type 0} → MapInsertError K V → K × V
+refused_pair (Conflict key value error) = (key, value)
+refused_pair (Memory key value) = (key, value)
+
 -- the value under a key
 abbrev pub value_at : {K V : Type 0} → (K → List ℕ) → List ℕ → List (K × V) → Option V
 value_at bytes key pairs = option_map (λ x. x.1) (first_of (with_key (of_key bytes) key pairs))

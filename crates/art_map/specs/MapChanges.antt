@@ -17,7 +17,7 @@ use Rattle.art_writing.specs.Inserted.{IsPointIn}
 use Rattle.art_writing.specs.Points.{IsRefusedFor}
 use Rattle.art_reading.specs.declared.end_node.InsertKind.TheVariants.{Exact}
 use Rattle.art_writing.specs.declared.insert.PrefixInsertResult.{PrefixInsertResult}
-use Rattle.art_writing.specs.declared.insert.Refused.{Refused}
+use Rattle.art_writing.specs.declared.insert.PairRefused.{PairRefused}
 use Rattle.art_map.specs.MapAnswers.{IsRefusalOf}
 use Rattle.art_map.specs.MapItems.{keys_of}
 use Rattle.art_map.specs.MapPairs.{HoldsPairs, pairs_at}
@@ -73,7 +73,7 @@ put_new bytes new pairs = if has_key (of_key bytes) (bytes new.0) pairs then pai
 
 module _ {K V : Type 0} (bytes : K → List ℕ) (P : ℕ) where
   -- the pair is the only one, or it is returned and there is none
-  abbrev pub HasPlanted : K → V → Result (Unit {0}) (Refused K V) → Nodes K V → Option OpaqueNodePtr → ℕ → Type 0
+  abbrev pub HasPlanted : K → V → Result (Unit {0}) (PairRefused K V) → Nodes K V → Option OpaqueNodePtr → ℕ → Type 0
   HasPlanted key value (Ok done) t root len = HoldsPairs (of_key bytes) P t root len ((key, value) ∷ [])
   HasPlanted key value (Err refused) t root len =
       HoldsPairs (of_key bytes) P t root len [] × (refused.key ≡ key) × (refused.value ≡ value)
@@ -116,7 +116,7 @@ module _ {K V : Type 0} (bytes : K → List ℕ) (P : ℕ) (pairs : List (K × V
       HoldsPairs (of_key bytes) P t root len pairs × IsMakeRefusal bytes key IsMade pairs error
 
   -- the pair replaced those with related keys; or it is returned, the pairs are unchanged, and not just one is related
-  abbrev pub HasPutOver : K → V → Result ℕ (Refused K V) → Nodes K V → Option OpaqueNodePtr → ℕ → Type 0
+  abbrev pub HasPutOver : K → V → Result ℕ (PairRefused K V) → Nodes K V → Option OpaqueNodePtr → ℕ → Type 0
   HasPutOver key value (Ok gone) t root len =
       HoldsPairs (of_key bytes) P t root len (overwrite (of_key bytes) (key, value) pairs) ×
       (gone ≡ length (related_to (of_key bytes) (bytes key) pairs))

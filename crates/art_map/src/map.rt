@@ -30,8 +30,8 @@ use art_writing::delete::{
     search_for_delete_point_by_lengths, search_for_first_delete_point_below,
 };
 use art_writing::insert::{
-    InsertPrefixError, InsertSearchError, PrefixInsertResult, Refused, plant,
-    search_for_insert_point, search_for_prefix_insert_point,
+    InsertPrefixError, InsertSearchError, PrefixInsertResult, plant, search_for_insert_point,
+    search_for_prefix_insert_point,
 };
 use std::alloc::{AllocError, Global};
 use std::fmt;
@@ -59,6 +59,7 @@ mod retain;
 mod split;
 mod texts;
 
+pub use art_writing::insert::PairRefused;
 pub use both::BothInsertError;
 pub use entry::{Entry, EntryOf};
 pub use extract::{ExtractPrefix, ExtractPrefixOf, ExtractRange, ExtractRangeOf};
@@ -86,6 +87,20 @@ pub enum MapInsertError<K, V> {
         key: K,
         value: V,
     },
+}
+
+impl<K, V> MapInsertError<K, V> {
+    ghost use Rattle.art_map.specs.MapAnswers.{refused_pair};
+
+    /// Returns the pair of either error.
+    pub fn into_pair(self) -> PairRefused<K, V>
+        ensures { (result.key, result.value) ≡ refused_pair self }
+    {
+        match self {
+            MapInsertError::Conflict { key, value, .. } => PairRefused { key, value },
+            MapInsertError::Memory { key, value } => PairRefused { key, value },
+        }
+    }
 }
 
 /// A value that was not made for an entry, or whose pair was not inserted.
@@ -395,7 +410,7 @@ impl<K: AsBytes + Drop, V: Drop, const P: usize> ByteMap<K, V, P> {
     ///
     /// It fails only if an allocation fails; the error returns the pair, and the map is unchanged. It allocates unless
     /// it replaces exactly one pair. It descends as `insert` does, and frees all nodes that are replaced.
-    pub fn insert_over(&mut self, key: K, value: V) -> Result<usize, Refused<K, V>>
+    pub fn insert_over(&mut self, key: K, value: V) -> Result<usize, PairRefused<K, V>>
         ensures pairs { OnOk result (self.new ≡ overwrite (of_key K.bytes) (key, value) self.old) }
         ensures gone { IfOk result (λ gone.
             gone ≡ length (related_to (of_key K.bytes) (K.bytes key) self.old)) }
@@ -619,7 +634,7 @@ fn put_in<K: AsBytes + Drop, V: Drop, const P: usize>(
 }
 
 // The error with the pair for which an allocation failed.
-fn without_memory<K, V>(refused: Refused<K, V>) -> MapInsertError<K, V>
+fn without_memory<K, V>(refused: PairRefused<K, V>) -> MapInsertError<K, V>
     ensures { result ≡ errors.Memory refused.key refused.value }
 {
     MapInsertError::Memory {
@@ -635,7 +650,7 @@ fn put_over<K: AsBytes + Drop, V: Drop, const P: usize>(
     len: &mut usize,
     key: K,
     value: V,
-) -> Result<usize, Refused<K, V>>
+) -> Result<usize, PairRefused<K, V>>
     requires { HoldsPairs (of_key K.bytes) P store.old root.old len.old
         (pairs_at store.old root.old) }
     ensures { HasPutOver K.bytes P (pairs_at store.old root.old) key value result
@@ -689,7 +704,7 @@ fn begin<K: AsBytes + Drop, V: Drop, const P: usize>(
     len: &mut usize,
     key: K,
     value: V,
-) -> Result<(), Refused<K, V>>
+) -> Result<(), PairRefused<K, V>>
     requires none { root.old ≡ None }
     requires holds { HoldsPairs (of_key K.bytes) P store.old None len.old
         (pairs_at store.old None) }

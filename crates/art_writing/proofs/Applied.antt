@@ -16,7 +16,7 @@ use Rattle.art_writing.specs.declared.insert.InsertResult.{InsertResult}
 use Rattle.art_writing.specs.declared.insert.OverwritePoint.{OverwritePoint}
 use Rattle.art_writing.specs.declared.insert.PrefixInsertPoint.TheVariants as points
 use Rattle.art_writing.specs.declared.insert.PrefixInsertResult.{PrefixInsertResult}
-use Rattle.art_writing.specs.declared.insert.Refused.{Refused}
+use Rattle.art_writing.specs.declared.insert.PairRefused.{PairRefused}
 use Rattle.art_writing.specs.Applied.{IsApplied, IsPrefixApplied, TakesMemory}
 use Rattle.art_writing.specs.Inserted.{HasInserted, IsPointIn, unlinked_leaf, placed_for}
 use Rattle.art_writing.specs.Overwritten.{HasOverwritten, IsOverwritePointIn, placed_for_overwrite}
@@ -35,7 +35,7 @@ module _ {K V : Type 0} {s t : Nodes K V} {placed : Promise} {pair : K × V} whe
   handed_back gone leaves inners void = record { promise = tt; succeeds = gone; handed_back = (refl, refl); leaves = leaves; inners = inners; void = void }
 
   -- a failed allocation is a failure of each call
-  refused_too : {X Y : Type 0} {refused : Refused K V} → TakesMemory {X = X} s t placed pair (Err refused) → TakesMemory {X = Y} s t placed pair (Err refused)
+  refused_too : {X Y : Type 0} {refused : PairRefused K V} → TakesMemory {X = X} s t placed pair (Err refused) → TakesMemory {X = Y} s t placed pair (Err refused)
   refused_too is = record { promise = tt; succeeds = is.succeeds; handed_back = is.handed_back; leaves = is.leaves; inners = is.inners; void = is.void }
 
 -- ---- points that are applied
@@ -121,7 +121,7 @@ module _ {K V : Type 0} (bytes : K → List ℕ) {P : ℕ} {s t : Nodes K V} {pa
         memory = granted is.memory.promise;
       }
 
-  pub refused_prefix : {point : InsertPoint} {refused : Refused K V} → IsApplied (of_key bytes) P s t point pair (Err refused) →
+  pub refused_prefix : {point : InsertPoint} {refused : PairRefused K V} → IsApplied (of_key bytes) P s t point pair (Err refused) →
       IsPrefixApplied (of_key bytes) P s t (points.InsertPoint point) pair (Err refused)
   refused_prefix is = search (rules, refused_too {Y = PrefixInsertResult K V} is.memory)
 

@@ -12,13 +12,13 @@ use Rattle.art_writing.specs.declared.insert.InsertPoint.{InsertPoint}
 use Rattle.art_writing.specs.declared.insert.InsertResult.{InsertResult}
 use Rattle.art_writing.specs.declared.insert.PrefixInsertPoint.{PrefixInsertPoint}
 use Rattle.art_writing.specs.declared.insert.PrefixInsertResult.{PrefixInsertResult}
-use Rattle.art_writing.specs.declared.insert.Refused.{Refused}
+use Rattle.art_writing.specs.declared.insert.PairRefused.{PairRefused}
 use Rattle.art_writing.specs.Inserted.{HasInserted, Touches, unlinked_leaf, placed_for}
 use Rattle.art_writing.specs.Overwritten.{HasCome, TouchesForPrefix, placed_for_prefix, root_of}
 
 -- The nodes are placed, from the promise where it covers them; or the pair is returned, with the nodes as they were and nothing promised.
 pub record TakesMemory {K V X : Type 0} (s t : Nodes K V) (placed : Promise) (pair : K × V)
-    (result : Result X (Refused K V)) : Type 0 where
+    (result : Result X (PairRefused K V)) : Type 0 where
   pub promise : OnOk result (t.promise ≡ promise_after placed s.promise)
   pub succeeds : IsTrue (is_covered placed s.promise) → IsOk result
   pub handed_back : IfErr result (λ refused. (refused.key ≡ pair.0) × (refused.value ≡ pair.1))
@@ -29,7 +29,7 @@ pub record TakesMemory {K V X : Type 0} (s t : Nodes K V) (placed : Promise) (pa
 module _ {K V : Type 0} (bytes : K × V → List ℕ) (P : ℕ) (s t : Nodes K V) where
   -- An insert point is applied.
   pub record IsApplied (point : InsertPoint) (pair : K × V)
-      (result : Result (InsertResult K V) (Refused K V)) : Type 0 where
+      (result : Result (InsertResult K V) (PairRefused K V)) : Type 0 where
     pub canonical : ForTree bytes P s point.root (λ pairs layout. IfOk result (λ done.
         IsCanonical bytes P t (Some done.new_root) (put bytes pair pairs)))
     pub root : IfOk result (λ done. IsCanonicalRoot bytes P t done.new_root)
@@ -45,7 +45,7 @@ module _ {K V : Type 0} (bytes : K × V → List ℕ) (P : ℕ) (s t : Nodes K V
 
   -- A point of a prefix insertion is applied, of either kind.
   pub record IsPrefixApplied (point : PrefixInsertPoint) (pair : K × V)
-      (result : Result (PrefixInsertResult K V) (Refused K V)) : Type 0 where
+      (result : Result (PrefixInsertResult K V) (PairRefused K V)) : Type 0 where
     pub canonical : ForTree bytes P s (root_of point) (λ pairs layout. IfOk result (λ done.
         IsCanonical bytes P t (Some done.insert_result.new_root) (overwrite bytes pair pairs)))
     pub root : IfOk result (λ done. IsCanonicalRoot bytes P t done.insert_result.new_root)

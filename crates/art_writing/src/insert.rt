@@ -14,7 +14,7 @@ use art_nodes::store::NodeStore;
 use art_reading::descent::Visits;
 use art_reading::end_node::walk_to_end_node_visiting;
 use art_reading::path::TreePath;
-use std::alloc::{AllocError, Global};
+use std::alloc::{AllocError, AllocFailed, Global};
 use std::boxed::BoxedSlice;
 use std::fmt;
 use thiserror::Error;
@@ -164,17 +164,29 @@ pub enum InsertParentNodeChange {
     NoChange,
 }
 
-/// A pair that was not inserted, because an allocation failed.
-#[derive(PartialEq, Eq, Debug, Drop)]
-pub struct Refused<K, V> {
+/// A pair that was not inserted, since an allocation failed.
+#[derive(PartialEq, Eq, Debug, Drop, Error)]
+#[error("memory allocation failed")]
+pub struct PairRefused<K, V> {
     pub key: K,
     pub value: V,
 }
 
-/// Drops the pair, so that `?` works in a function that fails only if an allocation does.
-impl<K: Drop, V: Drop> From<Refused<K, V>> for AllocError {
-    fn from(refused: Refused<K, V>) -> Self {
+/// Drops the pair, so that `?` works in a function that fails only if an allocation fails.
+impl<K: Drop, V: Drop> From<PairRefused<K, V>> for AllocError {
+    fn from(refused: PairRefused<K, V>) -> Self {
         AllocError
+    }
+}
+
+/// Drops the key, and returns the value.
+impl<K: Drop, V> From<PairRefused<K, V>> for AllocFailed<V> {
+    ghost from_gives = { λ refused failed. failed.value ≡ refused.value };
+
+    fn from(refused: PairRefused<K, V>) -> Self {
+        AllocFailed {
+            value: refused.value,
+        }
     }
 }
 

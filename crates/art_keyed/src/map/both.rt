@@ -1,7 +1,8 @@
 //! Insertion of a pair into each of two maps, or into neither.
 ghost use Rattle.std.specs.Prelude.{◌≡◌, Some, IfErr, IfOk, OnErr, OnOk};
 ghost use Rattle.art_model.specs.Pairs.{of_key, put, put_reply};
-ghost use Rattle.art_keyed.specs.KeyedRefusals.{AreHandedBack, IsOneNew, refused_pair};
+ghost use Rattle.art_map.specs.MapAnswers.{refused_pair};
+ghost use Rattle.art_keyed.specs.KeyedRefusals.{AreHandedBack, IsOneNew};
 ghost use Rattle.art_keyed.specs.KeyedValues.{KeepsOtherKeys, value_of};
 
 use super::TreeMap;
@@ -82,8 +83,6 @@ fn without_conflict<K, V, L, W>(error: BothInsertError<K, V, L, W>) -> BothRefus
 fn pair_of<K, V>(error: MapInsertError<K, V>) -> (K, V)
     ensures { result ≡ refused_pair error }
 {
-    match error {
-        MapInsertError::Conflict { key, value, .. } => (key, value),
-        MapInsertError::Memory { key, value } => (key, value),
-    }
+    let refused = error.into_pair();
+    (refused.key, refused.value)
 }

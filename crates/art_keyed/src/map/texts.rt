@@ -34,21 +34,12 @@ pub enum TextRefused<V> {
     Memory { value: V },
 }
 
+/// Drops the key, and returns the value.
 impl<K: Drop, V> From<PairRefused<K, V>> for TextRefused<V> {
     ghost from_gives = { λ refused error. error ≡ Memory refused.value };
 
     fn from(refused: PairRefused<K, V>) -> Self {
         TextRefused::Memory {
-            value: refused.value,
-        }
-    }
-}
-
-impl<K: Drop, V> From<PairRefused<K, V>> for AllocFailed<V> {
-    ghost from_gives = { λ refused failed. failed.value ≡ refused.value };
-
-    fn from(refused: PairRefused<K, V>) -> Self {
-        AllocFailed {
             value: refused.value,
         }
     }

@@ -14,8 +14,8 @@ ghost use Rattle.art_writing.specs.Overwritten.{HasCome, HasOverwritten, IsOverw
 ghost use Rattle.art_writing.specs.declared.insert.PrefixInsertPoint.TheVariants as points;
 
 use super::{
-    InsertKind, InsertParentNodeChange, InsertPoint, InsertResult, OverwritePoint,
-    PrefixInsertPoint, PrefixInsertResult, Refused,
+    InsertKind, InsertParentNodeChange, InsertPoint, InsertResult, OverwritePoint, PairRefused,
+    PrefixInsertPoint, PrefixInsertResult,
 };
 use art_nodes::node::{AsBytes, LeafNode, NodePtr};
 use art_nodes::store::NodeStore;
@@ -33,7 +33,7 @@ impl InsertPoint {
         store: &mut NodeStore<K, V, P>,
         key: K,
         value: V,
-    ) -> Result<InsertResult<K, V>, Refused<K, V>>
+    ) -> Result<InsertResult<K, V>, PairRefused<K, V>>
         requires { IsPointIn (of_key K.bytes) P store.old (K.bytes key) self }
         ensures canonical { ForTree (of_key K.bytes) P store.old self.root (λ pairs layout.
             IfOk result (λ done.
@@ -76,7 +76,7 @@ impl InsertPoint {
         store: &mut NodeStore<K, V, P>,
         key: K,
         value: V,
-    ) -> Result<InsertResult<K, V>, Refused<K, V>>
+    ) -> Result<InsertResult<K, V>, PairRefused<K, V>>
         requires { IsPointIn (of_key K.bytes) P store.old (K.bytes key) self }
         ensures { IsApplied (of_key K.bytes) P store.old store.new self (key, value) result }
     {
@@ -117,7 +117,7 @@ impl PrefixInsertPoint {
         store: &mut NodeStore<K, V, P>,
         key: K,
         value: V,
-    ) -> Result<PrefixInsertResult<K, V>, Refused<K, V>>
+    ) -> Result<PrefixInsertResult<K, V>, PairRefused<K, V>>
         requires { IsPrefixPointIn (of_key K.bytes) P store.old (K.bytes key) self }
         ensures canonical { ForTree (of_key K.bytes) P store.old (root_of self)
             (λ pairs layout. IfOk result (λ done.
@@ -165,7 +165,7 @@ impl PrefixInsertPoint {
         store: &mut NodeStore<K, V, P>,
         key: K,
         value: V,
-    ) -> Result<PrefixInsertResult<K, V>, Refused<K, V>>
+    ) -> Result<PrefixInsertResult<K, V>, PairRefused<K, V>>
         requires { IsPrefixPointIn (of_key K.bytes) P store.old (K.bytes key) self }
         ensures { IsPrefixApplied (of_key K.bytes) P store.old store.new self (key, value) result }
     {
@@ -194,7 +194,7 @@ impl OverwritePoint {
         store: &mut NodeStore<K, V, P>,
         key: K,
         value: V,
-    ) -> Result<PrefixInsertResult<K, V>, Refused<K, V>>
+    ) -> Result<PrefixInsertResult<K, V>, PairRefused<K, V>>
         requires { IsOverwritePointIn (of_key K.bytes) P store.old (K.bytes key) self }
         ensures canonical { ForTree (of_key K.bytes) P store.old self.root (λ pairs layout.
             IfOk result (λ done.
@@ -242,7 +242,7 @@ impl OverwritePoint {
         store: &mut NodeStore<K, V, P>,
         key: K,
         value: V,
-    ) -> Result<PrefixInsertResult<K, V>, Refused<K, V>>
+    ) -> Result<PrefixInsertResult<K, V>, PairRefused<K, V>>
         requires { IsOverwritePointIn (of_key K.bytes) P store.old (K.bytes key) self }
         ensures { IsPrefixApplied (of_key K.bytes) P store.old store.new
             (points.OverwritePoint self) (key, value) result }

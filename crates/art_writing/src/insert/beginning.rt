@@ -7,7 +7,7 @@ ghost use Rattle.art_model.specs.Pairs.{of_key};
 ghost use Rattle.art_model.specs.Roots.{IsCanonicalRoot};
 ghost use Rattle.art_writing.specs.ParentWrites.{IsPlanted};
 
-use super::Refused;
+use super::PairRefused;
 use art_nodes::node::{AsBytes, LeafNode, LeafPtr};
 use art_nodes::store::NodeStore;
 
@@ -20,7 +20,7 @@ pub fn plant<K: AsBytes + Drop, V: Drop, const P: usize>(
     store: &mut NodeStore<K, V, P>,
     key: K,
     value: V,
-) -> Result<LeafPtr, Refused<K, V>>
+) -> Result<LeafPtr, PairRefused<K, V>>
     ensures canonical { IfOk result (λ name. IsCanonical (of_key K.bytes) P store.new
         (Some (leaf_name name)) ((key, value) ∷ [])) }
     ensures root { IfOk result (λ name.
@@ -35,7 +35,7 @@ pub fn plant<K: AsBytes + Drop, V: Drop, const P: usize>(
 {
     match store.place_leaf(LeafNode::with_no_siblings(key, value)) {
         Ok(name) => Ok(name),
-        Err((leaf, _)) => Err(Refused {
+        Err((leaf, _)) => Err(PairRefused {
             key: leaf.key,
             value: leaf.value,
         }),

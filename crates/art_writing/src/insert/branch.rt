@@ -17,7 +17,7 @@ ghost use Rattle.art_writing.specs.ParentWrites.{HasChild, IsBeside, side_of};
 ghost use Rattle.art_reading.specs.PathSteps.{last_step};
 ghost use Rattle.art_reading.specs.declared.end_node.InsertKind.TheVariants as kinds;
 
-use super::{InsertParentNodeChange, InsertPoint, InsertResult, Refused};
+use super::{InsertParentNodeChange, InsertPoint, InsertResult, PairRefused};
 use crate::writes::{Direction, links_beside, place_between, replace_at};
 use art_nodes::node::{
     AsBytes, Header, InnerPtr, LeafPtr, NodeType, OpaqueNodePtr, OptionalLeafPtr,
@@ -186,14 +186,14 @@ impl InsertPoint {
         new_key_bytes_used: usize,
         key: K,
         value: V,
-    ) -> Result<InsertResult<K, V>, Refused<K, V>>
+    ) -> Result<InsertResult<K, V>, PairRefused<K, V>>
         requires point { self.insert_kind ≡ kinds.SplitLeaf leaf_node_ptr new_key_bytes_used }
         requires answers { IsPointIn (of_key K.bytes) P store.old (K.bytes key) self }
         ensures { IsApplied (of_key K.bytes) P store.old store.new self (key, value) result }
     {
         let branch = self.branch_at_leaf(store, leaf_node_ptr, new_key_bytes_used, key.as_bytes());
         if store.reserve(1, Some(NodeType::Node4)).is_err() {
-            return Err(Refused { key, value });
+            return Err(PairRefused { key, value });
         }
         let old = leaf_node_ptr.to_opaque();
         Ok(self.place_branch(store, old, branch, key, value))
@@ -208,7 +208,7 @@ impl InsertPoint {
         inner_node_ptr: InnerPtr,
         key: K,
         value: V,
-    ) -> Result<InsertResult<K, V>, Refused<K, V>>
+    ) -> Result<InsertResult<K, V>, PairRefused<K, V>>
         requires point { self.insert_kind ≡ kinds.MismatchPrefix mismatch inner_node_ptr }
         requires answers { IsPointIn (of_key K.bytes) P store.old (K.bytes key) self }
         ensures { IsApplied (of_key K.bytes) P store.old store.new self (key, value) result }
@@ -216,7 +216,7 @@ impl InsertPoint {
         let branch = self.branch_at_prefix(store, mismatch, inner_node_ptr, key.as_bytes());
         let header = self.trimmed_header(store, mismatch, inner_node_ptr);
         if store.reserve(1, Some(NodeType::Node4)).is_err() {
-            return Err(Refused { key, value });
+            return Err(PairRefused { key, value });
         }
         store.set_header(inner_node_ptr, header);
         let old = inner_node_ptr.to_opaque();

@@ -5,7 +5,7 @@ ghost use Rattle.art_writing.specs.Applied.{IsApplied};
 ghost use Rattle.art_writing.specs.Inserted.{IsPointIn, placed_for};
 ghost use Rattle.art_reading.specs.declared.end_node.InsertKind.TheVariants as kinds;
 
-use super::{InsertParentNodeChange, InsertPoint, InsertResult, Refused};
+use super::{InsertParentNodeChange, InsertPoint, InsertResult, PairRefused};
 use crate::writes::{Direction, links_beside, place_between, replace_at};
 use art_nodes::node::{
     AsBytes, InnerPtr, InnerRef, LeafPtr, NodeType, OpaqueNodePtr, OptionalLeafPtr,
@@ -22,7 +22,7 @@ impl InsertPoint {
         inner_node_ptr: InnerPtr,
         key: K,
         value: V,
-    ) -> Result<InsertResult<K, V>, Refused<K, V>>
+    ) -> Result<InsertResult<K, V>, PairRefused<K, V>>
         requires point { self.insert_kind ≡ kinds.IntoExisting inner_node_ptr }
         requires answers { IsPointIn (of_key K.bytes) P store.old (K.bytes key) self }
         ensures { IsApplied (of_key K.bytes) P store.old store.new self (key, value) result }
@@ -31,7 +31,7 @@ impl InsertPoint {
         let byte = key_bytes[self.key_bytes_used];
         let (larger, (previous, next)) = self.larger_and_links(store, inner_node_ptr, key_bytes);
         if store.reserve(1, larger).is_err() {
-            return Err(Refused { key, value });
+            return Err(PairRefused { key, value });
         }
         let leaf_node_ptr = place_between(store, key, value, previous, next);
         let child = leaf_node_ptr.to_opaque();

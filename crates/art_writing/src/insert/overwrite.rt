@@ -12,7 +12,9 @@ ghost use Rattle.art_writing.specs.declared.writes.Direction.TheVariants.{Before
 ghost use Rattle.art_writing.specs.Overwritten.{IsOverwritePointIn};
 ghost use Rattle.art_writing.specs.declared.insert.PrefixInsertPoint.TheVariants as points;
 
-use super::{InsertParentNodeChange, InsertResult, OverwritePoint, PrefixInsertResult, Refused};
+use super::{
+    InsertParentNodeChange, InsertResult, OverwritePoint, PairRefused, PrefixInsertResult,
+};
 use crate::deallocate::deallocate_tree;
 use crate::writes::{Direction, links_beside, place_between, replace_at};
 use art_nodes::node::{AsBytes, OptionalLeafPtr};
@@ -26,7 +28,7 @@ impl OverwritePoint {
         store: &mut NodeStore<K, V, P>,
         key: K,
         value: V,
-    ) -> Result<PrefixInsertResult<K, V>, Refused<K, V>>
+    ) -> Result<PrefixInsertResult<K, V>, PairRefused<K, V>>
         requires inner { self.overwrite_point.kind ≢ Leaf }
         requires answers { IsOverwritePointIn (of_key K.bytes) P store.old (K.bytes key) self }
         ensures { IsPrefixApplied (of_key K.bytes) P store.old store.new
@@ -34,7 +36,7 @@ impl OverwritePoint {
     {
         let (previous, next) = self.links_around(store);
         if store.reserve(1, None).is_err() {
-            return Err(Refused { key, value });
+            return Err(PairRefused { key, value });
         }
         let leaf_node_ptr = place_between(store, key, value, previous, next);
         let new_root = replace_at(store, self.path, self.root, leaf_node_ptr.to_opaque());

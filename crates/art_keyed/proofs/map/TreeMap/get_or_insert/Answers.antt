@@ -1,20 +1,16 @@
 use Rattle.std.proofs.Common.{◌≡◌, ap, false, inr, subst}
-use Rattle.std.proofs.lemmas.Result.{err_from_is_err_and}
 use Rattle.art_model.specs.Pairs.{has_key, of_key}
-use Rattle.art_keyed.specs.KeyedRefusals.{IsHandedBack}
 use Rattle.art_keyed.proofs.Keyed.{put_keeps, refusal_told}
 use Rattle.art_keyed.proofs.map.TreeMap.get_or_insert.Goals as goal
 
 pub invariant_of-self-lent : goal.invariant_of-self-lent
 invariant_of-self-lent g c w = put_keeps g.row.V.Denot _ g.K.AsBytes.bytes c.args.key w c.self.inside.map c.as_key.ensures c.self.invariant
 
-pub returns-in_err-get_or_insert : goal.returns-in_err-get_or_insert
-returns-in_err-get_or_insert g c =
+pub returns-in-Err : goal.returns-in-Err
+returns-in-Err g c =
     let bytes = g.K.AsBytes.bytes in
-    let (refused, is, back) = err_from_is_err_and {Q = IsHandedBack c.in_err-get_or_insert.field-0.0} c.from_residual.result c.from_residual.ensures.1 in
     let told = refusal_told g.row.V.Denot _ bytes g.met.K.NoPrefixesBytes.no_prefixes c.args.key c.args.value c.self.inside.map
-    c.as_key.ensures c.self.invariant _ c.in_err-get_or_insert.ensures.refused refused back in
-    rw is (
+    c.as_key.ensures c.self.invariant _ c.in-Err.ensures.refused c.into_pair.result c.into_pair.ensures in (
       ap (λ s. inr s) c.self.view_is,
       record {
         writes_back = tt;
