@@ -1,6 +1,7 @@
 //! Maps and sets of keys that never conflict.
 #![tactic(auto)]
 
+mod escaped_bytes;
 pub mod laws;
 pub mod map;
 pub mod set;

@@ -35,7 +35,7 @@ module _ {A : Type 0} (bytes : A → List ℕ) (key part : List ℕ) (on_key : I
   across : (front : List ℕ) (b c : ℕ) → b ≢ c → IsFront (front ++ b ∷ []) (bytes x) →
       (IsFront (front ++ b ∷ []) key → IsFront (front ++ b ∷ []) (bytes y)) → IsFront (front ++ c ∷ []) (bytes y) → IsFront part (bytes y)
   across front b c other of_x goes of_y = elim (cases_lt (length front) (length part)) [
-    inl less ↦
+    | inl less ↦
         let count = length-append front (b ∷ []) in
         let also = goes (front_trans (front ++ b ∷ []) part key (front_of_fronts (front ++ b ∷ []) part (bytes x) of_x leads (omega arith)) on_key) in
         absurd (other (sym (byte_after front (bytes y) b also) ∙ byte_after front (bytes y) c of_y))
@@ -60,7 +60,7 @@ module _ {N A : Type 0} (bytes : A → List ℕ) (P : ℕ) (key part : List ℕ)
       Each (λ b. c < b) (bytes_of cs) → IsIn x (pairs_below cs) → IsFront (front ++ c ∷ []) (bytes y) → IsFront part (bytes y)
   from_later front c no_child h all up i of_y = absurd i
   from_later front c (child b t cs) h all up i of_y = elim (in_either x (pairs_of t) (pairs_below cs) i) [
-    inl own ↦
+    | inl own ↦
         across bytes key part on_key x y leads front b c (let less = up.0 in λ same. omega arith)
         (each_in (λ z. IsFront (front ++ b ∷ []) (bytes z)) x (pairs_of t) (radix_way bytes P t (front ++ b ∷ []) h.0) own)
         (at_child front b t h.0 (Each-left Goes (places bytes (length front + 1) t) (places_below bytes (length front + 1) cs) all)) of_y
@@ -72,7 +72,7 @@ module _ {N A : Type 0} (bytes : A → List ℕ) (P : ℕ) (key part : List ℕ)
       IsFront (front ++ b ∷ []) (bytes x) → (IsFront (front ++ b ∷ []) key → IsFront (front ++ b ∷ []) (bytes y)) → IsFront part (bytes y)
   to_later front b no_child h up i of_x goes = absurd i
   to_later front b (child c t cs) h up i of_x goes = elim (in_either y (pairs_of t) (pairs_below cs) i) [
-    inl own ↦
+    | inl own ↦
         across bytes key part on_key x y leads front b c (let less = up.0 in λ same. omega arith) of_x goes
         (each_in (λ z. IsFront (front ++ c ∷ []) (bytes z)) y (pairs_of t) (radix_way bytes P t (front ++ c ∷ []) h.0) own)
     | inr later ↦ to_later front b cs h.1 up.1 later of_x goes
@@ -99,13 +99,13 @@ module _ {N A : Type 0} (bytes : A → List ℕ) (P : ℕ) (key part : List ℕ)
         let others = Each-right Goes (places bytes d t) (places_below bytes d cs) all in
         let way = radix_way bytes P t (front ++ b ∷ []) h.0 in
         elim (in_either x (pairs_of t) (pairs_below cs) i) [
-          inl here ↦ elim (in_either y (pairs_of t) (pairs_below cs) j) [
-            inl too ↦ shared t (front ++ b ∷ []) h.0 (subst (λ n. Each Goes (places bytes n t)) (sym (length-append front (b ∷ []))) own) here too
+          | inl here ↦ elim (in_either y (pairs_of t) (pairs_below cs) j) [
+            | inl too ↦ shared t (front ++ b ∷ []) h.0 (subst (λ n. Each Goes (places bytes n t)) (sym (length-append front (b ∷ []))) own) here too
             | inr later ↦ to_later front b cs h.1 up.0 later (each_in (λ z. IsFront (front ++ b ∷ []) (bytes z)) x (pairs_of t) way here)
                 (at_child front b t h.0 own)
           ]
           | inr later ↦ elim (in_either y (pairs_of t) (pairs_below cs) j) [
-            inl here ↦ from_later front b cs h.1 others up.0 later (each_in (λ z. IsFront (front ++ b ∷ []) (bytes z)) y (pairs_of t) way here)
+            | inl here ↦ from_later front b cs h.1 others up.0 later (each_in (λ z. IsFront (front ++ b ∷ []) (bytes z)) y (pairs_of t) way here)
             | inr too ↦ shared_below cs front h.1 up.1 others later too
           ]
         ]
@@ -129,7 +129,7 @@ module _ (own key : List ℕ) where
       let long : length (take (len + 1) own) ≡ len + 1 = omega (arith, length-take {A = ℕ}) in
       let one : len + 1 ≡ suc len = omega arith in
       let taken : take (len + 1) own ≡ take len own ++ end ∷ [] =
-          ap (λ n. take n own) one ∙ take-suc own len 0 less ∙ ap (λ b. take len own ++ b ∷ []) same in
+      ap (λ n. take n own) one ∙ take-suc own len 0 less ∙ ap (λ b. take len own ++ b ∷ []) same in
       let on = subst (λ z. IsFront z key) (sym taken) front in
       let within = slice_get_within key (len + 1) next is in
       let byte : get_or key (length (take (len + 1) own)) 0 ≡ next = ap (λ n. get_or key n 0) long ∙ get_or_from_slice_get key (len + 1) next 0 is in
@@ -176,7 +176,7 @@ module _ {K V : Type 0} {s : Nodes K V} {bytes : K × V → List ℕ} {P : ℕ} 
       record {
         prefix = on;
         alone = elim either [
-          inl whole ↦ inl whole
+          | inl whole ↦ inl whole
           | inr off ↦ inr (none_starts query on (subst (λ z. IsFront query z → ⊥) own_is off))
         ];
       }

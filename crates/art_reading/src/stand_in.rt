@@ -25,11 +25,12 @@ pub fn stand_in_unchecked<'a, B: KeyBytes, K: AsBytes + Drop, V: Drop, const P: 
         IsStandIn (of_key K.bytes) (B.key bytes) pairs (result.text.now ++ result.end ∷ [])) }
 {
     let (guide, _) = find_guide(store, root, bytes, root, 0);
-    shared_and_next(store.leaf_at(guide).key.as_bytes(), bytes)
+    query_beside(store.leaf_at(guide).key.as_bytes(), bytes)
 }
 
-// The bytes that a key shares with others, and the next of the others: the last one, if all are shared.
-fn shared_and_next<'a, B: KeyBytes>(key: &'a [u8], mut bytes: B) -> EndedQuery<'a>
+/// Returns the query of the bytes that a key shares with others, and of the byte after them, or the last one if all are
+/// shared.
+pub fn query_beside<'a, B: KeyBytes>(key: &'a [u8], mut bytes: B) -> EndedQuery<'a>
     requires { 0 < length (B.key bytes) }
     ensures prefix { IsFront (result.text.now ++ result.end ∷ []) (B.key bytes) }
     ensures alone { (result.text.now ++ result.end ∷ [] ≡ B.key bytes)

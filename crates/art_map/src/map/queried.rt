@@ -1,15 +1,17 @@
 //! Calls of a map by a key that is not built, such as a text and the byte that ends it.
-ghost use Rattle.std.specs.Prelude.{◌≡◌, option_copied};
+ghost use Rattle.std.specs.Prelude.{◌≡◌, ◌<◌, [], ◌∷◌, ◌++◌, length, option_copied};
 ghost use Rattle.std.specs.Borrow.{sem};
 ghost use Rattle.std.specs.Option.{option_copied_mut, option_map};
 ghost use Rattle.art_model.specs.Pairs.{IsMap, first_of, has_key, of_key, remove_key, remove_reply, with_key};
 ghost use Rattle.art_map.specs.MapAnswers.{value_at};
 ghost use Rattle.art_map.specs.MapItems.{deref_pair};
 ghost use Rattle.art_map.specs.MapLends.{lends_value};
+ghost use Rattle.art_reading.specs.StandIns.{IsStandIn};
 
 use super::{ByteMap, take_key};
 use art_nodes::node::AsBytes;
-use art_reading::lookup::{Asked, KeyQuery, find_unchecked, search_for};
+use art_reading::lookup::{Asked, EndedQuery, KeyBytes, KeyQuery, find_unchecked, search_for};
+use art_reading::stand_in::{query_beside, stand_in_unchecked};
 
 impl<K: AsBytes + Drop, V: Drop, const P: usize> ByteMap<K, V, P> {
     /// Returns the value of the key that is asked for, or `None` if it is not stored. It costs what `get` does.
@@ -46,6 +48,20 @@ impl<K: AsBytes + Drop, V: Drop, const P: usize> ByteMap<K, V, P> {
         ensures { result ≡ has_key (of_key K.bytes) (Q.key query) self.now }
     {
         self.get_by(query).is_some()
+    }
+
+    /// Returns a query that stands for bytes which are in no slice: a prefix of them, which is the whole, or with which
+    /// no stored key starts. It costs two lookups, and allocates nothing.
+    pub fn stand_in<B: KeyBytes>(&self, bytes: B) -> EndedQuery<'_>
+        requires { 0 < length (B.key bytes) }
+        ensures query { IsStandIn (of_key K.bytes) (B.key bytes) self.now
+            (result.text.now ++ result.end ∷ []) }
+        ensures sorted { IsMap (of_key K.bytes) self.now }
+    {
+        match self.root {
+            Some(root) => stand_in_unchecked(&self.store, root, bytes),
+            None => query_beside(&[], bytes),
+        }
     }
 
     /// Removes the pair of the key that is asked for, and returns it; `None` if it is not stored. It never fails. It

@@ -16,4 +16,4 @@ leaf_at-requires g c =
 pub returns : goal.returns
 returns g c pairs layout by =
     stands_in by (c.find_guide.ensures.guide pairs layout by) (sym c.leaf_at.ensures) c.as_bytes.ensures
-    (c.shared_and_next.result.text.now ++ c.shared_and_next.result.end ∷ []) c.shared_and_next.ensures.prefix c.shared_and_next.ensures.alone
+    (c.query_beside.result.text.now ++ c.query_beside.result.end ∷ []) c.query_beside.ensures.prefix c.query_beside.ensures.alone

@@ -1,6 +1,6 @@
 use Rattle.std.proofs.Common.{◌≡◌, ◌-◌, ◌≤◌, [], ◌∷◌, ◌++◌, length, take}
 use Rattle.art_model.specs.Keys.{IsFront}
-use Rattle.art_reading.proofs.stand_in.shared_and_next.Given as goal
+use Rattle.art_reading.proofs.stand_in.query_beside.Given as goal
 
 abbrev pub invariant-loop-len : goal.invariant-loop-len
 invariant-loop-len g l = record {

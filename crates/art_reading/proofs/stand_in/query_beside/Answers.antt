@@ -1,8 +1,8 @@
 use Rattle.std.proofs.Common.{arith, inl, inr, ap, sym, ◌∙◌, slice_get, ◌+◌}
 use Rattle.art_reading.proofs.StandIns.{all_taken, first_byte, next_byte, other_own, own_ends}
 use Rattle.art_reading.proofs.Guides.{past}
-use Rattle.art_reading.proofs.stand_in.shared_and_next.Goals as goal
-use Rattle.art_reading.proofs.stand_in.shared_and_next.Goals.{then-loop-len-test+else-key-len, else-loop-len-test, then-loop-len-test+then-key-len+in_default}
+use Rattle.art_reading.proofs.stand_in.query_beside.Goals as goal
+use Rattle.art_reading.proofs.stand_in.query_beside.Goals.{then-loop-len-test+else-key-len, else-loop-len-test, then-loop-len-test+then-key-len+in_default}
 
 pub loop-len-init : goal.loop-len-init
 loop-len-init g c = record {
@@ -22,7 +22,7 @@ loop-len-preserved g c = record {
 
 pub returns-clause-alone : goal.returns-clause-alone
 returns-clause-alone g c = elim c.loop-len-test.branch [
-  then-loop-len-test+else-key-len w ↦ inr (other_own c.args.key.now (g.B.KeyBytes.key c.args.bytes) c.loop-len.len c.loop-len.end w.loop-len-test.true w.if-key-len.false)
+  | then-loop-len-test+else-key-len w ↦ inr (other_own c.args.key.now (g.B.KeyBytes.key c.args.bytes) c.loop-len.len c.loop-len.end w.loop-len-test.true w.if-key-len.false)
   | else-loop-len-test w ↦ inr (own_ends c.args.key.now (g.B.KeyBytes.key c.args.bytes) c.loop-len.len c.loop-len.end (let past = w.loop-len-test.false in omega arith) c.loop-len.invariant.within)
   | then-loop-len-test+then-key-len+in_default w ↦
       inl (all_taken c.args.key.now (g.B.KeyBytes.key c.args.bytes) c.loop-len.len c.loop-len.end c.loop-len.invariant.within c.loop-len.invariant.front
