@@ -1,6 +1,5 @@
 -- the descent to a leaf by a key's bytes, and how such a leaf relates to a node on the key's path
-use Rattle.std.proofs.Common.{◌≡◌, ◌≢◌, ℕ, ◌+◌, ◌<◌, ◌≤◌, List, [], ◌∷◌, ◌++◌, ◌⊎◌, length, get_or, slice_get, filter, refl, ap, sym, ◌∙◌, arith, subst, length-append, append-nil, IsSome, Some, None, true, false, Bool, cond, inl, inr}
-use Rattle.std.proofs.lemmas.Option.{slice_get_cases}
+use Rattle.std.proofs.Common.{◌≡◌, ◌≢◌, ℕ, ◌+◌, ◌<◌, ◌≤◌, List, [], ◌∷◌, ◌++◌, length, get_or, filter, refl, ap, sym, ◌∙◌, arith, subst, length-append, append-nil, IsSome, Some, None, true, false, Bool, cond, inl, inr}
 use Rattle.std.specs.Bool.{⊤}
 use Rattle.std.specs.List.{AllByRecursion as Each}
 use Rattle.std.specs.FinMap as map
@@ -41,14 +40,6 @@ use Rattle.art_reading.specs.Guides.{AllGuide, GoesAlong, IsGuide}
 use Rattle.art_reading.specs.PartEnds.{StandsBetween}
 use Rattle.art_reading.specs.declared.path.TreePath.{TreePath}
 use Rattle.art_reading.proofs.Parts.{node_full, node_holds}
-
--- the key has no byte at a place
-pub past : (xs : List ℕ) (i : ℕ) → slice_get xs i ≡ None → length xs ≤ i
-past xs i none = go (slice_get_cases xs i).1
-  where
-    go : ((x : ℕ) × (i < length xs) × (slice_get xs i ≡ Some x) × (get_or xs i x ≡ x)) ⊎ ((length xs ≤ i) × (slice_get xs i ≡ None)) → length xs ≤ i
-    go (inl (x, less, some, get)) = absurd cc
-    go (inr (ended, also)) = ended
 
 -- where a node's place is a prefix of the key, it is one of the other key too
 abbrev pub GoesToo : {N : Type 0} → List ℕ → List ℕ → (List ℕ × N) → Type 0

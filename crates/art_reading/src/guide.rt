@@ -1,5 +1,5 @@
 //! The guide leaf of a search, from which it reads each prefix that is not stored whole.
-ghost use Rattle.std.specs.Prelude.{◌+◌, ◌≤◌};
+ghost use Rattle.std.specs.Prelude.{◌≡◌, ◌+◌, ◌≤◌};
 ghost use Rattle.art_parts.specs.declared.names.OpaqueNodePtr.{OpaqueNodePtr};
 ghost use Rattle.art_model.specs.Pairs.{of_key};
 ghost use Rattle.art_model.specs.Roots.{ForTree, IsCanonicalRoot};
@@ -20,7 +20,7 @@ use art_nodes::store::NodeStore;
 /// A descent finds it, without comparing a prefix. The leaf serves for the whole path, so that a search makes this
 /// descent once.
 #[inline(always)]
-pub(crate) fn guide_from<B: KeyBytes, K: AsBytes + Drop, V: Drop, const P: usize>(
+pub(crate) fn guide_from<B: KeyBytes + Copy, K: AsBytes + Drop, V: Drop, const P: usize>(
     store: &NodeStore<K, V, P>,
     root: OpaqueNodePtr,
     key_bytes: B,
@@ -42,7 +42,8 @@ pub(crate) fn guide_from<B: KeyBytes, K: AsBytes + Drop, V: Drop, const P: usize
     match known {
         Some(leaf) => leaf,
         None => {
-            let (leaf, more) = find_guide(store, root, key_bytes, name, depth);
+            let mut bytes = key_bytes;
+            let (leaf, more) = find_guide(store, root, &mut bytes, name, depth);
             visits.add(more);
             leaf
         }
@@ -55,15 +56,16 @@ pub(crate) fn guide_from<B: KeyBytes, K: AsBytes + Drop, V: Drop, const P: usize
 pub(crate) fn find_guide<B: KeyBytes, K: AsBytes + Drop, V: Drop, const P: usize>(
     store: &NodeStore<K, V, P>,
     root: OpaqueNodePtr,
-    key_bytes: B,
+    key_bytes: &mut B,
     name: OpaqueNodePtr,
     depth: usize,
 ) -> (LeafPtr, Visits)
     requires root { IsCanonicalRoot (of_key K.bytes) P store.now root }
     requires at { ForTree (of_key K.bytes) P store.now root (λ pairs layout.
-        (path : TreePath) × IsAt (of_key K.bytes) P (B.key key_bytes) layout path name depth) }
+        (path : TreePath) × IsAt (of_key K.bytes) P (B.key key_bytes.old) layout path name depth) }
     ensures guide { ForTree (of_key K.bytes) P store.now root (λ pairs layout.
-        IsGuide (of_key K.bytes) (B.key key_bytes) layout result.0) }
+        IsGuide (of_key K.bytes) (B.key key_bytes.old) layout result.0) }
+    ensures same { B.key key_bytes.new ≡ B.key key_bytes.old }
     ensures visits { result.1 ≤ levels store.now root + 1 }
 {
     let mut visits = Visits::new();
@@ -79,7 +81,7 @@ pub(crate) fn find_guide<B: KeyBytes, K: AsBytes + Drop, V: Drop, const P: usize
 fn walk_by_places<B: KeyBytes, K: AsBytes + Drop, V: Drop, const P: usize>(
     store: &NodeStore<K, V, P>,
     root: OpaqueNodePtr,
-    mut key_bytes: B,
+    key_bytes: &mut B,
     start: OpaqueNodePtr,
     start_depth: usize,
     visits: &mut Visits,
@@ -87,10 +89,11 @@ fn walk_by_places<B: KeyBytes, K: AsBytes + Drop, V: Drop, const P: usize>(
     requires root { IsCanonicalRoot (of_key K.bytes) P store.now root }
     requires at { ForTree (of_key K.bytes) P store.now root (λ pairs layout.
         (path : TreePath) ×
-        IsAt (of_key K.bytes) P (B.key key_bytes) layout path start start_depth) }
+        IsAt (of_key K.bytes) P (B.key key_bytes.old) layout path start start_depth) }
     ensures visits { visits.new + levels store.now result ≤ visits.old + levels store.now root + 1 }
     ensures all { ForTree (of_key K.bytes) P store.now root (λ pairs layout.
-        AllGuide (of_key K.bytes) (B.key key_bytes) layout result) }
+        AllGuide (of_key K.bytes) (B.key key_bytes.old) layout result) }
+    ensures same { B.key key_bytes.new ≡ B.key key_bytes.old }
 {
     let mut name = start;
     let mut depth = start_depth;

@@ -17,12 +17,12 @@ use art_nodes::store::NodeStore;
 pub fn stand_in_unchecked<'a, B: KeyBytes, K: AsBytes + Drop, V: Drop, const P: usize>(
     store: &'a NodeStore<K, V, P>,
     root: OpaqueNodePtr,
-    bytes: B,
+    bytes: &mut B,
 ) -> EndedQuery<'a>
     requires root { IsCanonicalRoot (of_key K.bytes) P store.now root }
-    requires some { 0 < length (B.key bytes) }
+    requires some { 0 < length (B.key bytes.old) }
     ensures { ForTree (of_key K.bytes) P store.now root (λ pairs _.
-        IsStandIn (of_key K.bytes) (B.key bytes) pairs (result.text.now ++ result.end ∷ [])) }
+        IsStandIn (of_key K.bytes) (B.key bytes.old) pairs (result.text.now ++ result.end ∷ [])) }
 {
     let (guide, _) = find_guide(store, root, bytes, root, 0);
     query_beside(store.leaf_at(guide).key.as_bytes(), bytes)
@@ -30,10 +30,10 @@ pub fn stand_in_unchecked<'a, B: KeyBytes, K: AsBytes + Drop, V: Drop, const P: 
 
 /// Returns the query of the bytes that a key shares with others, and of the byte after them, or the last one if all are
 /// shared.
-pub fn query_beside<'a, B: KeyBytes>(key: &'a [u8], mut bytes: B) -> EndedQuery<'a>
-    requires { 0 < length (B.key bytes) }
-    ensures prefix { IsFront (result.text.now ++ result.end ∷ []) (B.key bytes) }
-    ensures alone { (result.text.now ++ result.end ∷ [] ≡ B.key bytes)
+pub fn query_beside<'a, B: KeyBytes>(key: &'a [u8], bytes: &mut B) -> EndedQuery<'a>
+    requires { 0 < length (B.key bytes.old) }
+    ensures prefix { IsFront (result.text.now ++ result.end ∷ []) (B.key bytes.old) }
+    ensures alone { (result.text.now ++ result.end ∷ [] ≡ B.key bytes.old)
         ⊎ (IsFront (result.text.now ++ result.end ∷ []) key.now → ⊥) }
 {
     let mut len = 0;

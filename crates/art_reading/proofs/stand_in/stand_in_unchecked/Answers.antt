@@ -1,4 +1,5 @@
-use Rattle.std.proofs.Common.{rules, sym, ◌∷◌, ◌++◌, []}
+use Rattle.std.proofs.Common.{rules, subst, sym, ◌≡◌, ◌⊎◌, ◌∷◌, ◌++◌, []}
+use Rattle.art_model.specs.Keys.{IsFront}
 use Rattle.art_reading.proofs.EndNodes.{start}
 use Rattle.art_reading.proofs.Guides.{guide_there}
 use Rattle.art_reading.proofs.StandIns.{stands_in}
@@ -6,7 +7,7 @@ use Rattle.art_reading.proofs.stand_in.stand_in_unchecked.Goals as goal
 
 pub find_guide-requires : goal.find_guide-requires
 find_guide-requires g c =
-    (search rules, (c.requires.root, λ pairs layout by. (_, start by (g.B.KeyBytes.key c.args.bytes))))
+    (search rules, (c.requires.root, λ pairs layout by. (_, start by (g.B.KeyBytes.key c.args.bytes.now))))
 
 pub leaf_at-requires : goal.leaf_at-requires
 leaf_at-requires g c =
@@ -15,5 +16,8 @@ leaf_at-requires g c =
 
 pub returns : goal.returns
 returns g c pairs layout by =
-    stands_in by (c.find_guide.ensures.guide pairs layout by) (sym c.leaf_at.ensures) c.as_bytes.ensures
-    (c.query_beside.result.text.now ++ c.query_beside.result.end ∷ []) c.query_beside.ensures.prefix c.query_beside.ensures.alone
+    let query = c.query_beside.result.text.now ++ c.query_beside.result.end ∷ [] in
+    let own = c.as_bytes.result.now in
+    stands_in by (c.find_guide.ensures.guide pairs layout by) (sym c.leaf_at.ensures) c.as_bytes.ensures query
+    (subst (IsFront query) c.find_guide.ensures.same c.query_beside.ensures.prefix)
+    (subst (λ key. (query ≡ key) ⊎ (IsFront query own → ⊥)) c.find_guide.ensures.same c.query_beside.ensures.alone)
