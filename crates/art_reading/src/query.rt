@@ -14,7 +14,8 @@ pub trait KeyBytes {
     /// The bytes.
     ghost key: { Self → List ℕ };
 
-    /// Returns the byte that stands `skipped` places after a place, or `None` if there are no more bytes there.
+    /// Returns the byte that stands `skipped` places after a place, or `None` if there are no more bytes there. A type
+    /// may be slow where the places don't rise.
     fn byte_after(&mut self, place: usize, skipped: usize) -> Option<u8>
         requires { place ≤ length (key self.old) }
         ensures byte { result ≡ slice_get (key self.old) (place + skipped) }
