@@ -1,6 +1,8 @@
 pub mod Keyed
 pub mod KeyedLaws
 pub mod Between
+pub mod EscapedBytes
+pub mod StandIns
 pub mod Retained
 pub mod Parted
 pub mod Fronts

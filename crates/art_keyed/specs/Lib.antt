@@ -6,6 +6,7 @@ pub mod KeyedParts
 pub mod Matches
 pub mod SetClones
 pub mod TextCalls
+pub mod EscapedBytes
 pub mod TextLends
 pub mod KeyedExtract
 pub mod KeyedSeconds

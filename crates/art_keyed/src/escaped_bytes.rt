@@ -1,14 +1,14 @@
 //! The bytes of the `Escaped` key of a text, made from the text as they are read.
 ghost use Rattle.std.specs.Prelude.{◌≡◌, List, ℕ, drop, length, slice_get, Some};
 ghost use Rattle.std.specs.Bool.{OnFalse, OnTrue};
-ghost use Rattle.std.specs.List.{cons_option};
 ghost use Rattle.art_keys.specs.Escapes.{escape};
+ghost use Rattle.art_keyed.specs.EscapedBytes.{left_of};
 
 use art_reading::lookup::KeyBytes;
 use std::marker::Model;
 
 /// The bytes of the key of a text. In contracts it is these bytes.
-#[derive(Clone, Copy)]
+#[derive(Drop)]
 pub(crate) struct EscapedBytes<'t> {
     text: &'t [u8],
     // How many bytes were passed over, and those after them.
@@ -19,12 +19,14 @@ pub(crate) struct EscapedBytes<'t> {
 impl<'t> Model for EscapedBytes<'t> {
     ghost use Rattle.std.specs.Prelude.{◌≡◌, List, ℕ, drop};
     ghost use Rattle.art_keys.specs.Escapes.{escape};
+    ghost use Rattle.art_keyed.specs.EscapedBytes.{left_of};
 
     ghost Value = { List ℕ };
 
     ghost view = { λ bytes. escape bytes.text.now };
 
-    ghost invariant = { λ bytes. bytes.left ≡ drop bytes.place (escape bytes.text.now) };
+    ghost invariant = { λ bytes.
+        left_of bytes.left ≡ drop bytes.place (escape bytes.text.now) };
 }
 
 impl<'t> EscapedBytes<'t> {
@@ -71,27 +73,17 @@ struct Left<'t> {
     text: &'t [u8],
 }
 
-impl<'t> Model for Left<'t> {
-    ghost use Rattle.std.specs.Prelude.{List, ℕ};
-    ghost use Rattle.std.specs.List.{cons_option};
-    ghost use Rattle.art_keys.specs.Escapes.{escape};
-
-    ghost Value = { List ℕ };
-
-    ghost view = { λ left. cons_option left.half (escape left.text.now) };
-}
-
 impl<'t> Left<'t> {
     // Returns all bytes of the key of a text.
     fn new(text: &'t [u8]) -> Self
-        ensures { result ≡ escape text.now }
+        ensures { left_of result ≡ escape text.now }
     {
         Left { half: None, text }
     }
 
     // Returns the first byte.
-    fn first(self) -> u8
-        ensures { slice_get self 0 ≡ Some result }
+    fn first(&self) -> u8
+        ensures { slice_get (left_of self.now) 0 ≡ Some result }
     {
         if let Some(half) = self.half {
             return half;
@@ -105,8 +97,8 @@ impl<'t> Left<'t> {
 
     // Passes over the first byte, and returns whether it did: the last one is not passed over.
     fn pass(&mut self) -> bool
-        ensures passed { OnTrue result (self.new ≡ drop 1 self.old) }
-        ensures last { OnFalse result (length self.old ≡ 1) }
+        ensures passed { OnTrue result (left_of self.new ≡ drop 1 (left_of self.old)) }
+        ensures last { OnFalse result (length (left_of self.old) ≡ 1) }
     {
         if self.half.is_some() {
             self.half = None;
