@@ -1,0 +1,35 @@
+-- the bytes of an escaped text from a place on
+use Rattle.std.proofs.Common.{◌≡◌, ℕ, zero, suc, ◌+◌, ◌*◌, ◌<◌, ◌≤◌, List, [], ◌∷◌, ◌++◌, length, drop, slice_get, Some, None, ap, arith, sym, ◌∙◌, length-append, length-drop, drop-drop, get_or, get_or-drop}
+use Rattle.std.proofs.lemmas.Option.{get_or_from_slice_get, slice_get-get_or, slice_get_past, slice_get_within}
+use Rattle.art_keys.specs.Escapes.{escape, escape_byte}
+
+-- a byte is escaped as two at most
+byte_long : (byte : ℕ) → length (escape_byte byte) ≤ 2
+byte_long zero = omega arith
+byte_long (suc zero) = omega arith
+byte_long (suc (suc n)) = omega arith
+
+pub escape_long : (text : List ℕ) → length (escape text) ≤ 2 * length text + 1
+escape_long [] = omega arith
+escape_long (byte ∷ text) =
+    let rest = escape_long text in
+    let first = byte_long byte in
+    let both = length-append (escape_byte byte) (escape text) in
+    omega arith
+
+-- the last byte is passed
+pub past_last : (key : List ℕ) (at place : ℕ) → length (drop at key) ≡ 1 → at < place → slice_get key place ≡ None
+past_last key at place one less = slice_get_past key place (let count = length-drop at key in omega arith)
+
+-- a further byte is passed
+pub passed_on : (key : List ℕ) (at : ℕ) → drop 1 (drop at key) ≡ drop (at + 1) key
+passed_on key at = drop-drop 1 at key ∙ ap (λ n. drop n key) (omega arith)
+
+-- the first byte that is left
+pub first_left : (key : List ℕ) (at place byte : ℕ) → at ≡ place → slice_get (drop at key) 0 ≡ Some byte → slice_get key place ≡ Some byte
+first_left key at place byte same is =
+    let inside = slice_get_within (drop at key) 0 byte is in
+    let count = length-drop at key in
+    let get : get_or key at 0 ≡ byte =
+        ap (λ n. get_or key n 0) (omega arith) ∙ sym (get_or-drop at key 0 0) ∙ get_or_from_slice_get (drop at key) 0 byte 0 is in
+    ap (slice_get key) (sym same) ∙ slice_get-get_or key at 0 (omega arith) ∙ ap Some get

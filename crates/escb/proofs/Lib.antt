@@ -1,0 +1,3 @@
+pub mod Between
+pub mod EscapedBytes
+pub mod StandIns
