@@ -15,9 +15,10 @@ use Rattle.art_model.specs.Parts.{below, between, is_between, is_from, is_up_to}
 use Rattle.art_model.specs.Texts.{text_of, texts_in_front}
 use Rattle.art_model.proofs.keys.Keys.{front_from}
 use Rattle.art_model.proofs.keys.Texts.{ended_text, front_of_fronts, goes_within, not_front, true_front}
-use Rattle.art_model.proofs.lists.Lists.{Each-right, Each-weaker, filter_none, front_trans}
+use Rattle.art_model.proofs.lists.Lists.{Each-right, Each-weaker, filter_none, front_cut, front_trans}
 use Rattle.art_reading.specs.StandIns.{IsStandIn}
 use Rattle.art_reading.proofs.Sides.{apart_left, apart_right}
+use Rattle.art_keyed.specs.TextCalls.{IsBoundFor}
 use Rattle.art_keyed.proofs.Between.{filter_same}
 
 module _ {A : Type 0} (test : A → Bool) where
@@ -78,6 +79,49 @@ module _ {A : Type 0} (bytes : A → List ℕ) {key query : List ℕ} {pairs : L
       each_same [] = tt
       each_same (x ∷ xs) = ((refl, refl), each_same xs)
 
+module _ {A : Type 0} (bytes : A → List ℕ) (pairs : List A) where
+  from_same : (from query : Bound (List ℕ)) → IsBoundFor bytes pairs from query → Each (λ x. is_from query (bytes x) ≡ is_from from (bytes x)) pairs
+  from_same (Included key) (Included query) s = Each-weaker _ _ (λ x h. ap not h.0) pairs (same_sides bytes s)
+  from_same (Excluded key) (Excluded query) s = Each-weaker _ _ (λ x h. h.1) pairs (same_sides bytes s)
+  from_same (Included key) (Excluded query) s = absurd s
+  from_same (Included key) Unbounded s = absurd s
+  from_same (Excluded key) (Included query) s = absurd s
+  from_same (Excluded key) Unbounded s = absurd s
+  from_same Unbounded (Included query) s = absurd s
+  from_same Unbounded (Excluded query) s = absurd s
+  from_same Unbounded Unbounded s = each_true pairs
+    where
+      each_true : (xs : List A) → Each (λ x. is_from Unbounded (bytes x) ≡ is_from Unbounded (bytes x)) xs
+      each_true [] = tt
+      each_true (x ∷ xs) = (refl, each_true xs)
+
+  up_to_same : (to query : Bound (List ℕ)) → IsBoundFor bytes pairs to query → Each (λ x. is_up_to query (bytes x) ≡ is_up_to to (bytes x)) pairs
+  up_to_same (Included key) (Included query) s = Each-weaker _ _ (λ x h. ap not h.1) pairs (same_sides bytes s)
+  up_to_same (Excluded key) (Excluded query) s = Each-weaker _ _ (λ x h. h.0) pairs (same_sides bytes s)
+  up_to_same (Included key) (Excluded query) s = absurd s
+  up_to_same (Included key) Unbounded s = absurd s
+  up_to_same (Excluded key) (Included query) s = absurd s
+  up_to_same (Excluded key) Unbounded s = absurd s
+  up_to_same Unbounded (Included query) s = absurd s
+  up_to_same Unbounded (Excluded query) s = absurd s
+  up_to_same Unbounded Unbounded s = each_true pairs
+    where
+      each_true : (xs : List A) → Each (λ x. is_up_to Unbounded (bytes x) ≡ is_up_to Unbounded (bytes x)) xs
+      each_true [] = tt
+      each_true (x ∷ xs) = (refl, each_true xs)
+
+  -- the pairs between two bounds are those between the bounds that stand for them
+  pub same_between : (from to low high : Bound (List ℕ)) → IsBoundFor bytes pairs from low → IsBoundFor bytes pairs to high →
+      between bytes low high pairs ≡ between bytes from to pairs
+  same_between from to low high for_from for_to =
+      filter_same (λ x. (is_from low (bytes x) ≡ is_from from (bytes x)) × (is_up_to high (bytes x) ≡ is_up_to to (bytes x))) _ _
+      (λ x h. ap₂ (λ a b. a && b) h.0 h.1) pairs (each_both pairs (from_same from low for_from) (up_to_same to high for_to))
+    where
+      each_both : (xs : List A) → Each (λ x. is_from low (bytes x) ≡ is_from from (bytes x)) xs → Each (λ x. is_up_to high (bytes x) ≡ is_up_to to (bytes x)) xs →
+          Each (λ x. (is_from low (bytes x) ≡ is_from from (bytes x)) × (is_up_to high (bytes x) ≡ is_up_to to (bytes x))) xs
+      each_both [] l h = tt
+      each_both (x ∷ xs) l h = ((l.0, h.0), each_both xs l.1 h.1)
+
 -- a query that stands for the key of a text
 module _ {V : Type 0} (text front : List ℕ) (end : ℕ) {pairs : List (List ℕ × V)}
     (s : IsStandIn (of_key escape) (escape text) pairs (front ++ end ∷ [])) where
@@ -117,3 +161,41 @@ module _ {V : Type 0} (text front : List ℕ) (end : ℕ) {pairs : List (List �
       (Each-weaker (λ x. is_front (front ++ end ∷ []) (escape x.0) ≡ false) (λ x. is_front (escape_inside text) (escape x.0) ≡ false)
       (λ x off. not_front (escape_inside text) (escape x.0) (λ f.
       false≢true (sym off ∙ true_front (front ++ end ∷ []) (escape x.0) (front_trans (front ++ end ∷ []) (escape_inside text) (escape x.0) within f)))) pairs none)
+
+  -- strings are prefixes of the text exactly if, escaped, they are prefixes of the query
+  pub same_fronts : texts_in_front (of_key escape) front pairs ≡ texts_in_front (of_key escape) (escape_inside text) pairs
+  same_fronts = elim ends [
+    inl (same, zero) ↦ ap (λ z. texts_in_front (of_key escape) z pairs) (sym same)
+    | inr within ↦ elim s.alone [
+      inl whole ↦ ap (λ z. texts_in_front (of_key escape) z pairs) (snoc_same front (escape_inside text) end 0 (whole ∙ escape_is text)).0
+      | inr none ↦
+          filter_same (λ x. is_front (front ++ end ∷ []) (escape x.0) ≡ false) _ _ (λ x off. front_same within x.0 off) pairs
+          (none_passes (λ x. is_front (front ++ end ∷ []) (escape x.0)) pairs none)
+    ]
+  ]
+    where
+      inside_of : (string : List ℕ) → without_last (escape string) ≡ escape_inside string
+      inside_of string = ap without_last (escape_is string) ∙ ended_text (escape_inside string) 0
+
+      shorter : IsFront (front ++ end ∷ []) (escape_inside text) → (string : List ℕ) → is_front (front ++ end ∷ []) (escape string) ≡ false →
+          IsFront (escape_inside string) (escape_inside text) → IsFront (escape_inside string) front
+      shorter within string off leads =
+          let count = length-append front (end ∷ []) in
+          elim (cases_lt (length front) (length (escape_inside string))) [
+            inl less ↦
+                let query = front_of_fronts (front ++ end ∷ []) (escape_inside string) (escape_inside text) within leads (omega arith) in
+                absurd (false≢true (sym off ∙ true_front (front ++ end ∷ []) (escape string)
+                (front_trans (front ++ end ∷ []) (escape_inside string) (escape string) query (0 ∷ [], escape_is string))))
+            | inr short ↦ front_of_fronts (escape_inside string) front (escape_inside text) leads (front_cut front (end ∷ []) (escape_inside text) within) short
+          ]
+
+      front_same : IsFront (front ++ end ∷ []) (escape_inside text) → (string : List ℕ) → is_front (front ++ end ∷ []) (escape string) ≡ false →
+          is_front (without_last (escape string)) front ≡ is_front (without_last (escape string)) (escape_inside text)
+      front_same within string off = rw (inside_of string) (both (is_front (escape_inside string) front) refl)
+        where
+          both : (t : Bool) → is_front (escape_inside string) front ≡ t → t ≡ is_front (escape_inside string) (escape_inside text)
+          both true e = sym (true_front (escape_inside string) (escape_inside text)
+              (front_trans (escape_inside string) front (escape_inside text) (front_from (escape_inside string) front e)
+              (front_cut front (end ∷ []) (escape_inside text) within)))
+          both false e = sym (not_front (escape_inside string) (escape_inside text) (λ leads.
+              false≢true (sym e ∙ true_front (escape_inside string) front (shorter within string off leads))))

@@ -1,7 +1,10 @@
 -- What calls by a text return, and the pairs after them.
-use Rattle.std.specs.Prelude.{◌≡◌, ℕ, List, [], Some, None}
+use Rattle.std.specs.Prelude.{◌≡◌, ℕ, List, [], Some, None, ⊤}
+use Rattle.std.specs.declared.ops.Bound.{Bound}
+use Rattle.std.specs.declared.ops.Bound.TheVariants.{Included, Excluded, Unbounded}
 use Rattle.art_keys.specs.Ended.{HasNoZero}
 use Rattle.art_model.specs.Pairs.{last_of, of_key, remove_key}
+use Rattle.art_reading.specs.StandIns.{IsStandIn}
 use Rattle.art_keyed.specs.KeyedPairs.{strings_in_front}
 use Rattle.art_keyed.specs.declared.map.texts.TextRefused.{TextRefused}
 use Rattle.art_keyed.specs.declared.map.texts.TextRefused.TheVariants.{InnerZero, Memory}
@@ -20,3 +23,10 @@ module _ {K V : Type 0} (bytes text : K → List ℕ) (string : List ℕ) where
   abbrev pub without_longest : List (K × V) → List (K × V)
   without_longest pairs =
       elim (last_of (strings_in_front text string pairs)) [ None ↦ pairs | Some pair ↦ remove_key (of_key bytes) (bytes pair.0) pairs ]
+
+-- the bound of a query that stands for the key of another bound
+abbrev pub IsBoundFor : {A : Type 0} → (A → List ℕ) → List A → Bound (List ℕ) → Bound (List ℕ) → Type 0
+IsBoundFor bytes pairs (Included key) (Included query) = IsStandIn bytes key pairs query
+IsBoundFor bytes pairs (Excluded key) (Excluded query) = IsStandIn bytes key pairs query
+IsBoundFor bytes pairs Unbounded Unbounded = ⊤
+IsBoundFor bytes pairs bound other = ⊥

@@ -1,5 +1,5 @@
 //! Calls of maps of strings by a text, for which no key is made.
-ghost use Rattle.std.specs.Prelude.{◌≡◌, ◌<◌, ◌^◌, length, false, IfErr, IfOk, OnErr, option_copied};
+ghost use Rattle.std.specs.Prelude.{◌≡◌, ◌<◌, ◌^◌, [], ◌∷◌, ◌++◌, length, false, IfErr, IfOk, OnErr, option_copied};
 ghost use Rattle.std.specs.Bool.{OnTrue};
 ghost use Rattle.std.specs.Borrow.{sem};
 ghost use Rattle.std.specs.Option.{option_copied_mut, option_map, unwrap_or};
@@ -8,18 +8,20 @@ ghost use Rattle.art_keys.specs.Escapes.{IsPlain, escape};
 ghost use Rattle.art_model.specs.Pairs.{IsMap, first_of, has_key, last_of, of_key, remove_key, remove_reply, with_key};
 ghost use Rattle.art_map.specs.MapAnswers.{value_at};
 ghost use Rattle.art_map.specs.MapItems.{deref_pair};
+ghost use Rattle.art_reading.specs.StandIns.{IsStandIn};
 ghost use Rattle.art_keyed.specs.KeyedPairs.{strings_below, strings_in_front, strings_not_below};
 ghost use Rattle.art_keyed.specs.TextCalls.{IsTextRefusal, without_longest};
 ghost use Rattle.art_keyed.specs.declared.map.texts.TextRefused.TheVariants.{Memory};
 ghost use Rattle.art_keyed.specs.TextLends.{lends_escaped_put, lends_longest, lends_plain, lends_text, lends_text_put};
 
 use super::{PairRefused, TreeMap};
+use crate::escaped_bytes::EscapedBytes;
 use art_keys::escaped::Escaped;
 use art_keys::terminated::{Terminated, has_zero};
 use art_map::map::Range;
 use art_nodes::node::AsBytes;
 use art_reading::lookup::EndedQuery;
-use std::alloc::{AllocError, AllocFailed, Global};
+use std::alloc::{AllocFailed, Global};
 use std::ops::Bound;
 use thiserror::Error;
 
@@ -181,51 +183,66 @@ impl<V: Drop, const P: usize> TreeMap<Terminated, V, P> {
     }
 }
 
-/// Calls by a text. They allocate only if a byte of the text is 0 or 1, for the text's key, and fail only if that
-/// allocation fails.
+/// Calls by a text, for which no key is made. A text with a byte 0 or 1 is escaped as it is read, and costs two lookups
+/// more. Only `get_text_or_insert` allocates or fails.
 impl<V: Drop, const P: usize> TreeMap<Escaped, V, P> {
-    /// Returns the value of a text's key, or `None` if it is not stored.
-    pub fn get_text(&self, alloc: Global, text: &[u8]) -> Result<Option<&V>, AllocError>
-        ensures value { IfOk result (λ found.
-            option_copied found ≡ value_at escape (escape text.now) self.now) }
-        ensures refused { OnErr result (¬ IsPlain text.now) }
+    // Returns a query that stands for the key of a text.
+    pub(super) fn query_of<'a>(&'a self, text: &'a [u8]) -> EndedQuery<'a>
+        ensures { IsStandIn (of_key escape) (escape text.now) self.now
+            (result.text.now ++ result.end ∷ []) }
     {
-        if !Escaped::is_plain(text) {
-            let key = Escaped::encode(alloc, text)?;
-            return Ok(self.get(&key));
+        if Escaped::is_plain(text) {
+            return EndedQuery { text, end: 0 };
         }
-        Ok(self.map.get_by(EndedQuery { text, end: 0 }))
+        self.map.stand_in(&mut EscapedBytes::new(text))
+    }
+
+    /// Returns the value of a text's key, or `None` if it is not stored.
+    pub fn get_text(&self, text: &[u8]) -> Option<&V>
+        ensures { option_copied result ≡ value_at escape (escape text.now) self.now }
+    {
+        self.map.get_by(self.query_of(text))
+    }
+
+    /// Returns whether a text's key is stored.
+    pub fn contains_text(&self, text: &[u8]) -> bool
+        ensures { result ≡ has_key (of_key escape) (escape text.now) self.now }
+    {
+        self.map.contains_key_by(self.query_of(text))
+    }
+
+    /// Returns the pair of a text's key, or `None` if it is not stored.
+    pub fn get_key_value_text(&self, text: &[u8]) -> Option<(&Escaped, &V)>
+        ensures { option_map deref_pair result ≡
+            first_of (with_key (of_key escape) (escape text.now) self.now) }
+    {
+        self.map.get_key_value_by(self.query_of(text))
     }
 
     /// Returns the pair with the longest string that is a prefix of a text, or equal to it, or `None` if there is none.
     /// It costs what `longest_match_key` does.
-    pub fn longest_match(
-        &self,
-        alloc: Global,
-        text: &[u8],
-    ) -> Result<Option<(&Escaped, &V)>, AllocError>
-        ensures pair { IfOk result (λ found. option_map deref_pair found ≡
-            last_of (strings_in_front (λ text. text) text.now self.now)) }
-        ensures refused { OnErr result (¬ IsPlain text.now) }
+    pub fn longest_match(&self, text: &[u8]) -> Option<(&Escaped, &V)>
+        ensures { option_map deref_pair result ≡
+            last_of (strings_in_front (λ text. text) text.now self.now) }
     {
-        if !Escaped::is_plain(text) {
-            let key = Escaped::encode(alloc, text)?;
-            return Ok(self.longest_match_key(&key));
-        }
-        Ok(self.map.longest_text(text, 0))
+        self.map.longest_text(self.query_of(text).text, 0)
     }
 
-    /// Returns whether a text's key is stored.
-    pub fn contains_text(&self, alloc: Global, text: &[u8]) -> Result<bool, AllocError>
-        ensures found { IfOk result (λ found.
-            found ≡ has_key (of_key escape) (escape text.now) self.now) }
-        ensures refused { OnErr result (¬ IsPlain text.now) }
+    /// Returns an iterator over the pairs whose strings start with a text, in the order of their keys. It costs what
+    /// `prefix` does.
+    pub fn prefix_text(&self, text: &[u8]) -> Range<'_, Escaped, V, P>
+        ensures pairs { result ≡ strings_below (λ string. string) text.now self.now }
+        ensures sorted { IsMap (of_key escape) self.now }
+        ensures fits { length result < 2 ^ 64 }
     {
-        if !Escaped::is_plain(text) {
-            let key = Escaped::encode(alloc, text)?;
-            return Ok(self.contains_key(&key));
+        let query = self.query_of(text);
+        if query.end != 0 {
+            // No key starts with the query, which is a prefix of the text's bytes.
+            return self
+                .map
+                .range((Bound::Included(query.text), Bound::Excluded(query.text)));
         }
-        Ok(self.map.contains_key_by(EndedQuery { text, end: 0 }))
+        self.map.prefix(query.text)
     }
 
     /// Returns a mutable reference to the value of a text's key, or `None` if it is not stored. It never fails.
@@ -275,43 +292,6 @@ impl<V: Drop, const P: usize> TreeMap<Escaped, V, P> {
     {
         self.len();
         Escaped::is_plain(text) && self.map.contains_key_by(EndedQuery { text, end: 0 })
-    }
-
-    /// Returns the pair of a text's key, or `None` if it is not stored.
-    pub fn get_key_value_text(
-        &self,
-        alloc: Global,
-        text: &[u8],
-    ) -> Result<Option<(&Escaped, &V)>, AllocError>
-        ensures pair { IfOk result (λ found. option_map deref_pair found ≡
-            first_of (with_key (of_key escape) (escape text.now) self.now)) }
-        ensures refused { OnErr result (¬ IsPlain text.now) }
-    {
-        if !Escaped::is_plain(text) {
-            let key = Escaped::encode(alloc, text)?;
-            return Ok(self.get_key_value(&key));
-        }
-        Ok(self.map.get_key_value_by(EndedQuery { text, end: 0 }))
-    }
-
-    /// Returns an iterator over the pairs whose strings start with a text, in the order of their keys. It costs what
-    /// `prefix` does.
-    pub fn prefix_text(
-        &self,
-        alloc: Global,
-        text: &[u8],
-    ) -> Result<Range<'_, Escaped, V, P>, AllocError>
-        ensures pairs { IfOk result (λ pairs.
-            pairs ≡ strings_below (λ string. string) text.now self.now) }
-        ensures sorted { IfOk result (λ pairs. IsMap (of_key escape) self.now) }
-        ensures fits { IfOk result (λ pairs. length pairs < 2 ^ 64) }
-        ensures refused { OnErr result (¬ IsPlain text.now) }
-    {
-        if !Escaped::is_plain(text) {
-            let key = Escaped::encode(alloc, text)?;
-            return Ok(self.prefix(&key));
-        }
-        Ok(self.map.prefix(text))
     }
 
     /// Removes the pair of a text's key, and returns it; `None` if it is not stored. It never fails.

@@ -1,3 +1,0 @@
-pub mod Between
-pub mod EscapedBytes
-pub mod StandIns
