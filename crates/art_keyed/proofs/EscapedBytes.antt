@@ -31,5 +31,5 @@ first_left key at place byte same is =
     let inside = slice_get_within (drop at key) 0 byte is in
     let count = length-drop at key in
     let get : get_or key at 0 ≡ byte =
-        ap (λ n. get_or key n 0) (omega arith) ∙ sym (get_or-drop at key 0 0) ∙ get_or_from_slice_get (drop at key) 0 byte 0 is in
+    ap (λ n. get_or key n 0) (omega arith) ∙ sym (get_or-drop at key 0 0) ∙ get_or_from_slice_get (drop at key) 0 byte 0 is in
     ap (slice_get key) (sym same) ∙ slice_get-get_or key at 0 (omega arith) ∙ ap Some get

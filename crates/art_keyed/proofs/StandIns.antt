@@ -39,7 +39,7 @@ module _ {A : Type 0} (bytes : A → List ℕ) {key query : List ℕ} {pairs : L
   -- what holds of the key holds of the query, if it holds where no key of the pairs starts with the query
   either : (Q : List ℕ → Type 0) → Q key → (Each (λ x. is_front query (bytes x) ≡ false) pairs → Q query) → Q query
   either Q of_key' of_none = elim s.alone [
-    inl whole ↦ subst Q (sym whole) of_key'
+    | inl whole ↦ subst Q (sym whole) of_key'
     | inr none ↦ of_none (none_passes (λ x. is_front query (bytes x)) pairs none)
   ]
 
@@ -140,11 +140,11 @@ module _ {V : Type 0} (text front : List ℕ) (end : ℕ) {pairs : List (List �
 
   none_starts : end ≢ 0 → IsFront (front ++ end ∷ []) (escape_inside text) × Each (λ x. is_front (front ++ end ∷ []) (escape x.0) ≡ false) pairs
   none_starts other = elim ends [
-    inl (same, zero) ↦ absurd (other zero)
+    | inl (same, zero) ↦ absurd (other zero)
     | inr within ↦ (
       within,
       elim s.alone [
-        inl whole ↦ absurd (other (last_is whole))
+        | inl whole ↦ absurd (other (last_is whole))
         | inr none ↦ none_passes (λ x. is_front (front ++ end ∷ []) (escape x.0)) pairs none
       ],
     )
@@ -165,9 +165,9 @@ module _ {V : Type 0} (text front : List ℕ) (end : ℕ) {pairs : List (List �
   -- strings are prefixes of the text exactly if, escaped, they are prefixes of the query
   pub same_fronts : texts_in_front (of_key escape) front pairs ≡ texts_in_front (of_key escape) (escape_inside text) pairs
   same_fronts = elim ends [
-    inl (same, zero) ↦ ap (λ z. texts_in_front (of_key escape) z pairs) (sym same)
+    | inl (same, zero) ↦ ap (λ z. texts_in_front (of_key escape) z pairs) (sym same)
     | inr within ↦ elim s.alone [
-      inl whole ↦ ap (λ z. texts_in_front (of_key escape) z pairs) (snoc_same front (escape_inside text) end 0 (whole ∙ escape_is text)).0
+      | inl whole ↦ ap (λ z. texts_in_front (of_key escape) z pairs) (snoc_same front (escape_inside text) end 0 (whole ∙ escape_is text)).0
       | inr none ↦
           filter_same (λ x. is_front (front ++ end ∷ []) (escape x.0) ≡ false) _ _ (λ x off. front_same within x.0 off) pairs
           (none_passes (λ x. is_front (front ++ end ∷ []) (escape x.0)) pairs none)
@@ -182,7 +182,7 @@ module _ {V : Type 0} (text front : List ℕ) (end : ℕ) {pairs : List (List �
       shorter within string off leads =
           let count = length-append front (end ∷ []) in
           elim (cases_lt (length front) (length (escape_inside string))) [
-            inl less ↦
+            | inl less ↦
                 let query = front_of_fronts (front ++ end ∷ []) (escape_inside string) (escape_inside text) within leads (omega arith) in
                 absurd (false≢true (sym off ∙ true_front (front ++ end ∷ []) (escape string)
                 (front_trans (front ++ end ∷ []) (escape_inside string) (escape string) query (0 ∷ [], escape_is string))))

@@ -106,9 +106,18 @@ impl<'t> Left<'t> {
         }
         match self.text {
             [] => return false,
-            [0, rest @ ..] => *self = Left { half: Some(1), text: rest },
-            [1, rest @ ..] => *self = Left { half: Some(2), text: rest },
-            [_, rest @ ..] => *self = Left { half: None, text: rest },
+            [0, rest @ ..] => *self = Left {
+                half: Some(1),
+                text: rest,
+            },
+            [1, rest @ ..] => *self = Left {
+                half: Some(2),
+                text: rest,
+            },
+            [_, rest @ ..] => *self = Left {
+                half: None,
+                text: rest,
+            },
         }
         true
     }
