@@ -1,5 +1,5 @@
 -- the bytes of an escaped text from a place on
-use Rattle.std.proofs.Common.{◌≡◌, ℕ, zero, suc, ◌+◌, ◌*◌, ◌<◌, ◌≤◌, List, [], ◌∷◌, ◌++◌, length, drop, slice_get, Some, None, ap, arith, sym, ◌∙◌, length-append, length-drop, drop-drop, get_or, get_or-drop}
+use Rattle.std.proofs.Common.{◌≡◌, ℕ, zero, suc, ◌+◌, ◌*◌, ◌<◌, ◌≤◌, List, [], ◌∷◌, length, drop, slice_get, Some, None, ap, arith, sym, ◌∙◌, length-append, length-drop, drop-drop, get_or, get_or-drop}
 use Rattle.std.proofs.lemmas.Option.{get_or_from_slice_get, slice_get-get_or, slice_get_past, slice_get_within}
 use Rattle.art_keys.specs.Escapes.{escape, escape_byte}
 
@@ -33,3 +33,11 @@ first_left key at place byte same is =
     let get : get_or key at 0 ≡ byte =
     ap (λ n. get_or key n 0) (omega arith) ∙ sym (get_or-drop at key 0 0) ∙ get_or_from_slice_get (drop at key) 0 byte 0 is in
     ap (slice_get key) (sym same) ∙ slice_get-get_or key at 0 (omega arith) ∙ ap Some get
+
+-- a key has at least the zero at its end
+pub escape_some : (text : List ℕ) → 0 < length (escape text)
+escape_some [] = omega arith
+escape_some (byte ∷ text) =
+    let rest = escape_some text in
+    let both = length-append (escape_byte byte) (escape text) in
+    omega arith

@@ -1,6 +1,5 @@
 -- A query that stands for a key is answered as the key would be.
-use Rattle.std.proofs.Common.{◌≡◌, ◌≢◌, ◌⊎◌, ℕ, ◌+◌, ◌<◌, ◌≤◌, List, [], ◌∷◌, ◌++◌, Bool, true, false, not, ◌&&◌, cond, length, filter, refl, ap, ap₂, sym, ◌∙◌, arith, subst, append_assoc, length-append, inl, inr}
-use Rattle.std.specs.Bool.{⊤}
+use Rattle.std.proofs.Common.{◌≡◌, ◌≢◌, ◌⊎◌, ℕ, List, [], ◌∷◌, ◌++◌, Bool, true, false, not, ◌&&◌, length, filter, refl, ap, ap₂, sym, ◌∙◌, arith, subst, append-nil, append_assoc, length-append, inl, inr}
 use Rattle.std.specs.Cmp.Lexicographic.{slice_cmp}
 use Rattle.std.specs.List.{AllByRecursion as Each, list_any}
 use Rattle.std.specs.Ordering.{is_lt, nat_cmp}
@@ -11,8 +10,8 @@ use Rattle.art_keys.specs.Escapes.{escape, escape_inside}
 use Rattle.art_keys.specs.EscapeLaws.{escape_is, inside_no_zero, snoc_same}
 use Rattle.art_model.specs.Keys.{IsFront, are_same, is_before, is_front}
 use Rattle.art_model.specs.Pairs.{has_key, of_key, with_key, without_last}
-use Rattle.art_model.specs.Parts.{below, between, is_between, is_from, is_up_to}
-use Rattle.art_model.specs.Texts.{text_of, texts_in_front}
+use Rattle.art_model.specs.Parts.{below, between, is_from, is_up_to}
+use Rattle.art_model.specs.Texts.{texts_in_front}
 use Rattle.art_model.proofs.keys.Keys.{front_from}
 use Rattle.art_model.proofs.keys.Texts.{ended_text, front_of_fronts, goes_within, not_front, true_front}
 use Rattle.art_model.proofs.lists.Lists.{Each-right, Each-weaker, filter_none, front_cut, front_trans}
@@ -34,6 +33,10 @@ module _ {A : Type 0} (test : A → Bool) where
   any_same : (other : A → Bool) (xs : List A) → Each (λ x. test x ≡ other x) xs → list_any test xs ≡ list_any other xs
   any_same other [] all = refl
   any_same other (x ∷ xs) all = rw (all.0, any_same other xs all.1) refl
+
+-- the key stands for itself
+pub itself : {A : Type 0} (bytes : A → List ℕ) (pairs : List A) {key query : List ℕ} → query ≡ key → IsStandIn bytes key pairs query
+itself bytes pairs {key} {query} same = record { prefix = ([], sym same ∙ sym (append-nil query)); alone = inl same }
 
 module _ {A : Type 0} (bytes : A → List ℕ) {key query : List ℕ} {pairs : List A} (s : IsStandIn bytes key pairs query) where
   -- what holds of the key holds of the query, if it holds where no key of the pairs starts with the query

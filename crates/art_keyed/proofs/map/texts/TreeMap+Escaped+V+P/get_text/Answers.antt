@@ -1,11 +1,12 @@
-use Rattle.std.proofs.Common.{ap, sym, ◌∙◌}
+use Rattle.std.proofs.Common.{ap, ◌∙◌}
+use Rattle.std.specs.Option.{option_map}
 use Rattle.art_keys.specs.Escapes.{escape}
-use Rattle.art_keys.specs.EscapeLaws.{escape-plain}
 use Rattle.art_map.specs.MapAnswers.{value_at}
+use Rattle.art_model.specs.Pairs.{first_of, of_key}
+use Rattle.art_keyed.proofs.StandIns.{same_keys}
 use Rattle.art_keyed.proofs.map.texts.TreeMap+Escaped+V+P.get_text.Goals as goal
 
-pub returns-clause-value : goal.returns-clause-value
-returns-clause-value g c =
-    c.get_by.ensures.value
-    ∙ ap (λ bytes. value_at escape bytes c.self.inside.map) (sym (escape-plain c.args.text.now c.if-not-is_plain.ensures.yes))
-    ∙ ap (value_at escape (escape c.args.text.now)) c.self.view_is
+pub returns : goal.returns
+returns g c =
+    c.get_by.ensures.value ∙ ap (value_at escape _) c.self.view_is
+    ∙ ap (λ found. option_map (λ x. x.1) (first_of found)) (same_keys (of_key escape) c.query_of.ensures)
