@@ -88,14 +88,9 @@ impl Map {
 
     /// Returns the value of a key.
     pub fn get(&self, key: impl AsRef<[u8]>) -> Option<u64> {
-        or_abort(self.try_get(key))
-    }
-
-    /// Returns the value of a key, or an error if an allocation fails.
-    pub fn try_get(&self, key: impl AsRef<[u8]>) -> Result<Option<u64>, OutOfMemory> {
         let (key, mut value) = (key.as_ref(), 0);
         let code = unsafe { calls::vokujin_get(&self.place, key.as_ptr(), key.len(), &mut value) };
-        found(code, value)
+        or_abort(found(code, value))
     }
 
     /// Returns whether a key is stored.

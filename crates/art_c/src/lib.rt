@@ -90,7 +90,7 @@ pub unsafe extern "C" fn vokujin_get(map: *const u8, key: &[u8], value: &mut u64
     ghost pairs: { Option (List (List ℕ × ℕ)) }
     requires* { sem 𝓛 (lies_at MapRow full_share map pairs) }
     ensures* { sem 𝓛 (lies_at MapRow full_share map pairs) ∗
-        ⌜ Answers pairs (value_of key.now) result value.old value.new ⌝ }
+        ⌜ Answers pairs (value_of key.now) result value.old value.new × (result ≢ no_memory) ⌝ }
 {
     string_map::calls::get(&*(map as *const StringMap), key, value)
 }
@@ -134,7 +134,7 @@ pub unsafe extern "C" fn vokujin_count_prefix(
     ghost pairs: { Option (List (List ℕ × ℕ)) }
     requires* { sem 𝓛 (lies_at MapRow full_share map pairs) }
     ensures* { sem 𝓛 (lies_at MapRow full_share map pairs) ∗
-        ⌜ Answers pairs (λ all. Some (length (strings_below (λ text. text) prefix.now all))) result count.old count.new ⌝ }
+        ⌜ Answers pairs (λ all. Some (length (strings_below (λ text. text) prefix.now all))) result count.old count.new × (result ≢ no_memory) ⌝ }
 {
     string_map::calls::count_prefix(&*(map as *const StringMap), prefix, count)
 }
@@ -145,7 +145,7 @@ pub unsafe extern "C" fn vokujin_longest_match(map: *const u8, query: &[u8], pai
     ghost pairs: { Option (List (List ℕ × ℕ)) }
     requires* { sem 𝓛 (lies_at MapRow full_share map pairs) }
     ensures* { sem 𝓛 (lies_at MapRow full_share map pairs) ∗
-        ⌜ Answers pairs (λ all. option_map pair_of (last_of (strings_in_front (λ text. text) query.now all))) result pair.old pair.new ⌝ }
+        ⌜ Answers pairs (λ all. option_map pair_of (last_of (strings_in_front (λ text. text) query.now all))) result pair.old pair.new × (result ≢ no_memory) ⌝ }
 {
     string_map::calls::longest_match(&*(map as *const StringMap), query, pair)
 }

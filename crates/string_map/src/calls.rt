@@ -73,21 +73,20 @@ pub fn compact(map: &mut StringMap) -> u32
     }
 }
 
-/// Looks up a key, and writes its value. Returns `DONE`, `ABSENT` if the key is not stored, or `NO_MEMORY` if an
-/// allocation fails.
+/// Looks up a key, and writes its value. Returns `DONE`, or `ABSENT` if the key is not stored. It allocates nothing.
 pub fn get(map: &StringMap, key: &[u8], value: &mut u64) -> u32
-    ensures { Answers map.now (value_of key.now) result value.old value.new }
+    ensures value { Answers map.now (value_of key.now) result value.old value.new }
+    ensures never_refused { result ≢ no_memory }
 {
     let Some(pairs) = &map.pairs else {
         return FREED;
     };
-    match pairs.get_text(map.alloc, key) {
-        Ok(Some(found)) => {
+    match pairs.get_text(key) {
+        Some(found) => {
             *value = *found;
             DONE
         }
-        Ok(None) => ABSENT,
-        Err(_) => NO_MEMORY,
+        None => ABSENT,
     }
 }
 
@@ -128,7 +127,8 @@ fn insert_key(
     }
 }
 
-/// Removes the pair of a key, and writes its value. The codes are those of `get`.
+/// Removes the pair of a key, and writes its value. Returns `DONE`, `ABSENT` if the key is not stored, or `NO_MEMORY` if
+/// an allocation fails: a key with a byte 0 or 1 is built.
 pub fn remove(map: &mut StringMap, key: &[u8], value: &mut u64) -> u32
     ensures { Answers map.old (value_of key.now) result value.old value.new ×
         Changes map.old (remove_key (of_key escape) (escape key.now)) result map.new }
@@ -165,49 +165,47 @@ fn take(
     Ok(pairs.remove(&key))
 }
 
-/// Writes how many keys start with a prefix. Returns `DONE`, or `NO_MEMORY` if an allocation fails.
+/// Writes how many keys start with a prefix, and returns `DONE`. It allocates nothing.
 pub fn count_prefix(map: &StringMap, prefix: &[u8], count: &mut usize) -> u32
-    ensures { Answers map.now (λ pairs.
+    ensures count { Answers map.now (λ pairs.
         Some (length (strings_below (λ text. text) prefix.now pairs)))
         result count.old count.new }
+    ensures never_refused { result ≢ no_memory }
 {
     let Some(pairs) = &map.pairs else {
         return FREED;
     };
-    let Ok(prefix) = Escaped::encode(map.alloc, prefix) else {
-        return NO_MEMORY;
-    };
-    *count = count_below(pairs, &prefix);
+    *count = count_below(pairs, prefix);
     DONE
 }
 
 // Returns how many keys start with a text.
-fn count_below(pairs: &TreeMap<Escaped, u64, 16>, text: &Escaped) -> usize
+fn count_below(pairs: &TreeMap<Escaped, u64, 16>, text: &[u8]) -> usize
     ensures { result ≡ length (strings_below (λ text. text) text.now pairs.now) }
 {
-    pairs.prefix(text).count()
+    pairs.prefix_text(text).count()
 }
 
-/// Looks up the longest key that is a prefix of the query. Writes its length, and its value. Returns `DONE`, `ABSENT`
-/// if no key is one, or `NO_MEMORY` if an allocation fails.
+/// Looks up the longest key that is a prefix of the query. Writes its length, and its value. Returns `DONE`, or `ABSENT`
+/// if no key is one. It allocates nothing.
 pub fn longest_match(map: &StringMap, query: &[u8], pair: &mut Pair) -> u32
-    ensures { Answers map.now
+    ensures pair { Answers map.now
         (λ pairs. option_map pair_of (last_of (strings_in_front (λ text. text) query.now pairs)))
         result pair.old pair.new }
+    ensures never_refused { result ≢ no_memory }
 {
     let Some(pairs) = &map.pairs else {
         return FREED;
     };
-    match pairs.longest_match(map.alloc, query) {
-        Ok(Some((key, value))) => {
+    match pairs.longest_match(query) {
+        Some((key, value)) => {
             *pair = Pair {
                 value: *value,
                 key_len: key.text_len(),
             };
             DONE
         }
-        Ok(None) => ABSENT,
-        Err(_) => NO_MEMORY,
+        None => ABSENT,
     }
 }
 

@@ -11,7 +11,7 @@ use std::marker::Model;
 /// Sessions. Each has a token, which is any string of bytes, and a time at which it ends.
 ///
 /// An end is listed if and only if a session ends then, so that the sessions are found by their tokens and in the
-/// order of their ends. Each call fails only if an allocation fails, and then no session has changed.
+/// order of their ends. A call that takes an allocator fails only if an allocation fails, and then no session has changed.
 #[derive(Drop)]
 pub struct Sessions {
     by_token: TreeMap<Escaped, u64, 16>,
@@ -48,11 +48,10 @@ impl Sessions {
     }
 
     /// Returns when the session of a token ends, or `None` if it is closed.
-    pub fn end_of(&self, alloc: Global, token: &[u8]) -> Result<Option<u64>, AllocError>
-        ensures { IfOk result (λ end. end ≡ end_of token.now self.now) }
+    pub fn end_of(&self, token: &[u8]) -> Option<u64>
+        ensures { result ≡ end_of token.now self.now }
     {
-        let found = self.by_token.get_text(alloc, token)?;
-        Ok(found.copied())
+        self.by_token.get_text(token).copied()
     }
 
     /// Opens a session, unless it is open: then it is unchanged, and its end is returned.

@@ -1,5 +1,5 @@
 //! Words, and how often each was added.
-ghost use Rattle.std.specs.Prelude.{◌≡◌, ◌≢◌, ◌+◌, ◌-◌, ◌^◌, ℕ, List, min, IfOk, OnErr, OnOk};
+ghost use Rattle.std.specs.Prelude.{◌≡◌, ◌≢◌, ◌+◌, ◌-◌, ◌^◌, ℕ, List, min, OnErr, OnOk};
 ghost use Rattle.uses.specs.Tally.{count_of};
 
 use art_operations::keys::Escaped;
@@ -23,10 +23,9 @@ pub fn add(tally: &mut Tally, alloc: Global, word: &[u8]) -> Result<(), AllocErr
     Ok(())
 }
 
-/// Returns how often a word was added. Fails only if an allocation fails.
-pub fn count(tally: &Tally, alloc: Global, word: &[u8]) -> Result<u64, AllocError>
-    ensures { IfOk result (λ count. count ≡ count_of word.now tally.now) }
+/// Returns how often a word was added.
+pub fn count(tally: &Tally, word: &[u8]) -> u64
+    ensures { result ≡ count_of word.now tally.now }
 {
-    let found = tally.get_text(alloc, word)?;
-    Ok(found.copied().unwrap_or(0))
+    tally.get_text(word).copied().unwrap_or(0)
 }

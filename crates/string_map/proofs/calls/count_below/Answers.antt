@@ -5,5 +5,5 @@ use Rattle.string_map.proofs.calls.count_below.Goals as goal
 
 pub returns : goal.returns
 returns c =
-    count_from_yields_List c.prefix.result c.count.result c.count.ensures.ran (YieldsList-from_first deref_pair (λ pairs. pairs) c.prefix.result refl)
-    ∙ ap length c.prefix.ensures.pairs
+    count_from_yields_List c.prefix_text.result c.count.result c.count.ensures.ran (YieldsList-from_first deref_pair (λ pairs. pairs) c.prefix_text.result refl)
+    ∙ ap length c.prefix_text.ensures.pairs
