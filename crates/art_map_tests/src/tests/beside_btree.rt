@@ -2,9 +2,9 @@
 //! prefix of another.
 use super::calls::Removal;
 use super::{entries, ranges};
-use art_operations::map::ByteMap;
-use art_test_support::expected::same;
-use art_test_support::numbers::Numbers;
+use art_map::map::ByteMap;
+use art_node_support::expected::same;
+use art_node_support::numbers::Numbers;
 use std::alloc::Global;
 use std::collections::BTreeMap;
 use std::ops::Bound;

@@ -1,9 +1,9 @@
 //! Drawn calls of sets, compared with the same calls of `BTreeSet`s. The keys have one length, so that none is a prefix
 //! of another.
 use super::set_splits;
-use art_operations::set::ByteSet;
-use art_test_support::expected::same;
-use art_test_support::numbers::Numbers;
+use art_map::set::ByteSet;
+use art_node_support::expected::same;
+use art_node_support::numbers::Numbers;
 use std::collections::BTreeSet;
 use std::test::Fail;
 

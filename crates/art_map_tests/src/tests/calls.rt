@@ -1,6 +1,6 @@
 //! Calls of a map with keys of one byte.
-use art_operations::map::ByteMap;
-use art_test_support::expected::same;
+use art_map::map::ByteMap;
+use art_node_support::expected::same;
 use std::alloc::Global;
 use std::test::Fail;
 

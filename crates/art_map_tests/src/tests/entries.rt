@@ -1,8 +1,8 @@
 //! Drawn writes of a map's values, by `get_mut` and by entries, compared with those of a `BTreeMap`.
 use super::beside_btree::{Key, Map, Model, drawn_key};
-use art_operations::map::{ByteMap, MapMakeError};
-use art_test_support::expected::same;
-use art_test_support::numbers::Numbers;
+use art_map::map::{ByteMap, MapMakeError};
+use art_node_support::expected::same;
+use art_node_support::numbers::Numbers;
 use std::test::Fail;
 
 // Writes the value of a key, if it is stored, and returns the one before.

@@ -1,7 +1,7 @@
 //! Iteration over the pairs of a map, by reference and by value.
 use super::calls::{Map, fill};
-use art_operations::map::{ByteMap, MapIter};
-use art_test_support::expected::same;
+use art_map::map::{ByteMap, MapIter};
+use art_node_support::expected::same;
 use std::alloc::Global;
 use std::test::Fail;
 

@@ -3,10 +3,10 @@
 use super::beside_btree::{
     Key, Map, Model, added, agree_on_drawn_insertion, agree_on_pairs, drawn_key, number_of,
 };
-use art_operations::map::{ByteMap, Range};
-use art_test_support::expected::same;
-use art_test_support::memory::all_memory;
-use art_test_support::numbers::Numbers;
+use art_map::map::{ByteMap, Range};
+use art_node_support::expected::same;
+use art_node_support::memory::all_memory;
+use art_node_support::numbers::Numbers;
 use std::alloc::Global;
 use std::ops::Bound;
 use std::test::Fail;

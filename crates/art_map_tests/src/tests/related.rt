@@ -1,6 +1,6 @@
 //! Keys of several lengths, some of which are prefixes of others.
-use art_operations::map::{ByteMap, MapInsertError};
-use art_test_support::expected::same;
+use art_map::map::{ByteMap, MapInsertError};
+use art_node_support::expected::same;
 use std::alloc::Global;
 use std::test::Fail;
 

@@ -2,10 +2,10 @@
 //! `BTreeSet`, and while all memory is held.
 use super::beside_btree_set::{Key, Model, Set, agree_on_keys, drawn_key};
 use super::ranges::{Edge, Front};
-use art_operations::set::ByteSet;
-use art_test_support::expected::same;
-use art_test_support::memory::all_memory;
-use art_test_support::numbers::Numbers;
+use art_map::set::ByteSet;
+use art_node_support::expected::same;
+use art_node_support::memory::all_memory;
+use art_node_support::numbers::Numbers;
 use std::alloc::Global;
 use std::test::Fail;
 

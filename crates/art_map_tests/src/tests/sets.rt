@@ -1,7 +1,7 @@
 //! A set of keys that can be told apart although they are equal.
-use art_operations::set::ByteSet;
-use art_test_support::expected::same;
-use art_test_support::tagged::Tagged;
+use art_map::set::ByteSet;
+use art_node_support::expected::same;
+use art_node_support::tagged::Tagged;
 use std::alloc::Global;
 use std::test::Fail;
 

@@ -95,9 +95,13 @@ fn makes_a_leaf() -> Result<(), Fail> {
         leaf.matches_full_key(&[1, 2]),
         leaf.matches_full_key(&[1, 2, 4]),
     ];
+    let copied = match leaf.clone_without_siblings() {
+        Ok(copy) => copy.value,
+        Err(_) => 0,
+    };
     same(
-        (leaf.key_ref()[2], *leaf.value_ref(), matches),
-        (3, 7, [true, false, false]),
+        (leaf.key_ref()[2], *leaf.value_ref(), matches, copied),
+        (3, 7, [true, false, false], 7),
     )
 }
 

@@ -106,7 +106,7 @@ fn place(store: &mut Store, leaf: LeafNode<[u8; 1], u32>) -> Result<LeafPtr, All
 // Places a leaf and another one behind it, and returns both names.
 #[tactic(auto, using(crate::proofs::Laws::leaf_laws))]
 fn place_pair(store: &mut Store) -> Result<(LeafPtr, LeafPtr), AllocError>
-    ensures first { IfOk result (λ names. IsSome (map.get store.new.leaves names.0)) }
+    ensures { IfOk result (λ names. IsSome (map.get store.new.leaves names.1)) }
 {
     let first = place(store, leaf_of(1, 10))?;
     let second = LeafNode {
@@ -123,7 +123,7 @@ fn place_pair(store: &mut Store) -> Result<(LeafPtr, LeafPtr), AllocError>
 fn place_above(store: &mut Store, child: OpaqueNodePtr) -> Result<InnerPtr, AllocError>
     ensures { IfOk result (λ name. IsSome (map.get store.new.inners name)) }
 {
-    let mut node = node4(&[5, 6]);
+    let mut node = AnyInner::from_header(NodeType::Node4, Header::new(&[5, 6], 2));
     node.write_child(3, child);
     store.place_inner(node).map_err(|refused| refused.1)
 }
@@ -193,10 +193,10 @@ fn counts_of(store: &Store) -> (usize, [usize; 3]) {
 fn count_steps(store: &mut Store) -> Option<[(usize, [usize; 3]); 3]> {
     let (first, second) = place_pair(store).ok()?;
     let placed = counts_of(store);
-    store.free_leaf(first);
+    store.free_leaf(second);
     let freed = counts_of(store);
-    place_above(store, second.to_opaque()).ok()?;
-    let upper = place_above(store, second.to_opaque()).ok()?;
+    place_above(store, first.to_opaque()).ok()?;
+    let upper = place_above(store, first.to_opaque()).ok()?;
     store.free_inner(upper);
     Some([placed, freed, counts_of(store)])
 }
