@@ -145,17 +145,18 @@ fn agree_on_both(set: &Set, other: &Set, model: &Model, beside: &Model) -> bool 
     seen == expected_of_both(model, beside)
 }
 
-// How many keys of a union a clone of its iterator has, and the iterator itself, after the first one.
-fn copied(set: &Set, other: &Set) -> Option<[usize; 2]> {
-    let mut all = set.union(other);
+// How many keys of a union a clone of its iterator has after the first one, and the iterator itself, and the same of
+// an intersection.
+fn copied(set: &Set, other: &Set) -> Option<[usize; 4]> {
+    let (mut all, both) = (set.union(other), set.intersection(other));
     all.next();
-    let rest = all.clone().ok()?;
-    Some([rest.count(), all.count()])
+    let (rest, copy) = (all.clone().ok()?, both.clone().ok()?);
+    Some([rest.count(), all.count(), copy.count(), both.count()])
 }
 
 fn agree_on_copies(set: &Set, other: &Set) -> bool {
     match copied(set, other) {
-        Some(counts) => counts[0] == counts[1],
+        Some(counts) => counts[0] == counts[1] && counts[2] == counts[3],
         None => false,
     }
 }

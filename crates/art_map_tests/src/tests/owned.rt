@@ -74,9 +74,19 @@ fn copied(map: &Map) -> Option<[usize; 2]> {
     Some([copy.count(), pairs.len()])
 }
 
+// The bounds of the number of pairs that a part has, after its first pair.
+fn bounds_of_part(map: &Map) -> (usize, Option<usize>) {
+    let mut part = map.prefix(&[]);
+    part.next();
+    part.size_hint()
+}
+
 #[test]
 fn pairs_come_from_both_ends(rt: HostRuntime) -> Result<(), Fail> {
     let map = filled(rt.alloc());
     let came = [(5, 1), (4, 5), (3, 2), (2, 4), (1, 3), (0, 0)];
-    same((from_both_ends(&map), copied(&map)), (came, Some([4, 4])))
+    same(
+        (from_both_ends(&map), copied(&map), bounds_of_part(&map)),
+        (came, Some([4, 4]), (0, Some(4))),
+    )
 }
