@@ -1,7 +1,6 @@
 mod beside;
 mod mixed_calls;
 mod names;
-mod new_nodes;
 mod node;
 mod sort;
 mod store;

@@ -5,10 +5,9 @@ use super::told::{Told, check_says};
 use art_checking::well_formed::{WellFormedChecker, WellFormedTreeStats};
 use art_nodes::node::OpaqueNodePtr;
 use art_nodes::store::NodeStore;
-use art_test_support::commands::{Asked, Row, Told as Reply, ran_from};
 use art_test_support::expected::same;
 use art_test_support::trees::{Key, keys_after, keys_of_three, keys_of_zeros, planted_keys};
-use std::alloc::{AllocError, Global};
+use std::alloc::Global;
 use std::test::Fail;
 
 /// How many leaves, inner nodes, and nodes there are.
@@ -100,76 +99,6 @@ fn first_miscounted(alloc: Global) -> Result<Option<usize>, Fail> {
 #[test]
 fn nodes_of_well_formed_trees_are_counted(rt: HostRuntime) -> Result<(), Fail> {
     same(first_miscounted(rt.alloc())?, None)
-}
-
-/// All bytes, in order.
-fn all_bytes() -> [u8; 256] {
-    let mut bytes = [0u8; 256];
-    for byte in 0..=255u8 {
-        bytes[byte as usize] = byte;
-    }
-    bytes
-}
-
-/// Insertions of keys of one byte each, and then deletions of so many of them from the end, with the replies.
-fn insertions_and_deletions(
-    alloc: Global,
-    bytes: &[u8],
-    deletions: usize,
-) -> Result<Vec<Row<'_>>, AllocError> {
-    let mut rows: Vec<Row<'_>> = Vec::new(alloc);
-    for key in bytes.chunks(1) {
-        rows.push((Asked::Insert(key, 0), Reply::Inserted(None)))?;
-    }
-    for key in bytes.chunks(1).rev().take(deletions) {
-        rows.push((Asked::DeleteMax, Reply::Deleted(Some((key, 0)))))?;
-    }
-    Ok(rows)
-}
-
-/// How many leaves and inner nodes the check of a tree of so many leaves counts. None where it finds a fault.
-fn counts_below(
-    store: &NodeStore<Key, u32, 4>,
-    root: Option<OpaqueNodePtr>,
-    len: usize,
-) -> Option<(usize, usize)> {
-    let stats = stats_of(store, root, len)?;
-    Some((stats.num_leaf, stats.num_inner))
-}
-
-/// The same after all insertions and so many deletions. None where a reply is another.
-fn counts_after(
-    first: &mut NodeStore<Key, u32, 4>,
-    second: &mut NodeStore<Key, u32, 4>,
-    deletions: usize,
-) -> Option<(usize, usize)> {
-    let bytes = all_bytes();
-    let rows = insertions_and_deletions(first.alloc(), &bytes, deletions).ok()?;
-    match ran_from(first, second, None, &rows) {
-        Ok((left, root)) if left.wrong.is_none() => {
-            counts_below(first, root, 256usize.saturating_sub(deletions))
-        }
-        _ => None,
-    }
-}
-
-/// The same in stores of its own.
-fn counts_left(alloc: Global, deletions: usize) -> Option<(usize, usize)> {
-    counts_after(
-        &mut NodeStore::new(alloc),
-        &mut NodeStore::new(alloc),
-        deletions,
-    )
-}
-
-#[test]
-fn trees_are_well_formed_while_nodes_shrink(rt: HostRuntime) -> Result<(), Fail> {
-    for left in [0, 1, 2, 3, 4, 5, 15, 16, 17, 47, 48, 49, 255, 256] {
-        let counts = counts_left(rt.alloc(), 256usize.saturating_sub(left));
-        let inner = if left < 2 { 0 } else { 1 };
-        same(counts, Some((left, inner)))?;
-    }
-    Ok(())
 }
 
 /// Whether the check says what it should of so many pairs where there is no root.

@@ -12,38 +12,21 @@ use std::test::Fail;
 
 type Small = JoinedArray<U8Key, I16Key, 3>;
 
-fn small(first: u8, second: i16) -> Small {
-    JoinedArray::join(&U8Key::from(first), &I16Key::from(second))
-}
-
-#[test]
-fn the_second_key_stands_after_the_first_in_the_array() -> Result<(), Fail> {
-    let key = small(7, -2);
-    let (first, second) = key.split();
-    same(
-        (
-            key.as_bytes() == [7, 0x7f, 0xfe].as_slice(),
-            first.get(),
-            second.get(),
-            key.first().get(),
-            key.second().get(),
-        ),
-        (true, 7, -2, 7, -2),
-    )
-}
-
 #[test]
 fn a_key_in_an_array_comes_back_from_its_bytes() -> Result<(), Fail> {
-    let key = small(9, 300);
-    let same_key = Small::from_fixed_bytes(key.as_bytes());
+    let key: Small = JoinedArray::join(&U8Key::from(7), &I16Key::from(-2));
+    let (first, second) = key.split();
+    let bytes = [7, 0x7f, 0xfe];
     same(
         (
-            same_key == key,
-            Small::key_len(key.as_bytes()),
-            key.clone().is_ok(),
+            key.as_bytes() == bytes.as_slice(),
+            Small::from_fixed_bytes(&bytes) == key,
+            Small::key_len(&bytes),
+            (first.get(), key.second().get()),
         ),
-        (true, 3, true),
-    )
+        (true, true, 3, (7, -2)),
+    )?;
+    same((key.first().get(), second.get()), (7, -2))
 }
 
 type Times = TreeMap<JoinedArray<U64Key, I64Key, 16>, u32, 4>;
@@ -62,29 +45,43 @@ fn fill(times: &mut Times) -> Option<()> {
     Some(())
 }
 
-// What is read from a map and removed from it while every allocation fails.
-fn starve(times: &mut Times, alloc: Global) -> Option<([usize; 6], Option<u32>)> {
-    fill(times)?;
+// How many times of a user there are, and how many from -1 up to 2, by two calls.
+fn counts(times: &Times, user: u64) -> [usize; 3] {
+    let first = U64Key::from(user);
+    let range = I64Key::from(-1)..I64Key::from(2);
+    [
+        times.with_first(&first).count(),
+        times.range_with(&first, range).count(),
+        times.range(time_of(user, -1)..time_of(user, 2)).count(),
+    ]
+}
+
+// Whether the first time of a user is removed, and how many others.
+fn removed(times: &mut Times, user: u64) -> (bool, usize) {
+    let first = U64Key::from(user);
+    let is_first = match times.pop_first_with(&first) {
+        Some((key, _)) => key == time_of(user, -2),
+        None => false,
+    };
+    (is_first, times.remove_with_first(&first))
+}
+
+// The same while every allocation fails.
+fn starve(times: &mut Times, alloc: Global) -> Option<([usize; 3], (bool, usize))> {
     let held = all_memory(alloc).ok()?;
-    let two = U64Key::from(2);
-    let value = times.get(&time_of(3, -2)).copied();
-    let between = times.range(time_of(2, -1)..time_of(2, 2)).count();
-    let of_user = times.with_first(&two).count();
-    let popped = times
-        .pop_first_with(&two)
-        .map(|(key, _)| key == time_of(2, -2));
-    let removed = times.remove_with_first(&two);
-    let left = times.with_first(&two).count();
+    let (counts, removed) = (counts(times, 2), removed(times, 2));
     drop(held);
-    let is_first = (popped == Some(true)) as usize;
-    Some((
-        [between, of_user, is_first, removed, left, times.len()],
-        value,
-    ))
+    Some((counts, removed))
 }
 
 #[test]
 fn without_memory_arrays_are_looked_up(rt: HostRuntime) -> Result<(), Fail> {
-    let seen = starve(&mut TreeMap::new(rt.alloc()), rt.alloc());
-    same(seen, Some(([3, 5, 1, 4, 0, 15], Some(1))))
+    let mut times = TreeMap::new(rt.alloc());
+    let filled = fill(&mut times);
+    let seen = starve(&mut times, rt.alloc());
+    let left = (times.len(), times.get(&time_of(3, -2)).copied());
+    same(
+        (filled, seen, left),
+        (Some(()), Some(([5, 3, 3], (true, 4))), (15, Some(1))),
+    )
 }

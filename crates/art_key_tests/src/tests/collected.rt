@@ -1,83 +1,47 @@
 //! Maps and sets by the traits of std: collected, extended, cloned and combined.
 ghost use Rattle.std.specs.Prelude.{◌<◌};
 
-use super::short::{COUNT, Short};
 use art_keyed::map::TreeMap;
 use art_keyed::set::TreeSet;
-use art_keys::escaped::Escaped;
 use art_keys::signed::I16Key;
 use art_keys::unsigned::U8Key;
 use art_node_support::expected::same;
 use std::alloc::{AllocError, Global};
-use std::collections::BTreeMap;
 use std::test::Fail;
 
 type Days = TreeMap<I16Key, u32, 4>;
 
-// A map of the numbers of a range, each with its index.
-fn days(alloc: Global, first: i16, last: i16) -> Result<Days, AllocError> {
-    let mut days = TreeMap::new(alloc);
+type Numbers = TreeSet<U8Key, 2>;
+
+// The days of a range, each with its index.
+fn pairs(alloc: Global, first: i16, last: i16) -> Result<Vec<(I16Key, u32)>, AllocError> {
+    let mut pairs = Vec::new(alloc);
     let mut place = 0u32;
     for number in first..last {
-        days.insert(I16Key::from(number), place)?;
+        pairs.push((I16Key::from(number), place))?;
         place = place.saturating_add(1);
     }
-    Ok(days)
+    Ok(pairs)
+}
+
+fn days(alloc: Global, first: i16, last: i16) -> Result<Days, AllocError> {
+    pairs(alloc, first, last)?.into_iter().rev().collect(alloc)
 }
 
 // How many days there are once others are inserted, and two of their values.
 fn extend(alloc: Global) -> Option<(usize, Option<u32>, Option<u32>)> {
     let mut map = days(alloc, -10, 10).ok()?;
-    map.extend(days(alloc, 5, 20).ok()?).ok()?;
-    let seen = (
+    map.extend(pairs(alloc, 5, 20).ok()?).ok()?;
+    Some((
+        map.len(),
         map.get(&I16Key::from(-10)).copied(),
         map.get(&I16Key::from(5)).copied(),
-    );
-    Some((map.len(), seen.0, seen.1))
+    ))
 }
 
 #[test]
-fn pairs_of_another_map_replace_values(rt: HostRuntime) -> Result<(), Fail> {
+fn a_map_is_collected_and_extended(rt: HostRuntime) -> Result<(), Fail> {
     same(extend(rt.alloc()), Some((30, Some(0), Some(0))))
-}
-
-// Whether a map that is collected from pairs has the pairs of a `BTreeMap` that is collected from the same.
-fn collect(alloc: Global) -> Option<bool> {
-    let days = days(alloc, -40, 40).ok()?;
-    let (mut pairs, mut others) = (Vec::new(alloc), Vec::new(alloc));
-    for (key, value) in &days {
-        pairs.push((*key, *value % 7)).ok()?;
-        others.push((*key, *value % 7)).ok()?;
-    }
-    let map: Days = pairs.into_iter().rev().collect(alloc).ok()?;
-    let model: BTreeMap<I16Key, u32> = others.into_iter().collect(alloc).ok()?;
-    Some(map.iter().eq(model.iter()))
-}
-
-#[test]
-fn a_map_is_collected(rt: HostRuntime) -> Result<(), Fail> {
-    same(collect(rt.alloc()), Some(true))
-}
-
-// How many keys a set has that is collected from the short strings and then extended by them, and how many of these
-// start with a zero.
-fn collect_strings(alloc: Global) -> Option<(usize, usize)> {
-    let mut strings = Vec::new(alloc);
-    for number in 0..COUNT {
-        let string = Short::new(number);
-        strings
-            .push(Escaped::encode(alloc, string.as_slice()).ok()?)
-            .ok()?;
-    }
-    let mut set: TreeSet<Escaped, 2> = strings.clone().ok()?.into_iter().collect(alloc).ok()?;
-    set.extend(strings).ok()?;
-    let zero = Escaped::encode(alloc, b"\0").ok()?;
-    Some((set.len(), set.prefix(&zero).count()))
-}
-
-#[test]
-fn a_set_is_collected(rt: HostRuntime) -> Result<(), Fail> {
-    same(collect_strings(rt.alloc()), Some((COUNT, 85)))
 }
 
 // Whether a clone is equal to the map, and whether it is once the map has changed.
@@ -94,37 +58,25 @@ fn a_clone_stands_by_itself(rt: HostRuntime) -> Result<(), Fail> {
     same(clone_days(rt.alloc()), Some([true, false]))
 }
 
-// How many keys a set has once those of an iterator are inserted, and how many the iterator still has.
-fn extend_by_ref(alloc: Global) -> Option<(usize, usize)> {
-    let mut set: TreeSet<U8Key, 2> = TreeSet::new(alloc);
-    let mut keys = Vec::new(alloc);
-    for number in 0..9u8 {
-        keys.push(U8Key::from(number / 2)).ok()?;
-    }
-    let mut keys = keys.into_iter();
-    set.extend_by_ref(&mut keys).ok()?;
-    Some((set.len(), keys.count()))
-}
-
-#[test]
-fn a_set_takes_keys_of_an_iterator(rt: HostRuntime) -> Result<(), Fail> {
-    same(extend_by_ref(rt.alloc()), Some((5, 0)))
-}
-
-// A set of the multiples of a number below 60.
-fn multiples(alloc: Global, of: u8) -> Result<TreeSet<U8Key, 2>, AllocError>
+// The multiples of a number below 60.
+fn multiples(alloc: Global, of: u8) -> Result<Vec<U8Key>, AllocError>
     requires { 0 < of }
 {
-    let mut set = TreeSet::new(alloc);
+    let mut keys = Vec::new(alloc);
     for number in 0..60u8 {
         if number % of == 0 {
-            set.insert(U8Key::from(number))?;
+            keys.push(U8Key::from(number))?;
         }
     }
-    Ok(set)
+    Ok(keys)
 }
 
-type Numbers = TreeSet<U8Key, 2>;
+// A set of these multiples.
+fn set_of(alloc: Global, of: u8) -> Result<Numbers, AllocError>
+    requires { 0 < of }
+{
+    multiples(alloc, of)?.into_iter().collect(alloc)
+}
 
 // How many keys a set has, and their sum.
 fn sum(set: &Numbers) -> (usize, u32) {
@@ -133,6 +85,20 @@ fn sum(set: &Numbers) -> (usize, u32) {
         sum = sum.saturating_add(key.get() as u32);
     }
     (set.len(), sum)
+}
+
+// How many numbers a set has once others are inserted in two ways.
+fn extend_set(alloc: Global) -> Option<(usize, u32)> {
+    let mut set = set_of(alloc, 4).ok()?;
+    set.extend(multiples(alloc, 2).ok()?).ok()?;
+    set.extend_by_ref(&mut multiples(alloc, 3).ok()?.into_iter())
+        .ok()?;
+    Some(sum(&set))
+}
+
+#[test]
+fn a_set_is_collected_and_extended(rt: HostRuntime) -> Result<(), Fail> {
+    same(extend_set(rt.alloc()), Some((40, 1170)))
 }
 
 // The same for the union, the intersection, the difference and the symmetric difference of two sets.
@@ -146,7 +112,7 @@ fn combine(twos: &Numbers, threes: &Numbers) -> Option<[(usize, u32); 4]> {
 
 // The same for the multiples of 2 and of 3.
 fn combine_multiples(alloc: Global) -> Option<[(usize, u32); 4]> {
-    let (twos, threes) = (multiples(alloc, 2).ok()?, multiples(alloc, 3).ok()?);
+    let (twos, threes) = (set_of(alloc, 2).ok()?, set_of(alloc, 3).ok()?);
     combine(&twos, &threes)
 }
 
@@ -158,7 +124,7 @@ fn two_sets_are_combined(rt: HostRuntime) -> Result<(), Fail> {
 
 // Whether a clone of a set is equal to it, and whether it is once the set has changed.
 fn clone_set(alloc: Global) -> Option<[bool; 2]> {
-    let mut set = multiples(alloc, 1).ok()?;
+    let mut set = set_of(alloc, 1).ok()?;
     let copy = set.clone().ok()?;
     let is_equal = copy == set;
     set.pop_last();

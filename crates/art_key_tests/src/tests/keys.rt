@@ -1,179 +1,187 @@
-//! Keys and their bytes.
+//! Keys: their bytes, and how they are formatted.
+use super::short::{COUNT, Short};
 use art_keys::escaped::Escaped;
-use art_keys::joined::Joined;
-use art_keys::signed::Signed;
+use art_keys::signed::{I8Key, I16Key, I32Key, I64Key, I128Key};
 use art_keys::terminated::{EndError, Terminated};
-use art_keys::unsigned::Unsigned;
-use art_node_support::expected::{as_expected, same};
+use art_keys::unsigned::{U8Key, U16Key, U32Key, U64Key, U128Key};
+use art_node_support::expected::same;
 use art_nodes::node::AsBytes;
 use std::alloc::Global;
+use std::fmt::{Debug, Display};
 use std::test::Fail;
 
-// What `Terminated::new` returns: a key, or which error, and the number of bytes.
-#[derive(Clone, Copy, PartialEq, Debug)]
-enum Ended {
-    Key(usize),
-    InnerZero(usize),
-    Memory(usize),
+// Whether a key is formatted so by `Display` and then by `Debug`.
+fn is_shown<K: Display + Debug + Drop>(alloc: Global, key: K, wanted: &str) -> Option<bool> {
+    let text = format!(in alloc; "{key} {key:?}").ok()?;
+    Some(text.as_str() == wanted)
 }
 
-// The same for a copy of the bytes.
-fn make_ended(alloc: Global, text: &[u8]) -> Option<Ended> {
-    let bytes = text.to_vec(alloc).ok()?;
-    match Terminated::new(bytes) {
-        Ok(key) => Some(Ended::Key(key.as_bytes().len())),
-        Err(EndError::InnerZero { text: back }) => Some(Ended::InnerZero(back.len())),
-        Err(EndError::Memory { text: back }) => Some(Ended::Memory(back.len())),
-    }
+fn is_escaped_shown(alloc: Global, string: &[u8], wanted: &str) -> Option<bool> {
+    is_shown(alloc, Escaped::encode(alloc, string).ok()?, wanted)
+}
+
+fn is_ended_shown(alloc: Global, string: &[u8], wanted: &str) -> Option<bool> {
+    is_shown(alloc, Terminated::encode(alloc, string).ok()??, wanted)
 }
 
 #[test]
-fn bytes_are_ended_unless_a_zero_stands_among_them(rt: HostRuntime) -> Result<(), Fail> {
+fn strings_are_shown_as_text(rt: HostRuntime) -> Result<(), Fail> {
     let alloc = rt.alloc();
-    let seen = [
-        make_ended(alloc, b"car"),
-        make_ended(alloc, b""),
-        make_ended(alloc, b"c\0r"),
-    ];
-    same(
-        seen,
-        [
-            Some(Ended::Key(4)),
-            Some(Ended::Key(1)),
-            Some(Ended::InnerZero(3)),
-        ],
-    )
-}
-
-// Whether a `Terminated` key is formatted so by `Display` and `Debug`.
-fn shown_as(alloc: Global, key: &Terminated, display: &str, debug: &str) -> Option<[bool; 2]> {
-    let as_text = key.to_string(alloc).ok()?;
-    let as_debug = format!(in alloc; "{key:?}").ok()?;
-    Some([as_text.as_str() == display, as_debug.as_str() == debug])
-}
-
-// The same, and whether the key has its bytes.
-fn shown(
-    alloc: Global,
-    text: &[u8],
-    display: &str,
-    debug: &str,
-) -> Option<(Option<[bool; 2]>, [bool; 2])> {
-    let key = Terminated::new(text.to_vec(alloc).ok()?).ok()?;
-    let shown = shown_as(alloc, &key, display, debug);
-    let is_whole = key.as_bytes_without_end() == text;
-    let back = key.into_bytes_without_end();
-    Some((shown, [is_whole, back.as_slice() == text]))
-}
-
-#[test]
-fn keys_with_an_end_are_shown_as_text(rt: HostRuntime) -> Result<(), Fail> {
-    let alloc = rt.alloc();
-    let seen = [
-        shown(
+    let escaped = [
+        is_escaped_shown(alloc, b"", " \"\""),
+        is_escaped_shown(alloc, b"\0a\x01\x01", "\0a\u{1}\u{1} \"\\x00a\\x01\\x01\""),
+        is_escaped_shown(
             alloc,
-            "caf\u{e9}".as_bytes(),
-            "caf\u{e9}",
-            "\"caf\\xc3\\xa9\"",
+            b"a\xff\0b\xfe",
+            "a\u{fffd}\0b\u{fffd} \"a\\xff\\x00b\\xfe\"",
         ),
-        shown(alloc, b"a\xffb", "a\u{fffd}b", "\"a\\xffb\""),
+        is_escaped_shown(
+            alloc,
+            b"\xe2\x82\0\xac",
+            "\u{fffd}\0\u{fffd} \"\\xe2\\x82\\x00\\xac\"",
+        ),
+        is_escaped_shown(alloc, b"\xe2\x82\x01", "\u{fffd}\u{1} \"\\xe2\\x82\\x01\""),
     ];
-    same(seen, [Some((Some([true; 2]), [true; 2])); 2])
+    let ended = [
+        is_ended_shown(alloc, "caf\u{e9}".as_bytes(), "caf\u{e9} \"caf\\xc3\\xa9\""),
+        is_ended_shown(alloc, b"a\xffb", "a\u{fffd}b \"a\\xffb\""),
+    ];
+    same((escaped, ended), ([Some(true); 5], [Some(true); 2]))
 }
 
-// Whether an escaped string has these bytes, and how it is formatted.
-fn escaped(alloc: Global) -> Option<(bool, bool)> {
-    let key = Escaped::encode(alloc, b"a\0\x01b").ok()?;
-    let shown = format!(in alloc; "{key:?}").ok()?;
-    Some((
+// Whether a short string is formatted as the text that std makes of its bytes.
+fn is_as_std_shows(alloc: Global, string: Short) -> Option<bool> {
+    let key = Escaped::encode(alloc, string.as_slice()).ok()?;
+    let own = key.to_string(alloc).ok()?;
+    let text = String::from_utf8_lossy(alloc, string.as_slice()).ok()?;
+    Some(own.as_str() == &*text)
+}
+
+fn count_as_std_shows(alloc: Global) -> usize {
+    let mut count = 0usize;
+    for number in 0..COUNT {
+        let is_same = is_as_std_shows(alloc, Short::new(number)) == Some(true);
+        count = count.saturating_add(is_same as usize);
+    }
+    count
+}
+
+#[test]
+fn short_strings_are_shown_as_the_library_shows_them(rt: HostRuntime) -> Result<(), Fail> {
+    same(count_as_std_shows(rt.alloc()), COUNT)
+}
+
+#[test]
+fn numbers_are_shown_by_their_digits(rt: HostRuntime) -> Result<(), Fail> {
+    let alloc = rt.alloc();
+    let unsigned = [
+        is_shown(alloc, U8Key::from(255), "255 255"),
+        is_shown(alloc, U16Key::from(0), "0 0"),
+        is_shown(alloc, U32Key::from(70_000), "70000 70000"),
+        is_shown(alloc, U64Key::from(1 << 40), "1099511627776 1099511627776"),
+        is_shown(
+            alloc,
+            U128Key::from(u128::MAX),
+            "340282366920938463463374607431768211455 340282366920938463463374607431768211455",
+        ),
+    ];
+    let signed = [
+        is_shown(alloc, I8Key::from(-128), "-128 -128"),
+        is_shown(alloc, I16Key::from(300), "300 300"),
+        is_shown(alloc, I32Key::from(-1), "-1 -1"),
+        is_shown(
+            alloc,
+            I64Key::from(i64::MIN),
+            "-9223372036854775808 -9223372036854775808",
+        ),
+        is_shown(alloc, I128Key::from(0), "0 0"),
+    ];
+    same((unsigned, signed), ([Some(true); 5], [Some(true); 5]))
+}
+
+// Whether a number is padded to a width of five.
+fn in_a_field(alloc: Global) -> Option<bool> {
+    let key = I32Key::from(-12);
+    let text = format!(in alloc; "{key:>5}|{key:05}").ok()?;
+    Some(text.as_str() == "  -12|-0012")
+}
+
+#[test]
+fn numbers_are_set_in_fields(rt: HostRuntime) -> Result<(), Fail> {
+    same(in_a_field(rt.alloc()), Some(true))
+}
+
+// Whether an escaped string has these bytes, and is recovered.
+fn escaped(alloc: Global) -> Option<[bool; 2]> {
+    let key = Escaped::encode_str(alloc, "a\0\u{1}b").ok()?;
+    let string = key.decode(alloc).ok()?;
+    Some([
         key.as_bytes() == b"a\x01\x01\x01\x02b\0".as_slice(),
-        shown.as_str() == "\"a\\x00\\x01b\"",
-    ))
+        string.as_slice() == b"a\0\x01b".as_slice(),
+    ])
+}
+
+// Whether a string has these bytes with its end, and without it.
+fn ended(alloc: Global) -> Option<[bool; 2]> {
+    let key = Terminated::from_string("car".to_string(alloc).ok()?).ok()?;
+    let is_ended = key.as_bytes() == b"car\0".as_slice();
+    let string = key.into_bytes_without_end();
+    Some([is_ended, string.as_slice() == b"car".as_slice()])
+}
+
+// Whether a zero in a string is reported, with the string.
+fn is_zero_reported(alloc: Global) -> Option<bool> {
+    match Terminated::new(b"c\0r".to_vec(alloc).ok()?) {
+        Err(EndError::InnerZero { text }) => Some(text.as_slice() == b"c\0r".as_slice()),
+        _ => Some(false),
+    }
 }
 
 #[test]
-fn zeros_and_ones_are_escaped(rt: HostRuntime) -> Result<(), Fail> {
-    as_expected(Some((escaped(rt.alloc()), Some((true, true)))))
-}
-
-#[test]
-fn numbers_have_the_highest_byte_first() -> Result<(), Fail> {
-    let key = Unsigned::from(0x0102_0304u32);
+fn strings_have_these_bytes(rt: HostRuntime) -> Result<(), Fail> {
+    let alloc = rt.alloc();
     same(
-        (key.as_bytes() == [1, 2, 3, 4].as_slice(), u32::from(key)),
-        (true, 0x0102_0304),
+        (escaped(alloc), ended(alloc), is_zero_reported(alloc)),
+        (Some([true; 2]), Some([true; 2]), Some(true)),
     )
 }
 
+// Whether the bytes of numbers without a sign and with one are these.
+fn are_bytes_of_numbers() -> [bool; 4] {
+    [
+        U32Key::from(0x0102_0304).as_bytes() == [1, 2, 3, 4].as_slice(),
+        I16Key::from(i16::MIN).as_bytes() == [0, 0].as_slice(),
+        I16Key::from(-1).as_bytes() == [0x7f, 0xff].as_slice(),
+        I16Key::from(i16::MAX).as_bytes() == [0xff, 0xff].as_slice(),
+    ]
+}
+
 #[test]
-fn signed_numbers_have_the_bit_of_the_sign_flipped() -> Result<(), Fail> {
-    let keys = [
-        Signed::from(i16::MIN),
-        Signed::from(-1i16),
-        Signed::from(0i16),
-        Signed::from(i16::MAX),
-    ];
-    let bytes: [&[u8]; 4] = [&[0, 0], &[0x7f, 0xff], &[0x80, 0], &[0xff, 0xff]];
-    let mut are_right = true;
-    for (key, wanted) in keys.iter().zip(bytes) {
-        are_right = are_right && key.as_bytes() == wanted;
-    }
-    same((are_right, i16::from(keys[1])), (true, -1))
+fn numbers_have_the_highest_byte_first_and_the_sign_flipped() -> Result<(), Fail> {
+    same(are_bytes_of_numbers(), [true; 4])
 }
 
 #[test]
 fn numbers_of_all_widths_come_back() -> Result<(), Fail> {
     let unsigned = (
-        u8::from(Unsigned::from(7u8)),
-        u16::from(Unsigned::from(700u16)),
-        u64::from(Unsigned::from(1u64 << 40)),
-        u128::from(Unsigned::from(1u128 << 100)),
+        U8Key::from(u8::MAX).get(),
+        U16Key::from(700).get(),
+        u32::from(U32Key::from(u32::MAX)),
+        U64Key::from(1 << 40).get(),
+        U128Key::from(1 << 100).get(),
     );
     let signed = (
-        i8::from(Signed::from(-7i8)),
-        i32::from(Signed::from(-70_000i32)),
-        i64::from(Signed::from(i64::MIN)),
-        i128::from(Signed::from(-1i128)),
+        I8Key::from(-7).get(),
+        I16Key::from(i16::MIN).get(),
+        i32::from(I32Key::from(-70_000)),
+        I64Key::from(i64::MIN).get(),
+        I128Key::from(-1).get(),
     );
     same(
         (unsigned, signed),
-        ((7, 700, 1 << 40, 1 << 100), (-7, -70_000, i64::MIN, -1)),
-    )
-}
-
-#[test]
-fn numbers_are_turned_back_at_their_ends() -> Result<(), Fail> {
-    let greatest = (
-        Unsigned::from(u8::MAX).get(),
-        Unsigned::from(u16::MAX).get(),
-        Unsigned::from(u32::MAX).get(),
-        Unsigned::from(u64::MAX).get(),
-        Unsigned::from(u128::MAX).get(),
-    );
-    let least = (
-        Signed::from(i8::MIN).get(),
-        Signed::from(i16::MIN).get(),
-        Signed::from(i32::MIN).get(),
-        Signed::from(i64::MIN).get(),
-        Signed::from(i128::MIN).get(),
-    );
-    same(
-        (greatest, least),
         (
-            (u8::MAX, u16::MAX, u32::MAX, u64::MAX, u128::MAX),
-            (i8::MIN, i16::MIN, i32::MIN, i64::MIN, i128::MIN),
+            (u8::MAX, 700, u32::MAX, 1 << 40, 1 << 100),
+            (-7, i16::MIN, -70_000, i64::MIN, -1),
         ),
     )
-}
-
-// Whether a joined key has the bytes of both keys.
-fn joined(alloc: Global) -> Option<bool> {
-    let name = Escaped::encode(alloc, b"a").ok()?;
-    let key = Joined::join(alloc, &name, &Unsigned::from(513u16)).ok()?;
-    Some(key.as_bytes() == [b'a', 0, 2, 1].as_slice())
-}
-
-#[test]
-fn a_second_key_stands_after_the_first(rt: HostRuntime) -> Result<(), Fail> {
-    same(joined(rt.alloc()), Some(true))
 }

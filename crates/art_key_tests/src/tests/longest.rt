@@ -14,23 +14,27 @@ type Texts<const P: usize> = TreeMap<Terminated, u32, P>;
 
 type Bytes<const P: usize> = TreeMap<Escaped, u32, P>;
 
-// Inserts a text with a value.
-fn put<const P: usize>(map: &mut Texts<P>, alloc: Global, text: &str, value: u32) -> Option<()>
-    requires { P < 256 }
-{
-    let key = Terminated::encode_str(alloc, text).ok()??;
-    let _ = map.insert(key, value).ok()?;
-    Some(())
-}
+// ---- directories, with the numbers from 1 on
 
-// Inserts texts with the numbers from 1 on as values.
-fn put_all<const P: usize>(map: &mut Texts<P>, alloc: Global, texts: &[&str]) -> Option<()>
+static MOUNTS: [&str; 7] = [
+    "",
+    "/",
+    "/home/",
+    "/home/alice/projects/deep/directory/",
+    "/home/alice/projects/deep/directory/inner/",
+    "/home/alice/projects/deep/directory/other/",
+    "/var/lib/",
+];
+
+// Inserts them.
+fn mount<const P: usize>(map: &mut Texts<P>, alloc: Global) -> Option<()>
     requires { P < 256 }
 {
     let mut value = 0u32;
-    for text in texts {
+    for text in &MOUNTS {
         value = value.wrapping_add(1);
-        put(map, alloc, text, value)?;
+        let key = Terminated::encode_str(alloc, text).ok()??;
+        map.insert(key, value).ok()?;
     }
     Some(())
 }
@@ -43,90 +47,93 @@ fn longest<const P: usize>(map: &Texts<P>, text: &str) -> u32 {
     }
 }
 
-// The same for each of nine texts.
-fn longest_of<const P: usize>(
-    mut map: Texts<P>,
-    alloc: Global,
-    texts: &[&str],
-    asked: [&str; 9],
-) -> Option<[u32; 9]>
-    requires { P < 256 }
-{
-    put_all(&mut map, alloc, texts)?;
-    Some(asked.map(|text| longest(&map, text)))
+// The same for nine texts.
+fn longest_of_nine<const P: usize>(map: &Texts<P>) -> [u32; 9] {
+    [
+        longest(map, "/etc/passwd"),
+        longest(map, "/home/alice/projects/deep/dirXctory/inner/file"),
+        longest(map, "/homX/alice/projects/deep/directory/inner/file"),
+        longest(map, "/home/alice/projects/deep/directory/inner/file"),
+        longest(map, "/home/alice/projects/deep/directory/inXer/file"),
+        longest(map, "/home/alice/projects/deep/directory/"),
+        longest(map, "/home/alice/projects/deep/directory"),
+        longest(map, "home/alice"),
+        longest(map, ""),
+    ]
 }
 
-static MOUNTS: [&str; 7] = [
-    "",
-    "/",
-    "/home/",
-    "/home/alice/projects/deep/directory/",
-    "/home/alice/projects/deep/directory/inner/",
-    "/home/alice/projects/deep/directory/other/",
-    "/var/lib/",
-];
-
-fn mount<const P: usize>(alloc: Global) -> Option<[u32; 9]>
+fn mounted<const P: usize>(alloc: Global) -> Option<[u32; 9]>
     requires { P < 256 }
 {
-    let asked = [
-        "/etc/passwd",
-        "/home/alice/projects/deep/dirXctory/inner/file",
-        "/homX/alice/projects/deep/directory/inner/file",
-        "/home/alice/projects/deep/directory/inner/file",
-        "/home/alice/projects/deep/directory/inXer/file",
-        "/home/alice/projects/deep/directory/",
-        "/home/alice/projects/deep/directory",
-        "home/alice",
-        "",
-    ];
-    longest_of::<P>(TreeMap::new(alloc), alloc, &MOUNTS, asked)
+    let mut map: Texts<P> = TreeMap::new(alloc);
+    mount(&mut map, alloc)?;
+    Some(longest_of_nine(&map))
 }
 
 #[test]
 fn paths_are_matched_by_the_longest_mount(rt: HostRuntime) -> Result<(), Fail> {
     let alloc = rt.alloc();
     same(
-        [mount::<0>(alloc), mount::<4>(alloc), mount::<64>(alloc)],
+        [
+            mounted::<0>(alloc),
+            mounted::<4>(alloc),
+            mounted::<64>(alloc),
+        ],
         [Some([2, 3, 2, 5, 4, 4, 3, 1, 1]); 3],
     )
 }
 
-// What is found by texts, what two removals and a lookup return, and how many texts are left.
-fn by_text<const P: usize>(
-    map: &mut Texts<P>,
-    alloc: Global,
-) -> Option<([bool; 6], [Option<u32>; 3], usize)>
-    requires { P < 256 }
-{
-    put_all(map, alloc, &MOUNTS)?;
-    let found = [
-        map.contains_text(b""),
-        map.contains_text(b"/home/"),
-        map.contains_text(b"/home/alice/projects/deep/directory/inner/"),
-        map.contains_text(b"/home"),
-        map.contains_text(b"/home/\0"),
-        map.contains_text(b"/home/alice/projects/deep/dirXctory/inner/"),
-    ];
-    let removed = [
-        map.remove_text(b"/home/").map(|pair| pair.1),
-        map.remove_text(b"/home/").map(|pair| pair.1),
-        map.get_text(b"/var/lib/").copied(),
-    ];
-    Some((found, removed, map.len()))
+// The values of the matches of a text, as digits.
+fn digits(map: &Texts<2>, text: &[u8]) -> u32 {
+    let mut digits = 0u32;
+    for (_, value) in map.matches(text) {
+        digits = digits.wrapping_mul(10).wrapping_add(*value);
+    }
+    digits
+}
+
+// The value of the shortest match, or 0.
+fn shortest(map: &Texts<2>, text: &[u8]) -> u32 {
+    match map.shortest_match(text) {
+        Some((_, value)) => *value,
+        None => 0,
+    }
+}
+
+// How many of three texts are stored.
+fn count_stored(map: &Texts<2>) -> usize {
+    let mut count = map.contains_text(b"/home/") as usize;
+    count = count.saturating_add(map.contains_text(b"/home") as usize);
+    count.saturating_add(map.contains_text(b"/home/\0") as usize)
+}
+
+// The value of a text as it is removed, or 0.
+fn removed(map: &mut Texts<2>, text: &[u8]) -> u32 {
+    match map.remove_text(text) {
+        Some((_, value)) => value,
+        None => 0,
+    }
 }
 
 #[test]
-fn texts_are_found_and_removed(rt: HostRuntime) -> Result<(), Fail> {
-    let alloc = rt.alloc();
-    let expected = (
-        [true, true, true, false, false, false],
-        [Some(3), None, Some(7)],
-        6,
-    );
-    let seen = by_text::<16>(&mut TreeMap::new(alloc), alloc);
-    same(seen, Some(expected))
+fn all_mounts_of_a_path_come_in_order(rt: HostRuntime) -> Result<(), Fail> {
+    let mut map = TreeMap::new(rt.alloc());
+    let mounted = mount(&mut map, rt.alloc());
+    let matches = [
+        digits(&map, b"/home/alice/projects/deep/directory/inner/file"),
+        digits(&map, b"/home\0/alice"),
+        shortest(&map, b"/home\0/alice"),
+        digits(&map, b""),
+    ];
+    let stored = count_stored(&map);
+    let removed = [removed(&mut map, b"/home/"), removed(&mut map, b"/home/")];
+    same(
+        (mounted, matches, stored, removed, map.len()),
+        (Some(()), [12_345, 12, 1, 1], 1, [3, 0], 6),
+    )
 }
+
+// ---- random strings, with their lengths as values
 
 // A string with each byte repeated, so that prefixes get long.
 fn stretched(alloc: Global, string: Short, times: usize) -> Option<Vec<u8>> {
@@ -153,7 +160,21 @@ fn query(alloc: Global, numbers: &mut Numbers, number: usize, times: usize) -> O
     Some(query)
 }
 
-// Inserts random strings into a map and a list.
+// Inserts a string into a map and a list.
+fn put_both<const P: usize>(
+    map: &mut Bytes<P>,
+    list: &mut Vec<Vec<u8>>,
+    alloc: Global,
+    string: Vec<u8>,
+) -> Option<()>
+    requires { P < 256 }
+{
+    let key = Escaped::encode(alloc, &string).ok()?;
+    map.insert(key, string.len() as u32).ok()?;
+    list.push(string).ok()
+}
+
+// Inserts random strings.
 fn draw<const P: usize>(
     map: &mut Bytes<P>,
     list: &mut Vec<Vec<u8>>,
@@ -166,59 +187,125 @@ fn draw<const P: usize>(
     for number in 0..COUNT {
         if number < 2 || numbers.below(4) == 0 {
             let string = stretched(alloc, Short::new(number), times)?;
-            let key = Escaped::encode(alloc, &string).ok()?;
-            let _ = map.insert(key, u32::try_from(string.len()).ok()?).ok()?;
-            list.push(string).ok()?;
+            put_both(map, list, alloc, string)?;
         }
     }
     Some(())
 }
 
-// The lengths of the strings of a list that are prefixes of a query, in ascending order.
-fn lengths_of_list(alloc: Global, list: &[Vec<u8>], query: &[u8]) -> Option<Vec<u32>> {
-    let mut lengths = Vec::new(alloc);
-    for len in 0..query.len().saturating_add(1) {
-        for string in list {
-            if string.len() == len && query.starts_with(string.as_slice()) {
-                lengths.push(u32::try_from(len).ok()?).ok()?;
-            }
+// The longest match, the shortest one, and numbers that all make from the front, from the back, and from both ends in
+// turn.
+type Seen = [u32; 5];
+
+fn added(digest: u32, len: u32) -> u32 {
+    digest.wrapping_mul(37).wrapping_add(len)
+}
+
+// Those of a list: the lengths of the strings that are prefixes of a query, which differ.
+fn expected(list: &[Vec<u8>], query: &[u8]) -> Seen {
+    let mut is_match = [false; 64];
+    for string in list {
+        if string.len() < 64 && query.starts_with(string.as_slice()) {
+            is_match[string.len()] = true;
         }
     }
-    Some(lengths)
+    seen_of(is_match)
 }
 
-// Whether a map has these values of the matches of a query, from either end.
-fn agree_from_each_end<const P: usize>(map: &Bytes<P>, query: &Escaped, lengths: &[u32]) -> bool
+fn seen_of(is_match: [bool; 64]) -> Seen {
+    let (mut longest, mut shortest) = (u32::MAX, u32::MAX);
+    let (mut front, mut back) = (1u32, 1u32);
+    for len in 0..64u32 {
+        if is_match[len as usize] {
+            front = added(front, len);
+            shortest = shortest.min(len);
+            longest = len;
+        }
+        if is_match[63 - len as usize] {
+            back = added(back, 63 - len);
+        }
+    }
+    [longest, shortest, front, back, front_and_back(is_match)]
+}
+
+fn front_and_back(is_match: [bool; 64]) -> u32 {
+    let (mut from, mut to, mut digest) = (0usize, 64usize, 1u32);
+    let mut from_front = true;
+    for _ in 0..64 {
+        if from >= to || to > 64 {
+            return digest;
+        }
+        let at = if from_front { from } else { to - 1 };
+        if from_front {
+            from = at + 1;
+        } else {
+            to = at;
+        }
+        if is_match[at] {
+            digest = added(digest, at as u32);
+            from_front = !from_front;
+        }
+    }
+    digest
+}
+
+fn len_of(pair: Option<(&Escaped, &u32)>) -> u32 {
+    match pair {
+        Some((_, len)) => *len,
+        None => u32::MAX,
+    }
+}
+
+// What all matches make from one end.
+fn from_front<const P: usize>(map: &Bytes<P>, query: &Escaped) -> u32
     requires { P < 256 }
 {
-    let (front, back) = (map.matches_key(query), map.matches_key(query).rev());
-    front.map(|(_, len)| *len).eq(lengths.iter().copied())
-        && back.map(|(_, len)| *len).eq(lengths.iter().copied().rev())
+    let mut digest = 1u32;
+    for (_, len) in map.matches_key(query) {
+        digest = added(digest, *len);
+    }
+    digest
 }
 
-// The same from both ends in turn.
-fn agree_from_both_ends<const P: usize>(map: &Bytes<P>, query: &Escaped, lengths: &[u32]) -> bool
+fn from_back<const P: usize>(map: &Bytes<P>, query: &Escaped) -> u32
+    requires { P < 256 }
+{
+    let mut digest = 1u32;
+    for (_, len) in map.matches_key(query).rev() {
+        digest = added(digest, *len);
+    }
+    digest
+}
+
+fn from_both_ends<const P: usize>(map: &Bytes<P>, query: &Escaped) -> u32
     requires { P < 256 }
 {
     let mut matches = map.matches_key(query);
-    let mut rest = lengths.iter();
-    let mut agree = true;
-    for _ in 0..COUNT {
-        agree &= matches.next().map(|pair| *pair.1) == rest.next().copied();
-        agree &= matches.next_back().map(|pair| *pair.1) == rest.next_back().copied();
+    let mut digest = 1u32;
+    for turn in 0..64 {
+        let next = if turn % 2 == 0 {
+            matches.next()
+        } else {
+            matches.next_back()
+        };
+        let Some((_, len)) = next else {
+            return digest;
+        };
+        digest = added(digest, *len);
     }
-    agree
+    digest
 }
 
-// The length of the longest string of a list that is a prefix of a query.
-fn longest_in_list(list: &[Vec<u8>], query: &[u8]) -> Option<u32> {
-    let mut longest = None;
-    for string in list {
-        if query.starts_with(string.as_slice()) {
-            longest = longest.max(u32::try_from(string.len()).ok());
-        }
-    }
-    longest
+fn seen<const P: usize>(map: &Bytes<P>, query: &Escaped) -> Seen
+    requires { P < 256 }
+{
+    [
+        len_of(map.longest_match_key(query)),
+        len_of(map.shortest_match_key(query)),
+        from_front(map, query),
+        from_back(map, query),
+        from_both_ends(map, query),
+    ]
 }
 
 // Whether a map and a list agree on a query.
@@ -231,14 +318,9 @@ fn agree<const P: usize>(
     requires { P < 256 }
 {
     let key = Escaped::encode(alloc, query).ok()?;
-    let by_text = map.longest_match(alloc, query).ok()?.map(|pair| *pair.1);
-    let by_key = map.longest_match_key(&key).map(|pair| *pair.1);
-    let is_longest = [by_text, by_key] == [longest_in_list(list, query); 2];
-    let lengths = lengths_of_list(alloc, list, query)?;
-    let shortest = map.shortest_match_key(&key).map(|pair| *pair.1);
-    let is_shortest = shortest == lengths.first().copied();
-    let are_matches = agree_from_each_end(map, &key, &lengths);
-    Some(is_longest && is_shortest && are_matches && agree_from_both_ends(map, &key, &lengths))
+    let by_text = map.longest_match(query).map(|pair| *pair.1);
+    let seen = seen(map, &key);
+    Some(seen == expected(list, query) && by_text.unwrap_or(u32::MAX) == seen[0])
 }
 
 // On how many random queries they agree.
@@ -287,164 +369,109 @@ fn drawn_strings_are_matched_as_in_a_list(rt: HostRuntime) -> Result<(), Fail> {
     )
 }
 
-// The values of the matches of a text, from the front, as digits, and that of the shortest one.
-fn digits<const P: usize>(map: &Texts<P>, text: &[u8]) -> (u32, Option<u32>)
-    requires { P < 256 }
-{
-    let mut digits = 0u32;
-    for (_, value) in map.matches(text) {
-        digits = digits.wrapping_mul(10).wrapping_add(*value);
-    }
-    (digits, map.shortest_match(text).map(|pair| *pair.1))
-}
-
-fn mounts_of<const P: usize>(map: &mut Texts<P>, alloc: Global) -> Option<[(u32, Option<u32>); 5]>
-    requires { P < 256 }
-{
-    put_all(map, alloc, &MOUNTS)?;
-    Some([
-        digits(map, b"/home/alice/projects/deep/directory/inner/file"),
-        digits(map, b"/home/alice/projects/deep/dirXctory/inner/file"),
-        digits(map, b"/home\0/alice"),
-        digits(map, b"home"),
-        digits(map, b""),
-    ])
-}
-
-#[test]
-fn all_mounts_of_a_path_come_in_order(rt: HostRuntime) -> Result<(), Fail> {
-    let alloc = rt.alloc();
-    let expected = [
-        (12345, Some(1)),
-        (123, Some(1)),
-        (12, Some(1)),
-        (1, Some(1)),
-        (1, Some(1)),
-    ];
-    let seen = mounts_of::<2>(&mut TreeMap::new(alloc), alloc);
-    same(seen, Some(expected))
-}
+// ---- words that are counted
 
 // Counts a word.
-fn count_word<const P: usize>(map: &mut Texts<P>, alloc: Global, word: &[u8]) -> Option<()>
-    requires { P < 256 }
-{
+fn count_word(map: &mut Texts<2>, alloc: Global, word: &[u8]) -> bool {
     let Ok(count) = map.get_text_or_insert(alloc, word, 0) else {
-        return None;
+        return false;
     };
     *count = count.wrapping_add(1);
-    Some(())
+    true
+}
+
+fn count_words(map: &mut Texts<2>, alloc: Global) -> bool {
+    let mut are_counted = true;
+    for word in [b"to", b"be", b"to", b"or", b"to"] {
+        are_counted &= count_word(map, alloc, word.as_slice());
+    }
+    are_counted
 }
 
 // Whether an insertion by a text with a zero returns its value.
-fn is_zero_told<const P: usize>(map: &mut Texts<P>, alloc: Global) -> bool
-    requires { P < 256 }
-{
+fn is_zero_told(map: &mut Texts<2>, alloc: Global) -> bool {
     match map.get_text_or_insert(alloc, b"a\0b", 7) {
         Err(TextRefused::InnerZero { value }) => value == 7,
         _ => false,
     }
 }
 
-// Adds to the value of the longest match of a text.
-fn add_to_longest<const P: usize>(map: &mut Texts<P>, text: &[u8], more: u32) -> Option<()>
-    requires { P < 256 }
-{
-    let value = map.longest_match_mut(text)?;
+// Adds to the value of the longest match of a text, if there is one.
+fn add_to_longest(map: &mut Texts<2>, text: &[u8], more: u32) -> bool {
+    let Some(value) = map.longest_match_mut(text) else {
+        return false;
+    };
     *value = value.wrapping_add(more);
-    Some(())
+    true
 }
 
-// The counts of two words, values and lengths after calls by text, and whether calls that find nothing return nothing.
-fn words<const P: usize>(map: &mut Texts<P>, alloc: Global) -> Option<([u32; 8], bool)>
-    requires { P < 256 }
-{
-    for word in [b"to", b"be", b"to", b"or", b"to"] {
-        count_word(map, alloc, word.as_slice())?;
+// Writes the value of a text, if it is stored.
+fn write(map: &mut Texts<2>, text: &[u8], to: u32) -> bool {
+    let Some(value) = map.get_text_mut(text) else {
+        return false;
+    };
+    *value = to;
+    true
+}
+
+// The value of the longest match of a text as it is removed, or 0.
+fn take_longest(map: &mut Texts<2>, text: &[u8]) -> u32 {
+    match map.remove_longest_match(text) {
+        Some((_, value)) => value,
+        None => 0,
     }
-    let is_told = is_zero_told(map, alloc);
-    let counts = [
-        map.get_text(b"to").copied()?,
-        map.get_text(b"be").copied()?,
-        u32::try_from(map.len()).ok()?,
-    ];
-    add_to_longest(map, b"total", 10)?;
-    let missed = add_to_longest(map, b"t", 10).is_none();
-    let more = map.get_text(b"to").copied()?;
-    if let Some(value) = map.get_text_mut(b"or") {
-        *value = 5;
+}
+
+fn value_of(map: &Texts<2>, text: &[u8]) -> u32 {
+    match map.get_text(text) {
+        Some(value) => *value,
+        None => 0,
     }
-    let removed = map.remove_longest_match(b"ordinary")?.1;
-    let left = u32::try_from(map.len()).ok()?;
-    put(map, alloc, "top", 2)?;
-    let below = u32::try_from(map.prefix_text(b"to").count()).ok()?;
-    let gone = map.remove_prefix_text(b"to");
-    let answers = [
-        counts[0],
-        counts[1],
-        counts[2],
-        more,
-        removed,
-        left,
-        below,
-        u32::try_from(gone).ok()?,
-    ];
-    Some((
-        answers,
-        is_told && missed && map.prefix_text(b"be\0").count() == 0,
-    ))
 }
 
 #[test]
 fn words_are_counted_by_their_texts(rt: HostRuntime) -> Result<(), Fail> {
-    let alloc = rt.alloc();
-    let expected = ([3, 1, 3, 13, 5, 2, 2, 2], true);
-    let seen = words::<8>(&mut TreeMap::new(alloc), alloc);
-    same(seen, Some(expected))
-}
-
-// What is found, and removed, by texts with bytes 0 and 1.
-fn escaped_parts(map: &mut Bytes<4>, alloc: Global) -> Option<([bool; 5], [usize; 4])> {
-    for text in [b"a\0", b"a\x01", b"ab", b"b\0"] {
-        let _ = map
-            .insert(Escaped::encode(alloc, text.as_slice()).ok()?, 1)
-            .ok()?;
-    }
-    let found = [
-        map.contains_text(alloc, b"a\0").ok()?,
-        map.contains_text(alloc, b"ab").ok()?,
-        map.contains_text(alloc, b"a").ok()?,
-        map.get_key_value_text(alloc, b"b\0").ok()?.is_some(),
+    let mut map = TreeMap::new(rt.alloc());
+    let counted = [
+        count_words(&mut map, rt.alloc()),
+        is_zero_told(&mut map, rt.alloc()),
     ];
-    let below = [
-        map.prefix_text(alloc, b"a").ok()?.count(),
-        map.prefix_text(alloc, b"b\0").ok()?.count(),
+    let written = [
+        add_to_longest(&mut map, b"total", 10),
+        add_to_longest(&mut map, b"t", 10),
+        write(&mut map, b"or", 5),
+        write(&mut map, b"o", 5),
     ];
-    if !Escaped::is_plain(b"a") || !Escaped::is_plain(b"ab") {
-        return None;
-    }
-    let is_removed = map.remove_text(b"ab").is_some();
-    let gone = map.remove_prefix_text(b"a");
-    let found = [found[0], found[1], found[2], found[3], is_removed];
-    Some((found, [below[0], below[1], gone, map.len()]))
-}
-
-#[test]
-fn texts_of_any_bytes_are_found_by_their_parts(rt: HostRuntime) -> Result<(), Fail> {
-    let alloc = rt.alloc();
+    let values = [
+        value_of(&map, b"to"),
+        value_of(&map, b"be"),
+        take_longest(&mut map, b"ordinary"),
+    ];
+    let below = map.prefix_text(b"t").count();
+    let counts = [below, map.remove_prefix_text(b"t"), map.len()];
     same(
-        escaped_parts(&mut TreeMap::new(alloc), alloc),
-        Some(([true, true, false, true, true], [3, 1, 2, 1])),
+        (counted, written, values, counts),
+        ([true; 2], [true, false, true, false], [13, 1, 5], [1, 1, 1]),
     )
 }
 
+// ---- words of any bytes
+
 // Counts a word of any bytes.
-fn count_any(map: &mut Bytes<4>, alloc: Global, word: &[u8]) -> Option<()> {
+fn count_any(map: &mut Bytes<4>, alloc: Global, word: &[u8]) -> bool {
     let Ok(count) = map.get_text_or_insert(alloc, word, 0) else {
-        return None;
+        return false;
     };
     *count = count.wrapping_add(1);
-    Some(())
+    true
+}
+
+fn count_all(map: &mut Bytes<4>, alloc: Global) -> bool {
+    let mut are_counted = true;
+    for word in [b"a\0", b"ab", b"a\0", b"b\x01", b"ab", b"a\0"] {
+        are_counted &= count_any(map, alloc, word.as_slice());
+    }
+    are_counted
 }
 
 // Sets the value of a word without a byte to escape, and returns whether it is stored.
@@ -459,30 +486,48 @@ fn set_plain(map: &mut Bytes<4>, word: &[u8], to: u32) -> bool {
     true
 }
 
-// The counts of three words of any bytes, how many words there are, and which words could be set.
-fn any_words(map: &mut Bytes<4>, alloc: Global) -> Option<([u32; 4], [bool; 3])> {
-    for word in [b"a\0", b"ab", b"a\0", b"b\x01", b"ab", b"a\0"] {
-        count_any(map, alloc, word.as_slice())?;
+// The values of two words, and whether they are found by two other calls.
+fn found(map: &Bytes<4>) -> Option<([u32; 2], [bool; 3])> {
+    let values = [
+        map.get_text(b"a\0").copied()?,
+        map.get_text(b"ab").copied()?,
+    ];
+    let are_there = [
+        map.contains_text(b"a\0"),
+        map.contains_text(b"a"),
+        map.get_key_value_text(b"b\x01").is_some(),
+    ];
+    Some((values, are_there))
+}
+
+// How many words start with a text, how many of these are removed, one by its text, and how many are left.
+fn taken(map: &mut Bytes<4>) -> Option<[usize; 4]> {
+    let below = map.prefix_text(b"a").count();
+    if !Escaped::is_plain(b"ab") || !Escaped::is_plain(b"a") {
+        return None;
     }
-    let set = [
-        set_plain(map, b"ab", 12),
-        set_plain(map, b"a", 1),
-        set_plain(map, b"a\0", 1),
-    ];
-    let counts = [
-        map.get_text(alloc, b"a\0").ok()?.copied()?,
-        map.get_text(alloc, b"ab").ok()?.copied()?,
-        map.get_text(alloc, b"b\x01").ok()?.copied()?,
-        u32::try_from(map.len()).ok()?,
-    ];
-    Some((counts, set))
+    let is_removed = map.remove_text(b"ab").is_some();
+    let gone = map.remove_prefix_text(b"a");
+    Some([below, is_removed as usize, gone, map.len()])
 }
 
 #[test]
 fn words_of_any_bytes_are_counted(rt: HostRuntime) -> Result<(), Fail> {
-    let alloc = rt.alloc();
+    let mut map = TreeMap::new(rt.alloc());
+    let are_counted = count_all(&mut map, rt.alloc());
+    let set = [
+        set_plain(&mut map, b"ab", 12),
+        set_plain(&mut map, b"a", 1),
+        set_plain(&mut map, b"a\0", 1),
+    ];
+    let found = found(&map, rt.alloc());
     same(
-        any_words(&mut TreeMap::new(alloc), alloc),
-        Some(([3, 12, 1, 3], [true, false, false])),
+        (are_counted, set, found, taken(&mut map, rt.alloc())),
+        (
+            true,
+            [true, false, false],
+            Some(([3, 12], [true, false, true])),
+            Some([2, 1, 1, 1]),
+        ),
     )
 }

@@ -64,28 +64,32 @@ fn without_memory_a_pair_comes_back(rt: HostRuntime) -> Result<(), Fail> {
     same(seen, Some((true, 0)))
 }
 
-// What is found of escaped strings by a plain text, and whether a lookup by another one fails.
-fn look_ups(map: &TreeMap<Escaped, u32, 8>, alloc: Global) -> Option<(Option<u32>, bool)> {
-    let found = map.get_text(alloc, b"car").ok()?.copied();
-    Some((found, map.get_text(alloc, b"c\0").is_err()))
+// What two escaped strings are found to have, and how many start with a text.
+fn look_ups(map: &TreeMap<Escaped, u32, 8>) -> (Option<u32>, Option<u32>, usize) {
+    (
+        map.get_text(b"car").copied(),
+        map.get_text(b"c\0").copied(),
+        map.prefix_text(b"c\0").count(),
+    )
 }
 
-// The same in a map of one pair while every allocation fails.
+// The same in a map of two pairs while every allocation fails.
 fn starve_strings(
     map: &mut TreeMap<Escaped, u32, 8>,
     alloc: Global,
-) -> Option<(Option<u32>, bool)> {
+) -> Option<(Option<u32>, Option<u32>, usize)> {
     map.insert(Escaped::encode(alloc, b"car").ok()?, 7).ok()?;
+    map.insert(Escaped::encode(alloc, b"c\0").ok()?, 8).ok()?;
     let held = all_memory(alloc).ok()?;
-    let found = look_ups(map, alloc);
+    let found = look_ups(map);
     drop(held);
-    found
+    Some(found)
 }
 
 #[test]
-fn without_memory_plain_strings_are_found(rt: HostRuntime) -> Result<(), Fail> {
+fn without_memory_any_strings_are_found(rt: HostRuntime) -> Result<(), Fail> {
     let found = starve_strings(&mut TreeMap::new(rt.alloc()), rt.alloc());
-    same(found, Some((Some(7), true)))
+    same(found, Some((Some(7), Some(8), 1)))
 }
 
 // ---- removals

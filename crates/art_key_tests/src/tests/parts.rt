@@ -10,95 +10,83 @@ use std::test::Fail;
 
 type Map = TreeMap<U16Key, u32, 1>;
 
-type Model = BTreeMap<U16Key, u32>;
+type Model = BTreeMap<u16, u32>;
 
-fn drawn_key(numbers: &mut Numbers) -> U16Key {
-    U16Key::from(numbers.below(900) as u16)
+fn drawn_key(numbers: &mut Numbers) -> u16 {
+    numbers.below(900) as u16
 }
 
 // Inserts a pair into both.
 fn put_both(map: &mut Map, model: &mut Model, numbers: &mut Numbers) -> bool {
     let (key, value) = (drawn_key(numbers), numbers.value());
-    map.insert(key, value).is_ok() && model.insert(key, value).is_ok()
+    map.insert(U16Key::from(key), value).is_ok() && model.insert(key, value).is_ok()
 }
 
 // The first pair from one number to before another.
-fn first_between(model: &Model, low: U16Key, high: U16Key) -> Option<(U16Key, u32)> {
+fn first_between(model: &Model, low: u16, high: u16) -> Option<(u16, u32)> {
     for (key, value) in model.iter() {
-        if low.get() <= key.get() && key.get() < high.get() {
+        if low <= *key && *key < high {
             return Some((*key, *value));
         }
     }
     None
 }
 
-// Removes this pair.
-fn pop_between(model: &mut Model, low: U16Key, high: U16Key) -> Option<(U16Key, u32)> {
-    let (key, value) = first_between(model, low, high)?;
-    model.remove(&key);
-    Some((key, value))
+// Whether this pair is the first one of a range, and is removed if it is.
+fn agree_on_first(own: Option<(U16Key, u32)>, model: &mut Model, low: u16, high: u16) -> bool {
+    let first = first_between(model, low, high);
+    if let Some((key, _)) = first {
+        model.remove(&key);
+    }
+    match own {
+        Some((key, value)) => first == Some((key.get(), value)),
+        None => first.is_none(),
+    }
 }
 
 // Whether as many pairs of a range are removed from both.
-fn agree_on_range(map: &mut Map, model: &mut Model, low: U16Key, high: U16Key) -> bool {
+fn agree_on_range(map: &mut Map, model: &mut Model, low: u16, high: u16) -> bool {
     let before = model.len();
-    model.retain(|key, _| key.get() < low.get() || high.get() < key.get());
-    map.remove_range(low..=high) == before.saturating_sub(model.len())
+    model.retain(|key, _| *key < low || high < *key);
+    let removed = map.remove_range(U16Key::from(low)..=U16Key::from(high));
+    removed == before.saturating_sub(model.len())
 }
 
 // Whether the same pairs of a range are removed from both one by one, at most so many.
 fn agree_on_extracted(
     map: &mut Map,
     model: &mut Model,
-    (low, high): (U16Key, U16Key),
+    (low, high): (u16, u16),
     most: usize,
 ) -> bool {
-    let mut own = map.extract_range(low..high);
+    let mut own = map.extract_range(U16Key::from(low)..U16Key::from(high));
     let mut agree = true;
     for _ in 0..most {
-        agree &= own.next() == pop_between(model, low, high);
+        agree &= agree_on_first(own.next(), model, low, high);
     }
     agree
 }
 
-// Replaces a value by a sum and adds it and its number to the sum.
-fn gather(sum: &mut u32, key: &U16Key, value: &mut u32) {
-    let before = *sum;
-    *sum = before.wrapping_add(*value).wrapping_add(key.get() as u32);
-    *value = before;
-}
-
-// Whether the sums are the same after each value is replaced by the sum of those before it.
-fn agree_on_values(map: &mut Map, model: &mut Model) -> bool {
-    let (mut sum, mut other) = (0u32, 0u32);
-    map.for_each_mut_by_ref(&mut |key: &U16Key, value: &mut u32| gather(&mut sum, key, value));
+// Whether they have the same pairs after all values are changed, and then those above a number.
+fn agree_on_values(map: &mut Map, model: &mut Model, low: u16) -> bool {
     map.for_each_mut(|key, value| *value ^= key.get() as u32);
-    for (key, value) in model.iter_mut() {
-        gather(&mut other, key, value);
-        *value ^= key.get() as u32;
-    }
-    sum == other
-}
-
-// Whether the sums are the same after the values between two numbers are replaced so.
-fn agree_on_values_between(map: &mut Map, model: &mut Model, low: U16Key, high: U16Key) -> bool {
-    let (mut sum, mut other) = (1u32, 1u32);
     map.for_each_mut_in(
-        Bound::Excluded(&low),
-        Bound::Included(&high),
-        &mut |key: &U16Key, value: &mut u32| gather(&mut sum, key, value),
+        Bound::Excluded(&U16Key::from(low)),
+        Bound::Unbounded,
+        &mut |key: &U16Key, value: &mut u32| *value = value.wrapping_add(key.get() as u32),
     );
     for (key, value) in model.iter_mut() {
-        if low.get() < key.get() && key.get() <= high.get() {
-            gather(&mut other, key, value);
+        *value ^= *key as u32;
+        if low < *key {
+            *value = value.wrapping_add(*key as u32);
         }
     }
-    sum == other
+    digest(map) == digest_of_model(model)
 }
 
 // Whether an entry's pair is removed from both.
-fn agree_on_entry(map: &mut Map, model: &mut Model, key: U16Key) -> bool {
-    match map.entry(key).remove() {
+fn agree_on_entry(map: &mut Map, model: &mut Model, key: u16) -> bool {
+    match map.entry(U16Key::from(key)).remove() {
         Some((_, value)) => model.remove(&key) == Some(value),
         None => model.remove(&key).is_none(),
     }
@@ -108,34 +96,53 @@ fn agree_on_entry(map: &mut Map, model: &mut Model, key: U16Key) -> bool {
 // insertion that may replace a pair.
 fn agree_on_split(map: &mut Map, model: &mut Model, numbers: &mut Numbers) -> bool {
     let key = drawn_key(numbers);
-    let Ok(mut tail) = map.split_off(&key) else {
+    let Ok(mut tail) = map.split_off(&U16Key::from(key)) else {
         return false;
     };
     let Ok(mut rest) = model.split_off(&key) else {
         return false;
     };
-    let split = agree_on_pairs(map, model) && agree_on_pairs(&tail, &rest);
+    let split = [digest(map), digest(&tail)] == [digest_of_model(model), digest_of_model(&rest)];
     let put = put_both(&mut tail, &mut rest, numbers);
     let joined = map.append(&mut tail).is_ok() && model.append(&mut rest).is_ok();
     split && put && joined && tail.is_empty()
 }
 
-// Whether both have the same pairs, in the same order.
-fn agree_on_pairs(map: &Map, model: &Model) -> bool {
-    map.iter().eq(model.iter())
+// A number that the pairs make in their order.
+fn digest(map: &Map) -> u64 {
+    let mut digest = 1u64;
+    for (key, value) in map.iter() {
+        digest = added(digest, key.get(), *value);
+    }
+    digest
+}
+
+fn digest_of_model(model: &Model) -> u64 {
+    let mut digest = 1u64;
+    for (key, value) in model.iter() {
+        digest = added(digest, *key, *value);
+    }
+    digest
+}
+
+fn added(digest: u64, key: u16, value: u32) -> u64 {
+    let next = digest.wrapping_mul(1_009).wrapping_add(key as u64);
+    next.wrapping_mul(1_000_003).wrapping_add(value as u64)
 }
 
 // A change of both, and whether they agree.
 fn agree_on_change(map: &mut Map, model: &mut Model, numbers: &mut Numbers) -> bool {
     let (low, high) = (drawn_key(numbers), drawn_key(numbers));
     match numbers.below(40) {
-        0..=2 => map.pop_first_in(low..high) == pop_between(model, low, high),
+        0..=2 => {
+            let own = map.pop_first_in(U16Key::from(low)..U16Key::from(high));
+            agree_on_first(own, model, low, high)
+        }
         3 => agree_on_range(map, model, low, high),
         4 => agree_on_split(map, model, numbers),
         5..=6 => agree_on_entry(map, model, low),
-        7..=8 => agree_on_values(map, model),
-        9..=10 => agree_on_values_between(map, model, low, high),
-        11 => agree_on_extracted(map, model, (low, high), numbers.below(6)),
+        7..=8 => agree_on_values(map, model, low),
+        9 => agree_on_extracted(map, model, (low, high), numbers.below(6)),
         _ => put_both(map, model, numbers),
     }
 }
@@ -144,7 +151,8 @@ fn agree_on_change(map: &mut Map, model: &mut Model, numbers: &mut Numbers) -> b
 fn differ_at(map: &mut Map, model: &mut Model, changes: usize) -> Option<usize> {
     let mut numbers = Numbers::new(12);
     for change in 0..changes {
-        if !agree_on_change(map, model, &mut numbers) || !agree_on_pairs(map, model) {
+        let agree = agree_on_change(map, model, &mut numbers);
+        if !agree || digest(map) != digest_of_model(model) {
             return Some(change);
         }
     }

@@ -9,31 +9,32 @@ use std::test::Fail;
 
 type Set = TreeSet<U16Key, 1>;
 
-type Model = BTreeSet<U16Key>;
+type Model = BTreeSet<u16>;
 
-fn drawn_key(numbers: &mut Numbers) -> U16Key {
-    U16Key::from(numbers.below(900) as u16)
+fn drawn_key(numbers: &mut Numbers) -> u16 {
+    numbers.below(900) as u16
 }
 
 // Inserts a number into both, and returns whether both return the same.
-fn agree_on_insertion(set: &mut Set, model: &mut Model, key: U16Key) -> bool {
-    let own = set.insert(key).ok();
+fn agree_on_insertion(set: &mut Set, model: &mut Model, key: u16) -> bool {
+    let own = set.insert(U16Key::from(key)).ok();
     own.is_some() && own == model.insert(key).ok()
 }
 
 // Whether both have the number, and equally many before it.
-fn agree_on_questions(set: &Set, model: &Model, key: U16Key) -> bool {
+fn agree_on_questions(set: &Set, model: &Model, key: u16) -> bool {
     let mut before = 0usize;
     for other in model.iter() {
-        before = before.saturating_add((other.get() < key.get()) as usize);
+        before = before.saturating_add((*other < key) as usize);
     }
-    set.contains(&key) == model.contains(&key) && set.range(..key).count() == before
+    let own = U16Key::from(key);
+    set.contains(&own) == model.contains(&key) && set.range(..own).count() == before
 }
 
 // The first number from one to before another.
-fn first_between(model: &Model, low: U16Key, high: U16Key) -> Option<U16Key> {
+fn first_between(model: &Model, low: u16, high: u16) -> Option<u16> {
     for key in model.iter() {
-        if low.get() <= key.get() && key.get() < high.get() {
+        if low <= *key && *key < high {
             return Some(*key);
         }
     }
@@ -41,39 +42,55 @@ fn first_between(model: &Model, low: U16Key, high: U16Key) -> Option<U16Key> {
 }
 
 // Whether the same number is removed from both, the first one of a range.
-fn agree_on_pop(set: &mut Set, model: &mut Model, low: U16Key, high: U16Key) -> bool {
+fn agree_on_pop(set: &mut Set, model: &mut Model, low: u16, high: u16) -> bool {
     let first = first_between(model, low, high);
     if let Some(key) = first {
         model.remove(&key);
     }
-    set.pop_first_in(low..high) == first
+    match set.pop_first_in(U16Key::from(low)..U16Key::from(high)) {
+        Some(key) => first == Some(key.get()),
+        None => first.is_none(),
+    }
 }
 
 // Whether as many numbers of a range are removed from both.
-fn agree_on_range(set: &mut Set, model: &mut Model, low: U16Key, high: U16Key) -> bool {
+fn agree_on_range(set: &mut Set, model: &mut Model, low: u16, high: u16) -> bool {
     let before = model.len();
-    model.retain(|key| key.get() < low.get() || high.get() < key.get());
-    set.remove_range(low..=high) == before.saturating_sub(model.len())
+    model.retain(|key| *key < low || high < *key);
+    let removed = set.remove_range(U16Key::from(low)..=U16Key::from(high));
+    removed == before.saturating_sub(model.len())
 }
 
 // Whether both are split at a number into the same sets, once the second part has one more number, which the first part
 // may have, and is appended.
-fn agree_on_split(set: &mut Set, model: &mut Model, low: U16Key, high: U16Key) -> bool {
-    let Ok(mut tail) = set.split_off(&low) else {
+fn agree_on_split(set: &mut Set, model: &mut Model, low: u16, high: u16) -> bool {
+    let Ok(mut tail) = set.split_off(&U16Key::from(low)) else {
         return false;
     };
     let Ok(mut rest) = model.split_off(&low) else {
         return false;
     };
-    let split = agree_on_keys(set, model) && agree_on_keys(&tail, &rest);
+    let split = [digest(set), digest(&tail)] == [digest_of_model(model), digest_of_model(&rest)];
     let put = agree_on_insertion(&mut tail, &mut rest, high);
     let joined = set.append(&mut tail).is_ok() && model.append(&mut rest).is_ok();
     split && put && joined && tail.is_empty()
 }
 
-// Whether both have the same numbers, in the same order.
-fn agree_on_keys(set: &Set, model: &Model) -> bool {
-    set.iter().eq(model.iter())
+// A number that the keys make in their order.
+fn digest(set: &Set) -> u64 {
+    let mut digest = 1u64;
+    for key in set.iter() {
+        digest = digest.wrapping_mul(1_009).wrapping_add(key.get() as u64);
+    }
+    digest
+}
+
+fn digest_of_model(model: &Model) -> u64 {
+    let mut digest = 1u64;
+    for key in model.iter() {
+        digest = digest.wrapping_mul(1_009).wrapping_add(*key as u64);
+    }
+    digest
 }
 
 // A call of both, and whether they agree.
@@ -83,7 +100,7 @@ fn agree_on_call(set: &mut Set, model: &mut Model, numbers: &mut Numbers) -> boo
         0..=2 => agree_on_pop(set, model, low, high),
         3 => agree_on_range(set, model, low, high),
         4 => agree_on_split(set, model, low, high),
-        5..=8 => set.remove(&low) == model.remove(&low),
+        5..=8 => set.remove(&U16Key::from(low)) == model.remove(&low),
         9..=12 => agree_on_questions(set, model, low),
         _ => agree_on_insertion(set, model, low),
     }
@@ -93,7 +110,8 @@ fn agree_on_call(set: &mut Set, model: &mut Model, numbers: &mut Numbers) -> boo
 fn differ_at(set: &mut Set, model: &mut Model, calls: usize) -> Option<usize> {
     let mut numbers = Numbers::new(14);
     for call in 0..calls {
-        if !agree_on_call(set, model, &mut numbers) || !agree_on_keys(set, model) {
+        let agree = agree_on_call(set, model, &mut numbers);
+        if !agree || digest(set) != digest_of_model(model) {
             return Some(call);
         }
     }

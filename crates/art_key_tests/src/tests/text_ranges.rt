@@ -16,37 +16,58 @@ type Ended = TreeMap<Terminated, usize, 2>;
 
 type Any = TreeMap<Escaped, usize, 2>;
 
-type Model = BTreeMap<Vec<u8>, usize>;
+type Model = BTreeMap<Short, usize>;
 
-// A bound with a text, drawn by a number.
-fn bound_of(drawn: usize, text: &[u8]) -> Bound<&[u8]> {
-    match drawn {
-        0..=1 => Bound::Included(text),
-        2..=3 => Bound::Excluded(text),
-        _ => Bound::Unbounded,
+// A bound at a string.
+#[derive(Clone, Copy)]
+enum Drawn {
+    At(Short),
+    Past(Short),
+    Open,
+}
+
+impl Drawn {
+    fn draw(numbers: &mut Numbers) -> Self {
+        let string = Short::new(numbers.below(COUNT));
+        match numbers.below(5) {
+            0..=1 => Drawn::At(string),
+            2..=3 => Drawn::Past(string),
+            _ => Drawn::Open,
+        }
+    }
+
+    // Whether it, as a lower bound, lets a string in.
+    fn is_before(self, string: Short) -> bool {
+        match self {
+            Drawn::At(bound) => bound <= string,
+            Drawn::Past(bound) => bound < string,
+            Drawn::Open => true,
+        }
+    }
+
+    // Whether it does as an upper bound.
+    fn is_after(self, string: Short) -> bool {
+        match self {
+            Drawn::At(bound) => string <= bound,
+            Drawn::Past(bound) => string < bound,
+            Drawn::Open => true,
+        }
+    }
+
+    fn bound(&self) -> Bound<&[u8]> {
+        match self {
+            Drawn::At(string) => Bound::Included(string.as_slice()),
+            Drawn::Past(string) => Bound::Excluded(string.as_slice()),
+            Drawn::Open => Bound::Unbounded,
+        }
     }
 }
 
-// Whether a string is between two bounds.
-fn is_between(string: &[u8], from: Bound<&[u8]>, to: Bound<&[u8]>) -> bool {
-    let is_from = match from {
-        Bound::Included(text) => text <= string,
-        Bound::Excluded(text) => text < string,
-        Bound::Unbounded => true,
-    };
-    let is_up_to = match to {
-        Bound::Included(text) => string <= text,
-        Bound::Excluded(text) => string < text,
-        Bound::Unbounded => true,
-    };
-    is_from && is_up_to
-}
-
 // A number that the values between two bounds make, in their order.
-fn digest_of(model: &Model, from: Bound<&[u8]>, to: Bound<&[u8]>) -> usize {
+fn digest_of_model(model: &Model, from: Drawn, to: Drawn) -> usize {
     let mut digest = 0usize;
     for (string, value) in model.iter() {
-        if is_between(string.as_slice(), from, to) {
+        if from.is_before(*string) && to.is_after(*string) {
             digest = digest.wrapping_mul(31).wrapping_add(*value);
         }
     }
@@ -54,21 +75,44 @@ fn digest_of(model: &Model, from: Bound<&[u8]>, to: Bound<&[u8]>) -> usize {
 }
 
 // The same of the strings of a map that end with a zero.
-fn digest_of_ended(map: &Ended, from: Bound<&[u8]>, to: Bound<&[u8]>) -> usize {
+fn digest_of_ended(map: &Ended, from: Drawn, to: Drawn) -> usize {
     let mut digest = 0usize;
-    for (_, value) in map.range_text(from, to) {
+    for (_, value) in map.range_text(from.bound(), to.bound()) {
         digest = digest.wrapping_mul(31).wrapping_add(*value);
     }
     digest
 }
 
 // The same of those that are escaped.
-fn digest_of_any(map: &Any, alloc: Global, from: Bound<&[u8]>, to: Bound<&[u8]>) -> Option<usize> {
+fn digest_of_any(map: &Any, from: Drawn, to: Drawn) -> usize {
     let mut digest = 0usize;
-    for (_, value) in map.range_text(alloc, from, to).ok()? {
+    for (_, value) in map.range_text(from.bound(), to.bound()) {
         digest = digest.wrapping_mul(31).wrapping_add(*value);
     }
-    Some(digest)
+    digest
+}
+
+// What a string is found to have in the map, and how many strings start with it.
+fn found_of_any(map: &Any, string: Short) -> (Option<usize>, bool, usize) {
+    let text = string.as_slice();
+    (
+        map.get_text(text).copied(),
+        map.contains_text(text),
+        map.prefix_text(text).count(),
+    )
+}
+
+// The same in the model.
+fn found_of_model(model: &Model, string: Short) -> (Option<usize>, bool, usize) {
+    let mut below = 0usize;
+    for other in model.keys() {
+        below = below.saturating_add(other.as_slice().starts_with(string.as_slice()) as usize);
+    }
+    (
+        model.get(&string).copied(),
+        model.contains_key(&string),
+        below,
+    )
 }
 
 // Inserts a string into both.
@@ -76,93 +120,61 @@ fn put_any(map: &mut Any, model: &mut Model, alloc: Global, number: usize) -> Op
     let string = Short::new(number);
     let key = Escaped::encode(alloc, string.as_slice()).ok()?;
     map.insert(key, number).ok()?;
-    let bytes = string.as_slice().to_vec(alloc).ok()?;
-    model.insert(bytes, number).ok()?;
+    model.insert(string, number).ok()?;
     Some(())
 }
 
-// The number of the first draw for which the parts of two maps differ, if they do.
+// The number of the first string that is not found as in the model, or of the first draw for which the parts differ.
 fn any_differ_at(map: &mut Any, model: &mut Model, alloc: Global) -> Option<usize> {
     for number in 0..COUNT {
         if number % 3 != 0 && put_any(map, model, alloc, number).is_none() {
             return Some(number);
         }
     }
+    for number in 0..COUNT {
+        let string = Short::new(number);
+        if found_of_any(map, string) != found_of_model(model, string) {
+            return Some(number);
+        }
+    }
     let mut numbers = Numbers::new(5);
     for draw in 0..2_000usize {
-        let (low, high) = (drawn(&mut numbers), drawn(&mut numbers));
-        let from = bound_of(low.0, low.1.as_slice());
-        let to = bound_of(high.0, high.1.as_slice());
-        if digest_of_any(map, alloc, from, to) != Some(digest_of(model, from, to)) {
+        let (from, to) = (Drawn::draw(&mut numbers), Drawn::draw(&mut numbers));
+        if digest_of_any(map, from, to) != digest_of_model(model, from, to) {
             return Some(draw);
         }
     }
     None
 }
 
-// A kind of a bound, and its text.
-fn drawn(numbers: &mut Numbers) -> (usize, Short) {
-    (numbers.below(5), Short::new(numbers.below(COUNT)))
-}
-
 #[test]
 fn parts_of_strings_are_those_of_a_btree_map(rt: HostRuntime) -> Result<(), Fail> {
     let alloc = rt.alloc();
     let differ = any_differ_at(&mut TreeMap::new(alloc), &mut BTreeMap::new(alloc), alloc);
-    same(Some(differ), Some(None))
+    same(differ, None)
 }
 
-// Inserts a string into all three, unless there is a zero in it.
-fn put_ended(
-    map: &mut Ended,
-    set: &mut TreeSet<Terminated, 2>,
-    model: &mut Model,
-    alloc: Global,
-    number: usize,
-) -> Option<()> {
+// Inserts a string into both.
+fn put_ended(map: &mut Ended, model: &mut Model, alloc: Global, number: usize) -> Option<()> {
     let string = Short::new(number);
-    if string.as_slice().contains(&0) {
-        return Some(());
-    }
     let key = Terminated::encode(alloc, string.as_slice()).ok()??;
     map.insert(key, number).ok()?;
-    let key = Terminated::encode(alloc, string.as_slice()).ok()??;
-    set.insert(key).ok()?;
-    let bytes = string.as_slice().to_vec(alloc).ok()?;
-    model.insert(bytes, number).ok()?;
+    model.insert(string, number).ok()?;
     Some(())
 }
 
-// Whether a map and a set have the same part between two bounds as the other map.
-fn agree_between(
-    map: &Ended,
-    set: &TreeSet<Terminated, 2>,
-    model: &Model,
-    from: Bound<&[u8]>,
-    to: Bound<&[u8]>,
-) -> bool {
-    digest_of_ended(map, from, to) == digest_of(model, from, to)
-        && set.range_text(from, to).count() == map.range_text(from, to).count()
-}
-
-// The number of the first draw for which the parts differ, if they do.
-fn ended_differ_at(
-    map: &mut Ended,
-    set: &mut TreeSet<Terminated, 2>,
-    model: &mut Model,
-    alloc: Global,
-) -> Option<usize> {
+// The number of the first draw for which the parts differ, if they do. No string has a zero.
+fn ended_differ_at(map: &mut Ended, model: &mut Model, alloc: Global) -> Option<usize> {
     for number in 0..COUNT {
-        if number % 3 != 0 && put_ended(map, set, model, alloc, number).is_none() {
+        let is_stored = number % 3 != 0 && !Short::new(number).has_zero();
+        if is_stored && put_ended(map, model, alloc, number).is_none() {
             return Some(number);
         }
     }
     let mut numbers = Numbers::new(6);
     for draw in 0..2_000usize {
-        let (low, high) = (drawn(&mut numbers), drawn(&mut numbers));
-        let from = bound_of(low.0, low.1.as_slice());
-        let to = bound_of(high.0, high.1.as_slice());
-        if !agree_between(map, set, model, from, to) {
+        let (from, to) = (Drawn::draw(&mut numbers), Drawn::draw(&mut numbers));
+        if digest_of_ended(map, from, to) != digest_of_model(model, from, to) {
             return Some(draw);
         }
     }
@@ -172,11 +184,25 @@ fn ended_differ_at(
 #[test]
 fn parts_of_strings_without_a_zero_are_those_of_a_btree_map(rt: HostRuntime) -> Result<(), Fail> {
     let alloc = rt.alloc();
-    let differ = ended_differ_at(
-        &mut TreeMap::new(alloc),
-        &mut TreeSet::new(alloc),
-        &mut BTreeMap::new(alloc),
-        alloc,
-    );
-    same(Some(differ), Some(None))
+    let differ = ended_differ_at(&mut TreeMap::new(alloc), &mut BTreeMap::new(alloc), alloc);
+    same(differ, None)
+}
+
+// How many strings of a set are from "b" on, and how many start with "a".
+fn parts_of_set(set: &mut TreeSet<Terminated, 2>, alloc: Global) -> Option<[usize; 2]> {
+    for text in ["a", "ab", "b", "ba", "c"] {
+        set.insert(Terminated::encode_str(alloc, text).ok()??).ok()?;
+    }
+    let prefix = Terminated::encode_str(alloc, "a").ok()??;
+    Some([
+        set.range_text(Bound::Included(b"b"), Bound::Unbounded)
+            .count(),
+        set.prefix(&prefix).count(),
+    ])
+}
+
+#[test]
+fn a_set_has_parts_by_texts(rt: HostRuntime) -> Result<(), Fail> {
+    let seen = parts_of_set(&mut TreeSet::new(rt.alloc()), rt.alloc());
+    same(seen, Some([3, 2]))
 }

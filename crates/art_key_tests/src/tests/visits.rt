@@ -1,152 +1,114 @@
 //! Random calls of a map whose keys are two numbers joined into one, beside the same calls of a `BTreeMap`.
 use art_keyed::map::TreeMap;
 use art_keys::joined::Joined;
-use art_keys::signed::Signed;
-use art_keys::unsigned::Unsigned;
-use art_node_support::expected::as_expected;
+use art_keys::signed::I16Key;
+use art_keys::unsigned::U8Key;
+use art_node_support::expected::same;
 use art_node_support::numbers::Numbers;
 use std::alloc::Global;
 use std::collections::BTreeMap;
 use std::test::Fail;
 
-type Key = Joined<Unsigned<1>, Signed<2>>;
+type Key = Joined<U8Key, I16Key>;
 
 type Visits = TreeMap<Key, u32, 2>;
 
 type Model = BTreeMap<(u8, i16), u32>;
 
 // One of 200 keys.
-#[derive(Clone, Copy)]
-struct Visit {
-    user: u8,
-    time: i16,
-}
-
-impl Visit {
-    fn draw(numbers: &mut Numbers) -> Self {
-        Visit {
-            user: numbers.below(5) as u8,
-            time: numbers.below(40) as i16 - 20,
-        }
-    }
-
-    fn key(self, alloc: Global) -> Option<Key> {
-        Joined::join(alloc, &Unsigned::from(self.user), &Signed::from(self.time)).ok()
-    }
-}
-
-// The old value that an insertion into the map returns.
-fn inserted(map: &mut Visits, alloc: Global, visit: Visit, value: u32) -> Option<Option<u32>> {
-    match map.insert(visit.key(alloc)?, value) {
-        Ok(Some((_key, old))) => Some(Some(old)),
-        Ok(None) => Some(None),
-        Err(_refused) => None,
-    }
+fn drawn(numbers: &mut Numbers) -> (u8, i16) {
+    (numbers.below(5) as u8, numbers.below(40) as i16 - 20)
 }
 
 // An insertion into both, and whether they return the same old value.
 fn agree_on_insertion(
     map: &mut Visits,
     model: &mut Model,
-    alloc: Global,
-    visit: Visit,
+    key: Key,
+    visit: (u8, i16),
     value: u32,
-) -> Option<bool> {
-    let replaced = inserted(map, alloc, visit, value)?;
-    let old = model.insert((visit.user, visit.time), value).ok()?;
-    Some(replaced == old)
-}
-
-// The value that a removal from the map returns.
-fn removed(map: &mut Visits, alloc: Global, visit: Visit) -> Option<Option<u32>> {
-    match map.remove(&visit.key(alloc)?) {
-        Some((_key, value)) => Some(Some(value)),
-        None => Some(None),
+) -> bool {
+    let Ok(old) = model.insert(visit, value) else {
+        return false;
+    };
+    match map.insert(key, value) {
+        Ok(Some((_, own))) => old == Some(own),
+        Ok(None) => old.is_none(),
+        Err(_) => false,
     }
 }
 
 // A removal from both, and whether they return the same value.
-fn agree_on_removal(
-    map: &mut Visits,
-    model: &mut Model,
-    alloc: Global,
-    visit: Visit,
-) -> Option<bool> {
-    let value = removed(map, alloc, visit)?;
-    Some(value == model.remove(&(visit.user, visit.time)))
-}
-
-// How many visits of a user there are, and how many of the user from a time on.
-fn counts_of(map: &Visits, alloc: Global, visit: Visit) -> Option<(usize, usize)> {
-    let last = Visit {
-        user: visit.user,
-        time: i16::MAX,
-    };
-    let all = map.with_first(&Unsigned::from(visit.user)).count();
-    let range = visit.key(alloc)?..=last.key(alloc)?;
-    Some((all, map.range(range).count()))
-}
-
-// Whether both have as many visits of a user, and as many of the user from a time on.
-fn agree_on_a_user(map: &Visits, model: &Model, alloc: Global, visit: Visit) -> Option<bool> {
-    let (mut all, mut later) = (0usize, 0usize);
-    for ((user, time), _) in model.iter() {
-        let is_of_user = *user == visit.user;
-        all = all.saturating_add(is_of_user as usize);
-        later = later.saturating_add((is_of_user && *time >= visit.time) as usize);
+fn agree_on_removal(map: &mut Visits, model: &mut Model, key: Key, visit: (u8, i16)) -> bool {
+    let value = model.remove(&visit);
+    match map.remove(&key) {
+        Some(pair) => value == Some(pair.1),
+        None => value.is_none(),
     }
-    Some(counts_of(map, alloc, visit)? == (all, later))
+}
+
+// How many visits of a user there are, and from a time on up to another one.
+fn counts_of(
+    map: &Visits,
+    alloc: Global,
+    (user, time): (u8, i16),
+    end: i16,
+) -> Option<(usize, usize)> {
+    let user = U8Key::from(user);
+    let all = map.with_first(&user).count();
+    let times = I16Key::from(time)..I16Key::from(end);
+    Some((all, map.range_with(alloc, &user, times).ok()?.count()))
+}
+
+// Whether both have as many visits of a user, and as many of the user from a time on up to another one.
+fn agree_on_a_user(map: &Visits, model: &Model, alloc: Global, visit: (u8, i16), end: i16) -> bool {
+    let (mut all, mut between) = (0usize, 0usize);
+    for ((user, time), _) in model.iter() {
+        let is_of_user = *user == visit.0;
+        let is_between = visit.1 <= *time && *time < end;
+        all = all.saturating_add(is_of_user as usize);
+        between = between.saturating_add((is_of_user && is_between) as usize);
+    }
+    counts_of(map, alloc, visit, end) == Some((all, between))
 }
 
 // The time and the value of the first visit of a user.
 fn first_of(model: &Model, user: u8) -> Option<(i16, u32)> {
-    let mut first = None;
     for ((other, time), value) in model.iter() {
-        if first.is_none() && *other == user {
-            first = Some((*time, *value));
+        if *other == user {
+            return Some((*time, *value));
         }
     }
-    first
-}
-
-// The time and the value that a removal of the first visit of a user returns.
-fn popped(map: &mut Visits, alloc: Global, user: u8) -> Option<Option<(i16, u32)>> {
-    match map.pop_first_with(&Unsigned::from(user)) {
-        Some((key, value)) => Some(Some((key.second(alloc).ok()?.get(), value))),
-        None => Some(None),
-    }
+    None
 }
 
 // A removal of the first visit of a user from both, and whether they return the same.
-fn agree_on_the_first(
-    map: &mut Visits,
-    model: &mut Model,
-    alloc: Global,
-    user: u8,
-) -> Option<bool> {
+fn agree_on_the_first(map: &mut Visits, model: &mut Model, alloc: Global, user: u8) -> bool {
     let first = first_of(model, user);
-    let popped = popped(map, alloc, user)?;
-    if let Some((time, _)) = popped {
+    if let Some((time, _)) = first {
         model.remove(&(user, time));
     }
-    Some(popped == first)
+    let Some((key, value)) = map.pop_first_with(&U8Key::from(user)) else {
+        return first.is_none();
+    };
+    match key.second(alloc) {
+        Ok(time) => first == Some((time.get(), value)),
+        Err(_) => false,
+    }
 }
 
 // A removal of all visits of a user from both, and whether as many are removed.
 fn agree_on_all_of_a_user(map: &mut Visits, model: &mut Model, user: u8) -> bool {
     let before = model.len();
     model.retain(|key, _| key.0 != user);
-    let removed = map.remove_with_first(&Unsigned::from(user));
-    model.len().checked_add(removed) == Some(before) && map.len() == model.len()
+    let removed = map.remove_with_first(&U8Key::from(user));
+    removed == before.saturating_sub(model.len())
 }
 
-// Both keep the visits at even times, and count one more of each.
-fn keep_even(map: &mut Visits, model: &mut Model, alloc: Global) -> bool {
-    map.retain(|key, _| match key.split(alloc) {
-        Ok((_, time)) => i16::from(time) % 2 == 0,
-        Err(_) => true,
-    });
-    model.retain(|key, _| key.1 % 2 == 0);
+// Both keep the even values, and count one more of each.
+fn keep_even(map: &mut Visits, model: &mut Model) -> bool {
+    map.retain(|_, value| *value % 2 == 0);
+    model.retain(|_, value| *value % 2 == 0);
     map.for_each_value(|value| *value = value.wrapping_add(1));
     for value in model.values_mut() {
         *value = value.wrapping_add(1);
@@ -154,24 +116,21 @@ fn keep_even(map: &mut Visits, model: &mut Model, alloc: Global) -> bool {
     map.len() == model.len()
 }
 
-// A visit with its value.
-type Pair = ((u8, i16), u32);
-
-// A pair of the map with its key split.
-fn apart(alloc: Global, pair: Option<(&Key, &u32)>) -> Option<Pair> {
-    let (key, value) = pair?;
-    let (user, time) = key.split(alloc).ok()?;
-    Some(((u8::from(user), i16::from(time)), *value))
+// A number that the values make in their order.
+fn digest(map: &Visits) -> u64 {
+    let mut digest = 1u64;
+    for (_, value) in map.iter() {
+        digest = digest.wrapping_mul(1_000_003).wrapping_add(*value as u64);
+    }
+    digest
 }
 
-// Whether both have the same keys with the same values, in the same order.
-fn agree_on_pairs(map: &Visits, model: &Model, alloc: Global) -> bool {
-    let mut own = map.iter();
-    let mut agree = true;
-    for (key, value) in model.iter() {
-        agree = apart(alloc, own.next()) == Some((*key, *value)) && agree;
+fn digest_of_model(model: &Model) -> u64 {
+    let mut digest = 1u64;
+    for (_, value) in model.iter() {
+        digest = digest.wrapping_mul(1_000_003).wrapping_add(*value as u64);
     }
-    agree && own.next().is_none()
+    digest
 }
 
 // A call of both, and whether they return the same.
@@ -180,15 +139,18 @@ fn agree_on_call(
     model: &mut Model,
     alloc: Global,
     numbers: &mut Numbers,
-) -> Option<bool> {
-    let visit = Visit::draw(numbers);
+) -> bool {
+    let visit = drawn(numbers);
+    let Ok(key) = Joined::join(alloc, &U8Key::from(visit.0), &I16Key::from(visit.1)) else {
+        return false;
+    };
     match numbers.below(100) {
-        0..=59 => agree_on_insertion(map, model, alloc, visit, numbers.value()),
-        60..=69 => agree_on_removal(map, model, alloc, visit),
-        70..=79 => agree_on_the_first(map, model, alloc, visit.user),
-        80..=97 => agree_on_a_user(map, model, alloc, visit),
-        98 => Some(agree_on_all_of_a_user(map, model, visit.user)),
-        _ => Some(keep_even(map, model, alloc)),
+        0..=59 => agree_on_insertion(map, model, key, visit, numbers.value()),
+        60..=69 => agree_on_removal(map, model, key, visit),
+        70..=79 => agree_on_the_first(map, model, alloc, visit.0),
+        80..=97 => agree_on_a_user(map, model, alloc, visit, drawn(numbers).1),
+        98 => agree_on_all_of_a_user(map, model, visit.0),
+        _ => keep_even(map, model),
     }
 }
 
@@ -196,10 +158,8 @@ fn agree_on_call(
 fn differ_at(map: &mut Visits, model: &mut Model, alloc: Global, calls: usize) -> Option<usize> {
     let mut numbers = Numbers::new(5);
     for call in 0..calls {
-        if agree_on_call(map, model, alloc, &mut numbers) != Some(true) {
-            return Some(call);
-        }
-        if call % 50 == 0 && !agree_on_pairs(map, model, alloc) {
+        let agree = agree_on_call(map, model, alloc, &mut numbers);
+        if !agree || digest(map) != digest_of_model(model) {
             return Some(call);
         }
     }
@@ -213,6 +173,5 @@ fn drawn_calls_with_joined_keys_return_what_those_of_a_btree_map_do(
     let alloc = rt.alloc();
     let (mut map, mut model) = (TreeMap::new(alloc), BTreeMap::new(alloc));
     let differ = differ_at(&mut map, &mut model, alloc, 2_000);
-    let same = agree_on_pairs(&map, &model, alloc);
-    as_expected(Some(((differ, same, map.len() == model.len()), (None, true, true))))
+    same((differ, map.is_empty()), (None, false))
 }

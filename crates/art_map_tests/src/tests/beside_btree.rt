@@ -1,38 +1,131 @@
 //! Drawn calls of a map, compared with the same calls of a `BTreeMap`. The keys have one length, so that none is a
 //! prefix of another.
 use super::calls::Removal;
-use super::{entries, extracts, splits};
-use art_operations::map::ByteMap;
-use art_test_support::expected::same;
-use art_test_support::numbers::Numbers;
+use super::{entries, ranges};
+use art_map::map::ByteMap;
+use art_node_support::expected::same;
+use art_node_support::numbers::Numbers;
 use std::alloc::Global;
 use std::collections::BTreeMap;
 use std::ops::Bound;
 use std::test::Fail;
 
-pub(super) type Key = [u8; 2];
+pub(super) type Key = [u8; 4];
 
 pub(super) type Map = ByteMap<Key, u32, 1>;
 
 pub(super) type Model = BTreeMap<Key, u32>;
 
+// Few first bytes, so that many keys share them, and many last bytes, so that nodes are large.
 pub(super) fn drawn_key(numbers: &mut Numbers) -> Key {
-    [numbers.below(12) as u8, numbers.below(40) as u8]
+    [
+        numbers.below(2) as u8,
+        [0, 1, 255][numbers.below(3)],
+        numbers.below(2) as u8,
+        numbers.below(60) as u8 * 4,
+    ]
 }
 
-fn copied(pair: Option<(&Key, &u32)>) -> Option<(Key, u32)> {
-    let (key, value) = pair?;
+/// A number that the pairs before this one made, and this one.
+pub(super) fn added(digest: u64, key: Key, value: u32) -> u64 {
+    digest
+        .wrapping_mul(1_000_003)
+        .wrapping_add(number_of(key, value))
+}
+
+/// A number that tells this pair from others.
+pub(super) fn number_of(key: Key, value: u32) -> u64 {
+    ((u32::from_be_bytes(key) as u64) << 32) | value as u64
+}
+
+// What the pairs make in their order.
+fn digest(map: &Map) -> u64 {
+    let mut digest = map.len() as u64;
+    for (key, value) in map.iter() {
+        digest = added(digest, *key, *value);
+    }
+    digest
+}
+
+fn digest_of_model(model: &Model) -> u64 {
+    let mut digest = model.len() as u64;
+    for (key, value) in model.iter() {
+        digest = added(digest, *key, *value);
+    }
+    digest
+}
+
+/// Whether both have the same pairs.
+pub(super) fn agree_on_pairs(map: &Map, model: &Model) -> bool {
+    digest(map) == digest_of_model(model)
+}
+
+// What the pairs make from the back.
+fn from_back(map: &Map) -> u64 {
+    let mut digest = 1u64;
+    for (key, value) in map.iter().rev() {
+        digest = added(digest, *key, *value);
+    }
+    digest
+}
+
+// The sum of the keys, and what the values make from the back.
+fn keys_and_values(map: &Map) -> (u64, u64) {
+    let (mut keys, mut values) = (0u64, 1u64);
+    for key in map.keys() {
+        keys = keys.wrapping_add(number_of(*key, 0));
+    }
+    for value in map.values().rev() {
+        values = added(values, [0; 4], *value);
+    }
+    (keys, values)
+}
+
+// Whether both have the same pairs from the back, and the same keys and values.
+fn agree_from_back(map: &Map, model: &Model) -> bool {
+    let (mut back, mut keys, mut values) = (1u64, 0u64, 1u64);
+    for (key, value) in model.iter().rev() {
+        back = added(back, *key, *value);
+        keys = keys.wrapping_add(number_of(*key, 0));
+        values = added(values, [0; 4], *value);
+    }
+    from_back(map) == back && keys_and_values(map) == (keys, values)
+}
+
+fn first(map: &Map) -> Option<(Key, u32)> {
+    let (key, value) = map.first_key_value()?;
     Some((*key, *value))
 }
 
-// Queries both, and returns whether they return the same.
-fn agree_on_question(map: &Map, model: &Model, key: Key, question: usize) -> bool {
-    match question {
-        0 => map.get(&key).copied() == model.get(&key).copied(),
-        1 => map.contains_key(&key) == model.contains_key(&key),
-        2 => copied(map.first_key_value()) == copied(model.first_key_value()),
-        _ => copied(map.last_key_value()) == copied(model.last_key_value()),
+fn last(map: &Map) -> Option<(Key, u32)> {
+    let (key, value) = map.last_key_value()?;
+    Some((*key, *value))
+}
+
+fn pair_at(map: &Map, key: Key) -> Option<(Key, u32)> {
+    let (key, value) = map.get_key_value(&key)?;
+    Some((*key, *value))
+}
+
+// The pairs at the ends of the other map.
+fn ends_of_model(model: &Model) -> [Option<(Key, u32)>; 2] {
+    let (mut first, mut last) = (None, None);
+    for (key, value) in model.iter() {
+        last = Some((*key, *value));
+        if first.is_none() {
+            first = last;
+        }
     }
+    [first, last]
+}
+
+// Whether both have the same value of a key, and the same pairs at their ends.
+fn agree_on_questions(map: &Map, model: &Model, key: Key) -> bool {
+    let value = model.get(&key).copied();
+    map.get(&key).copied() == value
+        && map.contains_key(&key) == value.is_some()
+        && pair_at(map, key) == pair_with(key, value)
+        && [first(map), last(map)] == ends_of_model(model)
 }
 
 // A key with its value, if there is one.
@@ -49,21 +142,18 @@ pub(super) fn agree_on_removal(map: &mut Map, model: &mut Model, removal: Remova
     }
 }
 
-fn agree_on_insertion(map: &mut Map, model: &mut Model, key: Key, value: u32) -> bool {
-    let replaced = map.insert(key, value).ok();
-    match model.insert(key, value) {
-        Ok(old) => replaced == Some(pair_with(key, old)),
-        Err(_) => false,
-    }
-}
-
 // Inserts a drawn pair into both, and returns whether they return the same.
 pub(super) fn agree_on_drawn_insertion(
     map: &mut Map,
     model: &mut Model,
     numbers: &mut Numbers,
 ) -> bool {
-    agree_on_insertion(map, model, drawn_key(numbers), numbers.value())
+    let (key, value) = (drawn_key(numbers), numbers.value());
+    let replaced = map.insert(key, value).ok();
+    match model.insert(key, value) {
+        Ok(old) => replaced == Some(pair_with(key, old)),
+        Err(_) => false,
+    }
 }
 
 // Calls both, and returns whether they return the same.
@@ -74,97 +164,13 @@ fn agree_on_call(
     is_growing: bool,
 ) -> bool {
     let key = drawn_key(numbers);
-    let value = numbers.value();
-    let call = numbers.below(16);
-    match call {
-        0..=3 => agree_on_question(map, model, key, call),
+    match numbers.below(16) {
+        0..=3 => agree_on_questions(map, model, key),
         4 => agree_on_removal(map, model, Removal::First),
         5 => agree_on_removal(map, model, Removal::Last),
         6..=8 => agree_on_removal(map, model, Removal::Key(key)),
         9..=12 if !is_growing => agree_on_removal(map, model, Removal::First),
-        _ => agree_on_insertion(map, model, key, value),
-    }
-}
-
-// Whether both have the same pairs from both ends, the same keys and values, and equally many.
-pub(super) fn agree_on_pairs(map: &Map, model: &Model) -> bool {
-    map.iter().eq(model.iter())
-        && map.iter().rev().eq(model.iter().rev())
-        && map.keys().eq(model.keys())
-        && map.values().rev().eq(model.values().rev())
-        && map.len() == model.len()
-}
-
-// Writes the value of a key in both, and returns whether both had the same.
-fn agree_on_get_mut(map: &mut Map, model: &mut Model, key: Key, value: u32) -> bool {
-    let Some(own) = map.get_mut(&key) else {
-        return model.get(&key).is_none();
-    };
-    let was = *own;
-    *own = value;
-    let Some(other) = model.get_mut(&key) else {
-        return false;
-    };
-    let agree = was == *other;
-    *other = value;
-    agree
-}
-
-// The same, with a new key inserted first.
-fn agree_on_get_or_insert(map: &mut Map, model: &mut Model, key: Key, value: u32) -> bool {
-    let Ok(own) = map.get_or_insert(key, 7) else {
-        return false;
-    };
-    let was = *own;
-    *own = value;
-    let Ok(entry) = model.entry(key) else {
-        return false;
-    };
-    let other = entry.or_insert(7);
-    let agree = was == *other;
-    *other = value;
-    agree
-}
-
-// Inserts a key by its entry, and returns whether both then have the same value.
-fn agree_on_or_insert(map: &mut Map, model: &mut Model, key: Key, value: u32) -> bool {
-    let Ok(own) = map.entry(key).or_insert(value) else {
-        return false;
-    };
-    let stored = *own;
-    let Ok(entry) = model.entry(key) else {
-        return false;
-    };
-    stored == *entry.or_insert(value)
-}
-
-// Writes the value of a stored key by its entry, and returns whether both then have the same pair.
-fn agree_on_and_modify(map: &mut Map, model: &mut Model, key: Key, value: u32) -> bool {
-    let entry = map.entry(key).and_modify(|stored| *stored = value);
-    let own = entry.get().copied();
-    if let Some(other) = model.get_mut(&key) {
-        *other = value;
-    }
-    own == model.get(&key).copied()
-        && copied(map.get_key_value(&key)) == copied(model.get_key_value(&key))
-}
-
-// Writes the value of a key in both, by one of four calls, and returns whether they agree.
-fn agree_on_write(map: &mut Map, model: &mut Model, key: Key, value: u32, call: usize) -> bool {
-    match call {
-        0 => agree_on_get_mut(map, model, key, value),
-        1 => agree_on_get_or_insert(map, model, key, value),
-        2 => agree_on_or_insert(map, model, key, value),
-        _ => agree_on_and_modify(map, model, key, value),
-    }
-}
-
-// A drawn write or another call of both, and whether they agree.
-fn agree_on_writes(map: &mut Map, model: &mut Model, numbers: &mut Numbers) -> bool {
-    let (key, value) = (drawn_key(numbers), numbers.value());
-    match numbers.below(5) {
-        4 => agree_on_call(map, model, numbers, true),
-        call => agree_on_write(map, model, key, value, call),
+        _ => agree_on_drawn_insertion(map, model, numbers),
     }
 }
 
@@ -184,76 +190,52 @@ fn fill_both(map: &mut Map, model: &mut Model, numbers: &mut Numbers) -> bool {
     agree
 }
 
-// Changes a value by its key, and returns whether it passes a test.
-fn stays(key: &Key, value: &mut u32, rest: u32) -> bool {
-    *value = value.wrapping_add(key[1] as u32);
-    *value % 5 != rest
-}
-
-// Whether both keep the same pairs that pass a test, with the same values.
+// Whether both keep the same pairs.
 fn agree_on_retained(map: &mut Map, model: &mut Model, rest: u32) -> bool {
-    map.retain(|key, value| stays(key, value, rest));
-    model.retain(|key, value| stays(key, value, rest));
+    map.retain(|key, value| (*value ^ key[3] as u32) % 5 != rest);
+    model.retain(|key, value| (*value ^ key[3] as u32) % 5 != rest);
     agree_on_pairs(map, model)
 }
 
-// Replaces a value by a sum and adds it and a byte of its key to the sum.
-fn gather(sum: &mut u32, key: &Key, value: &mut u32) {
-    let before = *sum;
-    *sum = before.wrapping_add(*value).wrapping_add(key[1] as u32);
-    *value = before;
-}
-
-// Whether they are the same after each value is replaced by the sum of the pairs before it.
+// Whether they are the same after each value is replaced by the sum of those before it.
 fn agree_on_each_pair(map: &mut Map, model: &mut Model) -> bool {
     let (mut sum, mut other) = (0u32, 0u32);
-    map.for_each_mut_by_ref(&mut |key: &Key, value: &mut u32| gather(&mut sum, key, value));
+    map.for_each_mut_by_ref(&mut |key: &Key, value: &mut u32| {
+        sum = sum.wrapping_add(*value).wrapping_add(key[3] as u32);
+        *value = sum;
+    });
     for (key, value) in model.iter_mut() {
-        gather(&mut other, key, value);
+        other = other.wrapping_add(*value).wrapping_add(key[3] as u32);
+        *value = other;
     }
-    map.for_each_mut(|key, value| *value = value.wrapping_add(key[0] as u32));
-    for (key, value) in model.iter_mut() {
-        *value = value.wrapping_add(key[0] as u32);
-    }
-    sum == other && agree_on_pairs(map, model)
+    agree_on_pairs(map, model)
 }
 
-// Whether they are the same after the values of a range were changed so, and those below a byte.
-fn agree_on_part(map: &mut Map, model: &mut Model, low: Key, high: Key) -> bool {
-    let (mut sum, mut other) = (1u32, 1u32);
+fn stirred(key: &Key, value: u32) -> u32 {
+    value.wrapping_mul(3).wrapping_add(key[3] as u32)
+}
+
+// Whether they are the same after all values are changed twice, those of a range, and those below a byte.
+fn agree_on_each_value(map: &mut Map, model: &mut Model, low: Key, high: Key) -> bool {
+    map.for_each_mut(|key, value| *value = stirred(key, *value));
+    map.for_each_value(|value| *value = value.wrapping_add(1));
     map.for_each_mut_in(
         Bound::Excluded(&low[..]),
         Bound::Included(&high[..]),
-        &mut |key: &Key, value: &mut u32| gather(&mut sum, key, value),
+        &mut |key: &Key, value: &mut u32| *value = stirred(key, *value),
     );
-    for (key, value) in model.iter_mut() {
-        if low < *key && *key <= high {
-            gather(&mut other, key, value);
-        }
-    }
     map.for_each_mut_below(
         &low[..1],
-        &mut |key: &Key, value: &mut u32| { gather(&mut sum, key, value) },
+        &mut |key: &Key, value: &mut u32| *value = stirred(key, *value),
     );
     for (key, value) in model.iter_mut() {
-        if key[0] == low[0] {
-            gather(&mut other, key, value);
+        *value = stirred(key, *value).wrapping_add(1);
+        if low < *key && *key <= high {
+            *value = stirred(key, *value);
         }
-    }
-    sum == other && agree_on_pairs(map, model)
-}
-
-// Whether they are the same after each value is changed by the sum of those before it.
-fn agree_on_each_value(map: &mut Map, model: &mut Model) -> bool {
-    let mut sum = 0u32;
-    map.for_each_value(|value| {
-        sum = sum.wrapping_add(*value);
-        *value = sum;
-    });
-    let mut sum = 0u32;
-    for value in model.values_mut() {
-        sum = sum.wrapping_add(*value);
-        *value = sum;
+        if key[0] == low[0] {
+            *value = stirred(key, *value);
+        }
     }
     agree_on_pairs(map, model)
 }
@@ -273,9 +255,9 @@ fn agree_in_round(map: &mut Map, model: &mut Model, numbers: &mut Numbers, alloc
         fill_both(&mut more, &mut others, numbers),
         agree_on_order(map, &more, model, &others),
         agree_on_extended(map, more, model, &mut others),
-        agree_on_each_value(map, model),
         agree_on_each_pair(map, model),
-        agree_on_part(map, model, drawn_key(numbers), drawn_key(numbers)),
+        agree_on_each_value(map, model, drawn_key(numbers), drawn_key(numbers)),
+        agree_from_back(map, model),
         agree_on_retained(map, model, numbers.below(5) as u32),
     ];
     agree == [true; 7]
@@ -288,10 +270,8 @@ enum Drawn {
     /// The same, and the map is compacted at times.
     CallsOfACompactMap,
     Writes,
-    Entries,
-    /// Pairs of a range, and splits.
+    /// Pairs of a range or with a prefix, and splits.
     Parts,
-    Extracts,
     /// Calls of all pairs, and of two maps.
     Rounds,
 }
@@ -309,13 +289,11 @@ fn agree_on_drawn(
             agree_on_call(map, model, numbers, call / 500 % 2 == 0)
                 && (call % 50 != 49 || map.compact().is_ok())
         }
-        Drawn::Writes => agree_on_writes(map, model, numbers),
-        Drawn::Entries => entries::agree_on_call(map, model, numbers),
-        Drawn::Parts => splits::agree_on_change(map, model, numbers) && agree_on_pairs(map, model),
-        Drawn::Extracts => {
-            fill_both(map, model, numbers)
-                && extracts::agree_on_change(map, model, numbers)
-                && agree_on_pairs(map, model)
+        Drawn::Writes => entries::agree_on_write(map, model, numbers),
+        Drawn::Parts => {
+            let grows = call / 150 % 2 == 0;
+            ranges::agree_on_change(map, model, numbers, grows)
+                && ranges::agree_on_questions(map, model, numbers)
         }
         Drawn::Rounds => agree_in_round(map, model, numbers, alloc),
     }
@@ -331,10 +309,10 @@ fn differ_at(
     let mut numbers = Numbers::new(calls as u64);
     for call in 0..calls {
         let agree = agree_on_drawn((map, model), &mut numbers, alloc, (drawn, call));
-        if !agree || (call % 50 == 49 && !agree_on_pairs(map, model)) {
+        if !agree || (call % 10 == 9 && !agree_on_pairs(map, model)) {
             return Some(call);
         }
-        if call % 400 == 399 && matches!(drawn, Drawn::Writes | Drawn::Entries) {
+        if call % 400 == 399 && drawn == Drawn::Writes {
             map.clear();
             model.clear();
         }
@@ -343,13 +321,11 @@ fn differ_at(
 }
 
 // What is drawn, and how many calls.
-static RUNS: [(Drawn, usize); 7] = [
+static RUNS: [(Drawn, usize); 5] = [
     (Drawn::Calls, 6_000),
     (Drawn::CallsOfACompactMap, 3_000),
-    (Drawn::Writes, 3_000),
-    (Drawn::Entries, 3_000),
-    (Drawn::Parts, 1_000),
-    (Drawn::Extracts, 300),
+    (Drawn::Writes, 6_000),
+    (Drawn::Parts, 1_500),
     (Drawn::Rounds, 100),
 ];
 

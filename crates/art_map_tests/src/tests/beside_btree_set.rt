@@ -1,21 +1,27 @@
 //! Drawn calls of sets, compared with the same calls of `BTreeSet`s. The keys have one length, so that none is a prefix
 //! of another.
 use super::set_splits;
-use art_operations::set::ByteSet;
-use art_test_support::expected::same;
-use art_test_support::numbers::Numbers;
+use art_map::set::ByteSet;
+use art_node_support::expected::same;
+use art_node_support::numbers::Numbers;
 use std::collections::BTreeSet;
-use std::ops::Bound;
 use std::test::Fail;
 
-pub(super) type Key = [u8; 2];
+pub(super) type Key = [u8; 4];
 
 pub(super) type Set = ByteSet<Key, 1>;
 
 pub(super) type Model = BTreeSet<Key>;
 
 pub(super) fn drawn_key(numbers: &mut Numbers) -> Key {
-    [numbers.below(5) as u8, numbers.below(12) as u8]
+    [numbers.below(5) as u8, 7, 7, numbers.below(12) as u8]
+}
+
+// A number that the keys before this one made, and this one.
+fn added(digest: u64, key: Key) -> u64 {
+    digest
+        .wrapping_mul(1_000_003)
+        .wrapping_add(u32::from_be_bytes(key) as u64)
 }
 
 // Whether neither call failed, and both returned the same.
@@ -38,85 +44,121 @@ fn agree_on_change(set: &mut Set, model: &mut Model, key: Key, call: usize) -> b
 // Queries both, and returns whether they return the same.
 fn agree_on_questions(set: &Set, model: &Model, key: Key) -> bool {
     set.contains(&key) == model.contains(&key)
-        && set.get(&key) == model.get(&key)
-        && set.first() == model.first()
-        && set.last() == model.last()
-        && set.len() == model.len()
+        && set.get(&key).copied() == model.get(&key).copied()
+        && set.first().copied() == model.first().copied()
+        && set.last().copied() == model.last().copied()
         && set.is_empty() == model.is_empty()
+}
+
+// What the keys make from the front, and from the back.
+fn digests(set: &Set) -> [u64; 2] {
+    let (mut front, mut back) = (set.len() as u64, 1u64);
+    for key in set.iter() {
+        front = added(front, *key);
+    }
+    for key in set.iter().rev() {
+        back = added(back, *key);
+    }
+    [front, back]
+}
+
+fn digests_of_model(model: &Model) -> [u64; 2] {
+    let (mut front, mut back) = (model.len() as u64, 1u64);
+    for key in model.iter() {
+        front = added(front, *key);
+    }
+    for key in model.iter().rev() {
+        back = added(back, *key);
+    }
+    [front, back]
 }
 
 // Whether both have the same keys from both ends.
 pub(super) fn agree_on_keys(set: &Set, model: &Model) -> bool {
-    set.iter().eq(model.iter()) && set.iter().rev().eq(model.iter().rev())
+    digests(set) == digests_of_model(model)
 }
 
-// Whether both have the same keys with the first byte of this key.
-fn agree_below(set: &Set, model: &Model, key: Key) -> bool {
-    let mut below = set.prefix(&key[..1]);
-    let mut agree = true;
-    for stored in model.iter() {
-        if stored[0] == key[0] {
-            agree &= below.next() == Some(stored);
+// ---- two sets
+
+// What the keys of the union, the intersection, the difference and the symmetric difference make.
+fn of_union(set: &Set, other: &Set) -> u64 {
+    let mut digest = 1u64;
+    for key in set.union(other) {
+        digest = added(digest, *key);
+    }
+    digest
+}
+
+fn of_intersection(set: &Set, other: &Set) -> u64 {
+    let mut digest = 1u64;
+    for key in set.intersection(other) {
+        digest = added(digest, *key);
+    }
+    digest
+}
+
+fn of_difference(set: &Set, other: &Set) -> u64 {
+    let mut digest = 1u64;
+    for key in set.difference(other) {
+        digest = added(digest, *key);
+    }
+    digest
+}
+
+fn of_symmetric_difference(set: &Set, other: &Set) -> u64 {
+    let mut digest = 1u64;
+    for key in set.symmetric_difference(other) {
+        digest = added(digest, *key);
+    }
+    digest
+}
+
+// The same of the other sets, by a look at each of the keys that are drawn.
+fn expected_of_both(model: &Model, beside: &Model) -> [u64; 4] {
+    let mut digests = [1u64; 4];
+    for number in 0..60u8 {
+        let key = [number / 12, 7, 7, number % 12];
+        let (is_in, is_beside) = (model.contains(&key), beside.contains(&key));
+        let has = [
+            is_in || is_beside,
+            is_in && is_beside,
+            is_in && !is_beside,
+            is_in != is_beside,
+        ];
+        for at in 0..4usize {
+            if has[at] {
+                digests[at] = added(digests[at], key);
+            }
         }
     }
-    agree & below.next().is_none()
-}
-
-// The first key after this one, and the last one up to it.
-fn beside_key(model: &Model, key: Key) -> (Option<Key>, Option<Key>) {
-    let (mut after, mut up_to) = (None, None);
-    for stored in model.iter() {
-        if *stored <= key {
-            up_to = Some(*stored);
-        } else if after.is_none() {
-            after = Some(*stored);
-        }
-    }
-    (after, up_to)
-}
-
-// Whether both have the same keys with a prefix, and the same ones after and before a key.
-fn agree_on_parts(set: &Set, model: &Model, key: Key) -> bool {
-    let bytes = &key[..];
-    let (after, before) = (Bound::Excluded(bytes), Bound::Included(bytes));
-    let found = [
-        set.first_from(after).copied(),
-        set.range((after, Bound::Unbounded)).next().copied(),
-        set.last_up_to(before).copied(),
-        set.range((Bound::Unbounded, before)).next_back().copied(),
-    ];
-    let (next, last) = beside_key(model, key);
-    found == [next, next, last, last] && agree_below(set, model, key)
+    digests
 }
 
 // Whether both pairs of sets have the same unions, intersections and differences.
-fn agree_on_walks(set: &Set, other: &Set, model: &Model, beside: &Model) -> bool {
-    let (of_one, of_the_model) = (
-        set.symmetric_difference(other),
-        model.symmetric_difference(beside),
-    );
-    let agree = [
-        set.union(other).eq(model.union(beside)),
-        set.intersection(other).eq(model.intersection(beside)),
-        set.difference(other).eq(model.difference(beside)),
-        of_one.eq(of_the_model),
+fn agree_on_both(set: &Set, other: &Set, model: &Model, beside: &Model) -> bool {
+    let seen = [
+        of_union(set, other),
+        of_intersection(set, other),
+        of_difference(set, other),
+        of_symmetric_difference(set, other),
     ];
-    agree == [true; 4] && agree_on_copies(set, other)
+    seen == expected_of_both(model, beside)
 }
 
-// Whether clones of a union and of an intersection continue on their own. A union has at most as many keys as both
-// sets.
-fn agree_on_copies(set: &Set, other: &Set) -> bool {
+// How many keys of a union a clone of its iterator has after the first one, and the iterator itself, and the same of
+// an intersection.
+fn copied(set: &Set, other: &Set) -> Option<[usize; 4]> {
     let (mut all, both) = (set.union(other), set.intersection(other));
-    let hint = all.size_hint() == (0, set.len().checked_add(other.len()));
     all.next();
-    let Ok(rest) = all.clone() else {
-        return false;
-    };
-    let Ok(copy) = both.clone() else {
-        return false;
-    };
-    hint && rest.eq(all) && copy.eq(both)
+    let (rest, copy) = (all.clone().ok()?, both.clone().ok()?);
+    Some([rest.count(), all.count(), copy.count(), both.count()])
+}
+
+fn agree_on_copies(set: &Set, other: &Set) -> bool {
+    match copied(set, other) {
+        Some(counts) => counts[0] == counts[1] && counts[2] == counts[3],
+        None => false,
+    }
 }
 
 // Whether two sets compare in the same way.
@@ -131,40 +173,37 @@ fn agree_on_order(set: &Set, other: &Set, model: &Model, beside: &Model) -> bool
 
 // Whether both keep the same keys after one key in five is removed.
 fn agree_on_retained(set: &mut Set, model: &mut Model, rest: u8) -> bool {
-    set.retain(|key| key[1] % 5 != rest);
-    model.retain(|key| key[1] % 5 != rest);
+    set.retain(|key| key[3] % 5 != rest);
+    model.retain(|key| key[3] % 5 != rest);
     agree_on_keys(set, model)
+}
+
+// The same for a drawn change of a set.
+fn agree_on_drawn(set: &mut Set, model: &mut Model, numbers: &mut Numbers, call: usize) -> bool {
+    let key = drawn_key(numbers);
+    let kind = numbers.below(if (call / 200) % 2 == 0 { 12 } else { 6 });
+    let agree = agree_on_change(set, model, key, kind) && agree_on_questions(set, model, key);
+    let kept = call % 50 != 49 || agree_on_retained(set, model, key[0]);
+    let parts = call % 10 != 9 || set_splits::agree_on_parts(set, model, numbers);
+    agree && kept && parts && agree_on_keys(set, model)
 }
 
 // The number of the first change after which they differ, if they do.
 fn differ_at(
-    sets: (&mut Set, &mut Set),
-    models: (&mut Model, &mut Model),
+    (left, right): (&mut Set, &mut Set),
+    (left_model, right_model): (&mut Model, &mut Model),
     changes: usize,
 ) -> Option<usize> {
     let mut numbers = Numbers::new(11);
-    let (left, right) = sets;
-    let (left_model, right_model) = models;
     for change in 0..changes {
-        let key = drawn_key(&mut numbers);
-        let call = numbers.below(if (change / 100) % 2 == 0 { 12 } else { 6 });
-        let mut agree = if numbers.is_heads() {
-            agree_on_change(left, left_model, key, call)
-        } else {
-            agree_on_change(right, right_model, key, call)
-        };
-        if change % 50 == 49 {
-            agree &= agree_on_retained(right, right_model, key[0]);
-        }
-        if change % 10 == 9 {
-            agree &= set_splits::agree_on_parts(left, left_model, &mut numbers);
-        }
-        agree &= agree_on_questions(left, left_model, key);
-        agree &= agree_on_keys(left, left_model);
-        agree &= agree_on_parts(right, right_model, key);
-        agree &= agree_on_walks(left, right, left_model, right_model);
-        agree &= agree_on_order(left, right, left_model, right_model);
-        if !agree {
+        let agree = [
+            agree_on_drawn(left, left_model, &mut numbers, change),
+            agree_on_drawn(right, right_model, &mut numbers, change),
+            agree_on_both(left, right, left_model, right_model),
+            agree_on_order(left, right, left_model, right_model),
+            agree_on_copies(left, right),
+        ];
+        if agree != [true; 5] {
             return Some(change);
         }
     }
@@ -179,7 +218,7 @@ fn drawn_calls_of_sets_return_as_those_of_btree_sets(rt: HostRuntime) -> Result<
     let seen = differ_at(
         (&mut left, &mut right),
         (&mut left_model, &mut right_model),
-        2_000,
+        1_000,
     );
     same(seen, None)
 }

@@ -1,8 +1,8 @@
 //! Calls while allocations fail.
 use super::calls::{Map, Removal, fill, remove, value_of};
-use art_operations::map::{ByteMap, MapInsertError};
-use art_test_support::expected::same;
-use art_test_support::memory::{all_memory, begin_refusals, end_refusals};
+use art_map::map::{ByteMap, MapInsertError};
+use art_node_support::expected::same;
+use art_node_support::memory::{all_memory, begin_refusals, end_refusals};
 use std::alloc::Global;
 use std::test::Fail;
 

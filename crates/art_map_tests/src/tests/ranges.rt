@@ -1,235 +1,344 @@
-//! Parts of a map: the pairs with a prefix, those between two bounds, and those next to a bound. They are drawn and
-//! compared with a `BTreeMap`.
-use art_operations::map::{ByteMap, Range};
-use art_test_support::expected::same;
-use art_test_support::numbers::Numbers;
-use std::alloc::{AllocError, Global};
-use std::collections::BTreeMap;
+//! Parts of a map: the pairs with a prefix, those between two bounds, and those next to a bound. They are drawn, read,
+//! removed and moved into another map, and compared with a `BTreeMap`.
+use super::beside_btree::{
+    Key, Map, Model, added, agree_on_drawn_insertion, agree_on_pairs, drawn_key, number_of,
+};
+use art_map::map::{ByteMap, Range};
+use art_node_support::expected::same;
+use art_node_support::memory::all_memory;
+use art_node_support::numbers::Numbers;
+use std::alloc::Global;
 use std::ops::Bound;
 use std::test::Fail;
 
-/// Keys of one length, so that none is a prefix of another.
-type Key = [u8; 4];
-
-/// A map whose nodes store one byte of a prefix.
-type Map = ByteMap<Key, u32, 1>;
-
-type Model = BTreeMap<Key, u32>;
-
-// Four keys start with 1, 1, one key with 2, and two with 3.
-static KEYS: [Key; 7] = [
-    [1, 1, 1, 4],
-    [1, 1, 1, 6],
-    [1, 1, 3, 4],
-    [1, 1, 3, 9],
-    [2, 5, 5, 5],
-    [3, 0, 0, 7],
-    [3, 9, 0, 0],
-];
-
-// The bounds that a part has for the number of its pairs, before its first pair and after it.
-fn hints(mut part: Range<'_, Key, u32, 1>) -> [(usize, Option<usize>); 2] {
-    let before = part.size_hint();
-    part.next();
-    [before, part.size_hint()]
+/// The first bytes of a key.
+#[derive(Clone, Copy)]
+pub(super) struct Front {
+    key: Key,
+    len: usize,
 }
 
-// These bounds of two parts of a map with these keys.
-fn bounded(map: &mut Map) -> [[(usize, Option<usize>); 2]; 2] {
-    for key in &KEYS {
-        drop(map.insert(*key, 0));
+impl Front {
+    /// Those of a key, of any length.
+    pub(super) fn of(key: Key, numbers: &mut Numbers) -> Self {
+        Front {
+            key,
+            len: numbers.below(5),
+        }
     }
-    [hints(map.prefix(&[])), hints(map.prefix(&[1, 2]))]
-}
 
-#[test]
-fn a_part_has_at_most_the_pairs_that_are_left(rt: HostRuntime) -> Result<(), Fail> {
-    let whole = [(0, Some(7)), (0, Some(6))];
-    let empty = [(0, Some(7)), (0, Some(7))];
-    let seen = bounded(&mut ByteMap::new(rt.alloc()));
-    same(seen, [whole, empty])
-}
+    pub(super) fn as_slice(&self) -> &[u8] {
+        match self.key.get(..self.len) {
+            Some(bytes) => bytes,
+            None => &self.key,
+        }
+    }
 
-// ---- drawn calls
+    // Whether a key is before it, or equal to it.
+    fn is_before(self, key: Key) -> bool {
+        self.as_slice().cmp(key.as_slice()).is_lt()
+    }
 
-// Few first bytes, so that many keys share them, and many last bytes, so that nodes are large.
-fn drawn_key(numbers: &mut Numbers) -> Key {
-    [
-        numbers.below(2) as u8,
-        [0, 1, 255][numbers.below(3)],
-        numbers.below(2) as u8,
-        numbers.below(60) as u8 * 4,
-    ]
-}
-
-// A bound at a key or at a prefix of it.
-pub(super) fn drawn_bound<'a>(numbers: &mut Numbers, key: &'a [u8]) -> Bound<&'a [u8]> {
-    let bytes = &key[..numbers.below(key.len() + 1)];
-    match numbers.below(5) {
-        0 => Bound::Unbounded,
-        1 | 2 => Bound::Included(bytes),
-        _ => Bound::Excluded(bytes),
+    fn is_after(self, key: Key) -> bool {
+        self.as_slice().cmp(key.as_slice()).is_gt()
     }
 }
 
-fn is_from(from: Bound<&[u8]>, key: &[u8]) -> bool {
-    match from {
-        Bound::Included(bound) => bound.cmp(key).is_le(),
-        Bound::Excluded(bound) => bound.cmp(key).is_lt(),
-        Bound::Unbounded => true,
-    }
+/// A bound at the first bytes of a key.
+#[derive(Clone, Copy)]
+pub(super) enum Edge {
+    At(Front),
+    Past(Front),
+    Open,
 }
 
-fn is_up_to(to: Bound<&[u8]>, key: &[u8]) -> bool {
-    match to {
-        Bound::Included(bound) => key.cmp(bound).is_le(),
-        Bound::Excluded(bound) => key.cmp(bound).is_lt(),
-        Bound::Unbounded => true,
+impl Edge {
+    /// A drawn one.
+    pub(super) fn of(key: Key, numbers: &mut Numbers) -> Self {
+        let front = Front::of(key, numbers);
+        match numbers.below(5) {
+            0 => Edge::Open,
+            1 | 2 => Edge::At(front),
+            _ => Edge::Past(front),
+        }
     }
-}
 
-pub(super) fn is_between(from: Bound<&[u8]>, to: Bound<&[u8]>, key: &[u8]) -> bool {
-    is_from(from, key) && is_up_to(to, key)
+    /// Whether a part that starts here may have a key.
+    pub(super) fn is_before(self, key: Key) -> bool {
+        match self {
+            Edge::At(front) => !front.is_after(key),
+            Edge::Past(front) => front.is_before(key),
+            Edge::Open => true,
+        }
+    }
+
+    /// Whether a part that ends here may have a key.
+    pub(super) fn is_after(self, key: Key) -> bool {
+        match self {
+            Edge::At(front) => !front.is_before(key),
+            Edge::Past(front) => front.is_after(key),
+            Edge::Open => true,
+        }
+    }
+
+    pub(super) fn bound(&self) -> Bound<&[u8]> {
+        match self {
+            Edge::At(front) => Bound::Included(front.as_slice()),
+            Edge::Past(front) => Bound::Excluded(front.as_slice()),
+            Edge::Open => Bound::Unbounded,
+        }
+    }
 }
 
 // Which of the pairs are asked for.
 #[derive(Clone, Copy)]
-enum Part<'a> {
-    Below(&'a [u8]),
-    Between(Bound<&'a [u8]>, Bound<&'a [u8]>),
+enum Part {
+    Below(Front),
+    Between(Edge, Edge),
 }
 
-fn is_part(part: Part<'_>, key: &[u8]) -> bool {
-    match part {
-        Part::Below(prefix) => key.starts_with(prefix),
-        Part::Between(from, to) => is_between(from, to, key),
+impl Part {
+    fn draw(numbers: &mut Numbers) -> Self {
+        let (low, high) = (drawn_key(numbers), drawn_key(numbers));
+        if numbers.is_heads() {
+            return Part::Below(Front::of(low, numbers));
+        }
+        Part::Between(Edge::of(low, numbers), Edge::of(high, numbers))
+    }
+
+    fn has(self, key: Key) -> bool {
+        match self {
+            Part::Below(front) => key.starts_with(front.as_slice()),
+            Part::Between(from, to) => from.is_before(key) && to.is_after(key),
+        }
     }
 }
 
-fn part_of<'a>(map: &'a Map, part: Part<'_>) -> Range<'a, Key, u32, 1> {
+fn part_of(map: &Map, part: Part) -> Range<'_, Key, u32, 1> {
     match part {
-        Part::Below(prefix) => map.prefix(prefix),
-        Part::Between(from, to) => map.range((from, to)),
+        Part::Below(front) => map.prefix(front.as_slice()),
+        Part::Between(from, to) => map.range((from.bound(), to.bound())),
     }
 }
 
-// The pairs of a part, in order.
-fn pairs_of(alloc: Global, model: &Model, part: Part<'_>) -> Result<Vec<(Key, u32)>, AllocError> {
-    let mut pairs = Vec::new(alloc);
+// What the pairs of a part make of which so many are first returned from the back, and the others from the front.
+fn read(mut pairs: Range<'_, Key, u32, 1>, back: usize) -> [u64; 2] {
+    let (mut from_back, mut from_front) = (1u64, 1u64);
+    for _ in 0..back {
+        if let Some((key, value)) = pairs.next_back() {
+            from_back = added(from_back, *key, *value);
+        }
+    }
+    for (key, value) in pairs {
+        from_front = added(from_front, *key, *value);
+    }
+    [from_back, from_front]
+}
+
+fn count_in(model: &Model, part: Part) -> usize {
+    let mut count = 0usize;
+    for (key, _) in model.iter() {
+        count = count.saturating_add(part.has(*key) as usize);
+    }
+    count
+}
+
+// The same of the other map.
+fn expected(model: &Model, part: Part, back: usize) -> [u64; 2] {
+    let mut front = count_in(model, part).saturating_sub(back);
+    let (mut from_back, mut power, mut from_front) = (0u64, 1u64, 1u64);
     for (key, value) in model.iter() {
-        if is_part(part, key) {
-            pairs.push((*key, *value))?;
+        if !part.has(*key) {
+            continue;
         }
-    }
-    Ok(pairs)
-}
-
-fn plain((key, value): (&Key, &u32)) -> (Key, u32) {
-    (*key, *value)
-}
-
-// Whether a part of the map has these pairs, each returned from a drawn end.
-fn agree_from_both(
-    mut own: Range<'_, Key, u32, 1>,
-    pairs: &[(Key, u32)],
-    numbers: &mut Numbers,
-) -> bool {
-    let mut rest = pairs.iter();
-    let mut agree = true;
-    for _ in 0..pairs.len() {
-        agree &= if numbers.is_heads() {
-            own.next().map(plain) == rest.next().copied()
+        if front == 0 {
+            from_back = from_back.wrapping_add(number_of(*key, *value).wrapping_mul(power));
+            power = power.wrapping_mul(1_000_003);
         } else {
-            own.next_back().map(plain) == rest.next_back().copied()
-        };
-    }
-    agree & own.next().is_none() & own.next_back().is_none()
-}
-
-// Whether a part of the map has the pairs of that of the model, from either end and from drawn ends.
-fn agree_on_part(
-    map: &Map,
-    model: &Model,
-    part: Part<'_>,
-    alloc: Global,
-    numbers: &mut Numbers,
-) -> bool {
-    let Ok(pairs) = pairs_of(alloc, model, part) else {
-        return false;
-    };
-    let (front, back) = (part_of(map, part), part_of(map, part).rev());
-    front.map(plain).eq(pairs.iter().copied())
-        && back.map(plain).eq(pairs.iter().copied().rev())
-        && agree_from_both(part_of(map, part), &pairs, numbers)
-}
-
-// Whether the pairs next to two bounds are the ends of the parts that start and end there.
-fn agree_on_ends(map: &Map, from: Bound<&[u8]>, to: Bound<&[u8]>) -> bool {
-    map.first_from(from) == map.range((from, Bound::Unbounded)).next()
-        && map.last_up_to(to) == map.range((Bound::Unbounded, to)).next_back()
-}
-
-// The same for drawn parts.
-fn agree_on_drawn(map: &Map, model: &Model, alloc: Global, numbers: &mut Numbers) -> bool {
-    let (low, high) = (drawn_key(numbers), drawn_key(numbers));
-    let (from, to) = (drawn_bound(numbers, &low), drawn_bound(numbers, &high));
-    let below = Part::Below(&low[..numbers.below(5)]);
-    agree_on_part(map, model, below, alloc, numbers)
-        && agree_on_part(map, model, Part::Between(from, to), alloc, numbers)
-        && agree_on_ends(map, from, to)
-}
-
-// Removes all pairs with a prefix from both, and returns whether they report the same number.
-fn agree_on_removal_below(map: &mut Map, model: &mut Model, prefix: &[u8]) -> bool {
-    let before = model.len();
-    model.retain(|key, _| !key.starts_with(prefix));
-    map.remove_prefix(prefix) == before.saturating_sub(model.len())
-}
-
-// Changes both, and returns whether they return the same.
-fn agree_on_change(map: &mut Map, model: &mut Model, numbers: &mut Numbers, grows: bool) -> bool {
-    let key = drawn_key(numbers);
-    let value = numbers.value();
-    if grows || numbers.below(4) == 0 {
-        return map.insert(key, value).is_ok() == model.insert(key, value).is_ok();
-    }
-    let taken = match numbers.below(5) {
-        0 => map.pop_first().unwrap(),
-        1 => map.pop_last().unwrap(),
-        2 => map.pop_first_below(&key[..2]),
-        3 => return agree_on_removal_below(map, model, &key[..3 + numbers.below(2)]),
-        _ => map.remove(&key).unwrap(),
-    };
-    let Some(pair) = taken else {
-        return true;
-    };
-    let taken_key = pair.0;
-    model.remove(&taken_key).is_some()
-}
-
-// The number of the first change after which they differ, if they do.
-fn differ_at(map: &mut Map, model: &mut Model, alloc: Global, changes: usize) -> Option<usize> {
-    let mut numbers = Numbers::new(7);
-    for change in 0..changes {
-        let grows = (change / 150) % 2 == 0;
-        if !agree_on_change(map, model, &mut numbers, grows) {
-            return Some(change);
+            front -= 1;
+            from_front = added(from_front, *key, *value);
         }
-        if !agree_on_drawn(map, model, alloc, &mut numbers) {
-            return Some(change);
+    }
+    [from_back.wrapping_add(power), from_front]
+}
+
+// The first pair of a part.
+fn first_in(model: &Model, part: Part) -> Option<(Key, u32)> {
+    for (key, value) in model.iter() {
+        if part.has(*key) {
+            return Some((*key, *value));
         }
     }
     None
 }
 
+fn last_in(model: &Model, part: Part) -> Option<(Key, u32)> {
+    let mut last = None;
+    for (key, value) in model.iter() {
+        if part.has(*key) {
+            last = Some((*key, *value));
+        }
+    }
+    last
+}
+
+fn first_from(map: &Map, from: Edge) -> Option<(Key, u32)> {
+    let (key, value) = map.first_from(from.bound())?;
+    Some((*key, *value))
+}
+
+fn last_up_to(map: &Map, to: Edge) -> Option<(Key, u32)> {
+    let (key, value) = map.last_up_to(to.bound())?;
+    Some((*key, *value))
+}
+
+// Whether both have the same pairs next to a bound.
+fn agree_on_ends(map: &Map, model: &Model, edge: Edge) -> bool {
+    first_from(map, edge) == first_in(model, Part::Between(edge, Edge::Open))
+        && last_up_to(map, edge) == last_in(model, Part::Between(Edge::Open, edge))
+}
+
+/// Whether both have the same pairs in a drawn part, and next to a drawn bound.
+pub(super) fn agree_on_questions(map: &Map, model: &Model, numbers: &mut Numbers) -> bool {
+    let (part, back) = (Part::draw(numbers), numbers.below(6));
+    let edge = Edge::of(drawn_key(numbers), numbers);
+    read(part_of(map, part), back) == expected(model, part, back) && agree_on_ends(map, model, edge)
+}
+
+// Whether the first pair of a part was removed from the map; it is removed from the other one.
+fn agree_on_first(own: Option<(Key, u32)>, model: &mut Model, part: Part) -> bool {
+    let first = first_in(model, part);
+    if let Some((key, _)) = first {
+        model.remove(&key);
+    }
+    own == first
+}
+
+fn pop_first_of(map: &mut Map, part: Part) -> Option<(Key, u32)> {
+    match part {
+        Part::Below(front) => map.pop_first_below(front.as_slice()),
+        Part::Between(from, to) => map.pop_first_in((from.bound(), to.bound())),
+    }
+}
+
+fn remove_all_of(map: &mut Map, part: Part) -> usize {
+    match part {
+        Part::Below(front) => map.remove_prefix(front.as_slice()),
+        Part::Between(from, to) => map.remove_range((from.bound(), to.bound())),
+    }
+}
+
+// Whether equally many pairs of a part are removed from both.
+fn agree_on_all_of(map: &mut Map, model: &mut Model, part: Part) -> bool {
+    let before = model.len();
+    model.retain(|key, _| !part.has(*key));
+    remove_all_of(map, part) == before.saturating_sub(model.len())
+}
+
+// Whether the same pairs of a part are removed from both one by one, at most so many.
+fn agree_on_extracted_below(map: &mut Map, model: &mut Model, front: Front, most: usize) -> bool {
+    let mut own = map.extract_prefix(front.as_slice());
+    let mut agree = true;
+    for _ in 0..most {
+        agree &= agree_on_first(own.next(), model, Part::Below(front));
+    }
+    agree
+}
+
+fn agree_on_extracted_between(
+    map: &mut Map,
+    model: &mut Model,
+    (from, to): (Edge, Edge),
+    most: usize,
+) -> bool {
+    let mut own = map.extract_range((from.bound(), to.bound()));
+    let mut agree = true;
+    for _ in 0..most {
+        agree &= agree_on_first(own.next(), model, Part::Between(from, to));
+    }
+    agree
+}
+
+// Whether both are split at a key into the same maps, and are the same after the second part is appended, with a pair
+// that may replace one.
+fn agree_on_split(map: &mut Map, model: &mut Model, numbers: &mut Numbers) -> bool {
+    let key = drawn_key(numbers);
+    let Ok(mut tail) = map.split_off(&key) else {
+        return false;
+    };
+    let Ok(mut rest) = model.split_off(&key) else {
+        return false;
+    };
+    let split = agree_on_pairs(map, model) && agree_on_pairs(&tail, &rest);
+    let put = agree_on_drawn_insertion(&mut tail, &mut rest, numbers);
+    let joined = map.append(&mut tail).is_ok() && model.append(&mut rest).is_ok();
+    split && put && joined && tail.is_empty() && agree_on_pairs(map, model)
+}
+
+/// Changes both, and returns whether they agree.
+pub(super) fn agree_on_change(
+    map: &mut Map,
+    model: &mut Model,
+    numbers: &mut Numbers,
+    grows: bool,
+) -> bool {
+    let part = Part::draw(numbers);
+    match numbers.below(if grows { 40 } else { 10 }) {
+        0..=1 => agree_on_first(pop_first_of(map, part), model, part),
+        2 => agree_on_all_of(map, model, part),
+        3 => agree_on_split(map, model, numbers),
+        4 => match part {
+            Part::Below(front) => agree_on_extracted_below(map, model, front, numbers.below(6)),
+            Part::Between(from, to) => {
+                agree_on_extracted_between(map, model, (from, to), numbers.below(6))
+            }
+        },
+        _ => agree_on_drawn_insertion(map, model, numbers),
+    }
+}
+
+// ---- while all memory is held
+
+// Inserts the keys [0, 0, 0, 0] to [0, 0, 0, 9], with the last byte as value.
+fn fill(map: &mut Map) {
+    for byte in 0..10u8 {
+        drop(map.insert([0, 0, 0, byte], byte as u32));
+    }
+}
+
+// What a split leaves while all memory is held: how many pairs moved, the pair that did not, and how many are left.
+type Refused = (usize, (Key, u32), usize);
+
+fn split_refused(alloc: Global, map: &mut Map) -> Option<Refused> {
+    fill(map);
+    let held = all_memory(alloc).ok()?;
+    let refused = match map.split_off(&[0, 0, 0, 4]) {
+        Ok(_) => return None,
+        Err(refused) => refused,
+    };
+    drop(held);
+    let (key, value) = (refused.key, refused.value);
+    Some((refused.moved.len(), (key, value), map.len()))
+}
+
+// Whether an append to an empty map fails while all memory is held, and how many pairs both then have.
+fn append_refused(alloc: Global, map: &mut Map, empty: &mut Map) -> Option<(bool, usize, usize)> {
+    fill(map);
+    let held = all_memory(alloc).ok()?;
+    let refused = empty.append(map).is_err();
+    drop(held);
+    Some((refused, empty.len(), map.len()))
+}
+
 #[test]
-fn drawn_parts_are_those_of_a_btree_map(rt: HostRuntime) -> Result<(), Fail> {
+fn without_memory_a_split_loses_no_pair(rt: HostRuntime) -> Result<(), Fail> {
+    let seen = split_refused(rt.alloc(), &mut ByteMap::new(rt.alloc()));
+    same(seen, Some((0, ([0, 0, 0, 4], 4), 9)))
+}
+
+#[test]
+fn without_memory_an_append_loses_no_pair(rt: HostRuntime) -> Result<(), Fail> {
     let alloc = rt.alloc();
-    let seen = differ_at(
-        &mut ByteMap::new(alloc),
-        &mut BTreeMap::new(alloc),
-        alloc,
-        900,
-    );
-    same(seen, None)
+    let seen = append_refused(alloc, &mut ByteMap::new(alloc), &mut ByteMap::new(alloc));
+    same(seen, Some((true, 0, 9)))
 }

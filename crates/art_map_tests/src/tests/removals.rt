@@ -4,11 +4,11 @@ use super::beside_btree::{
     drawn_key,
 };
 use super::calls::{Map, Removal};
-use art_operations::map::ByteMap;
-use art_operations::set::ByteSet;
-use art_test_support::expected::same;
-use art_test_support::memory::all_memory;
-use art_test_support::numbers::Numbers;
+use art_map::map::ByteMap;
+use art_map::set::ByteSet;
+use art_node_support::expected::same;
+use art_node_support::memory::all_memory;
+use art_node_support::numbers::Numbers;
 use std::alloc::Global;
 use std::collections::BTreeMap;
 use std::test::Fail;

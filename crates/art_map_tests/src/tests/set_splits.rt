@@ -1,78 +1,96 @@
-//! Keys that are removed by their bounds, and those that move into another set: drawn and compared with a `BTreeSet`,
-//! and while all memory is held.
+//! Keys that are read and removed by their bounds, and those that move into another set: drawn and compared with a
+//! `BTreeSet`, and while all memory is held.
 use super::beside_btree_set::{Key, Model, Set, agree_on_keys, drawn_key};
-use super::ranges::{drawn_bound, is_between};
-use art_operations::set::ByteSet;
-use art_test_support::expected::same;
-use art_test_support::memory::all_memory;
-use art_test_support::numbers::Numbers;
+use super::ranges::{Edge, Front};
+use art_map::set::ByteSet;
+use art_node_support::expected::same;
+use art_node_support::memory::all_memory;
+use art_node_support::numbers::Numbers;
 use std::alloc::Global;
-use std::ops::Bound;
 use std::test::Fail;
 
-// Inserts a key into both.
-fn put_both(set: &mut Set, model: &mut Model, numbers: &mut Numbers) -> bool {
-    let key = drawn_key(numbers);
-    let own = set.insert(key).ok();
-    own.is_some() && own == model.insert(key).ok()
-}
+// How many keys there are between two bounds, and the first and the last one.
+type Between = (usize, Option<Key>, Option<Key>);
 
-fn first_between(model: &Model, from: Bound<&[u8]>, to: Bound<&[u8]>) -> Option<Key> {
+fn between(model: &Model, from: Edge, to: Edge) -> Between {
+    let (mut count, mut first, mut last) = (0usize, None, None);
     for key in model.iter() {
-        if is_between(from, to, key) {
-            return Some(*key);
+        if from.is_before(*key) && to.is_after(*key) {
+            count = count.saturating_add(1);
+            last = Some(*key);
+            if first.is_none() {
+                first = last;
+            }
         }
     }
-    None
+    (count, first, last)
+}
+
+// How many keys of both start with these bytes.
+fn agree_below(set: &Set, model: &Model, front: Front) -> bool {
+    let mut below = 0usize;
+    for key in model.iter() {
+        below = below.saturating_add(key.starts_with(front.as_slice()) as usize);
+    }
+    set.prefix(front.as_slice()).count() == below
+}
+
+// Whether both have as many keys between two bounds, and the same next to each.
+fn agree_between(set: &Set, model: &Model, from: Edge, to: Edge) -> bool {
+    set.range((from.bound(), to.bound())).count() == between(model, from, to).0
+        && set.first_from(from.bound()).copied() == between(model, from, Edge::Open).1
+        && set.last_up_to(to.bound()).copied() == between(model, Edge::Open, to).2
 }
 
 // Whether the same key is removed from both, the first one between two bounds.
-fn agree_on_pop(set: &mut Set, model: &mut Model, from: Bound<&[u8]>, to: Bound<&[u8]>) -> bool {
-    let first = first_between(model, from, to);
+fn agree_on_pop(set: &mut Set, model: &mut Model, from: Edge, to: Edge) -> bool {
+    let first = between(model, from, to).1;
     if let Some(key) = first {
         model.remove(&key);
     }
-    set.pop_first_in((from, to)) == first
+    set.pop_first_in((from.bound(), to.bound())) == first
 }
 
 // Whether equally many keys between two bounds are removed from both.
-fn agree_on_range(set: &mut Set, model: &mut Model, from: Bound<&[u8]>, to: Bound<&[u8]>) -> bool {
+fn agree_on_range(set: &mut Set, model: &mut Model, from: Edge, to: Edge) -> bool {
     let before = model.len();
-    model.retain(|key| !is_between(from, to, key));
-    set.remove_range((from, to)) == before.saturating_sub(model.len())
+    model.retain(|key| !(from.is_before(*key) && to.is_after(*key)));
+    set.remove_range((from.bound(), to.bound())) == before.saturating_sub(model.len())
 }
 
 // Whether both are split at a key into the same sets, and are the same after the second part is appended, with a key
 // that may be in the first one.
 fn agree_on_split(set: &mut Set, model: &mut Model, numbers: &mut Numbers) -> bool {
-    let key = drawn_key(numbers);
-    let Ok(mut tail) = set.split_off(&key) else {
+    let (at, more) = (drawn_key(numbers), drawn_key(numbers));
+    let Ok(mut tail) = set.split_off(&at) else {
         return false;
     };
-    let Ok(mut rest) = model.split_off(&key) else {
+    let Ok(mut rest) = model.split_off(&at) else {
         return false;
     };
     let split = agree_on_keys(set, model) && agree_on_keys(&tail, &rest);
-    let put = put_both(&mut tail, &mut rest, numbers);
+    let put = tail.insert(more).is_ok() && rest.insert(more).is_ok();
     let joined = set.append(&mut tail).is_ok() && model.append(&mut rest).is_ok();
     split && put && joined && tail.is_empty() && agree_on_keys(set, model)
 }
 
-// Changes both, and returns whether they agree.
+/// Reads a drawn part of both or changes it, and returns whether they agree.
 pub(super) fn agree_on_parts(set: &mut Set, model: &mut Model, numbers: &mut Numbers) -> bool {
     let (low, high) = (drawn_key(numbers), drawn_key(numbers));
-    let (from, to) = (drawn_bound(numbers, &low), drawn_bound(numbers, &high));
-    match numbers.below(5) {
+    let (from, to) = (Edge::of(low, numbers), Edge::of(high, numbers));
+    match numbers.below(10) {
         0..=2 => agree_on_pop(set, model, from, to),
         3 => agree_on_range(set, model, from, to),
-        _ => agree_on_split(set, model, numbers),
+        4 => agree_on_split(set, model, numbers),
+        5..=6 => agree_below(set, model, Front::of(low, numbers)),
+        _ => agree_between(set, model, from, to),
     }
 }
 
-// Inserts the keys [0, 0] to [0, 9].
+// Inserts the keys [0, 0, 0, 0] to [0, 0, 0, 9].
 fn fill(set: &mut Set) {
     for byte in 0..10u8 {
-        drop(set.insert([0, byte]));
+        drop(set.insert([0, 0, 0, byte]));
     }
 }
 
@@ -80,7 +98,7 @@ fn fill(set: &mut Set) {
 fn split_refused(alloc: Global, set: &mut Set) -> Option<(usize, Key, usize)> {
     fill(set);
     let held = all_memory(alloc).ok()?;
-    let refused = match set.split_off(&[0, 4]) {
+    let refused = match set.split_off(&[0, 0, 0, 4]) {
         Ok(_) => return None,
         Err(refused) => refused,
     };
@@ -100,7 +118,7 @@ fn append_refused(alloc: Global, set: &mut Set, empty: &mut Set) -> Option<(bool
 #[test]
 fn without_memory_a_split_of_a_set_loses_no_key(rt: HostRuntime) -> Result<(), Fail> {
     let seen = split_refused(rt.alloc(), &mut ByteSet::new(rt.alloc()));
-    same(seen, Some((0, [0, 4], 9)))
+    same(seen, Some((0, [0, 0, 0, 4], 9)))
 }
 
 #[test]

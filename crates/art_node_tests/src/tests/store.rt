@@ -1,13 +1,10 @@
-ghost use Rattle.std.specs.Prelude.{◌≡◌, ◌≢◌, Some, None, IsSome, IfOk};
+ghost use Rattle.std.specs.Prelude.{IsSome, IfOk};
 ghost use Rattle.std.specs.FinMap as map;
-ghost use Rattle.art_inner.specs.InnerChanges.{with_child};
-ghost use Rattle.art_nodes.specs.LeafChanges.{with_links};
-ghost use Rattle.art_inner.specs.Inner.{childless};
 
 use art_node_support::expected::same;
 use art_node_support::memory::{all_memory, begin_refusals, end_refusals};
 use art_nodes::node::{
-    AnyInner, AsBytes, Header, InnerPtr, InnerRef, LeafNode, LeafPtr, NodeType, OpaqueNodePtr,
+    AnyInner, Header, InnerPtr, InnerRef, LeafNode, LeafPtr, NodeType, OpaqueNodePtr,
 };
 use art_nodes::store::NodeStore;
 use std::alloc::{AllocError, Global};
@@ -26,42 +23,6 @@ fn leaf_of(byte: u8, value: u32) -> LeafNode<[u8; 1], u32> {
 // A node with no child.
 fn node4(prefix: &[u8; 2]) -> AnyInner<2> {
     AnyInner::from_header(NodeType::Node4, Header::new(prefix, 2))
-}
-
-// A caller: places a leaf and links it behind another one.
-#[tactic(auto, using(crate::proofs::Laws::leaf_laws))]
-fn place_behind<K: AsBytes + Drop, V: Drop, const P: usize>(
-    store: &mut NodeStore<K, V, P>,
-    last: LeafPtr,
-    node: LeafNode<K, V>,
-) -> Result<LeafPtr, (LeafNode<K, V>, AllocError)>
-    requires { IsSome (map.get store.old.leaves last) }
-    ensures placed { IfOk result (λ name.
-        map.get store.new.leaves name ≡ Some (with_links (Some last) None node)) }
-    ensures kept { map.get store.new.leaves last ≡ map.get store.old.leaves last }
-    ensures inners { store.new.inners ≡ store.old.inners }
-{
-    let name = store.place_leaf(node)?;
-    store.set_links(name, Some(last), None);
-    Ok(name)
-}
-
-// A caller: places a node with one child.
-#[tactic(auto, using(crate::proofs::Laws::inner_laws))]
-fn place_above<K: AsBytes + Drop, V: Drop, const P: usize>(
-    store: &mut NodeStore<K, V, P>,
-    header: Header<P>,
-    byte: u8,
-    child: OpaqueNodePtr,
-) -> Result<InnerPtr, AllocError>
-    ensures placed { IfOk result (λ name. map.get store.new.inners name ≡
-        Some (with_child byte child (childless header.entry))) }
-    ensures leaves { store.new.leaves ≡ store.old.leaves }
-{
-    let node = AnyInner::from_header(NodeType::Node4, header);
-    let name = store.place_inner(node).map_err(|refused| refused.1)?;
-    store.write_child(name, byte, child);
-    Ok(name)
 }
 
 // What a leaf holds.
@@ -145,26 +106,26 @@ fn place(store: &mut Store, leaf: LeafNode<[u8; 1], u32>) -> Result<LeafPtr, All
 // Places a leaf and another one behind it, and returns both names.
 #[tactic(auto, using(crate::proofs::Laws::leaf_laws))]
 fn place_pair(store: &mut Store) -> Result<(LeafPtr, LeafPtr), AllocError>
-    ensures first { IfOk result (λ names. IsSome (map.get store.new.leaves names.0)) }
-    ensures second { IfOk result (λ names. IsSome (map.get store.new.leaves names.1)) }
+    ensures { IfOk result (λ names. IsSome (map.get store.new.leaves names.1)) }
 {
     let first = place(store, leaf_of(1, 10))?;
-    let second = place_behind(store, first, leaf_of(2, 20)).map_err(|refused| refused.1)?;
-    Ok((first, second))
+    let second = LeafNode {
+        key: [2],
+        value: 20,
+        previous: Some(first),
+        next: None,
+    };
+    Ok((first, place(store, second)?))
 }
 
-// Places a node with this child under 3 and one with none, and returns both names.
+// Places a node with a child under 3, and returns its name.
 #[tactic(auto, using(crate::proofs::Laws::inner_laws))]
-fn place_two(store: &mut Store, child: OpaqueNodePtr) -> Result<(InnerPtr, InnerPtr), AllocError>
-    ensures lower { IfOk result (λ names. IsSome (map.get store.new.inners names.0)) }
-    ensures upper { IfOk result (λ names. IsSome (map.get store.new.inners names.1)) }
-    ensures distinct { IfOk result (λ names. names.1 ≢ names.0) }
+fn place_above(store: &mut Store, child: OpaqueNodePtr) -> Result<InnerPtr, AllocError>
+    ensures { IfOk result (λ name. IsSome (map.get store.new.inners name)) }
 {
-    let lower = place_above(store, Header::new(&[5, 6], 2), 3, child)?;
-    let upper = store
-        .place_inner(node4(&[8, 9]))
-        .map_err(|refused| refused.1)?;
-    Ok((lower, upper))
+    let mut node = AnyInner::from_header(NodeType::Node4, Header::new(&[5, 6], 2));
+    node.write_child(3, child);
+    store.place_inner(node).map_err(|refused| refused.1)
 }
 
 // Places five pairs of leaves, and returns the names of the last one.
@@ -187,11 +148,11 @@ fn cloned_seen(
     }
 }
 
-// Whether a clone of ten leaves and two nodes has the last leaf and the first node as they are to be, and
-// whether there is no clone of slots that are all vacant.
+// Whether a clone of ten leaves and a node has the last leaf and the node as they are to be, and whether there is no
+// clone of slots that are all vacant.
 fn clone_placed(store: &mut Store) -> Option<[bool; 3]> {
     let child = LeafPtr::from_slot(7).to_opaque();
-    let (lower, _) = place_two(store, child).ok()?;
+    let lower = place_above(store, child).ok()?;
     let (first, last) = place_five_pairs(store).ok()?;
     let (leaf, inner) = cloned_seen(store, last, lower)?;
     store.clear();
@@ -228,24 +189,22 @@ fn counts_of(store: &Store) -> (usize, [usize; 3]) {
     (store.leaf_count(), kinds)
 }
 
-// The counts of an empty store, then with two leaves, with one of them freed, and after two nodes are placed of which
-// one is freed.
-fn count_steps(store: &mut Store) -> Option<[(usize, [usize; 3]); 4]> {
-    let empty = counts_of(store);
+// The counts with two leaves, with one of them freed, and after two nodes are placed of which one is freed.
+fn count_steps(store: &mut Store) -> Option<[(usize, [usize; 3]); 3]> {
     let (first, second) = place_pair(store).ok()?;
     let placed = counts_of(store);
-    store.free_leaf(first);
+    store.free_leaf(second);
     let freed = counts_of(store);
-    let (lower, _) = place_two(store, second.to_opaque()).ok()?;
-    store.free_inner(lower);
-    Some([empty, placed, freed, counts_of(store)])
+    place_above(store, first.to_opaque()).ok()?;
+    let upper = place_above(store, first.to_opaque()).ok()?;
+    store.free_inner(upper);
+    Some([placed, freed, counts_of(store)])
 }
 
 #[test]
 fn a_store_counts_its_nodes(rt: HostRuntime) -> Result<(), Fail> {
     let counted = count_steps(&mut Store::new(rt.alloc()));
-    let expected = [(0, [0; 3]), (2, [0; 3]), (1, [0; 3]), (1, [1, 0, 0])];
-    same(counted, Some(expected))
+    same(counted, Some([(2, [0; 3]), (1, [0; 3]), (1, [1, 0, 0])]))
 }
 
 // Places leaves that are linked behind this one until one fails, and returns the leaf that it returns.
@@ -361,7 +320,7 @@ fn refused_without_memory(
 fn hand_back(store: &mut Store) -> Result<[bool; 4], AllocError> {
     let first = place(store, leaf_of(1, 10))?;
     let child = first.to_opaque();
-    let upper = place_above(store, Header::new(&[5, 6], 2), 3, child)?;
+    let upper = place_above(store, child)?;
     let (leaf, inner) = refused_without_memory(store, first)?;
     Ok([
         leaf == expected_leaf(9, 90, Some(first)),

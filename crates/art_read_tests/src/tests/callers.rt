@@ -46,8 +46,8 @@ fn end(sessions: &mut Sessions, alloc: Global) -> ([Option<(usize, u64)>; 4], us
 // What one session is asked once the others have ended.
 fn close(sessions: &mut Sessions, alloc: Global) -> Option<[Option<u64>; 4]> {
     Some([
-        sessions.end_of(alloc, b"").ok()?,
-        sessions.end_of(alloc, b"car").ok()?,
+        sessions.end_of(b""),
+        sessions.end_of(b"car"),
         sessions.close(alloc, b"").ok()?,
         sessions.close(alloc, b"").ok()?,
     ])

@@ -3,12 +3,12 @@ ghost use Rattle.std.specs.Prelude.{◌<◌, IfSome};
 ghost use Rattle.art_model.specs.Pairs.{of_key};
 ghost use Rattle.art_model.specs.Roots.{IsCanonicalRoot};
 
-use super::run::{left_by, place_nine, ran_in_turn_with};
-use art_nodes::node::{LeafNode, LeafPtr, OpaqueNodePtr};
+use super::run::{place_nine, ran_in_turn_with};
+use art_nodes::node::{LeafPtr, OpaqueNodePtr};
 use art_nodes::store::NodeStore;
 use art_operations::clone::clone_unchecked;
 use art_operations::run::Side;
-use art_test_support::commands::{Asked, Left, Row, Told, ran_from};
+use art_test_support::commands::{Asked, Left, Row, Told};
 use art_test_support::expected::{as_expected, same};
 use art_test_support::memory::{begin_refusals, end_refusals};
 use art_test_support::nodes::{Seen, count_touched, nodes_seen};
@@ -17,58 +17,6 @@ use art_test_support::side_by_side::kind_if_same;
 use art_test_support::trees::{Key, keys, keys_after, planted_keys};
 use std::alloc::{AllocError, Global};
 use std::test::Fail;
-
-// A single clone command.
-static CLONE: [Row<'static>; 1] = [(Asked::Clone, Told::Cloned)];
-
-#[test]
-fn clones_no_tree(rt: HostRuntime) -> Result<(), Fail> {
-    let wanted = Left {
-        wrong: None,
-        has_root: false,
-        side: Side::First,
-    };
-    same(left_by(rt.alloc(), &CLONE), Some(wanted))
-}
-
-// What a run leaves whose root is a leaf of the second store, whether that has the key [2], and how many nodes each
-// store has.
-type GoneOver = (Left, bool, [(usize, usize); 2]);
-
-fn gone_over<const P: usize>(
-    first: &mut NodeStore<Key, u32, P>,
-    second: &mut NodeStore<Key, u32, P>,
-    rows: &[Row<'_>],
-) -> Option<GoneOver> {
-    let (left, root) = ran_from(first, second, None, rows).ok()?;
-    let counts = [count_nodes(first, 4), count_nodes(second, 4)];
-    let leaf = second.leaf(root?.as_leaf()?)?;
-    Some((left, leaf.key.as_slice() == [2].as_slice(), counts))
-}
-
-// A clone, and a deletion from what it makes.
-static GOING_OVER: [Row<'static>; 4] = [
-    (Asked::Insert(&[1], 1), Told::Inserted(None)),
-    (Asked::Insert(&[2], 2), Told::Inserted(None)),
-    (Asked::Clone, Told::Cloned),
-    (Asked::Delete(&[1]), Told::Deleted(Some((&[1], 1)))),
-];
-
-#[test]
-fn goes_over_to_the_other_store(rt: HostRuntime) -> Result<(), Fail> {
-    let wanted = Left {
-        wrong: None,
-        has_root: true,
-        side: Side::Second,
-    };
-    let alloc = rt.alloc();
-    let seen = gone_over::<4>(
-        &mut NodeStore::new(alloc),
-        &mut NodeStore::new(alloc),
-        &GOING_OVER,
-    );
-    same(seen, Some((wanted, true, [(0, 0), (1, 0)])))
-}
 
 // The only pair.
 static STORED: [Row<'static>; 1] = [(Asked::Insert(&[1], 10), Told::Inserted(None))];
@@ -440,42 +388,4 @@ fn refused_clones_of_many_leave_the_other_store_with_16_stored(
     rt: HostRuntime,
 ) -> Result<(), Fail> {
     assert_clone(&rt, clone_seen::<16>(rt.alloc(), MANY_BESIDE))
-}
-
-// Whether a leaf has the key [1], and its value and links.
-type Leaf = (bool, u32, Option<LeafPtr>, Option<LeafPtr>);
-
-fn leaf_seen(leaf: &LeafNode<Key, u32>) -> Leaf {
-    (
-        leaf.key.as_slice() == [1].as_slice(),
-        leaf.value,
-        leaf.previous,
-        leaf.next,
-    )
-}
-
-// A leaf with such links and its clone.
-fn leaf_and_clone(
-    alloc: Global,
-    previous: Option<LeafPtr>,
-    next: Option<LeafPtr>,
-) -> Option<[Leaf; 2]> {
-    let key = [1].to_vec(alloc).ok()?;
-    let leaf = LeafNode {
-        key,
-        value: 1,
-        previous,
-        next,
-    };
-    match leaf.clone_without_siblings() {
-        Ok(copy) => Some([leaf_seen(&leaf), leaf_seen(&copy)]),
-        Err(_) => None,
-    }
-}
-
-#[test]
-fn a_leaf_is_cloned_without_siblings(rt: HostRuntime) -> Result<(), Fail> {
-    let (previous, next) = (Some(LeafPtr::from_slot(3)), Some(LeafPtr::from_slot(4)));
-    let wanted = [(true, 1, previous, next), (true, 1, None, None)];
-    same(leaf_and_clone(rt.alloc(), previous, next), Some(wanted))
 }

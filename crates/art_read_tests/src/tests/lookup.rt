@@ -156,42 +156,6 @@ fn compares_the_whole_key_after_skipped_bytes(rt: HostRuntime) -> Result<(), Fai
     same(seen, Some(wanted))
 }
 
-// The length of a node's prefix, and how many bytes of it are stored.
-fn prefix_lens<const P: usize>(
-    store: &NodeStore<Key, u32, P>,
-    name: OpaqueNodePtr,
-) -> Option<(usize, usize)> {
-    let node = store.inner(name.as_inner()?)?;
-    Some((node.prefix_len(), node.read_prefix().len()))
-}
-
-// What searches in a tree with a prefix of [5, 5] find.
-fn found_below<const P: usize>(
-    store: &NodeStore<Key, u32, P>,
-    root: OpaqueNodePtr,
-) -> [Option<u32>; 2]
-    requires { IsCanonicalRoot (of_key (λ key. key.items)) P store.now root }
-{
-    [
-        found(store, root, Search::Whole(&[9, 9, 1])),
-        found(store, root, Search::Whole(&[5, 5, 2])),
-    ]
-}
-
-// The lengths of such a prefix and what is found below it.
-type Below = (Option<(usize, usize)>, [Option<u32>; 2]);
-
-fn below_in<const P: usize>(store: &mut NodeStore<Key, u32, P>) -> Option<Below> {
-    let root = planted_all(store, &[&[5, 5, 1], &[5, 5, 2]]).ok()??;
-    Some((prefix_lens(store, root), found_below(store, root)))
-}
-
-#[test]
-fn finds_below_a_prefix_of_which_nothing_is_stored(rt: HostRuntime) -> Result<(), Fail> {
-    let seen = below_in::<0>(&mut NodeStore::new(rt.alloc()));
-    same(seen, Some((Some((2, 0)), [None, Some(1)])))
-}
-
 // The result of the comparison of a prefix, and how the next ones are to be made.
 type Compared = (
     Result<AttemptOptimisticPrefixMatch, PessimisticMismatch>,
@@ -209,92 +173,48 @@ fn compared<N: InnerNode<P>, const P: usize>(
     (outcome, behavior)
 }
 
-// A match of so many bytes, with whether some were not compared.
-fn matched(
-    len: usize,
-    any_implicit_bytes: bool,
-) -> Result<AttemptOptimisticPrefixMatch, PessimisticMismatch> {
-    Ok(AttemptOptimisticPrefixMatch {
-        matched_bytes: len,
-        any_implicit_bytes,
-    })
-}
-
-// A mismatch after so many bytes.
-fn mismatch(
-    len: usize,
-    prefix_byte: Option<u8>,
-) -> Result<AttemptOptimisticPrefixMatch, PessimisticMismatch> {
-    Err(PessimisticMismatch {
-        matched_bytes: len,
-        prefix_byte,
-    })
-}
-
+// A stored byte that differs, and a prefix that is longer than stored, of which the stored bytes agree.
 #[test]
-fn compares_stored_bytes_and_then_lengths(rt: HostRuntime) -> Result<(), Fail> {
+fn compares_stored_bytes_and_then_lengths() -> Result<(), Fail> {
     let node: InnerNode4<2> = InnerNode4::from_header(Header::new(&[1, 1], 4));
-    let stored: InnerNode4<2> = InnerNode4::from_header(Header::new(&[1, 1], 2));
-    let first = PrefixMatchBehavior::default();
-    let (pessimistic, optimistic) = (
-        PrefixMatchBehavior::Pessimistic,
-        PrefixMatchBehavior::Optimistic,
-    );
-    let seen = [
-        compared(&node, first, &[1, 9]),
-        compared(&node, pessimistic, &[1, 1, 1]),
-        compared(&node, pessimistic, &[1, 1, 9, 1, 5]),
-        compared(&node, optimistic, &[9, 9, 9]),
-        compared(&node, optimistic, &[9, 9, 9, 9]),
-        compared(&stored, pessimistic, &[1, 1, 9]),
-    ];
-    let wanted = [
-        (mismatch(1, Some(1)), pessimistic),
-        (mismatch(3, None), optimistic),
-        (matched(4, true), optimistic),
-        (mismatch(3, None), optimistic),
-        (matched(4, true), optimistic),
-        (matched(2, false), pessimistic),
-    ];
-    same((first, seen), (pessimistic, wanted))
+    let behavior = PrefixMatchBehavior::default();
+    let differs = compared(&node, behavior, &[1, 9]);
+    let agrees = compared(&node, behavior, &[1, 1, 9, 1, 5]);
+    let mismatch = PessimisticMismatch {
+        matched_bytes: 1,
+        prefix_byte: Some(1),
+    };
+    let matched = AttemptOptimisticPrefixMatch {
+        matched_bytes: 4,
+        any_implicit_bytes: true,
+    };
+    same(
+        (differs, agrees),
+        (
+            (Err(mismatch), PrefixMatchBehavior::Pessimistic),
+            (Ok(matched), PrefixMatchBehavior::Optimistic),
+        ),
+    )
 }
 
-// Whether keys are equal to [1, 2, 3] from a depth on or whole.
-fn equal_to_leaf() -> [bool; 6] {
-    let pessimistic = PrefixMatchBehavior::Pessimistic;
-    let optimistic = PrefixMatchBehavior::Optimistic;
+// Whether keys are equal to [1, 2, 3], or start with it, from the third byte on or whole.
+fn compared_with_leaf(behavior: PrefixMatchBehavior) -> [bool; 4] {
     let leaf = LeafNode::with_no_siblings([1, 2, 3], ());
     [
-        pessimistic.matches_leaf_key(&leaf, &[9, 9, 3], 2),
-        optimistic.matches_leaf_key(&leaf, &[9, 9, 3], 2),
-        pessimistic.matches_leaf_key(&leaf, &[9, 9, 3, 4], 2),
-        optimistic.matches_leaf_key(&leaf, &[1, 2, 3], 2),
-        pessimistic.matches_leaf_key(&leaf, &[9, 9, 9], 4),
-        pessimistic.matches_leaf_key(&leaf, &[9, 9], 4),
-    ]
-}
-
-// Whether [1, 2, 3] is the prefix of keys from a depth on or whole.
-fn front_is_leaf() -> [bool; 5] {
-    let pessimistic = PrefixMatchBehavior::Pessimistic;
-    let optimistic = PrefixMatchBehavior::Optimistic;
-    let leaf = LeafNode::with_no_siblings([1, 2, 3], ());
-    [
-        pessimistic.leaf_key_is_prefix(&leaf, &[9, 2, 3, 4], 1),
-        optimistic.leaf_key_is_prefix(&leaf, &[9, 2, 3, 4], 1),
-        optimistic.leaf_key_is_prefix(&leaf, &[1, 2, 3, 4], 1),
-        optimistic.leaf_key_is_prefix(&leaf, &[1, 2], 1),
-        pessimistic.leaf_key_is_prefix(&leaf, &[1, 2], 9),
+        behavior.matches_leaf_key(&leaf, &[9, 9, 3], 2),
+        behavior.matches_leaf_key(&leaf, &[1, 2, 3], 2),
+        behavior.leaf_key_is_prefix(&leaf, &[9, 9, 3, 4], 2),
+        behavior.leaf_key_is_prefix(&leaf, &[1, 2, 3, 4], 2),
     ]
 }
 
 #[test]
-fn compares_a_leaf_from_the_depth_on_or_whole(rt: HostRuntime) -> Result<(), Fail> {
-    let wanted = (
-        [true, false, false, true, true, false],
-        [true, false, true, false, false],
-    );
-    same((equal_to_leaf(), front_is_leaf()), wanted)
+fn compares_a_leaf_from_the_depth_on_or_whole() -> Result<(), Fail> {
+    let seen = [
+        compared_with_leaf(PrefixMatchBehavior::Pessimistic),
+        compared_with_leaf(PrefixMatchBehavior::Optimistic),
+    ];
+    same(seen, [[true; 4], [false, true, false, true]])
 }
 
 // Three keys, whose tree has prefixes of five bytes at two levels.

@@ -3,9 +3,9 @@ use art_nodes::node::{LeafPtr, OpaqueNodePtr};
 use art_nodes::store::NodeStore;
 use art_operations::insert::InsertPrefixError;
 use art_operations::map::{MapInsertError, MapRefused};
-use art_operations::run::{Command, Reply, RunResult, Side, run};
+use art_operations::run::{Command, RunResult, Side, run};
 use art_test_support::commands::{
-    Asked, Left, Row, Told, commands, first_wrong, ran, ran_from, ran_without_memory,
+    Asked, Left, Row, Told, commands, ran, ran_from, ran_without_memory,
 };
 use art_test_support::expected::same;
 use art_test_support::memory::all_memory;
@@ -40,8 +40,8 @@ fn left_in<const P: usize>(
     ran(first, second, rows).ok()
 }
 
-/// The same in stores of its own.
-pub fn left_by(alloc: Global, rows: &[Row<'_>]) -> Option<Left> {
+// The same in stores of its own.
+fn left_by(alloc: Global, rows: &[Row<'_>]) -> Option<Left> {
     left_in::<4>(&mut NodeStore::new(alloc), &mut NodeStore::new(alloc), rows)
 }
 
@@ -164,54 +164,6 @@ fn are_map_errors_shown(alloc: Global, key: &[u8]) -> Option<[bool; 3]> {
 fn prints_the_errors_of_a_map(rt: HostRuntime) -> Result<(), Fail> {
     let seen = are_map_errors_shown(rt.alloc(), &[1, 2]);
     same(seen, Some([true; 3]))
-}
-
-// Whether the last reply is an error with this text.
-fn ends_in_text(alloc: Global, replies: &[Reply<Key, u32>], wanted: &str) -> bool {
-    match replies.last() {
-        Some(Reply::Conflict(_, _, error)) => is_shown(alloc, error, wanted),
-        _ => false,
-    }
-}
-
-// The place of the first reply to these rows that is not the one of its row, and whether the last is an error with this
-// text.
-fn replies_seen<const P: usize>(
-    first: &mut NodeStore<Key, u32, P>,
-    second: &mut NodeStore<Key, u32, P>,
-    rows: &[Row<'_>],
-    wanted: &str,
-) -> Option<(Option<usize>, bool)> {
-    let alloc = first.alloc();
-    let asked = commands(alloc, rows).ok()?;
-    match run(first, second, None, asked) {
-        Ok(done) => {
-            let has_text = ends_in_text(alloc, &done.replies, wanted);
-            Some((first_wrong(&done.replies, rows), has_text))
-        }
-        Err(_) => None,
-    }
-}
-
-// Insertions of a key, and of one that it is the prefix of.
-static IN_CONFLICT: [Row<'static>; 2] = [
-    (Asked::Insert(&[1], 0), Told::Inserted(None)),
-    (
-        Asked::Insert(&[1, 2], 1),
-        Told::Conflict(&[1, 2], 1, &[1, 2]),
-    ),
-];
-
-#[test]
-fn a_longer_key_is_in_conflict(rt: HostRuntime) -> Result<(), Fail> {
-    let alloc = rt.alloc();
-    let seen = replies_seen::<4>(
-        &mut NodeStore::new(alloc),
-        &mut NodeStore::new(alloc),
-        &IN_CONFLICT,
-        ERROR_TEXT,
-    );
-    same(seen, Some((None, true)))
 }
 
 // The value that a command inserts.

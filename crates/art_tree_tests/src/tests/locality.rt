@@ -9,8 +9,8 @@ use art_test_support::commands::{
     Asked, Row, Told, commands, first_wrong, ran_from, run_without_memory,
 };
 use art_test_support::expected::same;
-use art_test_support::nodes::{Seen, count_nodes, count_touched, is_still, nodes_seen};
-use art_test_support::trees::{Key, child, keys_of_three, planted_all, planted_keys};
+use art_test_support::nodes::{Seen, count_nodes, count_touched, nodes_seen};
+use art_test_support::trees::{Key, planted_all, planted_keys};
 use std::alloc::{AllocError, Global};
 use std::test::Fail;
 
@@ -67,127 +67,6 @@ fn touched_by<const P: usize>(
         Ok(before) => touched_since(store, &mut NodeStore::new(alloc), &before, root, row),
         Err(_) => None,
     }
-}
-
-/// What is seen of the nodes before and after the insertion of a key after all others.
-#[derive(Clone, Copy, PartialEq, Eq, Debug)]
-struct SeenBehind {
-    nodes_before: usize,
-    touched: Touched,
-    is_root_changed: bool,
-    is_last_changed: bool,
-    /// Whether each name of a leaf has the key that it had.
-    keeps_keys: bool,
-}
-
-// Whether a name has a leaf of the key that it had, if it had one.
-fn keeps_key<const P: usize>(store: &NodeStore<Key, u32, P>, seen: &Seen) -> bool {
-    let Some(name) = seen.name().as_leaf() else {
-        return true;
-    };
-    match store.leaf(name) {
-        Some(leaf) => seen.key() == Some(leaf.key.as_slice()),
-        None => false,
-    }
-}
-
-// The same of all these.
-fn keep_keys<const P: usize>(store: &NodeStore<Key, u32, P>, before: &[Seen]) -> bool {
-    for seen in before {
-        if !keeps_key(store, seen) {
-            return false;
-        }
-    }
-    true
-}
-
-// Whether a name had a node, and has another one or none.
-fn is_changed<const P: usize>(
-    store: &NodeStore<Key, u32, P>,
-    before: &[Seen],
-    name: OpaqueNodePtr,
-) -> bool {
-    for seen in before {
-        if seen.name() == name && !is_still(store, seen) {
-            return true;
-        }
-    }
-    false
-}
-
-// What is seen where the insertion touched this.
-fn behind_seen<const P: usize>(
-    store: &NodeStore<Key, u32, P>,
-    before: &[Seen],
-    [root, last]: [OpaqueNodePtr; 2],
-    touched: Touched,
-) -> SeenBehind {
-    SeenBehind {
-        nodes_before: before.len(),
-        touched,
-        is_root_changed: is_changed(store, before, root),
-        is_last_changed: is_changed(store, before, last),
-        keeps_keys: keep_keys(store, before),
-    }
-}
-
-/// The insertion of a key after all others.
-static BEHIND_ALL: Row<'static> = (Asked::Insert(&[60, 0, 0], 7), Told::Inserted(None));
-
-// What the insertion does, if its reply is as expected and the root stays.
-fn behind_since<const P: usize>(
-    store: &mut NodeStore<Key, u32, P>,
-    root: OpaqueNodePtr,
-    before: &[Seen],
-    last: OpaqueNodePtr,
-) -> Option<SeenBehind>
-    requires { HasTree P store.old (Some root) }
-{
-    let alloc = store.alloc();
-    let mut new_root = Some(root);
-    let touched = touched_since(
-        store,
-        &mut NodeStore::new(alloc),
-        before,
-        &mut new_root,
-        BEHIND_ALL,
-    );
-    if new_root != Some(root) {
-        return None;
-    }
-    Some(behind_seen(store, before, [root, last], touched?))
-}
-
-// The same in the tree of these keys, of which [50, 1, 2] is the last.
-fn behind_last<const P: usize>(
-    store: &mut NodeStore<Key, u32, P>,
-    keys: Vec<Key>,
-) -> Option<SeenBehind> {
-    let root = planted_keys(store, keys)?;
-    let last = child(store, child(store, child(store, root, 50)?, 1)?, 2)?;
-    if store.leaf(last.as_leaf()?)?.key.as_slice() != [50, 1, 2].as_slice() {
-        return None;
-    }
-    match nodes_seen(store) {
-        Ok(before) => behind_since(store, root, &before, last),
-        Err(_) => None,
-    }
-}
-
-/// What is expected: the root and the last leaf have another node.
-static BEHIND: SeenBehind = SeenBehind {
-    nodes_before: 306 + 154,
-    touched: (1, 0, 2),
-    is_root_changed: true,
-    is_last_changed: true,
-    keeps_keys: true,
-};
-
-#[test]
-fn a_child_more_of_a_large_root_changes_it_and_the_last_leaf(rt: HostRuntime) -> Result<(), Fail> {
-    let keys = keys_of_three(rt.alloc(), [51, 2, 3])?;
-    let seen = behind_last::<16>(&mut NodeStore::new(rt.alloc()), keys);
-    same(seen, Some(BEHIND))
 }
 
 /// What an insertion touches, what the deletion of the same key touches, what both do together, and whether the root

@@ -4,4 +4,3 @@ mod by_list;
 mod drawn;
 mod pairs;
 mod refused;
-mod sorted_pairs;

@@ -11,13 +11,13 @@ use std::test::Fail;
 
 /// The keys of a tree.
 #[derive(Clone, Copy)]
-pub enum Keys {
+enum Keys {
     /// All of three bytes, each less than its limit.
     OfThree([u8; 3]),
     OfZeros,
 }
 
-pub fn keys_of(alloc: Global, keys: Keys) -> Result<Vec<Key>, Fail> {
+fn keys_of(alloc: Global, keys: Keys) -> Result<Vec<Key>, Fail> {
     match keys {
         Keys::OfThree(limits) => keys_of_three(alloc, limits),
         Keys::OfZeros => Ok(keys_of_zeros(alloc)?),

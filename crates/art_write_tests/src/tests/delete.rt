@@ -1,4 +1,3 @@
-mod compress;
 mod freeing;
 mod points;
 mod search;

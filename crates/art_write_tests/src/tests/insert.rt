@@ -1,6 +1,4 @@
-mod branch;
 mod effect;
-mod existing;
-mod overwrite;
 mod refused;
+mod rows;
 mod search;

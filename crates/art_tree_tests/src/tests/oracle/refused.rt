@@ -8,10 +8,7 @@ use art_checking::well_formed::WellFormedChecker;
 use art_nodes::node::OpaqueNodePtr;
 use art_nodes::store::NodeStore;
 use art_running::run::{Command, Reply, RunResult, Side, run};
-use art_test_support::commands::{
-    Asked, Row, Told, command, commands, first_apart, first_wrong, told_by,
-};
-use art_test_support::expected::same;
+use art_test_support::commands::{Asked, Row, Told, command, commands, first_apart, told_by};
 use art_test_support::memory::end_refusals;
 use art_test_support::shapes::count_nodes;
 use art_test_support::side_by_side::kind_if_same;
@@ -93,67 +90,6 @@ fn push_script<'a>(rows: &mut Vec<Row<'a>>, bytes: &'a [u8]) -> Result<(), Alloc
 fn scripted(alloc: Global) -> Result<Vec<Command<Key, u32>>, AllocError> {
     let rows = script(alloc, &BYTES)?;
     commands(alloc, &rows)
-}
-
-/// What a run with enough memory leaves: the first reply that is not the one of its row, the side, whether the root is
-/// a leaf of the empty key, and how many nodes each store has.
-type Left = (Option<usize>, Side, bool, [(usize, usize); 2]);
-
-fn is_leaf_of_nothing<const P: usize>(
-    store: &NodeStore<Key, u32, P>,
-    root: Option<OpaqueNodePtr>,
-) -> Option<bool> {
-    let leaf = store.leaf(root?.as_leaf()?)?;
-    Some(leaf.key.is_empty())
-}
-
-fn left_by<const P: usize>(
-    first: &mut NodeStore<Key, u32, P>,
-    second: &mut NodeStore<Key, u32, P>,
-) -> Option<Left> {
-    let asked = scripted(first.alloc()).ok()?;
-    match run(first, second, None, asked) {
-        Ok(done) => left_of(first, second, &done),
-        Err(_) => None,
-    }
-}
-
-/// What is left where the run returned this.
-fn left_of<const P: usize>(
-    first: &NodeStore<Key, u32, P>,
-    second: &NodeStore<Key, u32, P>,
-    done: &RunResult<Key, u32>,
-) -> Option<Left> {
-    let wrong = wrong_reply(first.alloc(), &done.replies).ok()?;
-    let is_leaf = is_leaf_of_nothing(second, done.root)?;
-    let counts = [count_nodes(first, SLOTS), count_nodes(second, SLOTS)];
-    Some((wrong, done.side, is_leaf, counts))
-}
-
-/// The first reply that is not the one of its row.
-fn wrong_reply(alloc: Global, replies: &[Reply<Key, u32>]) -> Result<Option<usize>, AllocError> {
-    let rows = script(alloc, &BYTES)?;
-    Ok(first_wrong(replies, &rows))
-}
-
-/// The same in stores of its own.
-fn left_with<const P: usize>(alloc: Global) -> Option<Left>
-    requires { P < 256 }
-{
-    left_by::<P>(&mut NodeStore::new(alloc), &mut NodeStore::new(alloc))
-}
-
-#[test]
-fn commands_are_answered_with_memory(rt: HostRuntime) -> Result<(), Fail> {
-    let alloc = rt.alloc();
-    let left = [
-        left_with::<0>(alloc),
-        left_with::<2>(alloc),
-        left_with::<4>(alloc),
-        left_with::<16>(alloc),
-    ];
-    let wanted = Some((None, Side::Second, true, [(0, 0), (1, 0)]));
-    same(left, [wanted; 4])
 }
 
 fn count_related(pairs: &[(Key, u32)], key: &[u8]) -> usize {

@@ -7,7 +7,6 @@ ghost use Rattle.art_writing.specs.Deleted.{IsDeletePointIn};
 use art_nodes::node::{AsBytes, OpaqueNodePtr};
 use art_nodes::store::NodeStore;
 use art_test_support::nodes::{count_touched, nodes_seen};
-use art_test_support::points::{Gone, gone_pair};
 use art_test_support::trees::{Key, planted_all};
 use art_writing::delete::{DeletePoint, search_for_delete_point};
 
@@ -39,17 +38,17 @@ pub fn take_out<K: AsBytes + Drop, const P: usize>(
     }
 }
 
-/// Deletes a key. Returns the root that is left and the deleted pair, or `None` if the key is absent or the deletion
+/// Deletes a key. Returns the root that is left and the deleted value, or `None` if the key is absent or the deletion
 /// fails.
 pub fn delete<const P: usize>(
     store: &mut NodeStore<Key, u32, P>,
     root: OpaqueNodePtr,
     key_bytes: &[u8],
-) -> Option<(Option<OpaqueNodePtr>, Gone)>
+) -> Option<(Option<OpaqueNodePtr>, u32)>
     requires { IsCanonicalRoot (of_key (λ key. key.items)) P store.old root }
 {
     let done = point_of(store, root, key_bytes)?.apply(store, root).ok()?;
-    Some((done.new_root, gone_pair(&done.deleted_leaf, key_bytes)))
+    Some((done.new_root, done.deleted_leaf.value))
 }
 
 /// The root before a deletion and the one that is left, and how many names were placed, freed and changed.
@@ -74,14 +73,4 @@ pub fn deletion_from<const P: usize>(
         new_root,
         touched: count_touched(store, &before),
     })
-}
-
-/// A pair that was deleted with its own key, and this value.
-pub fn gone_with(value: u32) -> Gone {
-    Gone {
-        has_key: true,
-        value,
-        previous: None,
-        next: None,
-    }
 }

@@ -2,15 +2,14 @@
 ghost use Rattle.art_model.specs.Pairs.{of_key};
 ghost use Rattle.art_model.specs.Roots.{IsCanonicalRoot};
 
-use super::points::{delete, deletion_from, gone_with, take_out};
+use super::points::{delete, deletion_from, take_out};
 use art_nodes::node::{NodeType, OpaqueNodePtr};
 use art_nodes::store::NodeStore;
 use art_test_support::cases::planted_bytes;
 use art_test_support::crowds::place_beside;
-use art_test_support::expected::{as_expected, same};
+use art_test_support::expected::same;
 use art_test_support::memory::all_memory;
 use art_test_support::nodes::{Seen, count_touched, nodes_seen};
-use art_test_support::points::Gone;
 use art_test_support::trees::{Key, planted_all, promise};
 use std::alloc::Global;
 use std::test::Fail;
@@ -83,9 +82,13 @@ static SEVENTEEN: [&[u8]; 18] = [
     &[1],
 ];
 
+static TWO: [&[u8]; 2] = [&[1, 2, 3, 4], &[1, 2, 9]];
+
+static LONG: [&[u8]; 3] = [&[7, 1, 1, 1, 1, 5], &[7, 1, 1, 1, 1, 6], &[7, 1, 1, 9]];
+
 #[test]
 fn touches_no_more_than_it_must(rt: HostRuntime) -> Result<(), Fail> {
-    let cases: [(&[&[u8]], &[u8], (usize, usize, usize)); 4] = [
+    let cases: [(&[&[u8]], &[u8], (usize, usize, usize)); 6] = [
         // The leaf, with its neighbours and the parent.
         (&SIX, &[2], (0, 1, 3)),
         (&SIX, &[5], (0, 1, 2)),
@@ -93,6 +96,9 @@ fn touches_no_more_than_it_must(rt: HostRuntime) -> Result<(), Fail> {
         (&SIX[..5], &[2], (1, 2, 2)),
         // And the grandparent.
         (&SEVENTEEN, &[0, 2], (1, 2, 3)),
+        // The leaf and the parent, with the other leaf, or with the other child and the neighbour.
+        (&TWO, &[1, 2, 9], (0, 2, 1)),
+        (&LONG, &[7, 1, 1, 9], (0, 2, 2)),
     ];
     for (slices, key, touched) in cases {
         same(
@@ -103,8 +109,8 @@ fn touches_no_more_than_it_must(rt: HostRuntime) -> Result<(), Fail> {
     Ok(())
 }
 
-// The root that is left and the deleted pair.
-type Left = (Option<OpaqueNodePtr>, Gone);
+// The root that is left and the deleted value.
+type Left = (Option<OpaqueNodePtr>, u32);
 
 // What the deletion of [2] leaves while all memory is held.
 fn left_without_memory<const P: usize>(
@@ -119,16 +125,21 @@ fn left_without_memory<const P: usize>(
     left
 }
 
-// The same in the tree of four keys of one byte, and what is expected.
-fn left_of_four<const P: usize>(store: &mut NodeStore<Key, u32, P>) -> Option<(Left, Left)> {
+// The deleted value in the tree of four keys of one byte, if the root stays.
+fn left_of_four<const P: usize>(store: &mut NodeStore<Key, u32, P>) -> Option<u32> {
     let root = planted_all(store, &SIX[..4]).ok()??;
-    let left = left_without_memory(store, root)?;
-    Some((left, (Some(root), gone_with(2))))
+    let (new_root, value) = left_without_memory(store, root)?;
+    if new_root == Some(root) {
+        Some(value)
+    } else {
+        None
+    }
 }
 
 #[test]
 fn without_memory_a_deletion_below_a_kept_parent_is_made(rt: HostRuntime) -> Result<(), Fail> {
-    as_expected(left_of_four::<4>(&mut NodeStore::new(rt.alloc())))
+    let value = left_of_four::<4>(&mut NodeStore::new(rt.alloc()));
+    same(value, Some(2))
 }
 
 // The deleted value, and the kind of the root that is left, where all memory is held but for a smaller node.
@@ -137,14 +148,31 @@ fn left_of_five<const P: usize>(
 ) -> Option<(u32, Option<NodeType>)> {
     let root = planted_all(store, &SIX[..5]).ok()??;
     promise(store, root, 0, NodeType::Node4).ok()?;
-    let (new_root, gone) = left_without_memory(store, root)?;
-    Some((gone.value, kind_left(new_root)))
+    let (new_root, value) = left_without_memory(store, root)?;
+    Some((value, kind_left(new_root)))
 }
 
 #[test]
 fn without_memory_a_promised_shrink_is_made(rt: HostRuntime) -> Result<(), Fail> {
     let left = left_of_five::<4>(&mut NodeStore::new(rt.alloc()));
     same(left, Some((2, Some(NodeType::Node4))))
+}
+
+// The kind of the root that is left without [1, 9] beside [1, 1, 5] and [1, 1, 6] while all memory is held.
+fn compress_without_memory<const P: usize>(
+    store: &mut NodeStore<Key, u32, P>,
+) -> Option<Option<NodeType>> {
+    let root = planted_all(store, &[&[1, 1, 5], &[1, 1, 6], &[1, 9]]).ok()??;
+    let held = all_memory(store.alloc()).ok()?;
+    let left = take_out(store, root, &[1, 9]);
+    drop(held);
+    Some(kind_left(left?))
+}
+
+#[test]
+fn without_memory_a_parent_is_compressed(rt: HostRuntime) -> Result<(), Fail> {
+    let kind = compress_without_memory::<4>(&mut NodeStore::new(rt.alloc()));
+    same(kind, Some(Some(NodeType::Node4)))
 }
 
 // More nodes of one kind than a store has room for before they are requested.
