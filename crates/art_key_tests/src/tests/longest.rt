@@ -520,9 +520,9 @@ fn words_of_any_bytes_are_counted(rt: HostRuntime) -> Result<(), Fail> {
         set_plain(&mut map, b"a", 1),
         set_plain(&mut map, b"a\0", 1),
     ];
-    let found = found(&map, rt.alloc());
+    let found = found(&map);
     same(
-        (are_counted, set, found, taken(&mut map, rt.alloc())),
+        (are_counted, set, found, taken(&mut map)),
         (
             true,
             [true, false, false],
