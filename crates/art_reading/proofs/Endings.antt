@@ -1,9 +1,10 @@
 -- Keys that are a text and its end byte, as they are looked up.
-use Rattle.std.proofs.Common.{◌≡◌, ◌≢◌, ℕ, ◌+◌, ◌-◌, ◌<◌, ◌≤◌, ◌↔◌, ◌⊎◌, inl, inr, min, List, [], ◌∷◌, ◌++◌, length, take, drop, get_or, length-append, length-drop, refl, ap, ap₂, sym, subst, ◌∙◌, arith, Option, Some, None, Bool, true, false, cond, eqb, eqb-true, eq-eqb, nat_eq, append-nil, IsTrue, is_ok}
+use Rattle.std.proofs.Common.{◌≡◌, ◌≢◌, ℕ, ◌+◌, ◌-◌, ◌<◌, ◌≤◌, ◌↔◌, ◌⊎◌, inl, inr, min, List, [], ◌∷◌, ◌++◌, length, take, drop, get_or, length-append, length-drop, refl, ap, ap₂, sym, subst, ◌∙◌, arith, Option, Some, None, Bool, true, false, cond, eqb, eqb-true, eq-eqb, nat_eq, append-nil, IsTrue, is_ok, slice_get}
 use Rattle.std.specs.List.{cons_option}
 use Rattle.std.specs.Option.{option_map}
 use Rattle.std.proofs.lemmas.Bool.{le-ltb, lt-ltb, false≢true}
-use Rattle.std.proofs.lemmas.List.{drop-append-le, get_or_append_left, take_rest}
+use Rattle.std.proofs.lemmas.List.{drop-append-le, get_or_append_left, take-append-le, take_rest}
+use Rattle.std.proofs.lemmas.Option.{get_or_from_slice_get, slice_get_cases}
 use Rattle.art_inner.specs.Inner.{Inner, child_at}
 use Rattle.art_parts.specs.Headers.{Prefix}
 use Rattle.art_parts.specs.declared.names.OpaqueNodePtr.{OpaqueNodePtr}
@@ -94,6 +95,41 @@ module _ {key front : List ℕ} (has : HasRest key front) (depth : ℕ) where
   -- a byte of them is one of the key
   pub front_byte : depth < length front → get_or front depth 0 ≡ get_or key depth 0
   front_byte within = sym (ap (λ z. get_or z depth 0) has.is ∙ get_or_append_left front has.last 0 depth within)
+
+  -- a part of them before a byte of the key is one of the key
+  pub part_same : (len : ℕ) → depth + len < length key →
+      take (depth + len - depth) (drop depth front) ≡ take (depth + len - depth) (drop depth key)
+  part_same len within =
+      let near = front_near in
+      let left = length-drop depth front in
+      sym (ap (λ z. take (depth + len - depth) (drop depth z)) has.is
+      ∙ ap (take (depth + len - depth)) (drop-append-le depth front has.last (omega arith))
+      ∙ take-append-le (depth + len - depth) (drop depth front) has.last (omega arith))
+
+-- the byte of a key at a place, as it is returned
+module _ {before key : List ℕ} (same : before ≡ key) (place : ℕ) {answer : Option ℕ} (is : answer ≡ slice_get before place) where
+  got : {byte : Option ℕ} → answer ≡ byte → slice_get key place ≡ byte
+  got e = ap (λ k. slice_get k place) (sym same) ∙ sym is ∙ e
+
+  pub byte_is : {byte : ℕ} → answer ≡ Some byte → get_or key place 0 ≡ byte
+  byte_is {byte} e = get_or_from_slice_get key place byte 0 (got e)
+
+  pub byte_within : {byte : ℕ} → answer ≡ Some byte → place < length key
+  byte_within {byte} e = go (slice_get_cases key place).1
+    where
+      go : ((x : ℕ) × (place < length key) × (slice_get key place ≡ Some x) × (get_or key place x ≡ x))
+          ⊎ ((length key ≤ place) × (slice_get key place ≡ None)) → place < length key
+      go (inl (x, less, some, get)) = less
+      go (inr (ended, none)) = let there = got e in absurd cc
+
+  -- there is none
+  pub past : answer ≡ None → length key ≤ place
+  past e = go (slice_get_cases key place).1
+    where
+      go : ((x : ℕ) × (place < length key) × (slice_get key place ≡ Some x) × (get_or key place x ≡ x))
+          ⊎ ((length key ≤ place) × (slice_get key place ≡ None)) → length key ≤ place
+      go (inl (x, less, some, get)) = let none = got e in absurd cc
+      go (inr (ended, none)) = ended
 
 -- the bytes of a key in a slice, and the last one where it is not there
 pub parts_rest : {key front : List ℕ} (last : Option ℕ) → key ≡ front ++ cons_option last [] → HasRest key front

@@ -14,7 +14,7 @@ mod texts;
 pub use crate::descent::Visits;
 use crate::descent::walk_to_key;
 pub use crate::matching::{Asked, PrefixMatchBehavior};
-pub use crate::query::{EndedQuery, KeyQuery};
+pub use crate::query::{EndedQuery, KeyBytes, KeyQuery};
 use art_nodes::node::{AsBytes, LeafNode, OpaqueNodePtr, OptionalLeafPtr};
 use art_nodes::store::NodeStore;
 pub use shortest::{shortest_text_unchecked, shortest_text_visiting};

@@ -16,6 +16,7 @@ pub trait KeyBytes: Copy {
 
     /// Returns the byte that stands `skipped` places after a place, or `None` if there are no more bytes there.
     fn byte_after(&mut self, place: usize, skipped: usize) -> Option<u8>
+        requires { place ≤ length (key self.old) }
         ensures byte { result ≡ slice_get (key self.old) (place + skipped) }
         ensures within { OnSome result (place + skipped < length (key self.old)) }
         ensures fits { length (key self.old) < 2 ^ 64 }
@@ -27,22 +28,23 @@ impl KeyBytes for &[u8] {
 
     #[inline(always)]
     fn byte_after(&mut self, place: usize, skipped: usize) -> Option<u8> {
-        self.get(place..)?.get(skipped).copied()
+        if skipped < self.len() - place {
+            Some(self[place + skipped])
+        } else {
+            None
+        }
     }
 }
 
 /// The bytes of a key to look up.
-pub trait KeyQuery: Copy {
-    /// The bytes.
-    ghost key: { Self → List ℕ };
-
+pub trait KeyQuery: KeyBytes {
     /// Does nothing; its contract states that the number of bytes is a `usize`.
     fn fits(&self)
-        ensures { length (key self.now) + 1 < 2 ^ 64 };
+        ensures { length (Self.key self.now) + 1 < 2 ^ 64 };
 
     /// Returns the bytes that stand in a slice: all, or all but the last one, which it returns too.
     fn parts(&self) -> (&[u8], Option<u8>)
-        ensures { key self.now ≡ result.0.now ++ cons_option result.1 [] };
+        ensures { Self.key self.now ≡ result.0.now ++ cons_option result.1 [] };
 
     /// Returns whether a leaf's key is asked for, as far as it is still to be compared from a depth on.
     fn finds<K: AsBytes, V>(
@@ -53,12 +55,10 @@ pub trait KeyQuery: Copy {
         depth: usize,
     ) -> bool
         ensures { IsTrue result ↔
-            IsAskedFor asked behavior depth (K.bytes leaf.now.key) (key self.now) };
+            IsAskedFor asked behavior depth (K.bytes leaf.now.key) (Self.key self.now) };
 }
 
 impl KeyQuery for &[u8] {
-    ghost key = { λ bytes. bytes.now };
-
     fn fits(&self) {}
 
     #[inline(always)]
@@ -85,9 +85,20 @@ pub struct EndedQuery<'q> {
     pub end: u8,
 }
 
-impl KeyQuery for EndedQuery<'_> {
+impl KeyBytes for EndedQuery<'_> {
     ghost key = { λ query. query.text.now ++ query.end ∷ [] };
 
+    #[inline(always)]
+    fn byte_after(&mut self, place: usize, skipped: usize) -> Option<u8> {
+        let rest = self.text.get(place..)?;
+        if skipped == rest.len() {
+            return Some(self.end);
+        }
+        rest.get(skipped).copied()
+    }
+}
+
+impl KeyQuery for EndedQuery<'_> {
     fn fits(&self) {
         self.text.len();
     }

@@ -14,10 +14,10 @@ returns-in_default-search_for_delete_point_by_lengths g c =
     let B = of_key g.K.AsBytes.bytes in
     let pairs = pairs_at c.args.store.now c.args.root.now in
     let has = at_some c.in-Some.is c.requires in
-    let none = point_none has.layout (remove_reply B (g.Q.KeyQuery.key c.args.query) pairs)
+    let none = point_none has.layout (remove_reply B (g.Q.KeyBytes.key c.args.query) pairs)
     (c.in_default-search_for_delete_point_by_lengths.ensures.point pairs has.layout has.by) in (
       subst (HoldsPairs B g.row.P c.args.store.now c.args.root.now c.args.len.now)
-          (sym (removes_none B (g.Q.KeyQuery.key c.args.query) pairs none)) c.requires,
+          (sym (removes_none B (g.Q.KeyBytes.key c.args.query) pairs none)) c.requires,
       sym none,
     )
 
@@ -29,11 +29,11 @@ returns g c =
     let leads_there = c.in-Some-search_for_delete_point_by_lengths.ensures.point pairs has.layout has.by in
     let (x, e, leads) =
     point_some has.layout c.in-Some-search_for_delete_point_by_lengths.point
-    (remove_reply B (g.Q.KeyQuery.key c.args.query) pairs) leads_there in
+    (remove_reply B (g.Q.KeyBytes.key c.args.query) pairs) leads_there in
     let Taken = HasTaken g.K.AsBytes.bytes g.row.P in
-    subst (λ reply. Taken reply (remove_key B (g.Q.KeyQuery.key c.args.query) pairs)
+    subst (λ reply. Taken reply (remove_key B (g.Q.KeyBytes.key c.args.query) pairs)
     (Some c.take_out.result) c.take_out.new.store c.take_out.new.root c.take_out.new.len) (sym e)
     (subst (λ key. Taken (Some x) (remove_key B key pairs)
     (Some c.take_out.result) c.take_out.new.store c.take_out.new.root c.take_out.new.len)
-    (removed_key B (g.Q.KeyQuery.key c.args.query) pairs x e)
+    (removed_key B (g.Q.KeyBytes.key c.args.query) pairs x e)
     (c.take_out.ensures pairs has.layout has.by x leads))

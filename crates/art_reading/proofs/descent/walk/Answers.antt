@@ -40,7 +40,7 @@ step_down-requires g c = ref_proper _ c.in-Some.ensures.kind
 pub down-preserved : goal.down-preserved
 down-preserved g c =
     let has = parts_rest _ c.parts-last.ensures in
-    let (below, above, within, after) = c.in-Down.ensures (g.Q.KeyQuery.key c.args.query) has in
+    let (below, above, within, after) = c.in-Down.ensures (g.Q.KeyBytes.key c.args.query) has in
     record {
       short = omega arith;
       few = omega arith;
@@ -54,7 +54,7 @@ pub last_child-requires : goal.last_child-requires
 last_child-requires g c =
     let (pairs, layout, by) = c.requires.root in
     let d = c.down.invariant.on_way pairs layout by in
-    let (ended, same) = c.in-AtEnd.ensures (g.Q.KeyQuery.key c.args.query) (parts_rest _ c.parts-last.ensures) in
+    let (ended, same) = c.in-AtEnd.ensures (g.Q.KeyBytes.key c.args.query) (parts_rest _ c.parts-last.ensures) in
     let stored = stored_short d (shown_here by d c.in-Some.node c.in-Some.ensures.kind c.in-Some.ensures.view) in (
       search rules,
       (
@@ -70,7 +70,7 @@ returns-in_err-last-in-AtEnd-clause-ends g c pairs layout by =
     let has = parts_rest _ c.parts-last.ensures in
     let d = c.down.invariant.on_way pairs layout by in
     let at = shown_here by d c.in-Some.node c.in-Some.ensures.kind c.in-Some.ensures.view in
-    let (ended, same) = c.in-AtEnd.ensures (g.Q.KeyQuery.key c.args.query) has in
+    let (ended, same) = c.in-AtEnd.ensures (g.Q.KeyBytes.key c.args.query) has in
     rw c.from_residual.ensures
     (stops_whole by d at _ ended c.add_one.ensures (c.parts-last.ensures ∙ ap (λ o. c.parts-last.result.0.now ++ cons_option o []) c.in_err-last-in-AtEnd.was))
 
@@ -79,7 +79,7 @@ returns-in_err-child-in-AtEnd-clause-ends g c pairs layout by =
     let has = parts_rest _ c.parts-last.ensures in
     let d = c.down.invariant.on_way pairs layout by in
     let at = shown_here by d c.in-Some.node c.in-Some.ensures.kind c.in-Some.ensures.view in
-    let (ended, same) = c.in-AtEnd.ensures (g.Q.KeyQuery.key c.args.query) has in
+    let (ended, same) = c.in-AtEnd.ensures (g.Q.KeyBytes.key c.args.query) has in
     let is = c.parts-last.ensures ∙ ap (λ o. c.parts-last.result.0.now ++ cons_option o []) c.in_ok-last-in-AtEnd.was in
     rw c.from_residual-in_err-child-in-AtEnd.ensures
     (stops_last by d at _ ended _ is same c.add_one.ensures (c.in_err-child-in-AtEnd.ensures.child _ c.in-Some.ensures.view))
@@ -89,7 +89,7 @@ returns-in_err-name-in-AtEnd-clause-ends g c pairs layout by =
     let has = parts_rest _ c.parts-last.ensures in
     let d = c.down.invariant.on_way pairs layout by in
     let at = shown_here by d c.in-Some.node c.in-Some.ensures.kind c.in-Some.ensures.view in
-    let (ended, same) = c.in-AtEnd.ensures (g.Q.KeyQuery.key c.args.query) has in
+    let (ended, same) = c.in-AtEnd.ensures (g.Q.KeyBytes.key c.args.query) has in
     let is = c.parts-last.ensures ∙ ap (λ o. c.parts-last.result.0.now ++ cons_option o []) c.in_ok-last-in-AtEnd.was in
     let below = steps_last by d at _ ended _ is same c.add_one.ensures (c.in_ok-child-in-AtEnd.ensures.child _ c.in-Some.ensures.view)
     (c.in_ok-child-in-AtEnd.ensures.behavior _ c.in-Some.ensures.view refl) in
@@ -102,7 +102,7 @@ unreachable-requires-in_default-leaf-2 g c =
     let has = parts_rest _ c.parts-last.ensures in
     let d = c.down.invariant.on_way pairs layout by in
     let at = shown_here by d c.in-Some.node c.in-Some.ensures.kind c.in-Some.ensures.view in
-    let (ended, same) = c.in-AtEnd.ensures (g.Q.KeyQuery.key c.args.query) has in
+    let (ended, same) = c.in-AtEnd.ensures (g.Q.KeyBytes.key c.args.query) has in
     let is = c.parts-last.ensures ∙ ap (λ o. c.parts-last.result.0.now ++ cons_option o []) c.in_ok-last-in-AtEnd.was in
     let below = steps_last by d at _ ended _ is same c.add_one.ensures (c.in_ok-child-in-AtEnd.ensures.child _ c.in-Some.ensures.view)
     (c.in_ok-child-in-AtEnd.ensures.behavior _ c.in-Some.ensures.view refl) in
@@ -113,7 +113,7 @@ returns-in-AtEnd-clause-ends g c pairs layout by =
     let has = parts_rest _ c.parts-last.ensures in
     let d = c.down.invariant.on_way pairs layout by in
     let at = shown_here by d c.in-Some.node c.in-Some.ensures.kind c.in-Some.ensures.view in
-    let (ended, same) = c.in-AtEnd.ensures (g.Q.KeyQuery.key c.args.query) has in
+    let (ended, same) = c.in-AtEnd.ensures (g.Q.KeyBytes.key c.args.query) has in
     let is = c.parts-last.ensures ∙ ap (λ o. c.parts-last.result.0.now ++ cons_option o []) c.in_ok-last-in-AtEnd.was in
     let below = steps_last by d at _ ended _ is same c.add_one.ensures (c.in_ok-child-in-AtEnd.ensures.child _ c.in-Some.ensures.view)
     (c.in_ok-child-in-AtEnd.ensures.behavior _ c.in-Some.ensures.view refl) in
@@ -125,4 +125,4 @@ pub returns-in-Nowhere-clause-ends : goal.returns-in-Nowhere-clause-ends
 returns-in-Nowhere-clause-ends g c pairs layout by =
     let d = c.down.invariant.on_way pairs layout by in
     let at = shown_here by d c.in-Some.node c.in-Some.ensures.kind c.in-Some.ensures.view in
-    stops by d at c.add_one.ensures (c.in-Nowhere.ensures (g.Q.KeyQuery.key c.args.query) (parts_rest _ c.parts-last.ensures))
+    stops by d at c.add_one.ensures (c.in-Nowhere.ensures (g.Q.KeyBytes.key c.args.query) (parts_rest _ c.parts-last.ensures))

@@ -10,7 +10,7 @@ invariant-down g l = record {
   short : l.depth ≤ length l.front;
   few : l.visits ≤ l.fn.visits + l.depth;
   on_way : ForTree (of_key g.K.AsBytes.bytes) g.row.P l.store l.fn.root
-      (λ pairs layout. IsOnWay (of_key g.K.AsBytes.bytes) g.row.P l.fn.start (g.Q.KeyQuery.key l.fn.query) layout
+      (λ pairs layout. IsOnWay (of_key g.K.AsBytes.bytes) g.row.P l.fn.start (g.Q.KeyBytes.key l.fn.query) layout
       (path_after l.steps) l.name l.depth l.behavior l.fn.visits l.visits);
 }
 

@@ -6,7 +6,7 @@ use Rattle.art_reading.proofs.descent.walk_to_key.Goals as goal
 
 pub returns-in_err-last-clause-leaf : goal.returns-in_err-last-clause-leaf
 returns-in_err-last-clause-leaf g c pairs layout by =
-    rw c.from_residual.ensures (none_asked c.args.asked (of_key g.K.AsBytes.bytes) (g.Q.KeyQuery.key c.args.query) pairs
+    rw c.from_residual.ensures (none_asked c.args.asked (of_key g.K.AsBytes.bytes) (g.Q.KeyBytes.key c.args.query) pairs
     (c.in_err-last.ensures.ends pairs layout by).0)
 
 pub returns-in_err-last-clause-visits : goal.returns-in_err-last-clause-visits

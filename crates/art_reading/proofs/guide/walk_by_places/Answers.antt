@@ -1,8 +1,8 @@
-use Rattle.std.proofs.Common.{arith, ap, refl, rules, sym, ◌∙◌, ◌≡◌, ℕ, ◌+◌, ◌<◌, ◌≤◌, ◌⊎◌, inl, inr, List, length, get_or, slice_get, Some, None}
-use Rattle.std.proofs.lemmas.Option.{get_or_from_slice_get, slice_get_cases}
+use Rattle.std.proofs.Common.{arith, ap, refl, rules, sym, ◌∙◌}
 use Rattle.art_inner.specs.Inner.{child_at}
 use Rattle.art_model.proofs.stores.Shown.{inner_met, leaf_named, shown_met}
 use Rattle.art_reading.proofs.EndNodes.{inside}
+use Rattle.art_reading.proofs.Endings.{byte_is, byte_within, past}
 use Rattle.art_reading.proofs.Guides.{by_places, by_there, gap_ends, goes_below, leaf_ends, short_ends}
 use Rattle.art_reading.proofs.Levels.{lower, under_root}
 use Rattle.art_reading.proofs.Parts.{some_there}
@@ -33,35 +33,24 @@ inner_at-node-requires g c =
     let there = by_there by (c.down.invariant.way pairs layout by) in
     (search rules, (search rules, some_there _ (inner_met there c.in-Inner.ensures.proper c.in-Inner.ensures.name)))
 
--- the key has no byte at a place
-past : (xs : List ℕ) (i : ℕ) → slice_get xs i ≡ None → length xs ≤ i
-past xs i none = go (slice_get_cases xs i).1
-  where
-    go : ((x : ℕ) × (i < length xs) × (slice_get xs i ≡ Some x) × (get_or xs i x ≡ x)) ⊎ ((length xs ≤ i) × (slice_get xs i ≡ None)) → length xs ≤ i
-    go (inl (x, less, some, get)) = absurd cc
-    go (inr (ended, also)) = ended
-
 pub returns-in_default-byte_after-clause-all : goal.returns-in_default-byte_after-clause-all
 returns-in_default-byte_after-clause-all g c pairs layout by =
     let way = c.down.invariant.way pairs layout by in
     let at = shown_met (by_there by way) c.in-Inner.ensures.proper c.in-Inner.ensures.name (sym c.inner_at-node.ensures.view) in
     short_ends way at c.prefix_len-prefix_len.ensures
-    (past (g.B.KeyBytes.key c.args.key_bytes) (c.down.depth + c.prefix_len-prefix_len.result)
-    (ap (λ key. slice_get key (c.down.depth + c.prefix_len-prefix_len.result)) (sym c.down.invariant.same) ∙ sym c.byte_after.ensures.byte ∙ c.in_default-byte_after.is))
+    (past c.down.invariant.same _ c.byte_after.ensures.byte c.in_default-byte_after.is)
 
 pub returns-in_default-lookup_child-clause-all : goal.returns-in_default-lookup_child-clause-all
 returns-in_default-lookup_child-clause-all g c pairs layout by =
-    let byte_is = get_or_from_slice_get (g.B.KeyBytes.key c.args.key_bytes) (c.down.depth + c.prefix_len-prefix_len.result) _ 0
-    (ap (λ key. slice_get key (c.down.depth + c.prefix_len-prefix_len.result)) (sym c.down.invariant.same) ∙ sym c.byte_after.ensures.byte ∙ c.in-Some.is) in
+    let is = byte_is c.down.invariant.same _ c.byte_after.ensures.byte c.in-Some.is in
     let way = c.down.invariant.way pairs layout by in
     let at = shown_met (by_there by way) c.in-Inner.ensures.proper c.in-Inner.ensures.name (sym c.inner_at-node.ensures.view) in
-    gap_ends way at c.prefix_len-prefix_len.ensures (ap (child_at _) byte_is ∙ sym c.lookup_child.ensures ∙ c.in_default-lookup_child.is)
+    gap_ends way at c.prefix_len-prefix_len.ensures (ap (child_at _) is ∙ sym c.lookup_child.ensures ∙ c.in_default-lookup_child.is)
 
 pub down-preserved : goal.down-preserved
 down-preserved g c =
-    let byte_is = get_or_from_slice_get (g.B.KeyBytes.key c.args.key_bytes) (c.down.depth + c.prefix_len-prefix_len.result) _ 0
-    (ap (λ key. slice_get key (c.down.depth + c.prefix_len-prefix_len.result)) (sym c.down.invariant.same) ∙ sym c.byte_after.ensures.byte ∙ c.in-Some.is) in
-    let there = ap (child_at _) byte_is ∙ sym c.lookup_child.ensures ∙ c.in-Some-lookup_child.is in
+    let is = byte_is c.down.invariant.same _ c.byte_after.ensures.byte c.in-Some.is in
+    let there = ap (child_at _) is ∙ sym c.lookup_child.ensures ∙ c.in-Some-lookup_child.is in
     record {
       few =
           let (pairs, layout, by) = c.requires.root in
@@ -70,8 +59,7 @@ down-preserved g c =
           let less = lower by way.path way.node way.whole way.named _ way.radix _ _ at _ _ there in
           omega arith;
       within =
-          let less = rw c.in-Some.is at c.byte_after.ensures.within in
-          let long = ap length c.down.invariant.same in
+          let less = byte_within c.down.invariant.same _ c.byte_after.ensures.byte c.in-Some.is in
           omega arith;
       same = c.byte_after.ensures.same ∙ c.down.invariant.same;
       way = λ pairs layout by.

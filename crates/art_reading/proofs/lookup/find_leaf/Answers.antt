@@ -24,4 +24,4 @@ returns-clause-there g c =
 pub returns-clause-pair : goal.returns-clause-pair
 returns-clause-pair g c pairs layout by =
     pair_found (of_key g.K.AsBytes.bytes) g.row.P by (Some c.in_ok-last.last.name)
-    (asked_of c.args.asked (of_key g.K.AsBytes.bytes) (g.Q.KeyQuery.key c.args.query) pairs) (returns-clause-leaf g c pairs layout by)
+    (asked_of c.args.asked (of_key g.K.AsBytes.bytes) (g.Q.KeyBytes.key c.args.query) pairs) (returns-clause-leaf g c pairs layout by)

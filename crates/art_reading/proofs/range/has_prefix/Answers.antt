@@ -21,7 +21,7 @@ guide_from-read_from-requires g c = (
     (
       λ pairs layout by.
           let (path, at) = c.requires.at pairs layout by in
-          (path, subst (λ n. IsAt (of_key g.K.AsBytes.bytes) g.row.P c.args.key_bytes.now layout path n c.args.depth) (sym c.to_opaque-opaque.ensures) at),
+          (path, subst (λ n. IsAt (of_key g.K.AsBytes.bytes) g.row.P (g.Q.KeyBytes.key c.args.query) layout path n c.args.depth) (sym c.to_opaque-opaque.ensures) at),
       c.requires.guide,
     ),
   ),

@@ -1,5 +1,4 @@
-use Rattle.std.proofs.Common.{arith, rules, ℕ, List, Bor, ap, sym, ◌∙◌}
-use Rattle.std.specs.declared.ops.Bound.{Bound}
+use Rattle.std.proofs.Common.{arith, rules, ap, sym, ◌∙◌}
 use Rattle.std.specs.Range.Bound.{bound_map}
 use Rattle.art_model.specs.Pairs.{last_of}
 use Rattle.art_model.specs.Parts.{is_up_to, leaves_where}
@@ -17,7 +16,7 @@ walk_to_end_visiting-requires g c =
 pub returns-in-Included-clause-leaf : goal.returns-in-Included-clause-leaf
 returns-in-Included-clause-leaf g c pairs layout by =
     c.leaf_at_cut.ensures.leaf pairs layout by
-    ∙ ap (λ (b : Bound (Bor (List ℕ))). last_of (leaves_where (λ x. is_up_to (bound_map (λ z. z.now) b) (g.K.AsBytes.bytes x.0)) layout)) (sym c.in-Included.is)
+    ∙ ap (λ b. last_of (leaves_where (λ x. is_up_to (bound_map g.Q.KeyBytes.key b) (g.K.AsBytes.bytes x.0)) layout)) (sym c.in-Included.is)
 
 pub returns-in-Included-clause-there : goal.returns-in-Included-clause-there
 returns-in-Included-clause-there g c =
@@ -27,7 +26,7 @@ returns-in-Included-clause-there g c =
 pub returns-in-Excluded-clause-leaf : goal.returns-in-Excluded-clause-leaf
 returns-in-Excluded-clause-leaf g c pairs layout by =
     c.leaf_at_cut-in-Excluded.ensures.leaf pairs layout by
-    ∙ ap (λ (b : Bound (Bor (List ℕ))). last_of (leaves_where (λ x. is_up_to (bound_map (λ z. z.now) b) (g.K.AsBytes.bytes x.0)) layout)) (sym c.in-Excluded.is)
+    ∙ ap (λ b. last_of (leaves_where (λ x. is_up_to (bound_map g.Q.KeyBytes.key b) (g.K.AsBytes.bytes x.0)) layout)) (sym c.in-Excluded.is)
 
 pub returns-in-Excluded-clause-there : goal.returns-in-Excluded-clause-there
 returns-in-Excluded-clause-there g c =
@@ -37,7 +36,7 @@ returns-in-Excluded-clause-there g c =
 pub returns-in-Unbounded-clause-leaf : goal.returns-in-Unbounded-clause-leaf
 returns-in-Unbounded-clause-leaf g c pairs layout by =
     sym (c.walk_to_end_visiting.ensures.leads layout (has_children _ _ _ _ _ layout by)).0.name_is ∙ ap last_of (sym (where_any layout))
-    ∙ ap (λ (b : Bound (Bor (List ℕ))). last_of (leaves_where (λ x. is_up_to (bound_map (λ z. z.now) b) (g.K.AsBytes.bytes x.0)) layout))
+    ∙ ap (λ b. last_of (leaves_where (λ x. is_up_to (bound_map g.Q.KeyBytes.key b) (g.K.AsBytes.bytes x.0)) layout))
     (sym c.in-Unbounded.is)
 
 pub returns-in-Unbounded-clause-there : goal.returns-in-Unbounded-clause-there

@@ -1,11 +1,15 @@
-use Rattle.std.proofs.Common.{rules, ◌≡◌, ℕ, ◌+◌, ◌-◌, length, take, drop, length-take, length-drop, arith, refl, sym, ◌∙◌}
+use Rattle.std.proofs.Common.{rules, ◌≡◌, ℕ, ◌+◌, ◌-◌, length, take, drop, length-take, length-drop, ap, arith, refl, subst, sym, ◌∙◌}
 use Rattle.std.proofs.lemmas.Bool.{false≢true}
+use Rattle.art_inner.specs.Beside.{IsNextTo}
+use Rattle.art_inner.specs.Inner.{child_at}
+use Rattle.art_inner.specs.Views.{ref_view}
 use Rattle.art_model.proofs.stores.Shown.{inner_met, leaf_named, shown_met}
 use Rattle.art_model.specs.Keys.{IsFront}
 use Rattle.art_reading.specs.PathSteps.{path_of}
 use Rattle.art_reading.proofs.Beside.{at_on, beside_end, beside_gap, beside_leaf, beside_off, goes_same, has_child, on_key_start, onto_child, same_goes}
 use Rattle.art_reading.proofs.Counts.{count_both}
 use Rattle.art_reading.proofs.Descents.{front, stands_there}
+use Rattle.art_reading.proofs.Endings.{byte_is, byte_within, front_near, part_same, parts_rest, past}
 use Rattle.art_reading.proofs.Left.{end_left, gap_left, leaf_left, off_left}
 use Rattle.art_reading.proofs.Levels.{guide_most, lower}
 use Rattle.art_reading.proofs.Parts.{some_there}
@@ -14,6 +18,7 @@ use Rattle.art_reading.proofs.range.walk_beside.Goals as goal
 pub down-init : goal.down-init
 down-init g c = record {
   within = omega arith;
+  same = refl;
   readings = record {
     number = 0;
     counted = omega arith;
@@ -35,15 +40,23 @@ inner_at-node-requires g c =
     let at = (c.down.invariant.readings.is_number pairs layout by).on_key.descent.at in
     (search rules, (search rules, some_there _ (inner_met (stands_there by at) c.in-Inner.ensures.proper c.in-Inner.ensures.name)))
 
-pub returns-then-prefix_len-key_bytes-clause-beside : goal.returns-then-prefix_len-key_bytes-clause-beside
-returns-then-prefix_len-key_bytes-clause-beside g c pairs layout by =
+pub returns-in_default-byte_after-clause-beside : goal.returns-in_default-byte_after-clause-beside
+returns-in_default-byte_after-clause-beside g c pairs layout by =
     let o = (c.down.invariant.readings.is_number pairs layout by).on_key in
     let at = shown_met (stands_there by o.descent.at) c.in-Inner.ensures.proper c.in-Inner.ensures.name (sym c.inner_at-node.ensures.view) in
-    beside_end o at c.prefix_len-prefix_len.ensures (omega arith)
+    beside_end o at c.prefix_len-prefix_len.ensures (past c.down.invariant.same _ c.byte_after.ensures.byte c.in_default-byte_after.is)
+
+pub slice_bounds-part-end : goal.slice_bounds-part-end
+slice_bounds-part-end g c =
+    let less = byte_within c.down.invariant.same _ c.byte_after.ensures.byte c.in-Some.is in
+    let near = front_near (parts_rest _ c.parts.ensures) 0 in
+    omega arith
 
 pub has_prefix-requires : goal.has_prefix-requires
 has_prefix-requires g c =
-    let long : length (take (c.down.depth + c.prefix_len-prefix_len.result - c.down.depth) (drop c.down.depth c.args.key_bytes.now))
+    let less = byte_within c.down.invariant.same _ c.byte_after.ensures.byte c.in-Some.is in
+    let near = front_near (parts_rest _ c.parts.ensures) 0 in
+    let long : length (take (c.down.depth + c.prefix_len-prefix_len.result - c.down.depth) (drop c.down.depth c.parts.result.0.now))
     ≡ c.prefix_len-prefix_len.result =
     omega (arith, length-take {A = ℕ}, length-drop {A = ℕ}) in (
       search rules,
@@ -76,7 +89,7 @@ returns-then-not-has_prefix-clause-beside g c pairs layout by =
     let at = shown_met (stands_there by o.descent.at) c.in-Inner.ensures.proper c.in-Inner.ensures.name (sym c.inner_at-node.ensures.view) in
     beside_off o at c.prefix_len-prefix_len.ensures (λ goes.
     let same = (c.has_prefix.ensures.same pairs layout by (path_of o.descent.at.path) (at_on by o c.in-Inner.ensures.name)).1
-    (goes_same o at c.prefix_len-prefix_len.ensures (c.down.depth + c.prefix_len-prefix_len.result - c.down.depth) (omega arith) refl goes) in
+    (goes_same o at c.prefix_len-prefix_len.ensures (c.down.depth + c.prefix_len-prefix_len.result - c.down.depth) (omega arith) (part_same (parts_rest _ c.parts.ensures) _ _ (byte_within c.down.invariant.same _ c.byte_after.ensures.byte c.in-Some.is)) goes) in
     absurd (false≢true (sym c.if-not-has_prefix.true ∙ same)))
 
 pub beside-requires : goal.beside-requires
@@ -91,9 +104,12 @@ pub returns-in_default-lookup_child-clause-beside : goal.returns-in_default-look
 returns-in_default-lookup_child-clause-beside g c pairs layout by =
     let o = (c.down.invariant.readings.is_number pairs layout by).on_key in
     let at = shown_met (stands_there by o.descent.at) c.in-Inner.ensures.proper c.in-Inner.ensures.name (sym c.inner_at-node.ensures.view) in
-    let goes = same_goes o at c.prefix_len-prefix_len.ensures (c.down.depth + c.prefix_len-prefix_len.result - c.down.depth) refl
+    let goes = same_goes o at c.prefix_len-prefix_len.ensures (c.down.depth + c.prefix_len-prefix_len.result - c.down.depth) (part_same (parts_rest _ c.parts.ensures) _ _ (byte_within c.down.invariant.same _ c.byte_after.ensures.byte c.in-Some.is))
     ((c.has_prefix.ensures.same pairs layout by (path_of o.descent.at.path) (at_on by o c.in-Inner.ensures.name)).0 c.if-not-has_prefix.false) in
-    beside_gap o at c.prefix_len-prefix_len.ensures (omega arith) goes (sym c.lookup_child.ensures ∙ c.in_default-lookup_child.is) c.beside.ensures.beside
+    let byte = byte_is c.down.invariant.same _ c.byte_after.ensures.byte c.in-Some.is in
+    beside_gap o at c.prefix_len-prefix_len.ensures (byte_within c.down.invariant.same _ c.byte_after.ensures.byte c.in-Some.is) goes
+    (ap (child_at _) byte ∙ sym c.lookup_child.ensures ∙ c.in_default-lookup_child.is)
+    (subst (λ b. IsNextTo (ref_view c.inner_at-node.result).children b c.beside.result) (sym byte) c.beside.ensures.beside)
 
 pub down-preserved : goal.down-preserved
 down-preserved g c =
@@ -101,7 +117,8 @@ down-preserved g c =
     let prefix = c.has_prefix.ensures.visits in
     let cost = prefix.is_number in
     record {
-      within = omega arith;
+      within = let less = byte_within c.down.invariant.same _ c.byte_after.ensures.byte c.in-Some.is in omega arith;
+      same = c.byte_after.ensures.same ∙ c.down.invariant.same;
       guide = c.has_prefix.ensures.guide;
       readings = record {
         number = before.number + 1 + prefix.number;
@@ -111,10 +128,11 @@ down-preserved g c =
             let o = read.on_key in
             let d = o.descent in
             let at = shown_met (stands_there by d.at) c.in-Inner.ensures.proper c.in-Inner.ensures.name (sym c.inner_at-node.ensures.view) in
-            let goes = same_goes o at c.prefix_len-prefix_len.ensures (c.down.depth + c.prefix_len-prefix_len.result - c.down.depth) refl
+            let goes = same_goes o at c.prefix_len-prefix_len.ensures (c.down.depth + c.prefix_len-prefix_len.result - c.down.depth) (part_same (parts_rest _ c.parts.ensures) _ _ (byte_within c.down.invariant.same _ c.byte_after.ensures.byte c.in-Some.is))
             ((c.has_prefix.ensures.same pairs layout by (path_of d.at.path) (at_on by o c.in-Inner.ensures.name)).0 c.if-not-has_prefix.false) in
-            let there = sym c.lookup_child.ensures ∙ c.in-Some.is in
-            let (next, one) = onto_child o at c.prefix_len-prefix_len.ensures (omega arith) goes there in
+            let byte = byte_is c.down.invariant.same _ c.byte_after.ensures.byte c.in-Some.is in
+            let there = ap (child_at _) byte ∙ sym c.lookup_child.ensures ∙ c.in-Some-lookup_child.is in
+            let (next, one) = onto_child o at c.prefix_len-prefix_len.ensures (byte_within c.down.invariant.same _ c.byte_after.ensures.byte c.in-Some.is) goes there in
             let less = lower by d.at.path d.at.node d.at.whole d.at.named d.place d.radix _ _ at _ _ there in
             let seen = read.at_least in
             let few = read.at_most in
@@ -139,14 +157,14 @@ returns-in_default-clause-visits g c =
             let d = read.on_key.descent in
             let there = stands_there by d.at in
             let (x, is) = leaf_named c.args.store.now c.in_default.field-0 d.at.node (there.named ∙ sym c.in_default.ensures.name) there.holds in
-            let last = leaf_left d c.args.key_bytes.now _ x is in
+            let last = leaf_left d (g.Q.KeyBytes.key c.args.query) _ x is in
             let seen = read.at_least in
             omega arith,
       );
     }
 
-pub returns-then-prefix_len-key_bytes-clause-visits : goal.returns-then-prefix_len-key_bytes-clause-visits
-returns-then-prefix_len-key_bytes-clause-visits g c =
+pub returns-in_default-byte_after-clause-visits : goal.returns-in_default-byte_after-clause-visits
+returns-in_default-byte_after-clause-visits g c =
     let before = c.down.invariant.readings in
     let most = guide_most c.args.store.now c.args.root c.down.guide in
     let (pairs, layout, by) = c.requires in
@@ -161,7 +179,8 @@ returns-then-prefix_len-key_bytes-clause-visits g c =
             let d = read.on_key.descent in
             let at = shown_met (stands_there by d.at) c.in-Inner.ensures.proper c.in-Inner.ensures.name (sym c.inner_at-node.ensures.view) in
             let len = c.prefix_len-prefix_len.ensures in
-            let last = end_left d c.args.key_bytes.now at (omega arith) in
+            let ended = past c.down.invariant.same _ c.byte_after.ensures.byte c.in_default-byte_after.is in
+            let last = end_left d (g.Q.KeyBytes.key c.args.query) at (omega arith) in
             let seen = read.at_least in
             omega arith,
       );
@@ -184,11 +203,11 @@ returns-then-not-has_prefix-clause-visits g c =
             let read = before.is_number pairs layout by in
             let o = read.on_key in
             let at = shown_met (stands_there by o.descent.at) c.in-Inner.ensures.proper c.in-Inner.ensures.name (sym c.inner_at-node.ensures.view) in
-            let off : IsFront (front o.descent at) c.args.key_bytes.now → ⊥ = λ goes.
+            let off : IsFront (front o.descent at) (g.Q.KeyBytes.key c.args.query) → ⊥ = λ goes.
             let same = (c.has_prefix.ensures.same pairs layout by (path_of o.descent.at.path) (at_on by o c.in-Inner.ensures.name)).1
-            (goes_same o at c.prefix_len-prefix_len.ensures (c.down.depth + c.prefix_len-prefix_len.result - c.down.depth) (omega arith) refl goes) in
+            (goes_same o at c.prefix_len-prefix_len.ensures (c.down.depth + c.prefix_len-prefix_len.result - c.down.depth) (omega arith) (part_same (parts_rest _ c.parts.ensures) _ _ (byte_within c.down.invariant.same _ c.byte_after.ensures.byte c.in-Some.is)) goes) in
             absurd (false≢true (sym c.if-not-has_prefix.true ∙ same)) in
-            let last = off_left o.descent c.args.key_bytes.now at off in
+            let last = off_left o.descent (g.Q.KeyBytes.key c.args.query) at off in
             let seen = read.at_least in
             omega arith,
       );
@@ -214,8 +233,9 @@ returns-in_default-lookup_child-clause-visits g c =
         λ pairs layout by.
             let read = before.is_number pairs layout by in
             let at = shown_met (stands_there by read.on_key.descent.at) c.in-Inner.ensures.proper c.in-Inner.ensures.name (sym c.inner_at-node.ensures.view) in
-            let last = gap_left read.on_key.descent c.args.key_bytes.now at
-            (rw c.prefix_len-prefix_len.ensures at (sym c.lookup_child.ensures ∙ c.in_default-lookup_child.is)) in
+            let byte = byte_is c.down.invariant.same _ c.byte_after.ensures.byte c.in-Some.is in
+            let last = gap_left read.on_key.descent (g.Q.KeyBytes.key c.args.query) at
+            (rw c.prefix_len-prefix_len.ensures at (ap (child_at _) byte ∙ sym c.lookup_child.ensures ∙ c.in_default-lookup_child.is)) in
             let seen = read.at_least in
             omega arith,
       );

@@ -1,4 +1,4 @@
-use Rattle.std.proofs.Common.{◌-◌, ◌≤◌, length}
+use Rattle.std.proofs.Common.{◌≡◌, ◌-◌, ◌≤◌, length}
 use Rattle.art_model.specs.Pairs.{of_key}
 use Rattle.art_model.specs.Roots.{ForTree}
 use Rattle.art_reading.specs.Guides.{MayGuide}
@@ -8,12 +8,13 @@ use Rattle.art_reading.proofs.range.walk_beside.Given as goal
 
 abbrev pub invariant-down : goal.invariant-down
 invariant-down g l = record {
-  within : l.depth ≤ length l.key_bytes;
+  within : l.depth ≤ length (g.Q.KeyBytes.key l.fn.query);
+  same : g.Q.KeyBytes.key l.bytes ≡ g.Q.KeyBytes.key l.fn.query;
   readings : CountsReadings l.fn.visits l.visits (λ number. ForTree (of_key g.K.AsBytes.bytes) g.row.P l.store l.fn.root
-      (λ pairs layout. IsReadOnKey (of_key g.K.AsBytes.bytes) g.row.P l.store l.fn.root l.key_bytes layout l.name l.depth l.guide number));
+      (λ pairs layout. IsReadOnKey (of_key g.K.AsBytes.bytes) g.row.P l.store l.fn.root (g.Q.KeyBytes.key l.fn.query) layout l.name l.depth l.guide number));
   guide : ForTree (of_key g.K.AsBytes.bytes) g.row.P l.store l.fn.root
-      (λ pairs layout. MayGuide (of_key g.K.AsBytes.bytes) l.key_bytes layout l.guide);
+      (λ pairs layout. MayGuide (of_key g.K.AsBytes.bytes) (g.Q.KeyBytes.key l.fn.query) layout l.guide);
 }
 
 abbrev pub decreases-down : goal.decreases-down
-decreases-down g l = length l.key_bytes - l.depth
+decreases-down g l = length (g.Q.KeyBytes.key l.fn.query) - l.depth

@@ -22,7 +22,7 @@ returns-clause-pair g c pairs layout by =
 
 pub returns-in_err-last-clause-absent : goal.returns-in_err-last-clause-absent
 returns-in_err-last-clause-absent g c pairs layout by =
-    let none = nothing_goes (of_key g.K.AsBytes.bytes) (g.Q.KeyQuery.key c.args.query) pairs (c.in_err-last.ensures.leaf pairs layout by) in
+    let none = nothing_goes (of_key g.K.AsBytes.bytes) (g.Q.KeyBytes.key c.args.query) pairs (c.in_err-last.ensures.leaf pairs layout by) in
     rw c.from_residual.ensures (layout, subst (λ ps. IsCanonicalTree (of_key g.K.AsBytes.bytes) g.row.P c.args.store.now c.args.root ps layout) (sym none) by)
 
 pub returns-in_err-last-clause-applies : goal.returns-in_err-last-clause-applies

@@ -12,7 +12,7 @@ find_unchecked-requires g c = (search rules, canonical_root c.in_ok-self.was c.s
 pub returns-clause-value : goal.returns-clause-value
 returns-clause-value g c =
     ap (option_map (λ x. x.1)) (found_pair g.K.AsBytes.bytes g.row.P c.in_ok-self.was c.self.invariant
-    (with_key (of_key g.K.AsBytes.bytes) (g.Q.KeyQuery.key c.args.query)) c.in_ok-leaf.ensures c.self.view_is)
+    (with_key (of_key g.K.AsBytes.bytes) (g.Q.KeyBytes.key c.args.query)) c.in_ok-leaf.ensures c.self.view_is)
 
 pub returns-clause-sorted : goal.returns-clause-sorted
 returns-clause-sorted g c = view_sorted (of_key g.K.AsBytes.bytes) g.row.P c.self.inside.store c.self.invariant c.self.view_is

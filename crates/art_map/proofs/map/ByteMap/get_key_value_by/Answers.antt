@@ -10,4 +10,4 @@ find_unchecked-requires g c = (search rules, canonical_root c.in_ok-self.was c.s
 pub returns : goal.returns
 returns g c =
     found_pair g.K.AsBytes.bytes g.row.P c.in_ok-self.was c.self.invariant
-    (with_key (of_key g.K.AsBytes.bytes) (g.Q.KeyQuery.key c.args.query)) c.in_ok-leaf.ensures c.self.view_is
+    (with_key (of_key g.K.AsBytes.bytes) (g.Q.KeyBytes.key c.args.query)) c.in_ok-leaf.ensures c.self.view_is

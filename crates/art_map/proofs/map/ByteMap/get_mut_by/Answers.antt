@@ -12,7 +12,7 @@ search_for-requires g c = (search rules, canonical_root c.in_ok-self.was c.self.
 pub invariant_of-self-lent : goal.invariant_of-self-lent
 invariant_of-self-lent g c lent =
     let bytes = g.K.AsBytes.bytes in
-    let key = g.Q.KeyQuery.key c.args.query in (
+    let key = g.Q.KeyBytes.key c.args.query in (
       λ w. holds (of_key bytes) g.row.P _ (value_written bytes g.row.P key
           (leaf_named bytes g.row.P key c.in_ok-self.was c.self.invariant c.in_ok-leaf.ensures.leaf w) c.self.invariant w),
       c.self.invariant,
@@ -21,7 +21,7 @@ invariant_of-self-lent g c lent =
 pub returns : goal.returns
 returns g c =
     let bytes = g.K.AsBytes.bytes in
-    let key = g.Q.KeyQuery.key c.args.query in
+    let key = g.Q.KeyBytes.key c.args.query in
     let named = leaf_named bytes g.row.P key c.in_ok-self.was c.self.invariant c.in_ok-leaf.ensures.leaf in
     let left = λ (w : g.row.V.Denot).
     view_of (of_key bytes) g.row.P _ (value_written bytes g.row.P key (named w) c.self.invariant w) ∙ ap (with_value_at bytes key w) c.self.view_is in

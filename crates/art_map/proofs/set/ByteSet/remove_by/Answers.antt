@@ -6,5 +6,5 @@ use Rattle.art_map.proofs.set.ByteSet.remove_by.Goals as goal
 pub returns-clause-removed : goal.returns-clause-removed
 returns-clause-removed g c =
     let B = g.K.AsBytes.bytes in
-    let key = g.Q.KeyQuery.key c.args.query in
+    let key = g.Q.KeyBytes.key c.args.query in
     c.is_some.ensures ∙ ap is_some c.remove_by.ensures.removed ∙ removed_has B key c.self.inside.map ∙ ap (has_key B key) c.self.view_is
