@@ -29,4 +29,3 @@ pub mod SetSides
 pub mod SetParts
 pub mod Copied
 pub mod Extracted
-pub mod TextBounds

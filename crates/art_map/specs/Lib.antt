@@ -11,4 +11,3 @@ pub mod SetAlgebra
 pub mod MapRetain
 pub mod MapParts
 pub mod MapExtract
-pub mod MapTexts

@@ -21,9 +21,7 @@ use art_nodes::store::NodeStore;
 use art_reading::iterator::RawIterator;
 use art_reading::lookup::{Asked, KeyQuery, find_unchecked, search_unchecked};
 use art_reading::minmax::{maximum_unchecked, minimum_unchecked};
-use art_reading::range::{
-    first_from_unchecked, last_up_to_unchecked, prefix_unchecked, range_unchecked,
-};
+use art_reading::range::{first_from_unchecked, last_up_to_unchecked, prefix_unchecked};
 use art_writing::clone::clone_unchecked;
 use art_writing::delete::{
     DeletePoint, find_maximum_to_delete, find_minimum_to_delete,
@@ -268,21 +266,7 @@ impl<K: AsBytes + Drop, V: Drop, const P: usize> ByteMap<K, V, P> {
         ensures sorted { IsMap (of_key K.bytes) self.now }
         ensures fits { length result < 2 ^ 64 }
     {
-        self.between(bound_of(range.start_bound()), bound_of(range.end_bound()))
-    }
-
-    // Returns the pairs whose keys are between two bounds.
-    fn between(&self, from: Bound<&[u8]>, to: Bound<&[u8]>) -> Range<'_, K, V, P>
-        ensures pairs { result ≡ between (of_key K.bytes) (bound_map (λ b. b.now) from.entry)
-            (bound_map (λ b. b.now) to.entry) self.now }
-        ensures sorted { IsMap (of_key K.bytes) self.now }
-        ensures fits { length result < 2 ^ 64 }
-    {
-        let Some(root) = self.root else {
-            return RangeOf::new(&self.store, RawIterator::empty(), 0);
-        };
-        let walk = range_unchecked(&self.store, root, from, to);
-        RangeOf::new(&self.store, walk, self.len)
+        self.range_by(bound_of(range.start_bound()), bound_of(range.end_bound()))
     }
 
     /// Returns the first pair whose key is after a bound, or at it if that is included; `None` if there is none.

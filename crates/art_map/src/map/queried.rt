@@ -1,15 +1,20 @@
 //! Calls of a map by a key that is not built, such as a text and the byte that ends it.
-ghost use Rattle.std.specs.Prelude.{◌≡◌, option_copied};
+ghost use Rattle.std.specs.Prelude.{◌≡◌, ◌^◌, ◌<◌, length, option_copied};
 ghost use Rattle.std.specs.Borrow.{sem};
 ghost use Rattle.std.specs.Option.{option_copied_mut, option_map};
+ghost use Rattle.std.specs.Range.Bound.{bound_map};
 ghost use Rattle.art_model.specs.Pairs.{IsMap, first_of, has_key, of_key, remove_key, remove_reply, with_key};
+ghost use Rattle.art_model.specs.Parts.{between};
 ghost use Rattle.art_map.specs.MapAnswers.{value_at};
 ghost use Rattle.art_map.specs.MapItems.{deref_pair};
 ghost use Rattle.art_map.specs.MapLends.{lends_value};
 
-use super::{ByteMap, take_key};
+use super::{ByteMap, Range, RangeOf, take_key};
 use art_nodes::node::AsBytes;
+use art_reading::iterator::RawIterator;
 use art_reading::lookup::{Asked, KeyQuery, find_unchecked, search_for};
+use art_reading::range::range_unchecked;
+use std::ops::Bound;
 
 impl<K: AsBytes + Drop, V: Drop, const P: usize> ByteMap<K, V, P> {
     /// Returns the value of the key that is asked for, or `None` if it is not stored. It costs what `get` does.
@@ -56,5 +61,20 @@ impl<K: AsBytes + Drop, V: Drop, const P: usize> ByteMap<K, V, P> {
         ensures was_sorted { IsMap (of_key K.bytes) self.old }
     {
         take_key(&mut self.store, &mut self.root, &mut self.len, query)
+    }
+
+    /// Returns an iterator over the pairs whose keys are between two bounds, in the order of their keys. There are none
+    /// if the first bound is after the second. It costs what `range` does.
+    pub fn range_by<Q: KeyQuery>(&self, from: Bound<Q>, to: Bound<Q>) -> Range<'_, K, V, P>
+        ensures pairs { result ≡ between (of_key K.bytes) (bound_map Q.key from)
+            (bound_map Q.key to) self.now }
+        ensures sorted { IsMap (of_key K.bytes) self.now }
+        ensures fits { length result < 2 ^ 64 }
+    {
+        let Some(root) = self.root else {
+            return RangeOf::new(&self.store, RawIterator::empty(), 0);
+        };
+        let walk = range_unchecked(&self.store, root, from, to);
+        RangeOf::new(&self.store, walk, self.len)
     }
 }

@@ -1,12 +1,15 @@
 //! Calls of a set by a key that is not built, such as a text and the byte that ends it.
-ghost use Rattle.std.specs.Prelude.{◌≡◌, option_copied};
-ghost use Rattle.art_model.specs.Pairs.{first_of, has_key, last_of, remove_key};
+ghost use Rattle.std.specs.Prelude.{◌≡◌, ◌<◌, ◌^◌, length, option_copied};
+ghost use Rattle.std.specs.Range.Bound.{bound_map};
+ghost use Rattle.art_model.specs.Pairs.{IsMap, first_of, has_key, last_of, remove_key};
+ghost use Rattle.art_model.specs.Parts.{between};
 ghost use Rattle.art_model.specs.Texts.{AreEnded, texts_in_front};
 ghost use Rattle.art_reading.specs.ShortTexts.{texts_from};
 
-use super::ByteSet;
+use super::{ByteSet, KeyRange, KeyRangeOf};
 use art_nodes::node::AsBytes;
 use art_reading::lookup::KeyQuery;
+use std::ops::Bound;
 
 impl<K: AsBytes + Drop, const P: usize> ByteSet<K, P> {
     /// Returns whether the key that is asked for is stored. It costs what `contains` does.
@@ -23,6 +26,17 @@ impl<K: AsBytes + Drop, const P: usize> ByteSet<K, P> {
         ensures removed { result ≡ has_key K.bytes (Q.key query) self.old }
     {
         self.map.remove_by(query).is_some()
+    }
+
+    /// Returns an iterator over the keys between two bounds, in ascending order. There are none if the first bound is
+    /// after the second. It costs what `range` does.
+    pub fn range_by<Q: KeyQuery>(&self, from: Bound<Q>, to: Bound<Q>) -> KeyRange<'_, K, P>
+        ensures keys { result ≡ between K.bytes (bound_map Q.key from) (bound_map Q.key to)
+            self.now }
+        ensures sorted { IsMap K.bytes self.now }
+        ensures fits { length result < 2 ^ 64 }
+    {
+        KeyRangeOf::new(self.map.range_by(from, to))
     }
 
     /// Returns the key with the longest text that is a prefix of the query, or `None` if there is none. Condition and

@@ -6,7 +6,6 @@ ghost use Rattle.std.specs.Range.Bound.{bound_map};
 ghost use Rattle.std.specs.declared.ops.Bound.TheVariants.{Unbounded};
 ghost use Rattle.art_model.specs.Pairs.{IsMap, first_of, last_of};
 ghost use Rattle.art_model.specs.Parts.{below, between};
-ghost use Rattle.art_model.specs.Texts.{AreEnded, text_of};
 ghost use Rattle.art_map.specs.MapItems.{ShowsFirst, ShowsLast, keys_of};
 
 use super::ByteSet;
@@ -42,7 +41,7 @@ impl<'a, K, S: Leaves<K, ()>> Model for KeyRangeOf<'a, K, S> {
 }
 
 impl<'a, K, S: Leaves<K, ()>> KeyRangeOf<'a, K, S> {
-    fn new(pairs: RangeOf<'a, K, (), S>) -> Self
+    pub(super) fn new(pairs: RangeOf<'a, K, (), S>) -> Self
         requires { length pairs < 2 ^ 64 }
         ensures keys { result ≡ keys_of pairs.entry }
         ensures fits { length result < 2 ^ 64 }
@@ -120,18 +119,6 @@ impl<K: AsBytes + Drop, const P: usize> ByteSet<K, P> {
         ensures fits { length result < 2 ^ 64 }
     {
         KeyRangeOf::new(self.map.range(range))
-    }
-
-    /// Returns an iterator over the keys whose texts are between two bounds, in ascending order. Condition and cost are
-    /// those of `range_text` of a `ByteMap`.
-    pub fn range_text(&self, from: Bound<&[u8]>, to: Bound<&[u8]>) -> KeyRange<'_, K, P>
-        requires { AreEnded K.bytes 0 self.now }
-        ensures keys { result ≡ between (text_of K.bytes) (bound_map (λ b. b.now) from.entry)
-            (bound_map (λ b. b.now) to.entry) self.now }
-        ensures sorted { IsMap K.bytes self.now }
-        ensures fits { length result < 2 ^ 64 }
-    {
-        KeyRangeOf::new(self.map.range_text(from, to))
     }
 
     /// Returns the first key after a bound, or at it if that is included; `None` if there is none. It costs what
