@@ -43,6 +43,7 @@ pub use entry::{TreeEntry, TreeEntryOf};
 pub use extract::{TreeExtractPrefix, TreeExtractPrefixOf, TreeExtractRange, TreeExtractRangeOf};
 pub use matches::{Matches, MatchesOf, Nested};
 pub(crate) use ordered::bytes_of;
+pub(crate) use text_ranges::bound_of;
 pub use texts::TextRefused;
 
 /// A pair that was not inserted, since an allocation failed.

@@ -1,5 +1,5 @@
 //! Ranges of maps of strings between two texts, for which no key is made.
-ghost use Rattle.std.specs.Prelude.{◌≡◌, ◌<◌, ◌^◌, length, IfOk, OnErr};
+ghost use Rattle.std.specs.Prelude.{◌≡◌, ◌<◌, ◌^◌, [], ◌∷◌, ◌++◌, length, IfOk, OnErr};
 ghost use Rattle.std.specs.Bool.{OnFalse, OnTrue};
 ghost use Rattle.std.specs.Cmp.Lexicographic.{slice_cmp};
 ghost use Rattle.std.specs.Ordering.{nat_cmp};
@@ -13,22 +13,20 @@ use super::TreeMap;
 use art_keys::escaped::Escaped;
 use art_keys::terminated::Terminated;
 use art_map::map::Range;
+use art_reading::lookup::EndedQuery;
 use std::alloc::{AllocError, Global};
 use std::ops::Bound;
 
 impl<V: Drop, const P: usize> TreeMap<Terminated, V, P> {
     /// Returns an iterator over the pairs whose strings are between two texts, in the order of their keys; it is empty
-    /// if the first bound is after the second.
-    ///
-    /// It costs what `range` does, and a lookup for each of an excluded lower bound and an included upper one. It
-    /// allocates nothing.
+    /// if the first bound is after the second. It costs what `range` does, and allocates nothing.
     pub fn range_text(&self, from: Bound<&[u8]>, to: Bound<&[u8]>) -> Range<'_, Terminated, V, P>
         ensures pairs { result ≡ keys_between (slice_cmp nat_cmp)
             (bound_map (λ b. b.now) from.entry) (bound_map (λ b. b.now) to.entry) self.now }
         ensures sorted { IsMap (of_key ended) self.now }
         ensures fits { length result < 2 ^ 64 }
     {
-        self.map.range_text(from, to)
+        self.map.range_by(bound_of(from), bound_of(to))
     }
 }
 
@@ -36,9 +34,8 @@ impl<V: Drop, const P: usize> TreeMap<Escaped, V, P> {
     /// Returns an iterator over the pairs whose strings are between two texts, in the order of their keys; it is empty
     /// if the first bound is after the second.
     ///
-    /// It costs what `range` does, and a lookup for each of an excluded lower bound and an included upper one. It
-    /// allocates only if a byte of a text is 0 or 1, for the keys of both texts, and fails only if such an allocation
-    /// fails.
+    /// It costs what `range` does. It allocates only if a byte of a text is 0 or 1, for the keys of both texts, and
+    /// fails only if such an allocation fails.
     pub fn range_text(
         &self,
         alloc: Global,
@@ -53,11 +50,24 @@ impl<V: Drop, const P: usize> TreeMap<Escaped, V, P> {
             OnBound IsPlain (bound_map (λ b. b.now) to.entry))) }
     {
         if has_plain(from) && has_plain(to) {
-            return Ok(self.map.range_text(from, to));
+            return Ok(self.map.range_by(bound_of(from), bound_of(to)));
         }
         let low = key_at(alloc, from)?;
         let high = key_at(alloc, to)?;
         Ok(self.range((low, high)))
+    }
+}
+
+// Returns the bound at the key of a text that is ended by a zero, which is not built.
+#[inline(always)]
+pub(crate) fn bound_of(bound: Bound<&[u8]>) -> Bound<EndedQuery<'_>>
+    ensures { bound_map (λ query. query.text.now ++ query.end ∷ []) result ≡
+        bound_map (λ text. ended text.now) bound.entry }
+{
+    match bound {
+        Bound::Included(text) => Bound::Included(EndedQuery { text, end: 0 }),
+        Bound::Excluded(text) => Bound::Excluded(EndedQuery { text, end: 0 }),
+        Bound::Unbounded => Bound::Unbounded,
     }
 }
 

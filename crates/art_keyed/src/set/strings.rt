@@ -8,6 +8,7 @@ ghost use Rattle.art_keys.specs.Ended.{ended};
 ghost use Rattle.art_keyed.specs.KeyedPairs.{set_between};
 
 use super::TreeSet;
+use crate::map::bound_of;
 use art_keys::terminated::Terminated;
 use art_map::set::KeyRange;
 use art_reading::lookup::EndedQuery;
@@ -53,6 +54,6 @@ impl<const P: usize> TreeSet<Terminated, P> {
         ensures sorted { IsMap ended self.now }
         ensures fits { length result < 2 ^ 64 }
     {
-        self.set.range_text(from, to)
+        self.set.range_by(bound_of(from), bound_of(to))
     }
 }
