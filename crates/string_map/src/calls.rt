@@ -75,8 +75,8 @@ pub fn compact(map: &mut StringMap) -> u32
 
 /// Looks up a key, and writes its value. Returns `DONE`, or `ABSENT` if the key is not stored. It allocates nothing.
 pub fn get(map: &StringMap, key: &[u8], value: &mut u64) -> u32
-    ensures value { Answers map.now (value_of key.now) result value.old value.new }
-    ensures never_refused { result ≢ no_memory }
+    ensures { Answers map.now (value_of key.now) result value.old value.new ×
+        (result ≢ no_memory) }
 {
     let Some(pairs) = &map.pairs else {
         return FREED;
@@ -167,10 +167,9 @@ fn take(
 
 /// Writes how many keys start with a prefix, and returns `DONE`. It allocates nothing.
 pub fn count_prefix(map: &StringMap, prefix: &[u8], count: &mut usize) -> u32
-    ensures count { Answers map.now (λ pairs.
+    ensures { Answers map.now (λ pairs.
         Some (length (strings_below (λ text. text) prefix.now pairs)))
-        result count.old count.new }
-    ensures never_refused { result ≢ no_memory }
+        result count.old count.new × (result ≢ no_memory) }
 {
     let Some(pairs) = &map.pairs else {
         return FREED;
@@ -189,10 +188,9 @@ fn count_below(pairs: &TreeMap<Escaped, u64, 16>, text: &[u8]) -> usize
 /// Looks up the longest key that is a prefix of the query. Writes its length, and its value. Returns `DONE`, or `ABSENT`
 /// if no key is one. It allocates nothing.
 pub fn longest_match(map: &StringMap, query: &[u8], pair: &mut Pair) -> u32
-    ensures pair { Answers map.now
+    ensures { Answers map.now
         (λ pairs. option_map pair_of (last_of (strings_in_front (λ text. text) query.now pairs)))
-        result pair.old pair.new }
-    ensures never_refused { result ≢ no_memory }
+        result pair.old pair.new × (result ≢ no_memory) }
 {
     let Some(pairs) = &map.pairs else {
         return FREED;

@@ -1,9 +1,10 @@
 -- The memory of the map is borrowed for the call, and is the caller's again after it.
 use Rattle.art_c.proofs.Steps.{ℕ, List, [], ◌∷◌, ◌++◌, refl, w32, Bor, proved, full_share, id⊢, Lft, flft, flent, Incl-refl, named, Val, vptr, fact, tables, WpFn, ‵, raw, ◌⊛◌, some, later, prop, ◌$◌, ◌∵◌, !, qed, done, move, drop, use1, use2, split, join, fsplit, pick, await, regoal, suffices, frame, group, enter, of_opd, addr, stop, no_more, and_then, returns, alloc_all, pass_all, free_all, look_at, get, through, sets, lands_as, env, lft_new, lft_end, lent_back, u8, u32, yes, Is, shows, uint_Lawful, owns, Ptr, RawPtr, block_ptr, lies_at, in_a_block, rawptr_vals, rawptr_Tells, MutRef, ShrRef, mut_vals, mut_Tells, ShrSlice, shr_slice_vals, shr_slice_Tells, part_at, mem, lends_shr, plain, shr_slice_of, nothing, heard, peeks, calls_at, lasts, alive, triple_of, Stays, walk_of, says, stay_dropped, gave_ref, Goes-dropped, Goes-gave_ref, ends_at, framed}
+use Rattle.std.specs.Prelude.{◌≢◌}
 use Rattle.std.specs.Option.{option_map}
 use Rattle.art_keyed.specs.KeyedPairs.{strings_in_front}
 use Rattle.art_model.specs.Pairs.{last_of}
-use Rattle.string_map.specs.Calls.{Answers}
+use Rattle.string_map.specs.Calls.{Answers, no_memory}
 use Rattle.string_map.specs.Shown.{pair_of}
 use Rattle.string_map.specs.contracts.pairs.Pair.{the_row as PairRow}
 use Rattle.string_map.proofs.StringMap.TheLaws.{the_row_laws, the_within}
@@ -43,7 +44,7 @@ vokujin_longest_match_spec 𝓤 𝓛 𝓜 𝓡 wired =
     calls_at ! (framed 𝓤 𝓛.H 𝓜 (tables 𝓤 𝓛.H 𝓜 𝓡 𝓡.env)) G (met 𝓤 𝓛 𝓜 𝓡 (code.calls-string_map::calls::longest_match 𝓡.env wired)) z
     (and_then ! (get ! refl) (and_then ! (get ! refl) (and_then ! (get ! refl) (no_more !)))) (λ v.
     use1 𝓛 (later (some (λ (r : ℕ). ((‵ (flft κ full_share) ⊛ raw T) ⊛ ‵ (u32.own_val r (v ∷ []))) ⊛
-    some (λ (ws : _). ‵ (lasts g.ended z.0.0 z.0.3 ws) ⊛ raw (fact 𝓤 (Answers m (λ all. option_map pair_of (last_of (strings_in_front (λ text. text) a.1.0.now all))) r a.1.1.0.now ws.1.1.0)))))) (id⊢ 𝓤 _) $
+    some (λ (ws : _). ‵ (lasts g.ended z.0.0 z.0.3 ws) ⊛ raw (fact 𝓤 (Answers m (λ all. option_map pair_of (last_of (strings_in_front (λ text. text) a.1.0.now all))) r a.1.1.0.now ws.1.1.0 × (r ≢ no_memory))))))) (id⊢ 𝓤 _) $
     await ! tt $ pick ! (λ r. split ! $ split ! $ split ! $ lft_end ! tt $
     move ! (3 ∷ []) $ pick ! (λ ws. split ! $ fsplit ! $ drop ! $
     move ! (1 ∷ []) $ heard ! _ (λ told.
