@@ -208,7 +208,8 @@ pub(super) fn agree_on_questions(map: &Map, model: &Model, numbers: &mut Numbers
 // Whether the first pair of a part was removed from the map; it is removed from the other one.
 fn agree_on_first(own: Option<(Key, u32)>, model: &mut Model, part: Part) -> bool {
     let first = first_in(model, part);
-    if let Some((key, _)) = first {
+    if let Some(pair) = first {
+        let key = pair.0;
         model.remove(&key);
     }
     own == first
