@@ -1,5 +1,5 @@
 -- Strings between two texts, by the keys of both.
-use Rattle.std.proofs.Common.{◌≡◌, ◌≢◌, ℕ, zero, suc, List, [], ◌∷◌, not, ◌&&◌, refl, ap, ap₂, sym, ◌∙◌, arith, filter}
+use Rattle.std.proofs.Common.{◌≡◌, ◌≢◌, ℕ, zero, suc, List, [], ◌∷◌, not, ◌&&◌, refl, ap, ap₂, ◌∙◌, arith, filter}
 use Rattle.std.specs.Bool.{⊤}
 use Rattle.std.specs.Cmp.Lexicographic.{slice_cmp}
 use Rattle.std.specs.List.{AllByRecursion as Each}
@@ -9,8 +9,8 @@ use Rattle.std.specs.declared.ops.Bound.{Bound}
 use Rattle.std.specs.declared.ops.Bound.TheVariants.{Included, Excluded, Unbounded}
 use Rattle.std.proofs.lemmas.Bool.{le-ltb, lt-ltb, ne_eqb}
 use Rattle.art_keys.specs.Ended.{HasNoZero, ended}
-use Rattle.art_keys.specs.Escapes.{IsPlain, escape}
-use Rattle.art_keys.specs.EscapeLaws.{escape-plain, escape_keeps_order}
+use Rattle.art_keys.specs.Escapes.{escape}
+use Rattle.art_keys.specs.EscapeLaws.{escape_keeps_order}
 use Rattle.art_model.specs.Pairs.{of_key}
 use Rattle.art_model.specs.Parts.{between, is_from, is_up_to}
 use Rattle.art_keyed.specs.KeyedPairs.{HaveKeys, OnBound, is_key_from, is_key_up_to, keys_between, set_between}
