@@ -1,5 +1,5 @@
 -- The memory of the map is borrowed for the call, and is the caller's again after it.
-use Rattle.art_c.proofs.Steps.{ℕ, List, [], ◌∷◌, ◌++◌, refl, w32, Bor, proved, full_share, id⊢, Lft, flft, flent, Incl-refl, named, Val, vptr, fact, tables, WpFn, ‵, raw, ◌⊛◌, some, later, prop, ◌$◌, ◌∵◌, !, qed, done, move, drop, use1, use2, split, join, fsplit, fjoin, feq_l, pick, await, regoal, suffices, frame, group, enter, of_opd, addr, stop, fld, hop, from, no_more, and_then, returns, agg, whole, sub, alloc_all, pass_all, free_all, look_at, look_in_at, get, get_in, through, sets, lands_as, env, lft_new, lft_end, lent_back, u8, u32, yes, Is, shows, uint_Lawful, owns, Ptr, RawPtr, block_ptr, lies_at, in_a_block, rawptr_vals, rawptr_Tells, MutRef, ShrRef, mut_vals, mut_Tells, MutSlice, mut_slice_vals, mut_slice_Tells, part_at, mem, lends_shr, plain, nothing, heard, peeks, calls_at, lasts, alive, triple_of, Stays, walk_of, says, stay_dropped, gave_ref, gave_slice, Goes-dropped, Goes-gave_ref, Goes-gave_slice, ends_at, framed}
+use Rattle.art_c.proofs.Steps.{ℕ, List, [], ◌∷◌, ◌++◌, refl, w32, Bor, proved, full_share, id⊢, Lft, flft, flent, Incl-refl, named, Val, vptr, fact, tables, WpFn, ‵, raw, ◌⊛◌, some, later, prop, ◌$◌, ◌∵◌, !, qed, done, move, drop, use1, use2, split, join, fsplit, fjoin, feq_l, pick, await, regoal, suffices, frame, group, enter, of_opd, addr, stop, fld, hop, from, no_more, and_then, returns, agg, whole, sub, alloc_all, pass_all, free_all, look_at, look_in_at, get, get_in, through, sets, lands_as, lft_new, lft_end, lent_back, u8, u32, yes, Is, shows, uint_Lawful, owns, Ptr, RawPtr, block_ptr, lies_at, in_a_block, rawptr_vals, rawptr_Tells, MutRef, ShrRef, mut_vals, mut_Tells, MutSlice, mut_slice_vals, mut_slice_Tells, part_at, lends_shr, plain, nothing, heard, peeks, calls_at, lasts, alive, triple_of, Stays, walk_of, says, stay_dropped, gave_ref, gave_slice, Goes-dropped, Goes-gave_ref, Goes-gave_slice, ends_at, framed}
 use Rattle.art_model.specs.Pairs.{first_of}
 use Rattle.string_map.specs.Shown.{ShowsPair}
 use Rattle.string_map.specs.contracts.pairs.Pair.{the_row as PairRow}

@@ -1,5 +1,5 @@
 -- The memory of the map is borrowed for the call, and is the caller's again after it.
-use Rattle.art_c.proofs.Steps.{ℕ, List, [], ◌∷◌, ◌++◌, refl, w32, Bor, proved, full_share, id⊢, Lft, flft, flent, Incl-refl, named, Val, vptr, fact, tables, WpFn, ‵, raw, ◌⊛◌, some, later, prop, ◌$◌, ◌∵◌, !, qed, done, move, drop, use1, use2, split, join, fsplit, pick, await, regoal, suffices, frame, group, enter, of_opd, addr, stop, no_more, and_then, returns, alloc_all, pass_all, free_all, look_at, get, through, sets, lands_as, env, lft_new, lft_end, lent_back, u8, u32, yes, Is, shows, uint_Lawful, owns, Ptr, RawPtr, block_ptr, lies_at, in_a_block, rawptr_vals, rawptr_Tells, MutRef, ShrRef, mut_vals, mut_Tells, ShrSlice, shr_slice_vals, shr_slice_Tells, part_at, mem, lends_shr, plain, shr_slice_of, nothing, heard, peeks, calls_at, lasts, alive, triple_of, Stays, walk_of, says, stay_dropped, gave_ref, Goes-dropped, Goes-gave_ref, ends_at, framed}
+use Rattle.art_c.proofs.Steps.{ℕ, List, [], ◌∷◌, ◌++◌, refl, w32, Bor, proved, full_share, id⊢, Lft, flft, flent, Incl-refl, named, Val, vptr, fact, tables, WpFn, ‵, raw, ◌⊛◌, some, later, prop, ◌$◌, ◌∵◌, !, qed, done, move, drop, use1, use2, split, join, fsplit, pick, await, regoal, suffices, frame, group, enter, of_opd, addr, stop, no_more, and_then, returns, alloc_all, pass_all, free_all, look_at, get, through, sets, lands_as, lft_new, lft_end, lent_back, u8, u32, yes, Is, shows, uint_Lawful, owns, Ptr, RawPtr, block_ptr, lies_at, in_a_block, rawptr_vals, rawptr_Tells, MutRef, ShrRef, mut_vals, mut_Tells, ShrSlice, shr_slice_vals, shr_slice_Tells, part_at, lends_shr, plain, shr_slice_of, nothing, heard, peeks, calls_at, lasts, alive, triple_of, Stays, walk_of, says, stay_dropped, gave_ref, Goes-dropped, Goes-gave_ref, ends_at, framed}
 use Rattle.std.specs.Prelude.{◌≢◌}
 use Rattle.std.specs.Option.{option_map}
 use Rattle.art_keyed.specs.KeyedPairs.{strings_in_front}
