@@ -83,35 +83,35 @@ module _ {A : Type 0} (bytes : A → List ℕ) {key query : List ℕ} {pairs : L
       each_same (x ∷ xs) = ((refl, refl), each_same xs)
 
 module _ {A : Type 0} (bytes : A → List ℕ) (pairs : List A) where
+  -- what a bound lets in the one that stands for it does, if this holds of an included key and of an excluded one
+  module _ (lets_in : Bound (List ℕ) → List ℕ → Bool) where
+    abbrev AreLetIn : Bound (List ℕ) → Bound (List ℕ) → Type 0
+    AreLetIn bound query = Each (λ x. lets_in query (bytes x) ≡ lets_in bound (bytes x)) pairs
+
+    each_same : (bound : Bound (List ℕ)) (xs : List A) → Each (λ x. lets_in bound (bytes x) ≡ lets_in bound (bytes x)) xs
+    each_same bound [] = tt
+    each_same bound (x ∷ xs) = (refl, each_same bound xs)
+
+    same_let_in : ((key query : List ℕ) → IsStandIn bytes key pairs query → AreLetIn (Included key) (Included query)) →
+        ((key query : List ℕ) → IsStandIn bytes key pairs query → AreLetIn (Excluded key) (Excluded query)) →
+        (bound query : Bound (List ℕ)) → IsBoundFor bytes pairs bound query → AreLetIn bound query
+    same_let_in at past (Included key) (Included query) s = at key query s
+    same_let_in at past (Excluded key) (Excluded query) s = past key query s
+    same_let_in at past Unbounded Unbounded s = each_same Unbounded pairs
+    same_let_in at past (Included key) (Excluded query) s = absurd s
+    same_let_in at past (Included key) Unbounded s = absurd s
+    same_let_in at past (Excluded key) (Included query) s = absurd s
+    same_let_in at past (Excluded key) Unbounded s = absurd s
+    same_let_in at past Unbounded (Included query) s = absurd s
+    same_let_in at past Unbounded (Excluded query) s = absurd s
+
   from_same : (from query : Bound (List ℕ)) → IsBoundFor bytes pairs from query → Each (λ x. is_from query (bytes x) ≡ is_from from (bytes x)) pairs
-  from_same (Included key) (Included query) s = Each-weaker _ _ (λ x h. ap not h.0) pairs (same_sides bytes s)
-  from_same (Excluded key) (Excluded query) s = Each-weaker _ _ (λ x h. h.1) pairs (same_sides bytes s)
-  from_same (Included key) (Excluded query) s = absurd s
-  from_same (Included key) Unbounded s = absurd s
-  from_same (Excluded key) (Included query) s = absurd s
-  from_same (Excluded key) Unbounded s = absurd s
-  from_same Unbounded (Included query) s = absurd s
-  from_same Unbounded (Excluded query) s = absurd s
-  from_same Unbounded Unbounded s = each_true pairs
-    where
-      each_true : (xs : List A) → Each (λ x. is_from Unbounded (bytes x) ≡ is_from Unbounded (bytes x)) xs
-      each_true [] = tt
-      each_true (x ∷ xs) = (refl, each_true xs)
+  from_same = same_let_in is_from (λ key query s. Each-weaker _ _ (λ x h. ap not h.0) pairs (same_sides bytes s))
+      (λ key query s. Each-weaker _ _ (λ x h. h.1) pairs (same_sides bytes s))
 
   up_to_same : (to query : Bound (List ℕ)) → IsBoundFor bytes pairs to query → Each (λ x. is_up_to query (bytes x) ≡ is_up_to to (bytes x)) pairs
-  up_to_same (Included key) (Included query) s = Each-weaker _ _ (λ x h. ap not h.1) pairs (same_sides bytes s)
-  up_to_same (Excluded key) (Excluded query) s = Each-weaker _ _ (λ x h. h.0) pairs (same_sides bytes s)
-  up_to_same (Included key) (Excluded query) s = absurd s
-  up_to_same (Included key) Unbounded s = absurd s
-  up_to_same (Excluded key) (Included query) s = absurd s
-  up_to_same (Excluded key) Unbounded s = absurd s
-  up_to_same Unbounded (Included query) s = absurd s
-  up_to_same Unbounded (Excluded query) s = absurd s
-  up_to_same Unbounded Unbounded s = each_true pairs
-    where
-      each_true : (xs : List A) → Each (λ x. is_up_to Unbounded (bytes x) ≡ is_up_to Unbounded (bytes x)) xs
-      each_true [] = tt
-      each_true (x ∷ xs) = (refl, each_true xs)
+  up_to_same = same_let_in is_up_to (λ key query s. Each-weaker _ _ (λ x h. ap not h.1) pairs (same_sides bytes s))
+      (λ key query s. Each-weaker _ _ (λ x h. h.0) pairs (same_sides bytes s))
 
   -- the pairs between two bounds are those between the bounds that stand for them
   pub same_between : (from to low high : Bound (List ℕ)) → IsBoundFor bytes pairs from low → IsBoundFor bytes pairs to high →
