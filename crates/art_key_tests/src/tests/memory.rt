@@ -1,12 +1,12 @@
 //! Keys, maps and sets while every allocation fails.
-use art_keyed::map::TreeMap;
+use art_keyed::map::{TextRefused, TreeMap};
 use art_keyed::set::TreeSet;
 use art_keys::escaped::Escaped;
 use art_keys::joined::Joined;
 use art_keys::terminated::{EndError, Terminated};
 use art_keys::unsigned::Unsigned;
 use art_node_support::expected::same;
-use art_node_support::memory::all_memory;
+use art_node_support::memory::{all_memory, begin_refusals, end_refusals};
 use std::alloc::Global;
 use std::test::Fail;
 
@@ -90,6 +90,50 @@ fn starve_strings(
 fn without_memory_any_strings_are_found(rt: HostRuntime) -> Result<(), Fail> {
     let found = starve_strings(&mut TreeMap::new(rt.alloc()), rt.alloc());
     same(found, Some((Some(7), Some(8), 1)))
+}
+
+// ---- insertions by a text
+
+// Whether an insertion of a first text fails and returns the value, and how many pairs the map then has.
+fn insert_word(alloc: Global, map: &mut TreeMap<Terminated, u32, 8>) -> (bool, usize) {
+    begin_refusals(alloc);
+    let mut is_refused = false;
+    if let Err(TextRefused::Memory { value }) = map.get_text_or_insert(alloc, b"car", 7) {
+        is_refused = value == 7;
+    }
+    end_refusals(alloc);
+    (is_refused, map.len())
+}
+
+#[test]
+fn refused_each_insertion_of_a_word_returns_the_value(rt: HostRuntime) -> Result<(), Fail> {
+    let (is_refused, len) = insert_word(rt.alloc(), &mut TreeMap::new(rt.alloc()));
+    same(len, if is_refused { 0 } else { 1 })?;
+    if is_refused {
+        println!(rt; "asserted")?;
+    }
+    Ok(())
+}
+
+// The same of a text with a byte to escape.
+fn insert_bytes(alloc: Global, map: &mut TreeMap<Escaped, u32, 8>) -> (bool, usize) {
+    begin_refusals(alloc);
+    let mut is_refused = false;
+    if let Err(refused) = map.get_text_or_insert(alloc, b"c\0", 7) {
+        is_refused = refused.value == 7;
+    }
+    end_refusals(alloc);
+    (is_refused, map.len())
+}
+
+#[test]
+fn refused_each_insertion_of_bytes_returns_the_value(rt: HostRuntime) -> Result<(), Fail> {
+    let (is_refused, len) = insert_bytes(rt.alloc(), &mut TreeMap::new(rt.alloc()));
+    same(len, if is_refused { 0 } else { 1 })?;
+    if is_refused {
+        println!(rt; "asserted")?;
+    }
+    Ok(())
 }
 
 // ---- removals
