@@ -145,20 +145,42 @@ fn agree_on_both(set: &Set, other: &Set, model: &Model, beside: &Model) -> bool 
     seen == expected_of_both(model, beside)
 }
 
-// How many keys of a union a clone of its iterator has after the first one, and the iterator itself, and the same of
-// an intersection.
-fn copied(set: &Set, other: &Set) -> Option<[usize; 4]> {
-    let (mut all, both) = (set.union(other), set.intersection(other));
+// Whether a clone of an iterator over a union continues as the iterator does.
+fn agree_on_union_copy(set: &Set, other: &Set) -> bool {
+    let mut all = set.union(other);
     all.next();
-    let (rest, copy) = (all.clone().ok()?, both.clone().ok()?);
-    Some([rest.count(), all.count(), copy.count(), both.count()])
+    let Ok(copy) = all.clone() else {
+        return false;
+    };
+    let mut digests = [1u64; 2];
+    for key in copy {
+        digests[0] = added(digests[0], *key);
+    }
+    for key in all {
+        digests[1] = added(digests[1], *key);
+    }
+    digests[0] == digests[1]
+}
+
+// The same over an intersection.
+fn agree_on_intersection_copy(set: &Set, other: &Set) -> bool {
+    let mut both = set.intersection(other);
+    both.next();
+    let Ok(copy) = both.clone() else {
+        return false;
+    };
+    let mut digests = [1u64; 2];
+    for key in copy {
+        digests[0] = added(digests[0], *key);
+    }
+    for key in both {
+        digests[1] = added(digests[1], *key);
+    }
+    digests[0] == digests[1]
 }
 
 fn agree_on_copies(set: &Set, other: &Set) -> bool {
-    match copied(set, other) {
-        Some(counts) => counts[0] == counts[1] && counts[2] == counts[3],
-        None => false,
-    }
+    agree_on_union_copy(set, other) && agree_on_intersection_copy(set, other)
 }
 
 // Whether two sets compare in the same way.

@@ -23,10 +23,10 @@ fn even(value: u32) -> Result<u32, u32> {
 
 // The value of a key that is inserted with an even value; no odd value is inserted.
 fn even_at(map: &mut Map, key: Key, value: u32) -> Option<u32> {
-    match map.entry(key).or_try_insert_with(|| even(value)) {
-        Ok(stored) => Some(*stored),
-        Err(_) => None,
-    }
+    let Ok(stored) = map.entry(key).or_try_insert_with(|| even(value)) else {
+        return None;
+    };
+    Some(*stored)
 }
 
 // The value of a key, which is inserted by one of six calls if it is new.
