@@ -169,8 +169,8 @@ fn put_both<const P: usize>(
 ) -> Option<()>
     requires { P < 256 }
 {
-    let key = Escaped::encode(alloc, &string).ok()?;
-    map.insert(key, string.len() as u32).ok()?;
+    let len = u32::try_from(string.len()).ok()?;
+    map.insert(Escaped::encode(alloc, &string).ok()?, len).ok()?;
     list.push(string).ok()
 }
 
