@@ -45,7 +45,7 @@ same_front a b c to from = go (is_front a b) refl
     go true e = sym (true_front a c (to (front_from a b e)))
     go false e = sym (not_front a c (λ f. true≢false (sym (true_front a b (from f)) ∙ e)))
 
-filter_same : {A : Type 0} (test other : A → Bool) (xs : List A) → Each (λ x. test x ≡ other x) xs → filter test xs ≡ filter other xs
+pub filter_same : {A : Type 0} (test other : A → Bool) (xs : List A) → Each (λ x. test x ≡ other x) xs → filter test xs ≡ filter other xs
 filter_same test other [] h = refl
 filter_same test other (x ∷ xs) h = rw (h.0, filter_same test other xs h.1) refl
 

@@ -41,9 +41,6 @@ module _ {K V : Type 0} (s : Nodes K V) {tree : Tree OpaqueNodePtr (K × V)} (ho
   leaf_in : {x : K × V} → HasLeaf tree (leaf_name p) x → (shown : LeafNode K V) × (map.get s.leaves p ≡ Some shown) × (pair_of shown ≡ x)
   leaf_in {x} has = views.leaf_there s p x (path_holds (node_at s) has.path (leaf (leaf_name p) x) (subst (Holds (node_at s)) (sym has.whole) holds)).1
 
-  pub leaf_not_gone : {x : K × V} → HasLeaf tree (leaf_name p) x → None ≡ map.get s.leaves p → ⊥
-  leaf_not_gone has gone = let (shown, there, same) = leaf_in has in absurd cc
-
   pub leaf_is_there : {x : K × V} → HasLeaf tree (leaf_name p) x → IsSome (map.get s.leaves p)
   leaf_is_there has = let (shown, there, same) = leaf_in has in rw there refl
 

@@ -150,9 +150,7 @@ fn walk<'a, Q: KeyQuery, K: AsBytes + Drop, V: Drop, const P: usize>(
             let Some(name) = name.as_leaf() else {
                 unreachable!()
             };
-            let Some(node) = store.leaf(name) else {
-                unreachable!()
-            };
+            let node = store.leaf_at(name);
             let path = steps.path();
             return Some(LastLeaf {
                 path,
@@ -173,9 +171,7 @@ fn walk<'a, Q: KeyQuery, K: AsBytes + Drop, V: Drop, const P: usize>(
                 let child = last_child(store, inner, &mut behavior, front, last, depth)?;
                 visits.add_one();
                 let name = child.as_leaf()?;
-                let Some(node) = store.leaf(name) else {
-                    unreachable!()
-                };
+                let node = store.leaf_at(name);
                 steps.step_down(inner, last);
                 return Some(LastLeaf {
                     path: steps.path(),
@@ -212,9 +208,7 @@ fn last_child<K: AsBytes + Drop, V: Drop, const P: usize>(
         IsSome result → behavior.new ≡
         behavior_after behavior.old node.prefix (drop depth (front.now ++ last ∷ [])) }
 {
-    let Some(node) = store.inner(inner) else {
-        unreachable!()
-    };
+    let node = store.inner_at(inner);
     behavior.last_step(node, front, last, depth)
 }
 
@@ -273,9 +267,7 @@ pub(crate) fn walk_to_end_visiting<K: AsBytes + Drop, V: Drop, const P: usize>(
             NodePtr::Inner(inner) => inner,
             NodePtr::Leaf(leaf) => return (steps.path(), leaf),
         };
-        let Some(node) = store.inner(inner) else {
-            unreachable!()
-        };
+        let node = store.inner_at(inner);
         visits.count_one();
         let (byte, child) = child_at_end(node, end);
         steps.step_down(inner, byte);
@@ -342,9 +334,7 @@ pub(crate) fn walk_below_visiting<K: AsBytes + Drop, V: Drop, const P: usize>(
                 name,
             });
         };
-        let Some(node) = store.inner(inner) else {
-            unreachable!()
-        };
+        let node = store.inner_at(inner);
         visits.count_one();
         let prefix_len = node.prefix_len();
         if prefix_len >= prefix.len() - depth {

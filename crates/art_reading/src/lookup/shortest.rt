@@ -65,9 +65,7 @@ pub fn shortest_text_visiting<K: AsBytes + Drop, V: Drop, const P: usize>(
     ensures visits { visits.new ≤ visits.old + length query.now + 2 }
 {
     let leaf = walk_to_first(store, root, query, end, at_least, visits)?;
-    let Some(node) = store.leaf(leaf) else {
-        unreachable!()
-    };
+    let node = store.leaf_at(leaf);
     visits.count_one();
     if is_sought(text_of(node.key.as_bytes()), query, at_least) {
         return Some(leaf);
@@ -108,9 +106,7 @@ fn walk_to_first<K: AsBytes + Drop, V: Drop, const P: usize>(
             NodePtr::Inner(inner) => inner,
             NodePtr::Leaf(leaf) => return Some(leaf),
         };
-        let Some(node) = store.inner(inner) else {
-            unreachable!()
-        };
+        let node = store.inner_at(inner);
         visits.count_one();
         let prefix_len = node.prefix_len();
         if prefix_len > query.len() - depth {

@@ -65,9 +65,7 @@ pub fn longest_text_visiting<K: AsBytes + Drop, V: Drop, const P: usize>(
         TextEnd::Passed(Some(leaf)) => leaf,
         TextEnd::Passed(None) => return None,
     };
-    let Some(node) = store.leaf(leaf) else {
-        unreachable!()
-    };
+    let node = store.leaf_at(leaf);
     visits.count_one();
     let text = text_of(node.key.as_bytes());
     let shared = shared_len(text, query);
@@ -124,18 +122,14 @@ fn walk_to_text<K: AsBytes + Drop, V: Drop, const P: usize>(
         let inner = match name.split() {
             NodePtr::Inner(inner) => inner,
             NodePtr::Leaf(leaf) => {
-                let Some(node) = store.leaf(leaf) else {
-                    unreachable!()
-                };
+                let node = store.leaf_at(leaf);
                 if begins_with(query, text_of(node.key.as_bytes())) {
                     return TextEnd::Whole(leaf);
                 }
                 return TextEnd::Passed(passed);
             }
         };
-        let Some(node) = store.inner(inner) else {
-            unreachable!()
-        };
+        let node = store.inner_at(inner);
         let Some((child, below)) = step_at(node, query, end, depth, &mut passed) else {
             return TextEnd::Passed(passed);
         };

@@ -1,4 +1,4 @@
-use Rattle.std.proofs.Common.{◌≡◌, ◌+◌, ◌≤◌, [], ◌∷◌, ◌++◌, IsSome, ap, arith, length, length-append, refl, rules, subst, ◌∙◌}
+use Rattle.std.proofs.Common.{◌≡◌, ◌+◌, ◌≤◌, [], ◌∷◌, ◌++◌, IsSome, ap, arith, length, length-append, refl, rules, subst, sym, ◌∙◌}
 use Rattle.art_inner.specs.Inner.{Inner}
 use Rattle.std.specs.List.{cons_option}
 use Rattle.std.proofs.lemmas.Bool.{false≢true}
@@ -6,6 +6,7 @@ use Rattle.art_model.proofs.stores.Shown.{leaf_met, inner_met}
 use Rattle.art_reading.proofs.Endings.{front_byte, front_near, front_within, parts_rest}
 use Rattle.art_reading.proofs.Steps.{begins, node_there, ref_proper, same_there, shown_here, last_leaf, steps, steps_last, stops, stops_after, stops_last, stops_whole}
 use Rattle.art_reading.proofs.OnWay.{stored_short}
+use Rattle.art_reading.proofs.Parts.{some_there}
 use Rattle.art_reading.proofs.descent.walk.Goals as goal
 
 pub down-init : goal.down-init
@@ -17,15 +18,16 @@ unreachable-requires g c =
     let d = c.down.invariant.on_way pairs layout by in
     inner_met (node_there by d) (λ leaf. false≢true (c.in_default-as_leaf.ensures.leaf.1 leaf)) refl c.in_default.ensures.view
 
-pub unreachable-requires-in_default-leaf : goal.unreachable-requires-in_default-leaf
-unreachable-requires-in_default-leaf g c =
+pub leaf_at-node-requires : goal.leaf_at-node-requires
+leaf_at-node-requires g c =
     let (pairs, layout, by) = c.requires.root in
-    leaf_met (node_there by (c.down.invariant.on_way pairs layout by)) c.in-Some-as_leaf.ensures.name c.in_default-leaf.ensures
+    let there = node_there by (c.down.invariant.on_way pairs layout by) in
+    (search rules, some_there _ (leaf_met there c.in-Some-as_leaf.ensures.name))
 
 pub returns-in_default-clause-ends : goal.returns-in_default-clause-ends
 returns-in_default-clause-ends g c pairs layout by =
     let within = front_within (parts_rest _ c.parts-last.ensures) 0 in
-    rw c.path-path.ensures (last_leaf by _ (c.down.invariant.on_way pairs layout by) c.in-Some-as_leaf.ensures.name c.in-Some-leaf.ensures
+    rw c.path-path.ensures (last_leaf by _ (c.down.invariant.on_way pairs layout by) c.in-Some-as_leaf.ensures.name (sym c.leaf_at-node.ensures)
     (omega arith) c.add_one.ensures)
 
 pub step_at-requires : goal.step_at-requires
@@ -96,8 +98,8 @@ returns-in_err-name-in-AtEnd-clause-ends g c pairs layout by =
     rw c.from_residual-in_err-name-in-AtEnd.ensures
     (stops_after by below c.add_one-in-AtEnd.ensures (λ leaf. false≢true (c.in_err-name-in-AtEnd.ensures.leaf.1 leaf)) (front_near has 0))
 
-pub unreachable-requires-in_default-leaf-2 : goal.unreachable-requires-in_default-leaf-2
-unreachable-requires-in_default-leaf-2 g c =
+pub leaf_at-node-requires-in-AtEnd : goal.leaf_at-node-requires-in-AtEnd
+leaf_at-node-requires-in-AtEnd g c =
     let (pairs, layout, by) = c.requires.root in
     let has = parts_rest _ c.parts-last.ensures in
     let d = c.down.invariant.on_way pairs layout by in
@@ -106,7 +108,7 @@ unreachable-requires-in_default-leaf-2 g c =
     let is = c.parts-last.ensures ∙ ap (λ o. c.parts-last.result.0.now ++ cons_option o []) c.in_ok-last-in-AtEnd.was in
     let below = steps_last by d at _ ended _ is same c.add_one.ensures (c.in_ok-child-in-AtEnd.ensures.child _ c.in-Some.ensures.view)
     (c.in_ok-child-in-AtEnd.ensures.behavior _ c.in-Some.ensures.view refl) in
-    leaf_met (node_there by below) c.in_ok-name-in-AtEnd.ensures.name c.in_default-leaf-2.ensures
+    (search rules, some_there _ (leaf_met (node_there by below) c.in_ok-name-in-AtEnd.ensures.name))
 
 pub returns-in-AtEnd-clause-ends : goal.returns-in-AtEnd-clause-ends
 returns-in-AtEnd-clause-ends g c pairs layout by =
@@ -118,7 +120,7 @@ returns-in-AtEnd-clause-ends g c pairs layout by =
     let below = steps_last by d at _ ended _ is same c.add_one.ensures (c.in_ok-child-in-AtEnd.ensures.child _ c.in-Some.ensures.view)
     (c.in_ok-child-in-AtEnd.ensures.behavior _ c.in-Some.ensures.view refl) in
     rw (c.path.ensures, c.step_down-in-AtEnd.ensures)
-    (last_leaf by _ below c.in_ok-name-in-AtEnd.ensures.name c.in-Some-leaf-2.ensures
+    (last_leaf by _ below c.in_ok-name-in-AtEnd.ensures.name (sym c.leaf_at-node-in-AtEnd.ensures)
     (omega (arith, front_near has 0, ap length is, length-append c.parts-last.result.0.now (c.in_ok-last-in-AtEnd.last ∷ []))) c.add_one-in-AtEnd.ensures)
 
 pub returns-in-Nowhere-clause-ends : goal.returns-in-Nowhere-clause-ends

@@ -1,10 +1,11 @@
-use Rattle.std.proofs.Common.{◌+◌, arith, sym, ◌∙◌}
+use Rattle.std.proofs.Common.{◌+◌, arith, rules, sym, ◌∙◌}
 use Rattle.art_model.proofs.stores.Shown.{inner_met, leaf_named, shown_met}
 use Rattle.art_reading.proofs.Below.{at_end, at_gap, at_leaf, goes_down, way_begins}
 use Rattle.art_reading.proofs.Counts.{count_both}
 use Rattle.art_reading.proofs.Descents.{stands_there}
 use Rattle.art_reading.proofs.Left.{end_left, gap_left, leaf_left}
 use Rattle.art_reading.proofs.Levels.{lower}
+use Rattle.art_reading.proofs.Parts.{some_there}
 use Rattle.art_reading.proofs.descent.walk_below_visiting.Goals as goal
 
 pub down-init : goal.down-init
@@ -40,16 +41,16 @@ returns-in_default-clause-visits g c =
           (omega arith, omega arith);
     }
 
-pub unreachable-requires : goal.unreachable-requires
-unreachable-requires g c =
+pub inner_at-node-requires : goal.inner_at-node-requires
+inner_at-node-requires g c =
     let (pairs, layout, by) = c.requires in
-    inner_met (stands_there by (c.down.invariant.readings.is_number pairs layout by).way.descent.at)
-    c.in-Inner.ensures.proper c.in-Inner.ensures.name c.in_default-inner.ensures.view
+    let at = (c.down.invariant.readings.is_number pairs layout by).way.descent.at in
+    (search rules, (search rules, some_there _ (inner_met (stands_there by at) c.in-Inner.ensures.proper c.in-Inner.ensures.name)))
 
 pub returns-then-prefix_len-prefix-clause-end : goal.returns-then-prefix_len-prefix-clause-end
 returns-then-prefix_len-prefix-clause-end g c pairs layout by =
     let way = (c.down.invariant.readings.is_number pairs layout by).way in
-    let at = shown_met (stands_there by way.descent.at) c.in-Inner.ensures.proper c.in-Inner.ensures.name c.in-Some.ensures.view in
+    let at = shown_met (stands_there by way.descent.at) c.in-Inner.ensures.proper c.in-Inner.ensures.name (sym c.inner_at-node.ensures.view) in
     rw c.path-then-prefix_len-prefix.ensures (at_end _ way at c.prefix_len-prefix_len.ensures (omega arith))
 
 pub returns-then-prefix_len-prefix-clause-visits : goal.returns-then-prefix_len-prefix-clause-visits
@@ -60,7 +61,7 @@ returns-then-prefix_len-prefix-clause-visits g c =
       counted = count_both _ _ _ before.counted c.count_one.ensures;
       is_number = λ pairs layout by.
           let read = before.is_number pairs layout by in
-          let at = shown_met (stands_there by read.way.descent.at) c.in-Inner.ensures.proper c.in-Inner.ensures.name c.in-Some.ensures.view in
+          let at = shown_met (stands_there by read.way.descent.at) c.in-Inner.ensures.proper c.in-Inner.ensures.name (sym c.inner_at-node.ensures.view) in
           let len = c.prefix_len-prefix_len.ensures in
           let last = end_left read.way.descent c.args.prefix.now at (omega arith) in
           let seen = read.at_least in
@@ -71,7 +72,7 @@ returns-then-prefix_len-prefix-clause-visits g c =
 pub returns-in_err-child-clause-end : goal.returns-in_err-child-clause-end
 returns-in_err-child-clause-end g c pairs layout by =
     let way = (c.down.invariant.readings.is_number pairs layout by).way in
-    let at = shown_met (stands_there by way.descent.at) c.in-Inner.ensures.proper c.in-Inner.ensures.name c.in-Some.ensures.view in
+    let at = shown_met (stands_there by way.descent.at) c.in-Inner.ensures.proper c.in-Inner.ensures.name (sym c.inner_at-node.ensures.view) in
     rw c.from_residual.ensures (at_gap _ way at c.prefix_len-prefix_len.ensures (omega arith) (sym c.lookup_child.ensures ∙ c.in_err-child.was))
 
 pub returns-in_err-child-clause-visits : goal.returns-in_err-child-clause-visits
@@ -82,7 +83,7 @@ returns-in_err-child-clause-visits g c =
       counted = count_both _ _ _ before.counted c.count_one.ensures;
       is_number = λ pairs layout by.
           let read = before.is_number pairs layout by in
-          let at = shown_met (stands_there by read.way.descent.at) c.in-Inner.ensures.proper c.in-Inner.ensures.name c.in-Some.ensures.view in
+          let at = shown_met (stands_there by read.way.descent.at) c.in-Inner.ensures.proper c.in-Inner.ensures.name (sym c.inner_at-node.ensures.view) in
           let last = gap_left read.way.descent c.args.prefix.now at (rw c.prefix_len-prefix_len.ensures at (sym c.lookup_child.ensures ∙ c.in_err-child.was)) in
           let seen = read.at_least in
           let few = read.at_most in
@@ -101,7 +102,7 @@ down-preserved g c =
             let read = before.is_number pairs layout by in
             let way = read.way in
             let d = way.descent in
-            let at = shown_met (stands_there by d.at) c.in-Inner.ensures.proper c.in-Inner.ensures.name c.in-Some.ensures.view in
+            let at = shown_met (stands_there by d.at) c.in-Inner.ensures.proper c.in-Inner.ensures.name (sym c.inner_at-node.ensures.view) in
             let there = sym c.lookup_child.ensures ∙ c.in_ok-child.was in
             let (next, one) = goes_down _ way at c.prefix_len-prefix_len.ensures (omega arith) there in
             let less = lower by d.at.path d.at.node d.at.whole d.at.named d.place d.radix _ _ at _ _ there in

@@ -1,8 +1,9 @@
-use Rattle.std.proofs.Common.{◌+◌, arith, rules}
+use Rattle.std.proofs.Common.{◌+◌, arith, rules, sym}
 use Rattle.art_model.proofs.places.Edges.{edge_inner_there, edge_shown, edge_some}
 use Rattle.art_reading.specs.PathSteps.{path_after}
 use Rattle.art_reading.proofs.Along.{IsAlong, start, ends, steps}
 use Rattle.art_reading.proofs.Counts.{count_both}
+use Rattle.art_reading.proofs.Parts.{some_there}
 use Rattle.art_reading.proofs.descent.walk_to_end_visiting.Goals as goal
 
 pub down-init : goal.down-init
@@ -15,11 +16,12 @@ pub returns-in-Leaf-clause-leads : goal.returns-in-Leaf-clause-leads
 returns-in-Leaf-clause-leads g c layout full =
     rw c.path.ensures (ends (path_after c.down.steps) c.args.end c.in-Leaf.ensures.name (c.down.invariant.along layout full))
 
-pub unreachable-requires : goal.unreachable-requires
-unreachable-requires g c =
+pub inner_at-node-requires : goal.inner_at-node-requires
+inner_at-node-requires g c =
     let (layout, full) = c.requires in
-    edge_inner_there (IsAlong c.args.end (path_after c.down.steps)) c.args.store.now layout
-    (c.down.invariant.along layout full) c.in-Inner.ensures.proper c.in-Inner.ensures.name c.in_default.ensures.view
+    let there = edge_inner_there (IsAlong c.args.end (path_after c.down.steps)) c.args.store.now layout
+    (c.down.invariant.along layout full) c.in-Inner.ensures.proper c.in-Inner.ensures.name in
+    (search rules, (search rules, some_there _ there))
 
 pub child_at_end-byte-requires : goal.child_at_end-byte-requires
 child_at_end-byte-requires g c =
@@ -28,7 +30,7 @@ child_at_end-byte-requires g c =
       search rules,
       edge_some (IsAlong c.args.end (path_after c.down.steps)) c.args.store.now layout d
           (edge_shown (IsAlong c.args.end (path_after c.down.steps))
-          c.args.store.now layout d c.in-Inner.ensures.proper c.in-Inner.ensures.name c.in-Some.ensures.view),
+          c.args.store.now layout d c.in-Inner.ensures.proper c.in-Inner.ensures.name (sym c.inner_at-node.ensures.view)),
     )
 
 pub down-smaller : goal.down-smaller
@@ -36,7 +38,7 @@ down-smaller g c =
     let (layout, full) = c.requires in
     let d = c.down.invariant.along layout full in
     (steps (path_after c.down.steps) c.args.end d (edge_shown (IsAlong c.args.end (path_after c.down.steps)) c.args.store.now layout d c.in-Inner.ensures.proper
-    c.in-Inner.ensures.name c.in-Some.ensures.view) c.child_at_end-byte.result c.child_at_end-byte.ensures).1
+    c.in-Inner.ensures.name (sym c.inner_at-node.ensures.view)) c.child_at_end-byte.result c.child_at_end-byte.ensures).1
 
 pub down-preserved : goal.down-preserved
 down-preserved g c = record {
@@ -44,7 +46,7 @@ down-preserved g c = record {
       let d = c.down.invariant.along layout full in
       rw c.step_down.ensures (steps (path_after c.down.steps) c.args.end d
       (edge_shown (IsAlong c.args.end (path_after c.down.steps)) c.args.store.now layout d c.in-Inner.ensures.proper c.in-Inner.ensures.name
-      c.in-Some.ensures.view) c.child_at_end-byte.result c.child_at_end-byte.ensures).0;
+      (sym c.inner_at-node.ensures.view)) c.child_at_end-byte.result c.child_at_end-byte.ensures).0;
   readings =
       let (layout, full) = c.requires in
       let before = c.down.invariant.readings in
@@ -52,7 +54,7 @@ down-preserved g c = record {
       let d = c.down.invariant.along layout full in
       let less = (steps (path_after c.down.steps) c.args.end d
       (edge_shown (IsAlong c.args.end (path_after c.down.steps)) c.args.store.now layout d c.in-Inner.ensures.proper
-      c.in-Inner.ensures.name c.in-Some.ensures.view) c.child_at_end-byte.result c.child_at_end-byte.ensures).1 in
+      c.in-Inner.ensures.name (sym c.inner_at-node.ensures.view)) c.child_at_end-byte.result c.child_at_end-byte.ensures).1 in
       record { number = before.number + 1; counted = count_both _ _ _ before.counted c.count_one.ensures; is_number = omega arith };
 }
 

@@ -88,8 +88,9 @@ returns-then-not-has_prefix-clause-beside g c pairs layout by =
     let o = (c.down.invariant.readings.is_number pairs layout by).on_key in
     let at = shown_met (stands_there by o.descent.at) c.in-Inner.ensures.proper c.in-Inner.ensures.name (sym c.inner_at-node.ensures.view) in
     beside_off o at c.prefix_len-prefix_len.ensures (λ goes.
+    let part = part_same (parts_rest _ c.parts.ensures) _ _ (byte_within c.down.invariant.same _ c.byte_after.ensures.byte c.in-Some.is) in
     let same = (c.has_prefix.ensures.same pairs layout by (path_of o.descent.at.path) (at_on by o c.in-Inner.ensures.name)).1
-    (goes_same o at c.prefix_len-prefix_len.ensures (c.down.depth + c.prefix_len-prefix_len.result - c.down.depth) (omega arith) (part_same (parts_rest _ c.parts.ensures) _ _ (byte_within c.down.invariant.same _ c.byte_after.ensures.byte c.in-Some.is)) goes) in
+    (goes_same o at c.prefix_len-prefix_len.ensures _ (omega arith) part goes) in
     absurd (false≢true (sym c.if-not-has_prefix.true ∙ same)))
 
 pub beside-requires : goal.beside-requires
@@ -104,7 +105,8 @@ pub returns-in_default-lookup_child-clause-beside : goal.returns-in_default-look
 returns-in_default-lookup_child-clause-beside g c pairs layout by =
     let o = (c.down.invariant.readings.is_number pairs layout by).on_key in
     let at = shown_met (stands_there by o.descent.at) c.in-Inner.ensures.proper c.in-Inner.ensures.name (sym c.inner_at-node.ensures.view) in
-    let goes = same_goes o at c.prefix_len-prefix_len.ensures (c.down.depth + c.prefix_len-prefix_len.result - c.down.depth) (part_same (parts_rest _ c.parts.ensures) _ _ (byte_within c.down.invariant.same _ c.byte_after.ensures.byte c.in-Some.is))
+    let part = part_same (parts_rest _ c.parts.ensures) _ _ (byte_within c.down.invariant.same _ c.byte_after.ensures.byte c.in-Some.is) in
+    let goes = same_goes o at c.prefix_len-prefix_len.ensures _ part
     ((c.has_prefix.ensures.same pairs layout by (path_of o.descent.at.path) (at_on by o c.in-Inner.ensures.name)).0 c.if-not-has_prefix.false) in
     let byte = byte_is c.down.invariant.same _ c.byte_after.ensures.byte c.in-Some.is in
     beside_gap o at c.prefix_len-prefix_len.ensures (byte_within c.down.invariant.same _ c.byte_after.ensures.byte c.in-Some.is) goes
@@ -128,7 +130,8 @@ down-preserved g c =
             let o = read.on_key in
             let d = o.descent in
             let at = shown_met (stands_there by d.at) c.in-Inner.ensures.proper c.in-Inner.ensures.name (sym c.inner_at-node.ensures.view) in
-            let goes = same_goes o at c.prefix_len-prefix_len.ensures (c.down.depth + c.prefix_len-prefix_len.result - c.down.depth) (part_same (parts_rest _ c.parts.ensures) _ _ (byte_within c.down.invariant.same _ c.byte_after.ensures.byte c.in-Some.is))
+            let part = part_same (parts_rest _ c.parts.ensures) _ _ (byte_within c.down.invariant.same _ c.byte_after.ensures.byte c.in-Some.is) in
+            let goes = same_goes o at c.prefix_len-prefix_len.ensures _ part
             ((c.has_prefix.ensures.same pairs layout by (path_of d.at.path) (at_on by o c.in-Inner.ensures.name)).0 c.if-not-has_prefix.false) in
             let byte = byte_is c.down.invariant.same _ c.byte_after.ensures.byte c.in-Some.is in
             let there = ap (child_at _) byte ∙ sym c.lookup_child.ensures ∙ c.in-Some-lookup_child.is in
@@ -204,8 +207,9 @@ returns-then-not-has_prefix-clause-visits g c =
             let o = read.on_key in
             let at = shown_met (stands_there by o.descent.at) c.in-Inner.ensures.proper c.in-Inner.ensures.name (sym c.inner_at-node.ensures.view) in
             let off : IsFront (front o.descent at) (g.Q.KeyBytes.key c.args.query) → ⊥ = λ goes.
+            let part = part_same (parts_rest _ c.parts.ensures) _ _ (byte_within c.down.invariant.same _ c.byte_after.ensures.byte c.in-Some.is) in
             let same = (c.has_prefix.ensures.same pairs layout by (path_of o.descent.at.path) (at_on by o c.in-Inner.ensures.name)).1
-            (goes_same o at c.prefix_len-prefix_len.ensures (c.down.depth + c.prefix_len-prefix_len.result - c.down.depth) (omega arith) (part_same (parts_rest _ c.parts.ensures) _ _ (byte_within c.down.invariant.same _ c.byte_after.ensures.byte c.in-Some.is)) goes) in
+            (goes_same o at c.prefix_len-prefix_len.ensures _ (omega arith) part goes) in
             absurd (false≢true (sym c.if-not-has_prefix.true ∙ same)) in
             let last = off_left o.descent (g.Q.KeyBytes.key c.args.query) at off in
             let seen = read.at_least in

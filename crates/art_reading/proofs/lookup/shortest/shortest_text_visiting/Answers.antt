@@ -1,9 +1,9 @@
-use Rattle.std.proofs.Common.{◌≤◌, length, None, Some, ap, subst, sym, ◌∙◌}
+use Rattle.std.proofs.Common.{◌≤◌, length, None, Some, ap, rules, subst, sym, ◌∙◌}
 use Rattle.art_model.specs.Keys.{IsFront}
 use Rattle.art_model.specs.Pairs.{of_key, without_last}
 use Rattle.art_model.specs.Texts.{text_of}
 use Rattle.art_reading.proofs.LongestTexts.{own_pair}
-use Rattle.art_reading.proofs.Parts.{leaf_not_gone}
+use Rattle.art_reading.proofs.Parts.{leaf_is_there}
 use Rattle.art_reading.proofs.ShortTexts.{first_found, first_missed, first_none, first_pair}
 use Rattle.art_reading.specs.ShortTexts.{texts_from}
 use Rattle.art_reading.proofs.lookup.shortest.shortest_text_visiting.Goals as goal
@@ -18,15 +18,15 @@ returns-in_err-leaf-clause-pair g c pairs layout by =
     first_pair by (texts_from (of_key g.K.AsBytes.bytes) c.args.query.now c.args.at_least pairs) c.from_residual.result
     (returns-in_err-leaf-clause-leaf g c pairs layout by)
 
-pub unreachable-requires : goal.unreachable-requires
-unreachable-requires g c =
+pub leaf_at-node-requires : goal.leaf_at-node-requires
+leaf_at-node-requires g c =
     let (pairs, layout, by) = c.requires.root in
-    leaf_not_gone c.args.store.now by.stands.0.holds (c.in_ok-leaf.ensures.ends pairs layout by).has c.in_default.ensures
+    (search rules, leaf_is_there c.args.store.now by.stands.0.holds (c.in_ok-leaf.ensures.ends pairs layout by).has)
 
 pub returns-then-is_sought-clause-leaf : goal.returns-then-is_sought-clause-leaf
 returns-then-is_sought-clause-leaf g c pairs layout by =
     let before = c.in_ok-leaf.ensures.ends pairs layout by in
-    let own = c.text_of.ensures ∙ ap without_last c.as_bytes.ensures ∙ ap (text_of (of_key g.K.AsBytes.bytes)) (own_pair by before.has c.in-Some.ensures) in
+    let own = c.text_of.ensures ∙ ap without_last c.as_bytes.ensures ∙ ap (text_of (of_key g.K.AsBytes.bytes)) (own_pair by before.has (sym c.leaf_at-node.ensures)) in
     let sought = c.is_sought.ensures.0 c.if-is_sought.true in
     first_found by c.args.end (c.requires.ended pairs layout by) c.args.query.now c.args.at_least before
     (subst (λ z. IsFront z c.args.query.now × (c.args.at_least ≤ length z)) own sought)
@@ -39,7 +39,7 @@ returns-then-is_sought-clause-pair g c pairs layout by =
 pub returns-clause-leaf : goal.returns-clause-leaf
 returns-clause-leaf g c pairs layout by =
     let before = c.in_ok-leaf.ensures.ends pairs layout by in
-    let own = c.text_of.ensures ∙ ap without_last c.as_bytes.ensures ∙ ap (text_of (of_key g.K.AsBytes.bytes)) (own_pair by before.has c.in-Some.ensures) in
+    let own = c.text_of.ensures ∙ ap without_last c.as_bytes.ensures ∙ ap (text_of (of_key g.K.AsBytes.bytes)) (own_pair by before.has (sym c.leaf_at-node.ensures)) in
     first_missed by c.args.end (c.requires.ended pairs layout by) c.args.query.now c.args.at_least before
     (λ sought.
     let yes = c.is_sought.ensures.1 (subst (λ z. IsFront z c.args.query.now × (c.args.at_least ≤ length z)) (sym own) sought) in

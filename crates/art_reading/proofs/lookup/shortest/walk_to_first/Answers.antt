@@ -1,9 +1,10 @@
-use Rattle.std.proofs.Common.{◌+◌, get_or, Some, None, ap, arith, subst, sym, ◌∙◌}
+use Rattle.std.proofs.Common.{◌+◌, get_or, Some, None, ap, arith, rules, subst, sym, ◌∙◌}
 use Rattle.art_inner.specs.Inner.{child_at}
 use Rattle.art_inner.specs.Views.{ref_view}
 use Rattle.art_model.specs.Pairs.{of_key}
 use Rattle.art_model.proofs.stores.Shown.{inner_met, leaf_named, shown_met}
 use Rattle.art_reading.proofs.Descents.{front_len, stands_there}
+use Rattle.art_reading.proofs.Parts.{some_there}
 use Rattle.art_reading.proofs.TextWays.{ended_all}
 use Rattle.art_reading.proofs.ShortTexts.{IsShortWay, over_all, short_begins, short_ends, short_ends_with, short_gap, short_goes_on, short_leaf, short_some, none_is}
 use Rattle.art_reading.proofs.lookup.shortest.walk_to_first.Goals as goal
@@ -20,15 +21,16 @@ returns-in-Leaf-clause-ends g c pairs layout by =
     over_all by c.args.end c.args.query.now c.args.at_least (Some c.in-Leaf.leaf)
     (short_leaf by c.args.end c.args.query.now c.args.at_least ended way c.in-Leaf.leaf x is)
 
-pub unreachable-requires : goal.unreachable-requires
-unreachable-requires g c =
+pub inner_at-node-requires : goal.inner_at-node-requires
+inner_at-node-requires g c =
     let (pairs, layout, by) = c.requires.root in
-    inner_met (stands_there by (c.down.invariant.way pairs layout by).at) c.in-Inner.ensures.proper c.in-Inner.ensures.name c.in_default.ensures.view
+    let at = (c.down.invariant.way pairs layout by).at in
+    (search rules, (search rules, some_there _ (inner_met (stands_there by at) c.in-Inner.ensures.proper c.in-Inner.ensures.name)))
 
 pub returns-then-prefix_len-query-clause-ends : goal.returns-then-prefix_len-query-clause-ends
 returns-then-prefix_len-query-clause-ends g c pairs layout by =
     let way = c.down.invariant.way pairs layout by in
-    let at = shown_met (stands_there by way.at) c.in-Inner.ensures.proper c.in-Inner.ensures.name c.in-Some.ensures.view in
+    let at = shown_met (stands_there by way.at) c.in-Inner.ensures.proper c.in-Inner.ensures.name (sym c.inner_at-node.ensures.view) in
     let ended = ended_all by c.args.end c.args.query.now (c.requires.ended pairs layout by) in
     let len = front_len way at in
     let same = c.prefix_len-prefix_len.ensures in
@@ -37,7 +39,7 @@ returns-then-prefix_len-query-clause-ends g c pairs layout by =
 pub returns-then-is_some-clause-ends : goal.returns-then-is_some-clause-ends
 returns-then-is_some-clause-ends g c pairs layout by =
     let way = c.down.invariant.way pairs layout by in
-    let at = shown_met (stands_there by way.at) c.in-Inner.ensures.proper c.in-Inner.ensures.name c.in-Some.ensures.view in
+    let at = shown_met (stands_there by way.at) c.in-Inner.ensures.proper c.in-Inner.ensures.name (sym c.inner_at-node.ensures.view) in
     let ended = ended_all by c.args.end c.args.query.now (c.requires.ended pairs layout by) in
     let len = front_len way at in
     let same = c.prefix_len-prefix_len.ensures in
@@ -48,7 +50,7 @@ returns-then-is_some-clause-ends g c pairs layout by =
 pub returns-then-place-query-clause-ends : goal.returns-then-place-query-clause-ends
 returns-then-place-query-clause-ends g c pairs layout by =
     let way = c.down.invariant.way pairs layout by in
-    let at = shown_met (stands_there by way.at) c.in-Inner.ensures.proper c.in-Inner.ensures.name c.in-Some.ensures.view in
+    let at = shown_met (stands_there by way.at) c.in-Inner.ensures.proper c.in-Inner.ensures.name (sym c.inner_at-node.ensures.view) in
     let ended = ended_all by c.args.end c.args.query.now (c.requires.ended pairs layout by) in
     let len = front_len way at in
     let same = c.prefix_len-prefix_len.ensures in
@@ -57,10 +59,10 @@ returns-then-place-query-clause-ends g c pairs layout by =
     (λ l. c.leaf_if_long-leaf.ensures.short (omega arith)) (λ m. c.leaf_if_long-leaf.ensures.long (omega arith))
     (none_is c.leaf_if_long-leaf.result (sym c.is_some.ensures ∙ c.if-is_some.false)) (omega arith))
 
-pub returns-in_default-lookup_child-clause-ends : goal.returns-in_default-lookup_child-clause-ends
-returns-in_default-lookup_child-clause-ends g c pairs layout by =
+pub returns-in_default-clause-ends : goal.returns-in_default-clause-ends
+returns-in_default-clause-ends g c pairs layout by =
     let way = c.down.invariant.way pairs layout by in
-    let at = shown_met (stands_there by way.at) c.in-Inner.ensures.proper c.in-Inner.ensures.name c.in-Some.ensures.view in
+    let at = shown_met (stands_there by way.at) c.in-Inner.ensures.proper c.in-Inner.ensures.name (sym c.inner_at-node.ensures.view) in
     let ended = ended_all by c.args.end c.args.query.now (c.requires.ended pairs layout by) in
     let len = front_len way at in
     let same = c.prefix_len-prefix_len.ensures in
@@ -68,8 +70,8 @@ returns-in_default-lookup_child-clause-ends g c pairs layout by =
     (short_gap by c.args.end c.args.query.now c.args.at_least ended way at c.leaf_if_long-leaf.result
     (λ l. c.leaf_if_long-leaf.ensures.short (omega arith)) (λ m. c.leaf_if_long-leaf.ensures.long (omega arith))
     (none_is c.leaf_if_long-leaf.result (sym c.is_some.ensures ∙ c.if-is_some.false))
-    (ap (λ n. child_at (ref_view c.in-Some.node).children (get_or c.args.query.now n 0)) (len ∙ ap (λ n. c.down.depth + n) (sym same))
-    ∙ sym c.lookup_child.ensures ∙ c.in_default-lookup_child.is))
+    (ap (λ n. child_at (ref_view c.inner_at-node.result).children (get_or c.args.query.now n 0)) (len ∙ ap (λ n. c.down.depth + n) (sym same))
+    ∙ sym c.lookup_child.ensures ∙ c.in_default.is))
 
 pub down-preserved : goal.down-preserved
 down-preserved g c = record {
@@ -77,15 +79,15 @@ down-preserved g c = record {
   few = omega arith;
   way = λ pairs layout by.
       let way = c.down.invariant.way pairs layout by in
-      let at = shown_met (stands_there by way.at) c.in-Inner.ensures.proper c.in-Inner.ensures.name c.in-Some.ensures.view in
+      let at = shown_met (stands_there by way.at) c.in-Inner.ensures.proper c.in-Inner.ensures.name (sym c.inner_at-node.ensures.view) in
       let ended = ended_all by c.args.end c.args.query.now (c.requires.ended pairs layout by) in
       let len = front_len way at in
       let same = c.prefix_len-prefix_len.ensures in
       subst (λ n. IsShortWay (of_key g.K.AsBytes.bytes)
-      g.row.P c.args.end c.args.query.now c.args.at_least layout c.in-Some-lookup_child.child (c.down.depth + n + 1)) (sym same)
+      g.row.P c.args.end c.args.query.now c.args.at_least layout c.in-Some.child (c.down.depth + n + 1)) (sym same)
       (short_goes_on by c.args.end c.args.query.now c.args.at_least ended way at c.leaf_if_long-leaf.result
       (λ l. c.leaf_if_long-leaf.ensures.short (omega arith)) (λ m. c.leaf_if_long-leaf.ensures.long (omega arith))
       (none_is c.leaf_if_long-leaf.result (sym c.is_some.ensures ∙ c.if-is_some.false))
-      (ap (λ n. child_at (ref_view c.in-Some.node).children (get_or c.args.query.now n 0)) (len ∙ ap (λ n. c.down.depth + n) (sym same))
-      ∙ sym c.lookup_child.ensures ∙ c.in-Some-lookup_child.is));
+      (ap (λ n. child_at (ref_view c.inner_at-node.result).children (get_or c.args.query.now n 0)) (len ∙ ap (λ n. c.down.depth + n) (sym same))
+      ∙ sym c.lookup_child.ensures ∙ c.in-Some.is));
 }

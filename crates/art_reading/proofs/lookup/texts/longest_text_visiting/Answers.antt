@@ -1,7 +1,7 @@
-use Rattle.std.proofs.Common.{None, length, length-take, Some, ap, arith, refl, sym, ◌∙◌}
+use Rattle.std.proofs.Common.{None, length, length-take, Some, ap, arith, refl, rules, sym, ◌∙◌}
 use Rattle.art_model.specs.Keys.{common_front}
 use Rattle.art_model.specs.Pairs.{of_key, without_last}
-use Rattle.art_reading.proofs.Parts.{leaf_not_gone}
+use Rattle.art_reading.proofs.Parts.{leaf_is_there}
 use Rattle.art_model.specs.Texts.{texts_in_front, text_of}
 use Rattle.art_reading.proofs.LongestTexts.{ends_at, ends_walk, found_again, found_none, found_whole, last_found, last_pair, last_there, own_pair, shared_short, shared_within}
 use Rattle.art_reading.proofs.lookup.texts.longest_text_visiting.Goals as goal
@@ -29,18 +29,18 @@ pub returns-in-Passed-None-clause-pair : goal.returns-in-Passed-None-clause-pair
 returns-in-Passed-None-clause-pair g c pairs layout by =
     last_pair by (texts_in_front (of_key g.K.AsBytes.bytes) c.args.query.now pairs) None (returns-in-Passed-None-clause-leaf g c pairs layout by)
 
-pub unreachable-requires : goal.unreachable-requires
-unreachable-requires g c =
+pub leaf_at-node-requires : goal.leaf_at-node-requires
+leaf_at-node-requires g c =
     let (pairs, layout, by) = c.requires.root in
-    leaf_not_gone c.args.store.now by.stands.0.holds
-    (ends_at by _ c.in-Passed-Some.field-0-is (c.in-Passed-Some.ensures.ends pairs layout by)).has c.in_default.ensures
+    let covering = ends_at by _ c.in-Passed-Some.field-0-is (c.in-Passed-Some.ensures.ends pairs layout by) in
+    (search rules, leaf_is_there c.args.store.now by.stands.0.holds covering.has)
 
 pub returns-then-shared-text-clause-leaf : goal.returns-then-shared-text-clause-leaf
 returns-then-shared-text-clause-leaf g c pairs layout by =
     let covering = ends_at by _ c.in-Passed-Some.field-0-is (c.in-Passed-Some.ensures.ends pairs layout by) in
     let own =
     c.text_of-text.ensures ∙ ap without_last c.as_bytes.ensures
-    ∙ ap (text_of (of_key g.K.AsBytes.bytes)) (own_pair by covering.has c.in-Some.ensures) in
+    ∙ ap (text_of (of_key g.K.AsBytes.bytes)) (own_pair by covering.has (sym c.leaf_at-node.ensures)) in
     found_whole by c.args.end (c.requires.ended pairs layout by) c.args.query.now covering
     (ap (λ t. length (common_front t c.args.query.now)) (sym own) ∙ sym c.shared_len-shared.ensures ∙ c.if-shared-text.true ∙ ap length own)
 
@@ -61,19 +61,19 @@ returns-clause-leaf g c pairs layout by =
     let covering = ends_at by _ c.in-Passed-Some.field-0-is (c.in-Passed-Some.ensures.ends pairs layout by) in
     let own =
     c.text_of-text.ensures ∙ ap without_last c.as_bytes.ensures
-    ∙ ap (text_of (of_key g.K.AsBytes.bytes)) (own_pair by covering.has c.in-Some.ensures) in
+    ∙ ap (text_of (of_key g.K.AsBytes.bytes)) (own_pair by covering.has (sym c.leaf_at-node.ensures)) in
     found_again by c.args.end (c.requires.ended pairs layout by) c.args.query.now covering c.shared_len-shared.result
-    (c.shared_len-shared.ensures ∙ ap (λ t. length (common_front t c.args.query.now)) own) c.leaf-2.result
-    (ends_walk by _ c.walk_to_text-2.result c.leaf-2.ensures (c.walk_to_text-2.ensures.ends pairs layout by))
+    (c.shared_len-shared.ensures ∙ ap (λ t. length (common_front t c.args.query.now)) own) c.leaf.result
+    (ends_walk by _ c.walk_to_text-2.result c.leaf.ensures (c.walk_to_text-2.ensures.ends pairs layout by))
 
 pub returns-clause-there : goal.returns-clause-there
 returns-clause-there g c =
     let (pairs, layout, by) = c.requires.root in
-    last_there by (texts_in_front (of_key g.K.AsBytes.bytes) c.args.query.now pairs) c.leaf-2.result (returns-clause-leaf g c pairs layout by)
+    last_there by (texts_in_front (of_key g.K.AsBytes.bytes) c.args.query.now pairs) c.leaf.result (returns-clause-leaf g c pairs layout by)
 
 pub returns-clause-pair : goal.returns-clause-pair
 returns-clause-pair g c pairs layout by =
-    last_pair by (texts_in_front (of_key g.K.AsBytes.bytes) c.args.query.now pairs) c.leaf-2.result (returns-clause-leaf g c pairs layout by)
+    last_pair by (texts_in_front (of_key g.K.AsBytes.bytes) c.args.query.now pairs) c.leaf.result (returns-clause-leaf g c pairs layout by)
 
 pub returns-clause-visits : goal.returns-clause-visits
 returns-clause-visits g c =
@@ -81,7 +81,7 @@ returns-clause-visits g c =
     let covering = ends_at by _ c.in-Passed-Some.field-0-is (c.in-Passed-Some.ensures.ends pairs layout by) in
     let own =
     c.text_of-text.ensures ∙ ap without_last c.as_bytes.ensures
-    ∙ ap (text_of (of_key g.K.AsBytes.bytes)) (own_pair by covering.has c.in-Some.ensures) in
+    ∙ ap (text_of (of_key g.K.AsBytes.bytes)) (own_pair by covering.has (sym c.leaf_at-node.ensures)) in
     let len = ap length own in
     let short = covering.short in
     let within = shared_within c.text_of-text.result.now c.args.query.now in
