@@ -24,8 +24,8 @@ module _ (V P : RattleType) (s : MutBor (List (List ℕ × V.Denot))) where
 
   -- once the borrow r ends, the key of the text, an escape, has the last value written through r; at `None` the pairs
   -- are unchanged
-  abbrev pub lends_plain : List ℕ → Option (MutBor V.Denot) → Fml
-  lends_plain text r = lends_value EscapedRow V P (record { bytes = escape; is_key = λ t. ⊤ }) s (escape text) r
+  abbrev pub lends_escaped : List ℕ → Option (MutBor V.Denot) → Fml
+  lends_escaped text r = lends_value EscapedRow V P (record { bytes = escape; is_key = λ t. ⊤ }) s (escape text) r
 
   -- once the borrow r ends, the key of the text, an escape, is inserted with the last value written through r; at
   -- `Err` the pairs are unchanged

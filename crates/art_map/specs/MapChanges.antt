@@ -57,6 +57,11 @@ pub record NamesLeafOf {K V : Type 0} (bytes : K → List ℕ) (P : ℕ) (s : No
   pub has : HasLeaf layout (leaf_name leaf) pair
   pub key_is : bytes pair.0 ≡ key
 
+-- the leaf is the key's; or there is none, and the key is not stored
+abbrev pub IsLeafOfKey : {K V : Type 0} → (K → List ℕ) → ℕ → Nodes K V → OpaqueNodePtr → List ℕ → Option LeafPtr → Type 0
+IsLeafOfKey bytes P s root key (Some leaf) = NamesLeafOf bytes P s (Some root) key leaf
+IsLeafOfKey bytes P s root key None = with_key (of_key bytes) key (pairs_at s (Some root)) ≡ []
+
 -- The leaf is the key's; or the point is, and no key is equal or conflicts; or there is no tree; or a key conflicts.
 abbrev pub IsPositionOf : {K V : Type 0} → (K → List ℕ) → ℕ → Nodes K V → Option OpaqueNodePtr → List ℕ → Position → Type 0
 IsPositionOf bytes P s root key (positions.Leaf leaf) = NamesLeafOf bytes P s root key leaf

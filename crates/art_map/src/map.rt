@@ -19,9 +19,10 @@ ghost use Rattle.art_map.specs.MapPairs.{HoldsPairs, pairs_at};
 use art_nodes::node::{AsBytes, LeafPtr, OpaqueNodePtr};
 use art_nodes::store::NodeStore;
 use art_reading::iterator::RawIterator;
-use art_reading::lookup::{Asked, KeyQuery, find_unchecked, search_unchecked};
+use art_reading::lookup::{Asked, KeyBytes, KeyQuery, find_unchecked, search_unchecked};
 use art_reading::minmax::{maximum_unchecked, minimum_unchecked};
 use art_reading::range::{first_from_unchecked, last_up_to_unchecked, prefix_unchecked};
+use art_reading::stand_in::stand_in_unchecked;
 use art_writing::clone::clone_unchecked;
 use art_writing::delete::{
     DeletePoint, find_maximum_to_delete, find_minimum_to_delete,
@@ -744,6 +745,31 @@ fn take_key<Q: KeyQuery, K: AsBytes + Drop, V: Drop, const P: usize>(
     let Some(name) = *root else {
         return None;
     };
+    let Some(point) = search_for_delete_point_by_lengths(store, name, query) else {
+        return None;
+    };
+    Some(take_out(store, root, len, name, point))
+}
+
+// Removes the pair of a key whose bytes are in no slice from the tree.
+fn take_bytes<B: KeyBytes, K: AsBytes + Drop, V: Drop, const P: usize>(
+    store: &mut NodeStore<K, V, P>,
+    root: &mut Option<OpaqueNodePtr>,
+    len: &mut usize,
+    bytes: &mut B,
+) -> Option<(K, V)>
+    requires holds { HoldsPairs (of_key K.bytes) P store.old root.old len.old
+        (pairs_at store.old root.old) }
+    requires some { 0 < length (B.key bytes.old) }
+    ensures { HasTaken K.bytes P
+        (remove_reply (of_key K.bytes) (B.key bytes.old) (pairs_at store.old root.old))
+        (remove_key (of_key K.bytes) (B.key bytes.old) (pairs_at store.old root.old)) result
+        store.new root.new len.new }
+{
+    let Some(name) = *root else {
+        return None;
+    };
+    let query = stand_in_unchecked(store, name, bytes);
     let Some(point) = search_for_delete_point_by_lengths(store, name, query) else {
         return None;
     };

@@ -127,42 +127,23 @@ fn insert_key(
     }
 }
 
-/// Removes the pair of a key, and writes its value. Returns `DONE`, `ABSENT` if the key is not stored, or `NO_MEMORY` if
-/// an allocation fails: a key with a byte 0 or 1 is built.
+/// Removes the pair of a key, and writes its value. Returns `DONE`, or `ABSENT` if the key is not stored. It allocates
+/// nothing.
 pub fn remove(map: &mut StringMap, key: &[u8], value: &mut u64) -> u32
     ensures { Answers map.old (value_of key.now) result value.old value.new ×
-        Changes map.old (remove_key (of_key escape) (escape key.now)) result map.new }
+        Changes map.old (remove_key (of_key escape) (escape key.now)) result map.new ×
+        (result ≢ no_memory) }
 {
     let Some(pairs) = &mut map.pairs else {
         return FREED;
     };
-    match take(pairs, map.alloc, key) {
-        Ok(Some((_, old))) => {
+    match pairs.remove_text(key) {
+        Some((_, old)) => {
             *value = old;
             DONE
         }
-        Ok(None) => ABSENT,
-        Err(_) => NO_MEMORY,
+        None => ABSENT,
     }
-}
-
-// Removes the pair of a text. The key of a text with a byte 0 or 1 is built first, which allocates.
-fn take(
-    pairs: &mut TreeMap<Escaped, u64, 16>,
-    alloc: Global,
-    text: &[u8],
-) -> Result<Option<(Escaped, u64)>, AllocError>
-    ensures pairs { OnOk result
-        (pairs.new ≡ remove_key (of_key escape) (escape text.now) pairs.old) }
-    ensures removed { IfOk result (λ removed.
-        removed ≡ remove_reply (of_key escape) (escape text.now) pairs.old) }
-    ensures kept { OnErr result (pairs.new ≡ pairs.old) }
-{
-    if Escaped::is_plain(text) {
-        return Ok(pairs.remove_text(text));
-    }
-    let key = Escaped::encode(alloc, text)?;
-    Ok(pairs.remove(&key))
 }
 
 /// Writes how many keys start with a prefix, and returns `DONE`. It allocates nothing.

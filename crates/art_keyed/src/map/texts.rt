@@ -1,6 +1,5 @@
 //! Calls of maps of strings by a text, for which no key is made.
-ghost use Rattle.std.specs.Prelude.{◌≡◌, ◌<◌, ◌^◌, [], ◌∷◌, ◌++◌, length, false, IfErr, IfOk, OnErr, option_copied};
-ghost use Rattle.std.specs.Bool.{OnTrue};
+ghost use Rattle.std.specs.Prelude.{◌≡◌, ◌<◌, ◌^◌, [], ◌∷◌, ◌++◌, length, false, is_some, IfErr, IfOk, OnErr, option_copied};
 ghost use Rattle.std.specs.Borrow.{sem};
 ghost use Rattle.std.specs.Option.{option_copied_mut, option_map, unwrap_or};
 ghost use Rattle.art_keys.specs.Ended.{ended};
@@ -12,14 +11,14 @@ ghost use Rattle.art_reading.specs.StandIns.{IsStandIn};
 ghost use Rattle.art_keyed.specs.KeyedPairs.{strings_below, strings_in_front, strings_not_below};
 ghost use Rattle.art_keyed.specs.TextCalls.{IsTextRefusal, without_longest};
 ghost use Rattle.art_keyed.specs.declared.map.texts.TextRefused.TheVariants.{Memory};
-ghost use Rattle.art_keyed.specs.TextLends.{lends_escaped_put, lends_longest, lends_plain, lends_text, lends_text_put};
+ghost use Rattle.art_keyed.specs.TextLends.{lends_escaped, lends_escaped_put, lends_longest, lends_text, lends_text_put};
 
 use super::{PairRefused, TreeMap};
 use crate::escaped_bytes::EscapedBytes;
 use art_keys::escaped::Escaped;
 use art_keys::terminated::{Terminated, has_zero};
 use art_map::map::Range;
-use art_nodes::node::AsBytes;
+use art_nodes::node::{AsBytes, LeafPtr};
 use art_reading::lookup::EndedQuery;
 use std::alloc::{AllocFailed, Global};
 use std::ops::Bound;
@@ -97,9 +96,26 @@ impl<V: Drop, const P: usize> TreeMap<Terminated, V, P> {
         self.map.get_mut_by(EndedQuery { text, end: 0 })
     }
 
+    // Returns the leaf of a text's key, or `None` if it is not stored.
+    fn leaf_of(&self, text: &[u8]) -> Option<LeafPtr>
+        ensures stored { is_some result ≡ has_key (of_key ended) (ended text.now) self.now }
+        ensures sorted { IsMap (of_key ended) self.now }
+    {
+        self.map.leaf_by(EndedQuery { text, end: 0 })
+    }
+
+    // Returns what `get_text_mut` does. The leaf that has the key is read alone.
+    fn value_near(&mut self, leaf: LeafPtr, text: &[u8]) -> Option<&mut V>
+        ensures* writes_back { sem 𝓛 (lends_text V.row P.row self.entry text.now result) }
+        ensures value { option_copied_mut result ≡ value_at ended (ended text.now) self.old }
+    {
+        self.map
+            .get_mut_near(leaf, &mut EndedQuery { text, end: 0 })
+    }
+
     /// Returns a mutable reference to the value of a text's key. If no equal key is stored, a copy of the text is
-    /// inserted with this value first; a key that is stored stays, with its value. It costs two lookups, or a lookup
-    /// and an insertion if the text is new.
+    /// inserted with this value first; a key that is stored stays, with its value. It costs a lookup, and an insertion
+    /// if the text is new.
     ///
     /// Fails with `InnerZero` if there is a zero in the text, and with `Memory` if an allocation fails. Both return the
     /// value, and the map is unchanged.
@@ -115,9 +131,8 @@ impl<V: Drop, const P: usize> TreeMap<Terminated, V, P> {
         ensures returned { IfErr result (IsTextRefusal text.now value) }
         ensures refused { OnErr result (has_key (of_key ended) (ended text.now) self.old ≡ false) }
     {
-        self.len();
-        if self.contains_text(text) {
-            return Ok(self.get_text_mut(text).unwrap());
+        if let Some(leaf) = self.leaf_of(text) {
+            return Ok(self.value_near(leaf, text).unwrap());
         }
         let key = match Terminated::encode(alloc, text) {
             Ok(Some(key)) => key,
@@ -245,22 +260,36 @@ impl<V: Drop, const P: usize> TreeMap<Escaped, V, P> {
         self.map.prefix(query.text)
     }
 
-    /// Returns a mutable reference to the value of a text's key, or `None` if it is not stored. It never fails.
-    ///
-    /// The text must have no byte 0 or 1 (`Escaped::is_plain`). `get_mut` takes any key.
+    /// Returns a mutable reference to the value of a text's key, or `None` if it is not stored.
     pub fn get_text_mut(&mut self, text: &[u8]) -> Option<&mut V>
-        requires { IsPlain text.now }
-        ensures* writes_back { sem 𝓛 (lends_plain V.row P.row self.entry text.now result) }
+        ensures* writes_back { sem 𝓛 (lends_escaped V.row P.row self.entry text.now result) }
         ensures value { option_copied_mut result ≡ value_at escape (escape text.now) self.old }
     {
-        self.map.get_mut_by(EndedQuery { text, end: 0 })
+        let leaf = self.leaf_of(text)?;
+        self.value_near(leaf, text)
+    }
+
+    // Returns the leaf of a text's key, or `None` if it is not stored.
+    fn leaf_of(&self, text: &[u8]) -> Option<LeafPtr>
+        ensures stored { is_some result ≡ has_key (of_key escape) (escape text.now) self.now }
+        ensures sorted { IsMap (of_key escape) self.now }
+    {
+        self.map.leaf_by(self.query_of(text))
+    }
+
+    // Returns what `get_text_mut` does. The leaf that has the key is read alone.
+    fn value_near(&mut self, leaf: LeafPtr, text: &[u8]) -> Option<&mut V>
+        ensures* writes_back { sem 𝓛 (lends_escaped V.row P.row self.entry text.now result) }
+        ensures value { option_copied_mut result ≡ value_at escape (escape text.now) self.old }
+    {
+        self.map.get_mut_near(leaf, &mut EscapedBytes::new(text))
     }
 
     /// Returns a mutable reference to the value of a text's key. If no equal key is stored, the text's key is inserted
-    /// with this value first; a key that is stored stays, with its value. It costs two lookups, or a lookup and an
-    /// insertion if the text is new; with a byte 0 or 1 in the text, an insertion.
+    /// with this value first; a key that is stored stays, with its value. It costs what `get_text_mut` does, and an
+    /// insertion if the text is new.
     ///
-    /// Fails only if an allocation fails. The error returns the value, and the map is unchanged.
+    /// Fails only if the text is new and an allocation fails. The error returns the value, and the map is unchanged.
     pub fn get_text_or_insert(
         &mut self,
         alloc: Global,
@@ -271,11 +300,11 @@ impl<V: Drop, const P: usize> TreeMap<Escaped, V, P> {
         ensures value { IfOk result (λ lent.
             lent.now ≡ unwrap_or (value_at escape (escape text.now) self.old) value) }
         ensures returned { IfErr result (λ refused. refused.value ≡ value) }
-        ensures refused { OnErr result (IsPlain text.now →
-            has_key (of_key escape) (escape text.now) self.old ≡ false) }
+        ensures refused { OnErr result
+            (has_key (of_key escape) (escape text.now) self.old ≡ false) }
     {
-        if self.has_plain_text(text) {
-            return Ok(self.get_text_mut(text).unwrap());
+        if let Some(leaf) = self.leaf_of(text) {
+            return Ok(self.value_near(leaf, text).unwrap());
         }
         let Ok(key) = Escaped::encode(alloc, text) else {
             return Err(AllocFailed { value });
@@ -283,26 +312,15 @@ impl<V: Drop, const P: usize> TreeMap<Escaped, V, P> {
         Ok(self.get_or_insert(key, value)?)
     }
 
-    // Returns whether no byte of a text is 0 or 1, and its key is stored.
-    fn has_plain_text(&self, text: &[u8]) -> bool
-        ensures sorted { IsMap (of_key escape) self.now }
-        ensures plain { OnTrue result (IsPlain text.now) }
-        ensures stored { IsPlain text.now →
-            result ≡ has_key (of_key escape) (escape text.now) self.now }
-    {
-        self.len();
-        Escaped::is_plain(text) && self.map.contains_key_by(EndedQuery { text, end: 0 })
-    }
-
-    /// Removes the pair of a text's key, and returns it; `None` if it is not stored. It never fails.
-    ///
-    /// The text must have no byte 0 or 1 (`Escaped::is_plain`). `remove` removes any key.
+    /// Removes the pair of a text's key, and returns it, or `None` if it is not stored.
     pub fn remove_text(&mut self, text: &[u8]) -> Option<(Escaped, V)>
-        requires { IsPlain text.now }
         ensures pairs { self.new ≡ remove_key (of_key escape) (escape text.now) self.old }
         ensures removed { result ≡ remove_reply (of_key escape) (escape text.now) self.old }
     {
-        self.map.remove_by(EndedQuery { text, end: 0 })
+        if Escaped::is_plain(text) {
+            return self.map.remove_by(EndedQuery { text, end: 0 });
+        }
+        self.map.remove_by_bytes(&mut EscapedBytes::new(text))
     }
 
     /// Removes all pairs whose strings start with a text, at once, and returns how many. It never fails.

@@ -1,14 +1,16 @@
 //! Where a key is in a map, or is inserted.
-ghost use Rattle.std.specs.Prelude.{◌≡◌, ℕ, IsTrue, false};
+ghost use Rattle.std.specs.Prelude.{◌≡◌, ◌<◌, ℕ, Some, IsTrue, false, length};
 ghost use Rattle.std.specs.Borrow.{Bor};
 ghost use Rattle.std.specs.Fn.{FnOnceReturnsAt};
 ghost use Rattle.art_model.specs.Pairs.{has_key, of_key};
-ghost use Rattle.art_map.specs.MapChanges.{HasEntered, HasKeyAt, HasMade, HasTried, IsPositionOf};
+ghost use Rattle.art_map.specs.MapChanges.{HasEntered, HasKeyAt, HasMade, HasTried, IsLeafOfKey, IsPositionOf};
 ghost use Rattle.art_map.specs.MapPairs.{HoldsPairs, pairs_at};
 
 use super::{MapInsertError, MapMakeError, one_more, without_memory};
-use art_nodes::node::{AsBytes, LeafPtr, OpaqueNodePtr};
+use art_nodes::node::{AsBytes, LeafPtr, OpaqueNodePtr, OptionalLeafPtr};
 use art_nodes::store::NodeStore;
+use art_reading::lookup::{KeyBytes, search_for};
+use art_reading::stand_in::stand_in_unchecked;
 use art_writing::insert::{
     InsertKind, InsertPoint, InsertSearchError, plant, search_for_insert_point,
 };
@@ -79,6 +81,58 @@ fn has_key_at<K: AsBytes + Drop, V: Drop, const P: usize>(
         return false;
     };
     node.key.as_bytes() == key_bytes
+}
+
+// The leaf of a key, or `None` if it is not stored. A leaf that may have the key is read first.
+pub(super) fn leaf_near<B: KeyBytes, K: AsBytes + Drop, V: Drop, const P: usize>(
+    store: &NodeStore<K, V, P>,
+    root: OpaqueNodePtr,
+    leaf: LeafPtr,
+    bytes: &mut B,
+) -> OptionalLeafPtr
+    requires holds { (len : ℕ) × HoldsPairs (of_key K.bytes) P store.now (Some root) len
+        (pairs_at store.now (Some root)) }
+    requires some { 0 < length (B.key bytes.old) }
+    ensures { IsLeafOfKey K.bytes P store.now root (B.key bytes.old) result }
+{
+    if has_bytes_at(store, leaf, bytes) {
+        return Some(leaf);
+    }
+    let query = stand_in_unchecked(store, root, bytes);
+    search_for(store, root, query)
+}
+
+// Returns whether this leaf exists and has the key with these bytes.
+fn has_bytes_at<B: KeyBytes, K: AsBytes + Drop, V: Drop, const P: usize>(
+    store: &NodeStore<K, V, P>,
+    leaf: LeafPtr,
+    bytes: &mut B,
+) -> bool
+    ensures has { IsTrue result → HasKeyAt K.bytes store.now leaf (B.key bytes.old) }
+    ensures same { B.key bytes.new ≡ B.key bytes.old }
+{
+    let Some(node) = store.leaf(leaf) else {
+        return false;
+    };
+    are_bytes(node.key.as_bytes(), bytes)
+}
+
+// Returns whether these are the bytes of a key.
+fn are_bytes<B: KeyBytes>(key: &[u8], bytes: &mut B) -> bool
+    ensures equal { IsTrue result → key.now ≡ B.key bytes.old }
+    ensures same { B.key bytes.new ≡ B.key bytes.old }
+{
+    let mut place = 0;
+    while place < key.len() {
+        let Some(byte) = bytes.byte_after(place, 0) else {
+            return false;
+        };
+        if byte != key[place] {
+            return false;
+        }
+        place += 1;
+    }
+    bytes.byte_after(place, 0).is_none()
 }
 
 // The leaf of a key: the one that it has, or a new one with the value at its place.

@@ -1,5 +1,5 @@
 //! Calls of a map by a key that is not built, such as a text and the byte that ends it.
-ghost use Rattle.std.specs.Prelude.{◌≡◌, ◌<◌, ◌^◌, [], ◌∷◌, ◌++◌, length, option_copied};
+ghost use Rattle.std.specs.Prelude.{◌≡◌, ◌<◌, ◌^◌, [], ◌∷◌, ◌++◌, length, is_some, option_copied};
 ghost use Rattle.std.specs.Borrow.{sem};
 ghost use Rattle.std.specs.Option.{option_copied_mut, option_map};
 ghost use Rattle.std.specs.Range.Bound.{bound_map};
@@ -10,8 +10,9 @@ ghost use Rattle.art_map.specs.MapItems.{deref_pair};
 ghost use Rattle.art_map.specs.MapLends.{lends_value};
 ghost use Rattle.art_reading.specs.StandIns.{IsStandIn};
 
-use super::{ByteMap, Range, RangeOf, take_key};
-use art_nodes::node::AsBytes;
+use super::position::leaf_near;
+use super::{ByteMap, Range, RangeOf, take_bytes, take_key};
+use art_nodes::node::{AsBytes, LeafPtr};
 use art_reading::iterator::RawIterator;
 use art_reading::lookup::{Asked, EndedQuery, KeyBytes, KeyQuery, find_unchecked, search_for};
 use art_reading::range::range_unchecked;
@@ -48,6 +49,26 @@ impl<K: AsBytes + Drop, V: Drop, const P: usize> ByteMap<K, V, P> {
         self.store.value_mut(leaf)
     }
 
+    /// Returns the leaf of the key that is asked for, or `None` if it is not stored. It costs what `get` does.
+    pub fn leaf_by<Q: KeyQuery>(&self, query: Q) -> Option<LeafPtr>
+        ensures stored { is_some result ≡ has_key (of_key K.bytes) (Q.key query) self.now }
+        ensures sorted { IsMap (of_key K.bytes) self.now }
+    {
+        search_for(&self.store, self.root?, query)
+    }
+
+    /// Returns the value of a key as `&mut V`, or `None` if it is not stored. The leaf is one that may have the key, such
+    /// as `leaf_by` returns. If it has, it alone is read; else the key is looked up.
+    pub fn get_mut_near<B: KeyBytes>(&mut self, leaf: LeafPtr, bytes: &mut B) -> Option<&mut V>
+        requires { 0 < length (B.key bytes.old) }
+        ensures* writes_back { sem 𝓛
+            (lends_value K.row V.row P.row K.AsBytes self.entry (B.key bytes.old) result) }
+        ensures value { option_copied_mut result ≡ value_at K.bytes (B.key bytes.old) self.old }
+    {
+        let leaf = leaf_near(&self.store, self.root?, leaf, bytes)?;
+        self.store.value_mut(leaf)
+    }
+
     /// Returns whether the key that is asked for is stored. It costs what `get` does.
     pub fn contains_key_by<Q: KeyQuery>(&self, query: Q) -> bool
         ensures { result ≡ has_key (of_key K.bytes) (Q.key query) self.now }
@@ -78,6 +99,16 @@ impl<K: AsBytes + Drop, V: Drop, const P: usize> ByteMap<K, V, P> {
         ensures was_sorted { IsMap (of_key K.bytes) self.old }
     {
         take_key(&mut self.store, &mut self.root, &mut self.len, query)
+    }
+
+    /// Removes what `remove_by` does, for a key whose bytes are in no slice. It never fails. It costs what `stand_in` and
+    /// `remove` do together.
+    pub fn remove_by_bytes<B: KeyBytes>(&mut self, bytes: &mut B) -> Option<(K, V)>
+        requires { 0 < length (B.key bytes.old) }
+        ensures pairs { self.new ≡ remove_key (of_key K.bytes) (B.key bytes.old) self.old }
+        ensures removed { result ≡ remove_reply (of_key K.bytes) (B.key bytes.old) self.old }
+    {
+        take_bytes(&mut self.store, &mut self.root, &mut self.len, bytes)
     }
 
     /// Returns an iterator over the pairs whose keys are between two bounds, in the order of their keys. There are none

@@ -1,7 +1,7 @@
 use Rattle.std.proofs.Common.{ap, ◌∷◌, ◌++◌, ◌∙◌, []}
 use Rattle.art_keys.specs.Escapes.{escape}
 use Rattle.art_model.specs.Pairs.{first_of, of_key, with_key}
-use Rattle.art_keyed.proofs.StandIns.{same_keys}
+use Rattle.art_map.proofs.StandIns.{same_keys}
 use Rattle.art_keyed.proofs.map.texts.TreeMap+Escaped+V+P.get_key_value_text.Goals as goal
 
 pub returns : goal.returns

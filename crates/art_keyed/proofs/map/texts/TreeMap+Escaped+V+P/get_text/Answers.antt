@@ -3,7 +3,7 @@ use Rattle.std.specs.Option.{option_map}
 use Rattle.art_keys.specs.Escapes.{escape}
 use Rattle.art_map.specs.MapAnswers.{value_at}
 use Rattle.art_model.specs.Pairs.{first_of, of_key}
-use Rattle.art_keyed.proofs.StandIns.{same_keys}
+use Rattle.art_map.proofs.StandIns.{same_keys}
 use Rattle.art_keyed.proofs.map.texts.TreeMap+Escaped+V+P.get_text.Goals as goal
 
 pub returns : goal.returns

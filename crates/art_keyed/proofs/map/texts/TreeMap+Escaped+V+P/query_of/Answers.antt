@@ -4,7 +4,7 @@ use Rattle.art_keys.specs.EscapeLaws.{escape-plain}
 use Rattle.art_model.specs.Pairs.{of_key}
 use Rattle.art_reading.specs.StandIns.{IsStandIn}
 use Rattle.art_keyed.proofs.EscapedBytes.{escape_some}
-use Rattle.art_keyed.proofs.StandIns.{itself}
+use Rattle.art_map.proofs.StandIns.{itself}
 use Rattle.art_keyed.proofs.map.texts.TreeMap+Escaped+V+P.query_of.Goals as goal
 
 pub stand_in-requires : goal.stand_in-requires

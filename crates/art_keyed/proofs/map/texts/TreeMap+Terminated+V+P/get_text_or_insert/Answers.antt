@@ -11,22 +11,22 @@ use Rattle.art_keyed.proofs.map.texts.TreeMap+Terminated+V+P.get_text_or_insert.
 
 pub unwrap-requires : goal.unwrap-requires
 unwrap-requires g c =
-    let stored = sym c.contains_text.ensures ∙ c.if-contains_text.true in
+    let stored = sym c.in-Some.ensures.stored in
     let stays : put_new ended (c.args.text.now, c.args.value) c.args.self.now ≡ c.args.self.now = rw stored refl in
-    let found = c.get_text_mut.ensures.value ∙ ap (value_at ended (ended c.args.text.now)) (sym stays)
-    ∙ new_value ended c.args.text.now c.args.self.now c.len.ensures.sorted c.args.value in
-    sym (is_some-map (λ lent. lent.now) c.get_text_mut.result) ∙ ap is_some found
+    let found = c.value_near.ensures.value ∙ ap (value_at ended (ended c.args.text.now)) (sym stays)
+    ∙ new_value ended c.args.text.now c.args.self.now c.leaf_of.ensures.sorted c.args.value in
+    sym (is_some-map (λ lent. lent.now) c.value_near.result) ∙ ap is_some found
 
-pub returns-then-contains_text : goal.returns-then-contains_text
-returns-then-contains_text g c =
-    let stored = sym c.contains_text.ensures ∙ c.if-contains_text.true in
+pub returns-in-Some : goal.returns-in-Some
+returns-in-Some g c =
+    let stored = sym c.in-Some.ensures.stored in
     let stays : put_new ended (c.args.text.now, c.args.value) c.args.self.now ≡ c.args.self.now = rw stored refl in (
       lends_same (λ w. ap (with_value_at ended (ended c.args.text.now) w) (sym stays)
-          ∙ new_written ended c.args.text.now c.args.self.now c.len.ensures.sorted c.args.value w),
+          ∙ new_written ended c.args.text.now c.args.self.now c.leaf_of.ensures.sorted c.args.value w),
       record {
         writes_back = tt;
-        value = one_value ((rw c.unwrap.ensures at c.get_text_mut.ensures.value) ∙ ap (value_at ended (ended c.args.text.now)) (sym stays)
-            ∙ new_value ended c.args.text.now c.args.self.now c.len.ensures.sorted c.args.value);
+        value = one_value ((rw c.unwrap.ensures at c.value_near.ensures.value) ∙ ap (value_at ended (ended c.args.text.now)) (sym stays)
+            ∙ new_value ended c.args.text.now c.args.self.now c.leaf_of.ensures.sorted c.args.value);
         returned = tt;
         refused = tt;
       },
