@@ -110,16 +110,11 @@ impl Map {
         found(code, replaced)
     }
 
-    /// Removes the pair of a key, and returns its value.
+    /// Removes the pair of a key, and returns its value. It allocates nothing.
     pub fn remove(&mut self, key: impl AsRef<[u8]>) -> Option<u64> {
-        or_abort(self.try_remove(key))
-    }
-
-    /// Removes the pair of a key, and returns its value, or an error if an allocation fails.
-    pub fn try_remove(&mut self, key: impl AsRef<[u8]>) -> Result<Option<u64>, OutOfMemory> {
         let (key, mut value) = (key.as_ref(), 0);
         let code = unsafe { calls::vokujin_remove(&mut self.place, key.as_ptr(), key.len(), &mut value) };
-        found(code, value)
+        or_abort(found(code, value))
     }
 
     /// Removes all pairs.

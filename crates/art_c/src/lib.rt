@@ -119,7 +119,7 @@ pub unsafe extern "C" fn vokujin_remove(map: *mut u8, key: &[u8], value: &mut u6
     requires* { sem 𝓛 (lies_at MapRow full_share map pairs) }
     ensures* { ∃ₛ λ (now : Option (List (List ℕ × ℕ))). sem 𝓛 (lies_at MapRow full_share map now) ∗
         ⌜ Answers pairs (value_of key.now) result value.old value.new ×
-        Changes pairs (remove_key (of_key escape) (escape key.now)) result now ⌝ }
+        Changes pairs (remove_key (of_key escape) (escape key.now)) result now × (result ≢ no_memory) ⌝ }
 {
     string_map::calls::remove(&mut *(map as *mut StringMap), key, value)
 }

@@ -1,10 +1,10 @@
 //! Calls for one key, and for the whole map. All but `new` return a code; on a map that was freed they return `FREED`
 //! and do nothing.
-ghost use Rattle.std.specs.Prelude.{◌≡◌, ◌≢◌, ◌<◌, ◌≤◌, [], length, IfOk, None, OnErr, OnOk, Some};
+ghost use Rattle.std.specs.Prelude.{◌≡◌, ◌≢◌, ◌<◌, ◌≤◌, [], length, None, Some};
 ghost use Rattle.std.specs.Option.{option_map};
 ghost use Rattle.art_keyed.specs.KeyedPairs.{strings_below, strings_in_front};
 ghost use Rattle.art_keys.specs.Escapes.{escape};
-ghost use Rattle.art_model.specs.Pairs.{first_of, last_of, of_key, put, remove_key, remove_reply};
+ghost use Rattle.art_model.specs.Pairs.{first_of, last_of, of_key, put, remove_key};
 ghost use Rattle.string_map.specs.Calls.{Answers, Changes, Tells, code_of, done, no_memory, value_of};
 ghost use Rattle.art_map.specs.MapItems.{deref_pair};
 ghost use Rattle.string_map.specs.Shown.{Shows, ShowsPair, pair_of};
@@ -14,7 +14,7 @@ use super::codes::{ABSENT, DONE, FREED, NO_MEMORY, TOO_LONG};
 use super::pairs::Pair;
 use art_keyed::map::TreeMap;
 use art_keys::escaped::Escaped;
-use std::alloc::{AllocError, Global};
+use std::alloc::Global;
 
 /// Returns an empty map. It allocates nothing.
 pub fn new(alloc: Global) -> StringMap

@@ -474,11 +474,8 @@ fn count_all(map: &mut Bytes<4>, alloc: Global) -> bool {
     are_counted
 }
 
-// Sets the value of a word without a byte to escape, and returns whether it is stored.
-fn set_plain(map: &mut Bytes<4>, word: &[u8], to: u32) -> bool {
-    if !Escaped::is_plain(word) {
-        return false;
-    }
+// Sets the value of a word, and returns whether it is stored.
+fn set_word(map: &mut Bytes<4>, word: &[u8], to: u32) -> bool {
     let Some(value) = map.get_text_mut(word) else {
         return false;
     };
@@ -500,15 +497,16 @@ fn found(map: &Bytes<4>) -> Option<([u32; 2], [bool; 3])> {
     Some((values, are_there))
 }
 
-// How many words start with a text, how many of these are removed, one by its text, and how many are left.
+// How many words start with a text, how many of two are removed, how many with the text, and how many are left.
 fn taken(map: &mut Bytes<4>) -> Option<[usize; 4]> {
     let below = map.prefix_text(b"a").count();
-    if !Escaped::is_plain(b"ab") || !Escaped::is_plain(b"a") {
+    let stored = map.remove_text(b"b\x01").is_some() as usize;
+    let other = map.remove_text(b"b\0").is_some() as usize;
+    if !Escaped::is_plain(b"a") {
         return None;
     }
-    let is_removed = map.remove_text(b"ab").is_some();
     let gone = map.remove_prefix_text(b"a");
-    Some([below, is_removed as usize, gone, map.len()])
+    Some([below, stored + other, gone, map.len()])
 }
 
 #[test]
@@ -516,18 +514,19 @@ fn words_of_any_bytes_are_counted(rt: HostRuntime) -> Result<(), Fail> {
     let mut map = TreeMap::new(rt.alloc());
     let are_counted = count_all(&mut map, rt.alloc());
     let set = [
-        set_plain(&mut map, b"ab", 12),
-        set_plain(&mut map, b"a", 1),
-        set_plain(&mut map, b"a\0", 1),
+        set_word(&mut map, b"ab", 12),
+        set_word(&mut map, b"a", 1),
+        set_word(&mut map, b"a\0", 4),
+        set_word(&mut map, b"a\x01", 5),
     ];
     let found = found(&map);
     same(
         (are_counted, set, found, taken(&mut map)),
         (
             true,
-            [true, false, false],
-            Some(([3, 12], [true, false, true])),
-            Some([2, 1, 1, 1]),
+            [true, false, true, false],
+            Some(([4, 12], [true, false, true])),
+            Some([2, 1, 2, 0]),
         ),
     )
 }

@@ -73,23 +73,34 @@ fn look_ups(map: &TreeMap<Escaped, u32, 8>) -> (Option<u32>, Option<u32>, usize)
     )
 }
 
+// The value of a stored string as it is removed, after a call that would insert it adds one.
+fn take_one_more(map: &mut TreeMap<Escaped, u32, 8>, alloc: Global) -> Option<u32> {
+    let Ok(value) = map.get_text_or_insert(alloc, b"c\0", 0) else {
+        return None;
+    };
+    *value = value.wrapping_add(1);
+    let (_, value) = map.remove_text(b"c\0")?;
+    Some(value)
+}
+
 // The same in a map of two pairs while every allocation fails.
 fn starve_strings(
     map: &mut TreeMap<Escaped, u32, 8>,
     alloc: Global,
-) -> Option<(Option<u32>, Option<u32>, usize)> {
+) -> Option<((Option<u32>, Option<u32>, usize), Option<u32>)> {
     map.insert(Escaped::encode(alloc, b"car").ok()?, 7).ok()?;
     map.insert(Escaped::encode(alloc, b"c\0").ok()?, 8).ok()?;
     let held = all_memory(alloc).ok()?;
     let found = look_ups(map);
+    let taken = take_one_more(map, alloc);
     drop(held);
-    Some(found)
+    Some((found, taken))
 }
 
 #[test]
-fn without_memory_any_strings_are_found(rt: HostRuntime) -> Result<(), Fail> {
-    let found = starve_strings(&mut TreeMap::new(rt.alloc()), rt.alloc());
-    same(found, Some((Some(7), Some(8), 1)))
+fn without_memory_any_strings_are_found_and_removed(rt: HostRuntime) -> Result<(), Fail> {
+    let seen = starve_strings(&mut TreeMap::new(rt.alloc()), rt.alloc());
+    same(seen, Some(((Some(7), Some(8), 1), Some(9))))
 }
 
 // ---- insertions by a text
