@@ -96,10 +96,11 @@ fn a_value_is_found_from_a_leaf(rt: HostRuntime) -> Result<(), Fail> {
     let mut map = ByteMap::new(rt.alloc());
     fill(&mut map, 3);
     let is_found = add_near(&mut map);
+    let are_apart = map.leaf_by([1].as_slice()) != map.leaf_by([2].as_slice());
     let taken = map.remove_by_bytes(&mut [1].as_slice());
     let again = map.remove_by_bytes(&mut [1].as_slice());
     same(
-        (is_found, taken, again, map.get(&[2]).copied()),
-        (true, Some(([1], 11)), None, Some(12)),
+        (is_found, are_apart, taken, again, map.get(&[2]).copied()),
+        (true, true, Some(([1], 11)), None, Some(12)),
     )
 }
