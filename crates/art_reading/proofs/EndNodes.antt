@@ -524,13 +524,3 @@ module _ {K V : Type 0} {s : Nodes K V} {bytes : K × V → List ℕ} {P : ℕ} 
       ForTree bytes P s root (λ pairs layout. (d : IsAt bytes P key layout path name depth) → IsCompared bytes P key d.node depth (Err m)) →
       depth + m.matched_bytes ≤ length key
   mismatch_fits compared = let (pairs, layout, by) = canonical in let d = at pairs layout by in mismatch_used by d (compared pairs layout by d)
-
--- the part of the tree at a node, and the key, which is as long as the path to it
-module _ {K V : Type 0} {s : Nodes K V} {bytes : K × V → List ℕ} {P : ℕ} {key : List ℕ} {name : OpaqueNodePtr} {depth : ℕ}
-    (found : (root : OpaqueNodePtr) × (path : TreePath) × IsCanonicalRoot bytes P s root ×
-    ForTree bytes P s root (λ pairs layout. IsAt bytes P key layout path name depth)) where
-  pub part_at : (node : Tree OpaqueNodePtr (K × V)) × IsPlaced bytes P s name depth node
-  part_at = let (root, path, (pairs, layout, by), at) = found in let d = at pairs layout by in (d.node, part_there by d refl)
-
-  pub key_reaches : depth ≤ length key
-  key_reaches = let (root, path, (pairs, layout, by), at) = found in inside by (at pairs layout by)

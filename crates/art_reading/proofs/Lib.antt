@@ -17,6 +17,7 @@ pub mod Cuts
 pub mod Spans
 pub mod Bounds
 pub mod Parents
+pub mod Shared
 pub mod Partings
 pub mod Prefixes
 pub mod Guides

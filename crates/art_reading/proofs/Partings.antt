@@ -1,11 +1,12 @@
 -- keys that differ at a byte, and keys that are related
-use Rattle.std.proofs.Common.{◌≡◌, ◌≢◌, ℕ, ◌<◌, ◌≤◌, List, [], ◌∷◌, ◌++◌, length, refl, ap, sym, ◌∙◌, subst, arith, append_assoc, append-nil, length-append, Bool, true, false, ◌||◌, ◌&&◌, not, ◌⊎◌, inl, inr}
+use Rattle.std.proofs.Common.{◌≡◌, ◌≢◌, ℕ, suc, eqb, eqb-true, eq-eqb, ◌<◌, ◌≤◌, List, [], ◌∷◌, ◌++◌, length, refl, ap, sym, ◌∙◌, subst, arith, append_assoc, append-nil, length-append, Bool, true, false, ◌||◌, ◌&&◌, not, ◌⊎◌, inl, inr}
 use Rattle.std.specs.List.{AllByRecursion as Each}
-use Rattle.std.proofs.lemmas.Bool.{cases_order}
-use Rattle.art_model.specs.Keys.{IsFront, are_related, are_same}
+use Rattle.std.proofs.lemmas.Bool.{cases_order, eqb-false, ne_eqb}
+use Rattle.art_model.specs.Keys.{IsFront, are_related, are_same, common_front}
 use Rattle.art_model.specs.Pairs.{is_conflict, related_to}
-use Rattle.art_model.proofs.lists.Lists.{common_front_left}
+use Rattle.art_model.proofs.lists.Lists.{common_front_left, common_front_right}
 use Rattle.art_model.proofs.keys.Keys.{related_sym, front_related, front_same, not_same, precedes_at}
+use Rattle.art_model.proofs.keys.Texts.{front_short}
 use Rattle.art_model.proofs.keys.Fronts.{ArePart, front_right, part_where, shared_whole}
 use Rattle.art_reading.specs.Matching.{shared_len}
 
@@ -42,22 +43,46 @@ pub some_equal : (a b : List ℕ) → (length a ≤ shared_len a b) ⊎ (length 
 some_equal a b (inl h) same = whole_same a b (shared_whole a b h) same
 some_equal a b (inr h) same = whole_same a b (shared_whole a b (omega arith)) same
 
--- what the comparison of lengths with what is shared decides, where the second key was read as `c`
-module _ (a b c : List ℕ) (n : ℕ) (shared : n ≡ shared_len a c) (same : c ≡ b) where
-  pub less_than_both : n < length a → n < length c → (are_related a b ≡ false) × (n ≡ shared_len a b)
-  less_than_both h k =
+-- two keys share as much in either order
+pub shared_flip : (a b : List ℕ) → shared_len a b ≡ shared_len b a
+shared_flip [] [] = refl
+shared_flip [] (y ∷ b) = refl
+shared_flip (x ∷ a) [] = refl
+shared_flip (x ∷ a) (y ∷ b) = go (shared_flip a b) (eqb x y) refl
+  where
+    go : shared_len a b ≡ shared_len b a → (t : Bool) → eqb x y ≡ t → shared_len (x ∷ a) (y ∷ b) ≡ shared_len (y ∷ b) (x ∷ a)
+    go ih true e = rw (e, eq-eqb y x (sym (eqb-true x y e))) (ap suc ih)
+    go ih false e = rw (e, ne_eqb y x (λ same. eqb-false x y e (sym same))) refl
+
+-- what is shared of a key `a` and the bytes `c` of another one `b` decides how the keys relate
+module _ (a : List ℕ) {b c : List ℕ} {n : ℕ} (shared : n ≡ shared_len c a) (same : c ≡ b) where
+  pub both_go_on : n < length a → n < length c → (are_related a b ≡ false) × (n ≡ shared_len a b)
+  both_go_on h k =
+      let e = shared ∙ shared_flip c a in
       subst (λ l. (are_related a l ≡ false) × (n ≡ shared_len a l)) same
-      (parted_unrelated (part_where a c (omega arith) (omega arith)), shared)
+      (parted_unrelated (part_where a c (omega arith) (omega arith)), e)
 
-  not_less : ((n < length a) × (length c ≤ n)) ⊎ (length a ≤ n) → (length a ≤ shared_len a c) ⊎ (length c ≤ shared_len a c)
-  not_less (inl h) = inr (let l = h.1 in omega arith)
-  not_less (inr h) = inl (omega arith)
+  pub both_end : length a ≤ n → length c ≤ n → b ≡ a
+  both_end h k =
+      let e = shared ∙ shared_flip c a in
+      let short = front_short (common_front a c) a (common_front_left a c) in
+      let short' = front_short (common_front a c) c (common_front_right a c) in
+      subst (λ l. l ≡ a) same (some_equal a c (inl (omega arith)) (omega arith))
 
-  pub not_less_same : ((n < length a) × (length c ≤ n)) ⊎ (length a ≤ n) → length a ≡ length c → b ≡ a
-  not_less_same h e = subst (λ l. l ≡ a) same (some_equal a c (not_less h) e)
+  pub one_ends : ((n < length a) × (length c ≤ n)) ⊎ ((length a ≤ n) × (n < length c)) → (are_related a b ≡ true) × (a ≢ b)
+  one_ends h = (
+    subst (λ l. are_related a l ≡ true) same (some_related a c (ended h)),
+    λ e. unequal h (ap length (e ∙ sym same)),
+  )
+    where
+      ended : ((n < length a) × (length c ≤ n)) ⊎ ((length a ≤ n) × (n < length c)) →
+          (length a ≤ shared_len a c) ⊎ (length c ≤ shared_len a c)
+      ended (inl h) = inr (let l = h.1 in let e = shared ∙ shared_flip c a in omega arith)
+      ended (inr h) = inl (let l = h.0 in let e = shared ∙ shared_flip c a in omega arith)
 
-  pub not_less_related : ((n < length a) × (length c ≤ n)) ⊎ (length a ≤ n) → length a ≢ length c → (are_related a b ≡ true) × (a ≢ b)
-  not_less_related h other = (subst (λ l. are_related a l ≡ true) same (some_related a c (not_less h)), λ e. other (ap length (e ∙ sym same)))
+      unequal : ((n < length a) × (length c ≤ n)) ⊎ ((length a ≤ n) × (n < length c)) → length a ≡ length c → ⊥
+      unequal (inl h) e = let l = h in omega arith
+      unequal (inr h) e = let l = h in omega arith
 
 module _ {A : Type 0} (bytes : A → List ℕ) (key : List ℕ) where
   -- only related keys are in conflict

@@ -1,5 +1,5 @@
 //! The descent with a key to its end node: the node with the longest place that is a prefix of the key.
-ghost use Rattle.std.specs.Prelude.{◌≡◌, ◌≢◌, ◌+◌, ◌-◌, ◌<◌, ◌≤◌, ◌^◌, get_or, length, Some, None, slice_get, IfOk, IfErr};
+ghost use Rattle.std.specs.Prelude.{◌≡◌, ◌≢◌, ◌+◌, ◌-◌, ◌<◌, ◌≤◌, drop, get_or, length, Some, None, slice_get, IfOk, IfErr};
 ghost use Rattle.std.specs.FinMap as map;
 ghost use Rattle.art_parts.specs.Names.{inner_name};
 ghost use Rattle.art_parts.specs.declared.names.NodeType.TheVariants.{Leaf};
@@ -19,9 +19,9 @@ ghost use Rattle.art_reading.specs.declared.path.TreePath.{TreePath};
 
 use crate::descent::Visits;
 use crate::guide::guide_from;
-use crate::matching::shared_len;
 use crate::minmax::first_below_visiting;
 use crate::path::{ExplicitMismatch, LastSteps, PrefixMatch, TreePath};
+use crate::query::KeyBytes;
 use art_nodes::node::{
     AsBytes, InnerPtr, InnerRef, LeafNode, LeafPtr, NodePtr, OpaqueNodePtr, OptionalLeafPtr,
 };
@@ -69,40 +69,42 @@ pub enum InsertKind {
 /// A prefix that its node does not store whole is read from a leaf: all such prefixes from the same one, which takes a
 /// further descent. Where the key differs from such a prefix, another descent finds the least leaf below.
 #[inline(always)]
-pub fn walk_to_end_node<K: AsBytes + Drop, V: Drop, const P: usize>(
+pub fn walk_to_end_node<B: KeyBytes + Drop, K: AsBytes + Drop, V: Drop, const P: usize>(
     store: &NodeStore<K, V, P>,
     root: OpaqueNodePtr,
-    key_bytes: &[u8],
+    key: &mut B,
 ) -> EndNode
     requires { IsCanonicalRoot (of_key K.bytes) P store.now root }
-    ensures { ForTree (of_key K.bytes) P store.now root (λ pairs layout.
-        IsEndFor (of_key K.bytes) P key_bytes.now pairs layout result) }
+    ensures end { ForTree (of_key K.bytes) P store.now root (λ pairs layout.
+        IsEndFor (of_key K.bytes) P (B.key key.old) pairs layout result) }
+    ensures same { B.key key.new ≡ B.key key.old }
 {
-    walk_to_end_node_visiting(store, root, key_bytes, &mut Visits::new())
+    walk_to_end_node_visiting(store, root, key, &mut Visits::new())
 }
 
 /// Does what `walk_to_end_node` does, and counts each reading of a node: at least the nodes whose place is a prefix of
 /// the key, exactly these if each prefix is stored whole, and at most three for each level of the tree, the leaves
 /// being a level. A full counter stays full.
 #[inline(always)]
-pub fn walk_to_end_node_visiting<K: AsBytes + Drop, V: Drop, const P: usize>(
+pub fn walk_to_end_node_visiting<B: KeyBytes + Drop, K: AsBytes + Drop, V: Drop, const P: usize>(
     store: &NodeStore<K, V, P>,
     root: OpaqueNodePtr,
-    key_bytes: &[u8],
+    key: &mut B,
     visits: &mut Visits,
 ) -> EndNode
     requires { IsCanonicalRoot (of_key K.bytes) P store.now root }
     ensures end { ForTree (of_key K.bytes) P store.now root (λ pairs layout.
-        IsEndFor (of_key K.bytes) P key_bytes.now pairs layout result) }
-    ensures visits { CountsToEnd (of_key K.bytes) P store.now root key_bytes.now
+        IsEndFor (of_key K.bytes) P (B.key key.old) pairs layout result) }
+    ensures visits { CountsToEnd (of_key K.bytes) P store.now root (B.key key.old)
         visits.old visits.new }
+    ensures same { B.key key.new ≡ B.key key.old }
 {
     let mut steps = LastSteps::new();
     let mut name = root;
     let mut depth = 0;
     let mut guide = None;
     'down: loop {
-        match next_step(store, root, key_bytes, name, depth, &mut guide, visits) {
+        match next_step(store, root, key, name, depth, &mut guide, visits) {
             SearchStep::End {
                 insert_kind,
                 key_bytes_used,
@@ -149,10 +151,10 @@ enum SearchStep {
 
 // The step from the node of this name, to which so many bytes of the key lead.
 #[inline(always)]
-fn next_step<K: AsBytes + Drop, V: Drop, const P: usize>(
+fn next_step<B: KeyBytes + Drop, K: AsBytes + Drop, V: Drop, const P: usize>(
     store: &NodeStore<K, V, P>,
     root: OpaqueNodePtr,
-    key_bytes: &[u8],
+    key: &mut B,
     name: OpaqueNodePtr,
     depth: usize,
     guide: &mut OptionalLeafPtr,
@@ -160,27 +162,28 @@ fn next_step<K: AsBytes + Drop, V: Drop, const P: usize>(
 ) -> SearchStep
     requires root { IsCanonicalRoot (of_key K.bytes) P store.now root }
     requires at { (path : TreePath) × ForTree (of_key K.bytes) P store.now root
-        (λ pairs layout. IsAt (of_key K.bytes) P key_bytes.now layout path name depth) }
+        (λ pairs layout. IsAt (of_key K.bytes) P (B.key key.old) layout path name depth) }
     requires guide { ForTree (of_key K.bytes) P store.now root (λ pairs layout.
-        MayGuide (of_key K.bytes) key_bytes.now layout guide.old) }
+        MayGuide (of_key K.bytes) (B.key key.old) layout guide.old) }
     ensures guide { ForTree (of_key K.bytes) P store.now root (λ pairs layout.
-        MayGuide (of_key K.bytes) key_bytes.now layout guide.new) }
+        MayGuide (of_key K.bytes) (B.key key.old) layout guide.new) }
     ensures visits { CountsReadings visits.old visits.new (λ number.
         StepReads (of_key K.bytes) P store.now root name
         guide.old guide.new result number) }
     ensures step { (path : TreePath) → ForTree (of_key K.bytes) P store.now root
         (λ pairs layout.
-        (at : IsAt (of_key K.bytes) P key_bytes.now layout path name depth) →
-        IsStepFrom (of_key K.bytes) P key_bytes.now pairs layout
+        (at : IsAt (of_key K.bytes) P (B.key key.old) layout path name depth) →
+        IsStepFrom (of_key K.bytes) P (B.key key.old) pairs layout
         path name depth at result) }
+    ensures same { B.key key.new ≡ B.key key.old }
 {
     match name.split() {
-        NodePtr::Inner(inner) => step_at_inner(store, root, key_bytes, inner, depth, guide, visits),
+        NodePtr::Inner(inner) => step_at_inner(store, root, key, inner, depth, guide, visits),
         NodePtr::Leaf(leaf_node_ptr) => {
             let leaf = store.leaf_at(leaf_node_ptr);
             visits.count_one();
             SearchStep::End {
-                insert_kind: kind_at_leaf(leaf_node_ptr, leaf, key_bytes),
+                insert_kind: kind_at_leaf(leaf_node_ptr, leaf, key),
                 key_bytes_used: depth,
             }
         }
@@ -189,10 +192,10 @@ fn next_step<K: AsBytes + Drop, V: Drop, const P: usize>(
 
 // The same at an inner node.
 #[inline(always)]
-fn step_at_inner<K: AsBytes + Drop, V: Drop, const P: usize>(
+fn step_at_inner<B: KeyBytes + Drop, K: AsBytes + Drop, V: Drop, const P: usize>(
     store: &NodeStore<K, V, P>,
     root: OpaqueNodePtr,
-    key_bytes: &[u8],
+    key: &mut B,
     inner: InnerPtr,
     depth: usize,
     guide: &mut OptionalLeafPtr,
@@ -201,129 +204,135 @@ fn step_at_inner<K: AsBytes + Drop, V: Drop, const P: usize>(
     requires root { IsCanonicalRoot (of_key K.bytes) P store.now root }
     requires inner { inner.kind ≢ Leaf }
     requires at { (path : TreePath) × ForTree (of_key K.bytes) P store.now root
-        (λ pairs layout. IsAt (of_key K.bytes) P key_bytes.now layout
+        (λ pairs layout. IsAt (of_key K.bytes) P (B.key key.old) layout
         path (inner_name inner) depth) }
     requires guide { ForTree (of_key K.bytes) P store.now root (λ pairs layout.
-        MayGuide (of_key K.bytes) key_bytes.now layout guide.old) }
+        MayGuide (of_key K.bytes) (B.key key.old) layout guide.old) }
     ensures guide { ForTree (of_key K.bytes) P store.now root (λ pairs layout.
-        MayGuide (of_key K.bytes) key_bytes.now layout guide.new) }
+        MayGuide (of_key K.bytes) (B.key key.old) layout guide.new) }
     ensures visits { CountsReadings visits.old visits.new (λ number.
         StepReads (of_key K.bytes) P store.now root (inner_name inner)
         guide.old guide.new result number) }
     ensures step { (path : TreePath) → ForTree (of_key K.bytes) P store.now root
-        (λ pairs layout. (at : IsAt (of_key K.bytes) P key_bytes.now layout
+        (λ pairs layout. (at : IsAt (of_key K.bytes) P (B.key key.old) layout
         path (inner_name inner) depth) →
-        IsStepFrom (of_key K.bytes) P key_bytes.now pairs layout
+        IsStepFrom (of_key K.bytes) P (B.key key.old) pairs layout
         path (inner_name inner) depth at result) }
+    ensures same { B.key key.new ≡ B.key key.old }
 {
     let node = store.inner_at(inner);
     visits.count_one();
-    match match_full_prefix(store, root, inner, node, key_bytes, depth, guide, visits) {
-        Ok(matched) => step_past_prefix(key_bytes, inner, node, depth + matched.matched_bytes),
-        Err(mismatch) => end_in_prefix(key_bytes, inner, mismatch, depth),
+    match match_full_prefix(store, root, inner, node, key, depth, guide, visits) {
+        Ok(matched) => step_past_prefix(key, inner, node, depth, matched.matched_bytes),
+        Err(mismatch) => end_in_prefix(key, inner, mismatch, depth),
     }
 }
 
 // The end at an inner node whose prefix the key differs from or ends in.
 #[inline(always)]
-fn end_in_prefix(
-    key_bytes: &[u8],
+fn end_in_prefix<B: KeyBytes>(
+    key: &mut B,
     inner: InnerPtr,
     mismatch: ExplicitMismatch,
     depth: usize,
 ) -> SearchStep
-    requires { depth + mismatch.matched_bytes < 2 ^ 64 }
-    ensures ends { length key_bytes.now ≤ depth + mismatch.matched_bytes →
+    requires { depth ≤ length (B.key key.old) }
+    ensures ends { length (B.key key.old) ≤ depth + mismatch.matched_bytes →
         result ≡ steps.End None depth }
-    ensures parts { depth + mismatch.matched_bytes < length key_bytes.now →
+    ensures parts { depth + mismatch.matched_bytes < length (B.key key.old) →
         result ≡ steps.End (Some (kinds.MismatchPrefix mismatch inner)) depth }
+    ensures same { B.key key.new ≡ B.key key.old }
 {
-    if depth + mismatch.matched_bytes >= key_bytes.len() {
-        return SearchStep::End {
-            insert_kind: None,
-            key_bytes_used: depth,
-        };
-    }
-    SearchStep::End {
-        insert_kind: Some(InsertKind::MismatchPrefix {
+    let insert_kind = match key.byte_after(depth, mismatch.matched_bytes) {
+        None => None,
+        Some(_) => Some(InsertKind::MismatchPrefix {
             mismatch,
             mismatched_inner_node_ptr: inner,
         }),
+    };
+    SearchStep::End {
+        insert_kind,
         key_bytes_used: depth,
     }
 }
 
-// The step from an inner node with a key that has so many bytes up to the end of its prefix.
+// The step from an inner node with whose prefix, of this length, the key goes on from a depth on.
 #[inline(always)]
-fn step_past_prefix<const P: usize>(
-    key_bytes: &[u8],
+fn step_past_prefix<B: KeyBytes, const P: usize>(
+    key: &mut B,
     inner: InnerPtr,
     node: InnerRef<'_, P>,
     depth: usize,
+    prefix_len: usize,
 ) -> SearchStep
-    ensures ends { length key_bytes.now ≤ depth → result ≡ steps.End None (depth - 1) }
-    ensures into { depth < length key_bytes.now →
-        child_at (ref_view node.entry).children (get_or key_bytes.now depth 0) ≡ None →
-        result ≡ steps.End (Some (kinds.IntoExisting inner)) depth }
-    ensures down { depth < length key_bytes.now → (child : OpaqueNodePtr) →
-        child_at (ref_view node.entry).children (get_or key_bytes.now depth 0) ≡ Some child →
-        result ≡ steps.Down inner (get_or key_bytes.now depth 0) child (depth + 1) }
+    requires { depth + prefix_len ≤ length (B.key key.old) }
+    ensures ends { length (B.key key.old) ≤ depth + prefix_len →
+        result ≡ steps.End None (depth + prefix_len - 1) }
+    ensures into { depth + prefix_len < length (B.key key.old) →
+        child_at (ref_view node.entry).children
+        (get_or (B.key key.old) (depth + prefix_len) 0) ≡ None →
+        result ≡ steps.End (Some (kinds.IntoExisting inner)) (depth + prefix_len) }
+    ensures down { depth + prefix_len < length (B.key key.old) → (child : OpaqueNodePtr) →
+        child_at (ref_view node.entry).children
+        (get_or (B.key key.old) (depth + prefix_len) 0) ≡ Some child →
+        result ≡ steps.Down inner (get_or (B.key key.old) (depth + prefix_len) 0) child
+        (depth + prefix_len + 1) }
+    ensures same { B.key key.new ≡ B.key key.old }
 {
-    if depth >= key_bytes.len() {
+    let next = key.byte_after(depth, prefix_len);
+    let place = depth + prefix_len;
+    let Some(byte) = next else {
         return SearchStep::End {
             insert_kind: None,
-            key_bytes_used: depth.saturating_sub(1),
+            key_bytes_used: place.saturating_sub(1),
         };
-    }
-    let byte = key_bytes[depth];
+    };
     match node.lookup_child(byte) {
         None => SearchStep::End {
             insert_kind: Some(InsertKind::IntoExisting {
                 inner_node_ptr: inner,
             }),
-            key_bytes_used: depth,
+            key_bytes_used: place,
         },
         Some(child) => SearchStep::Down {
             inner,
             byte,
             child,
-            child_depth: depth + 1,
+            child_depth: place + 1,
         },
     }
 }
 
 // What is to be done at a leaf, or `None` where its key and the key are related but not equal.
 #[inline(always)]
-fn kind_at_leaf<K: AsBytes, V>(
+fn kind_at_leaf<B: KeyBytes, K: AsBytes, V>(
     leaf_node_ptr: LeafPtr,
     leaf: &LeafNode<K, V>,
-    key_bytes: &[u8],
+    key: &mut B,
 ) -> Option<InsertKind>
-    ensures { IsKindFor key_bytes.now leaf_node_ptr (K.bytes leaf.now.key) result }
+    ensures kind { IsKindFor (B.key key.old) leaf_node_ptr (K.bytes leaf.now.key) result }
+    ensures same { B.key key.new ≡ B.key key.old }
 {
     let leaf_bytes = leaf.key.as_bytes();
-    let shared = shared_len(key_bytes, leaf_bytes);
-    if shared < key_bytes.len() && shared < leaf_bytes.len() {
-        return Some(InsertKind::SplitLeaf {
+    let shared = key.shared_after(0, leaf_bytes);
+    match (key.byte_after(shared, 0), shared < leaf_bytes.len()) {
+        (Some(_), true) => Some(InsertKind::SplitLeaf {
             leaf_node_ptr,
             new_key_bytes_used: shared,
-        });
-    }
-    if key_bytes.len() == leaf_bytes.len() {
-        Some(InsertKind::Exact { leaf_node_ptr })
-    } else {
-        None
+        }),
+        (None, false) => Some(InsertKind::Exact { leaf_node_ptr }),
+        (_, _) => None,
     }
 }
 
 // Compares the whole prefix of an inner node with the key from this depth on.
 #[inline(always)]
-fn match_full_prefix<K: AsBytes + Drop, V: Drop, const P: usize>(
+fn match_full_prefix<B: KeyBytes + Drop, K: AsBytes + Drop, V: Drop, const P: usize>(
     store: &NodeStore<K, V, P>,
     root: OpaqueNodePtr,
     name: InnerPtr,
     node: InnerRef<'_, P>,
-    key_bytes: &[u8],
+    key: &mut B,
     depth: usize,
     guide: &mut OptionalLeafPtr,
     visits: &mut Visits,
@@ -332,28 +341,30 @@ fn match_full_prefix<K: AsBytes + Drop, V: Drop, const P: usize>(
     requires inner { name.kind ≢ Leaf }
     requires node { Some (ref_view node) ≡ map.get store.now.inners name }
     requires at { (path : TreePath) × ForTree (of_key K.bytes) P store.now root
-        (λ pairs layout. IsAt (of_key K.bytes) P key_bytes.now layout
+        (λ pairs layout. IsAt (of_key K.bytes) P (B.key key.old) layout
         path (inner_name name) depth) }
     requires guide { ForTree (of_key K.bytes) P store.now root (λ pairs layout.
-        MayGuide (of_key K.bytes) key_bytes.now layout guide.old) }
+        MayGuide (of_key K.bytes) (B.key key.old) layout guide.old) }
     ensures guide { ForTree (of_key K.bytes) P store.now root (λ pairs layout.
-        MayGuide (of_key K.bytes) key_bytes.now layout guide.new) }
+        MayGuide (of_key K.bytes) (B.key key.old) layout guide.new) }
     ensures visits { CountsReadings visits.old visits.new (λ number.
         IsPrefixCost store.now root (inner_name name) guide.old guide.new result number
         × ((ref_view node.entry).prefix.len ≤ P → number ≡ 0)) }
     ensures compared { (path : TreePath) → ForTree (of_key K.bytes) P store.now root
-        (λ pairs layout. (at : IsAt (of_key K.bytes) P key_bytes.now layout
+        (λ pairs layout. (at : IsAt (of_key K.bytes) P (B.key key.old) layout
         path (inner_name name) depth) →
-        IsCompared (of_key K.bytes) P key_bytes.now at.node depth result) }
+        IsCompared (of_key K.bytes) P (B.key key.old) at.node depth result) }
+    ensures same { B.key key.new ≡ B.key key.old }
 {
     let len = node.prefix_len();
     if len == 0 {
         return Ok(PrefixMatch { matched_bytes: 0 });
     }
     if len <= P {
-        return match_prefix(node.read_prefix(), &key_bytes[depth..], None);
+        return match_prefix(node.read_prefix(), key, depth, None);
     }
-    let (result, more) = match_long_prefix(store, root, name, node, key_bytes, depth, guide);
+    let mut again = key.again();
+    let (result, more) = match_long_prefix(store, root, name, node, &mut again, depth, guide);
     visits.add(more);
     result
 }
@@ -362,12 +373,12 @@ fn match_full_prefix<K: AsBytes + Drop, V: Drop, const P: usize>(
 // searched for if there is none yet. This is a call, so that the loops into which `match_full_prefix` is inlined stay
 // small.
 #[inline(never)]
-fn match_long_prefix<K: AsBytes + Drop, V: Drop, const P: usize>(
+fn match_long_prefix<B: KeyBytes, K: AsBytes + Drop, V: Drop, const P: usize>(
     store: &NodeStore<K, V, P>,
     root: OpaqueNodePtr,
     name: InnerPtr,
     node: InnerRef<'_, P>,
-    key_bytes: &[u8],
+    key: &mut B,
     depth: usize,
     guide: &mut OptionalLeafPtr,
 ) -> (Result<PrefixMatch, ExplicitMismatch>, Visits)
@@ -376,28 +387,28 @@ fn match_long_prefix<K: AsBytes + Drop, V: Drop, const P: usize>(
     requires node { Some (ref_view node) ≡ map.get store.now.inners name }
     requires long { P < (ref_view node).prefix.len }
     requires at { (path : TreePath) × ForTree (of_key K.bytes) P store.now root
-        (λ pairs layout. IsAt (of_key K.bytes) P key_bytes.now layout
+        (λ pairs layout. IsAt (of_key K.bytes) P (B.key key.old) layout
         path (inner_name name) depth) }
     requires guide { ForTree (of_key K.bytes) P store.now root (λ pairs layout.
-        MayGuide (of_key K.bytes) key_bytes.now layout guide.old) }
+        MayGuide (of_key K.bytes) (B.key key.old) layout guide.old) }
     ensures guide { ForTree (of_key K.bytes) P store.now root (λ pairs layout.
-        MayGuide (of_key K.bytes) key_bytes.now layout guide.new) }
+        MayGuide (of_key K.bytes) (B.key key.old) layout guide.new) }
     ensures visits { IsPrefixCost store.now root (inner_name name) guide.old guide.new
         result.0 result.1 }
     ensures compared { (path : TreePath) → ForTree (of_key K.bytes) P store.now root
-        (λ pairs layout. (at : IsAt (of_key K.bytes) P key_bytes.now layout
+        (λ pairs layout. (at : IsAt (of_key K.bytes) P (B.key key.old) layout
         path (inner_name name) depth) →
-        IsCompared (of_key K.bytes) P key_bytes.now at.node depth result.0) }
+        IsCompared (of_key K.bytes) P (B.key key.old) at.node depth result.0) }
 {
     let len = node.prefix_len();
     let opaque = name.to_opaque();
     let mut visits = Visits::new();
-    let read_from = guide_from(store, root, key_bytes, opaque, depth, *guide, &mut visits);
+    let read_from = guide_from(store, root, key, opaque, depth, *guide, &mut visits);
     *guide = Some(read_from);
     let leaf = store.leaf_at(read_from);
     visits.count_one();
     let prefix = &leaf.key.as_bytes()[depth..depth + len];
-    match match_prefix(prefix, &key_bytes[depth..], None) {
+    match match_prefix(prefix, key, depth, None) {
         Ok(matched) => (Ok(matched), visits),
         Err(mismatch) => {
             let (least, more) = first_below_visiting(store, opaque);
@@ -414,22 +425,25 @@ fn match_long_prefix<K: AsBytes + Drop, V: Drop, const P: usize>(
     }
 }
 
-// Compares a prefix with the rest of the key.
+// Compares a prefix with the bytes of the key from this depth on.
 #[inline(always)]
-fn match_prefix(
+fn match_prefix<B: KeyBytes>(
     prefix: &[u8],
-    rest_of_key: &[u8],
+    key: &mut B,
+    depth: usize,
     leaf_ptr: OptionalLeafPtr,
 ) -> Result<PrefixMatch, ExplicitMismatch>
+    requires { depth ≤ length (B.key key.old) }
     ensures len { IfOk result (λ matched. matched.matched_bytes ≡ length prefix.now) }
-    ensures front { IfOk result (λ matched. IsFront prefix.now rest_of_key.now) }
+    ensures front { IfOk result (λ matched. IsFront prefix.now (drop depth (B.key key.old))) }
     ensures shared { IfErr result (λ mismatch.
-        mismatch.matched_bytes ≡ shared_len prefix.now rest_of_key.now) }
+        mismatch.matched_bytes ≡ shared_len prefix.now (drop depth (B.key key.old))) }
     ensures byte { IfErr result (λ mismatch. slice_get prefix.now mismatch.matched_bytes ≡
         Some mismatch.prefix_byte) }
     ensures leaf { IfErr result (λ mismatch. mismatch.leaf_ptr ≡ leaf_ptr) }
+    ensures same { B.key key.new ≡ B.key key.old }
 {
-    let matched_bytes = shared_len(prefix, rest_of_key);
+    let matched_bytes = key.shared_after(depth, prefix);
     match prefix.get(matched_bytes) {
         None => Ok(PrefixMatch { matched_bytes }),
         Some(&prefix_byte) => Err(ExplicitMismatch {

@@ -20,10 +20,10 @@ use art_nodes::store::NodeStore;
 /// A descent finds it, without comparing a prefix. The leaf serves for the whole path, so that a search makes this
 /// descent once.
 #[inline(always)]
-pub(crate) fn guide_from<B: KeyBytes + Copy, K: AsBytes + Drop, V: Drop, const P: usize>(
+pub(crate) fn guide_from<B: KeyBytes, K: AsBytes + Drop, V: Drop, const P: usize>(
     store: &NodeStore<K, V, P>,
     root: OpaqueNodePtr,
-    key_bytes: B,
+    key_bytes: &mut B,
     name: OpaqueNodePtr,
     depth: usize,
     known: OptionalLeafPtr,
@@ -31,19 +31,19 @@ pub(crate) fn guide_from<B: KeyBytes + Copy, K: AsBytes + Drop, V: Drop, const P
 ) -> LeafPtr
     requires root { IsCanonicalRoot (of_key K.bytes) P store.now root }
     requires at { ForTree (of_key K.bytes) P store.now root (λ pairs layout.
-        (path : TreePath) × IsAt (of_key K.bytes) P (B.key key_bytes) layout path name depth) }
+        (path : TreePath) × IsAt (of_key K.bytes) P (B.key key_bytes.old) layout path name depth) }
     requires known { ForTree (of_key K.bytes) P store.now root (λ pairs layout.
-        MayGuide (of_key K.bytes) (B.key key_bytes) layout known) }
+        MayGuide (of_key K.bytes) (B.key key_bytes.old) layout known) }
     ensures guide { ForTree (of_key K.bytes) P store.now root (λ pairs layout.
-        IsGuide (of_key K.bytes) (B.key key_bytes) layout result) }
+        IsGuide (of_key K.bytes) (B.key key_bytes.old) layout result) }
     ensures visits { CountsReadings visits.old visits.new (λ number.
         number + guide_cost store.now root known ≤ levels store.now root + 1) }
+    ensures same { B.key key_bytes.new ≡ B.key key_bytes.old }
 {
     match known {
         Some(leaf) => leaf,
         None => {
-            let mut bytes = key_bytes;
-            let (leaf, more) = find_guide(store, root, &mut bytes, name, depth);
+            let (leaf, more) = find_guide(store, root, key_bytes, name, depth);
             visits.add(more);
             leaf
         }

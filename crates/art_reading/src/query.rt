@@ -1,18 +1,22 @@
 //! Keys to look up: one slice of bytes, a text and its end byte, or bytes that are made as they are read.
-ghost use Rattle.std.specs.Prelude.{◌≡◌, ◌+◌, ◌<◌, ◌≤◌, ◌^◌, ◌↔◌, [], ◌∷◌, ◌++◌, min, length, IsTrue, List, ℕ, slice_get, OnSome};
+ghost use Rattle.std.specs.Prelude.{◌≡◌, ◌+◌, ◌<◌, ◌≤◌, ◌^◌, ◌↔◌, [], ◌∷◌, ◌++◌, drop, min, length, IsTrue, List, ℕ, slice_get, OnSome};
 ghost use Rattle.std.specs.List.{cons_option};
 ghost use Rattle.art_model.specs.Keys.{IsFront};
 ghost use Rattle.art_reading.specs.Descents.{IsAskedFor};
-ghost use Rattle.art_reading.specs.Matching.{LeafKeyIsPrefix, MatchesLeafKey};
+ghost use Rattle.art_reading.specs.Matching.{LeafKeyIsPrefix, MatchesLeafKey, shared_len};
 ghost use Rattle.art_reading.specs.declared.matching.PrefixMatchBehavior.TheVariants.{Optimistic, Pessimistic};
 
-use crate::matching::{Asked, PrefixMatchBehavior, are_equal, begins_with};
+use crate::matching::{Asked, PrefixMatchBehavior, are_equal, begins_with, shared_len};
 use art_nodes::node::{AsBytes, LeafNode};
 
 /// The bytes of a key, read one at a time: they need not stand in a slice.
 pub trait KeyBytes {
     /// The bytes.
     ghost key: { Self → List ℕ };
+
+    /// Returns the same bytes, to be read beside these.
+    fn again(&self) -> Self
+        ensures { key result ≡ key self.now };
 
     /// Returns the byte that stands `skipped` places after a place, or `None` if there are no more bytes there. A type
     /// may be slow where the places don't rise.
@@ -22,10 +26,21 @@ pub trait KeyBytes {
         ensures within { OnSome result (place + skipped < length (key self.old)) }
         ensures fits { length (key self.old) < 2 ^ 64 }
         ensures same { key self.new ≡ key self.old };
+
+    /// Returns the length of the longest common prefix of a slice and the bytes from a place on.
+    fn shared_after(&mut self, place: usize, bytes: &[u8]) -> usize
+        requires { place ≤ length (key self.old) }
+        ensures shared { result ≡ shared_len bytes.now (drop place (key self.old)) }
+        ensures same { key self.new ≡ key self.old };
 }
 
 impl KeyBytes for &[u8] {
     ghost key = { λ bytes. bytes.now };
+
+    #[inline(always)]
+    fn again(&self) -> Self {
+        *self
+    }
 
     #[inline(always)]
     fn byte_after(&mut self, place: usize, skipped: usize) -> Option<u8> {
@@ -34,6 +49,11 @@ impl KeyBytes for &[u8] {
         } else {
             None
         }
+    }
+
+    #[inline(always)]
+    fn shared_after(&mut self, place: usize, bytes: &[u8]) -> usize {
+        shared_len(bytes, &self[place..])
     }
 }
 
@@ -90,6 +110,11 @@ impl KeyBytes for EndedQuery<'_> {
     ghost key = { λ query. query.text.now ++ query.end ∷ [] };
 
     #[inline(always)]
+    fn again(&self) -> Self {
+        *self
+    }
+
+    #[inline(always)]
     fn byte_after(&mut self, place: usize, skipped: usize) -> Option<u8> {
         let rest = self.text.get(place..)?;
         if skipped == rest.len() {
@@ -97,6 +122,25 @@ impl KeyBytes for EndedQuery<'_> {
         }
         rest.get(skipped).copied()
     }
+
+    #[inline(always)]
+    fn shared_after(&mut self, place: usize, bytes: &[u8]) -> usize {
+        shared_with_ended(self.text, self.end, place, bytes)
+    }
+}
+
+// The length of the longest common prefix of a slice and the bytes of a text and its end from a place on.
+fn shared_with_ended(text: &[u8], end: u8, place: usize, bytes: &[u8]) -> usize
+    ensures { result ≡ shared_len bytes.now (drop place (text.now ++ end ∷ [])) }
+{
+    let Some(rest) = text.get(place..) else {
+        return 0;
+    };
+    let shared = shared_len(bytes, rest);
+    if shared == rest.len() && shared < bytes.len() && bytes[shared] == end {
+        return shared + 1;
+    }
+    shared
 }
 
 impl KeyQuery for EndedQuery<'_> {

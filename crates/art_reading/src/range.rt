@@ -380,7 +380,8 @@ fn has_prefix<Q: KeyQuery, K: AsBytes + Drop, V: Drop, const P: usize>(
         return prefix.starts_with(node.read_prefix());
     }
     let opaque = name.to_opaque();
-    let read_from = guide_from(store, root, query, opaque, depth, *guide, visits);
+    let mut key = query;
+    let read_from = guide_from(store, root, &mut key, opaque, depth, *guide, visits);
     *guide = Some(read_from);
     let leaf = store.leaf_at(read_from);
     visits.count_one();

@@ -1,5 +1,5 @@
 //! Insertion: the point at which a key is inserted into a tree.
-ghost use Rattle.std.specs.Prelude.{◌≡◌, ◌↔◌, false, IsOk, IfOk, IfErr, Some};
+ghost use Rattle.std.specs.Prelude.{◌≡◌, ◌↔◌, false, IsOk, IfOk, IfErr, IfSome, IsSome, Some};
 ghost use Rattle.art_model.specs.Pairs.{is_conflict, of_key};
 ghost use Rattle.art_model.specs.Roots.{ForTree, IsCanonicalRoot};
 ghost use Rattle.art_reading.specs.Readings.{CountsToEnd};
@@ -12,7 +12,8 @@ ghost use Rattle.art_writing.specs.Conflicts.{conflict_text, bytes_text};
 use art_nodes::node::{AsBytes, InnerPtr, LeafNode, LeafPtr, OpaqueNodePtr};
 use art_nodes::store::NodeStore;
 use art_reading::descent::Visits;
-use art_reading::end_node::walk_to_end_node_visiting;
+use art_reading::end_node::{walk_to_end_node, walk_to_end_node_visiting};
+use art_reading::lookup::KeyBytes;
 use art_reading::path::TreePath;
 use std::alloc::{AllocError, AllocFailed, Global};
 use std::boxed::BoxedSlice;
@@ -274,7 +275,8 @@ pub fn search_for_prefix_insert_point_visiting<K: AsBytes + Drop, V: Drop, const
     ensures visits { CountsToEnd (of_key K.bytes) P store.now root key_bytes.now
         visits.old visits.new }
 {
-    let end = walk_to_end_node_visiting(store, root, key_bytes, visits);
+    let mut key = key_bytes;
+    let end = walk_to_end_node_visiting(store, root, &mut key, visits);
     match end.insert_kind {
         Some(insert_kind) => PrefixInsertPoint::InsertPoint(InsertPoint {
             path: end.path,
@@ -289,6 +291,35 @@ pub fn search_for_prefix_insert_point_visiting<K: AsBytes + Drop, V: Drop, const
             root,
         }),
     }
+}
+
+/// Returns the point of a key whose bytes need not stand in a slice, in the tree of a canonical root, or `None` if an
+/// unequal stored key conflicts with it.
+///
+/// It descends as `search_for_insert_point` does, at the same cost, and allocates nothing.
+#[inline(always)]
+pub fn search_for_insert_point_by<B: KeyBytes + Drop, K: AsBytes + Drop, V: Drop, const P: usize>(
+    store: &NodeStore<K, V, P>,
+    root: OpaqueNodePtr,
+    key: &mut B,
+) -> Option<InsertPoint>
+    requires { IsCanonicalRoot (of_key K.bytes) P store.now root }
+    ensures accepted { ForTree (of_key K.bytes) P store.now root (λ pairs layout.
+        IsSome result ↔ (is_conflict (of_key K.bytes) (B.key key.old) pairs ≡ false)) }
+    ensures point { ForTree (of_key K.bytes) P store.now root (λ pairs layout.
+        IfSome result (λ point. AnswersTo (of_key K.bytes) P layout (B.key key.old) point)) }
+    ensures root { IfSome result (λ point. point.root ≡ root) }
+    ensures applies { IfSome result
+        (IsPointIn (of_key K.bytes) P store.now (B.key key.old)) }
+{
+    let end = walk_to_end_node(store, root, key);
+    let insert_kind = end.insert_kind?;
+    Some(InsertPoint {
+        path: end.path,
+        insert_kind,
+        key_bytes_used: end.key_bytes_used,
+        root,
+    })
 }
 
 // The error of a conflicting key.

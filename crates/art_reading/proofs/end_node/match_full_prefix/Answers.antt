@@ -1,5 +1,4 @@
 use Rattle.std.proofs.Common.{arith, refl, rules}
-use Rattle.std.proofs.lemmas.List.{take_rest}
 use Rattle.art_reading.proofs.EndNodes.{inside, part_there}
 use Rattle.art_reading.proofs.Levels.{costs_none}
 use Rattle.art_reading.proofs.Prefixes.{matches_empty, matches_stored}
@@ -7,25 +6,27 @@ use Rattle.art_reading.proofs.end_node.match_full_prefix.Goals as goal
 
 pub returns-then-len-eq0-clause-compared : goal.returns-then-len-eq0-clause-compared
 returns-then-len-eq0-clause-compared g c path pairs layout by at =
-    matches_empty (part_there by at refl) c.requires.inner c.requires.node c.args.key_bytes.now refl c.prefix_len-len.ensures c.if-len-eq0.true refl
+    matches_empty (part_there by at refl) c.requires.inner c.requires.node (g.B.KeyBytes.key c.args.key.now) refl c.prefix_len-len.ensures c.if-len-eq0.true refl
 
-pub slice_bounds-match_prefix-count : goal.slice_bounds-match_prefix-count
-slice_bounds-match_prefix-count g c = let (pairs, layout, by) = c.requires.root in inside by (c.requires.at.1 pairs layout by)
-
-pub slice_bounds-match_prefix-start : goal.slice_bounds-match_prefix-start
-slice_bounds-match_prefix-start g c = let (pairs, layout, by) = c.requires.root in inside by (c.requires.at.1 pairs layout by)
+pub match_prefix-requires : goal.match_prefix-requires
+match_prefix-requires g c =
+    let (pairs, layout, by) = c.requires.root in
+    inside by (c.requires.at.1 pairs layout by)
 
 pub returns-then-len-clause-compared : goal.returns-then-len-clause-compared
 returns-then-len-clause-compared g c path pairs layout by at =
-    matches_stored (part_there by at refl) c.requires.inner c.requires.node c.args.key_bytes.now c.match_prefix.result refl
-    c.prefix_len-len.ensures c.if-len.true c.read_prefix.ensures.stored (take_rest c.args.key_bytes.now c.args.depth)
+    matches_stored (part_there by at refl) c.requires.inner c.requires.node (g.B.KeyBytes.key c.args.key.now) c.match_prefix.result refl
+    c.prefix_len-len.ensures c.if-len.true c.read_prefix.ensures.stored refl
     c.match_prefix.ensures.len c.match_prefix.ensures.front c.match_prefix.ensures.shared c.match_prefix.ensures.byte c.match_prefix.ensures.leaf
 
 pub match_long_prefix-result-requires : goal.match_long_prefix-result-requires
-match_long_prefix-result-requires g c = search rules
+match_long_prefix-result-requires g c = rw c.again-again.ensures (search rules)
 
 pub returns-clause-compared : goal.returns-clause-compared
-returns-clause-compared g c = c.match_long_prefix-result.ensures.compared
+returns-clause-compared g c = rw c.again-again.ensures at c.match_long_prefix-result.ensures.compared
+
+pub returns-clause-guide : goal.returns-clause-guide
+returns-clause-guide g c = rw c.again-again.ensures at c.match_long_prefix-result.ensures.guide
 
 -- ---- the counter
 pub returns-then-len-eq0-clause-visits : goal.returns-then-len-eq0-clause-visits

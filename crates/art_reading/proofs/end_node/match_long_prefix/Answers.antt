@@ -1,7 +1,6 @@
-use Rattle.std.proofs.Common.{rules, ◌+◌, ◌≤◌, length, ap, refl, sym, subst, arith}
+use Rattle.std.proofs.Common.{rules, ◌+◌, ◌≤◌, length, drop, ap, refl, sym, subst, arith}
 use Rattle.art_model.specs.Pairs.{of_key}
 use Rattle.art_reading.specs.EndNodes.{IsAt}
-use Rattle.std.proofs.lemmas.List.{take_rest}
 use Rattle.art_reading.specs.Readings.{levels}
 use Rattle.art_reading.proofs.Prefixes.{is_full, long_enough, matches_read, parts_read}
 use Rattle.art_reading.proofs.EndNodes.{inside, part_there}
@@ -17,7 +16,7 @@ guide_from-read_from-requires g c =
         (
           λ pairs layout by. (
             path,
-            subst (λ n. IsAt (of_key g.K.AsBytes.bytes) g.row.P c.args.key_bytes.now layout path n c.args.depth)
+            subst (λ n. IsAt (of_key g.K.AsBytes.bytes) g.row.P (g.B.KeyBytes.key c.args.key.now) layout path n c.args.depth)
                 (sym c.to_opaque-opaque.ensures) (at pairs layout by),
           ),
           c.requires.guide,
@@ -59,22 +58,23 @@ pub returns-in-Ok-clause-compared : goal.returns-in-Ok-clause-compared
 returns-in-Ok-clause-compared g c path pairs layout by at =
     matches_read (part_there by at refl) c.requires.inner c.requires.node c.leaf_at-leaf.result.now
     (guide_is by (c.guide_from-read_from.ensures.guide pairs layout by) at (sym c.leaf_at-leaf.ensures))
-    c.args.key_bytes.now refl c.prefix_len-len.ensures c.as_bytes.ensures refl
-    (take_rest c.args.key_bytes.now c.args.depth) c.in-Ok.ensures.len c.in-Ok.ensures.front
+    (g.B.KeyBytes.key c.args.key.now) refl c.prefix_len-len.ensures c.as_bytes.ensures refl
+    (ap (drop c.args.depth) c.guide_from-read_from.ensures.same) c.in-Ok.ensures.len c.in-Ok.ensures.front
 
 pub returns-in-Err-clause-compared : goal.returns-in-Err-clause-compared
 returns-in-Err-clause-compared g c path pairs layout by at =
     parts_read (part_there by at refl) c.requires.inner c.requires.node c.leaf_at-leaf.result.now
     (guide_is by (c.guide_from-read_from.ensures.guide pairs layout by) at (sym c.leaf_at-leaf.ensures))
-    c.args.key_bytes.now refl c.prefix_len-len.ensures c.as_bytes.ensures refl (take_rest c.args.key_bytes.now c.args.depth)
+    (g.B.KeyBytes.key c.args.key.now) refl c.prefix_len-len.ensures c.as_bytes.ensures refl (ap (drop c.args.depth) c.guide_from-read_from.ensures.same)
     (let long = c.requires.long in let l = c.prefix_len-len.ensures in omega arith) c.in-Err.ensures.shared c.in-Err.ensures.byte refl
     (c.first_below_visiting-more.ensures.leaf at.node (is_full (part_there by at refl) c.requires.inner c.to_opaque-opaque.ensures))
 
-pub slice_bounds-match_prefix-count : goal.slice_bounds-match_prefix-count
-slice_bounds-match_prefix-count g c = let (pairs, layout, by) = c.requires.root in inside by (c.requires.at.1 pairs layout by)
-
-pub slice_bounds-match_prefix-start : goal.slice_bounds-match_prefix-start
-slice_bounds-match_prefix-start g c = let (pairs, layout, by) = c.requires.root in inside by (c.requires.at.1 pairs layout by)
+pub match_prefix-requires : goal.match_prefix-requires
+match_prefix-requires g c =
+    let (pairs, layout, by) = c.requires.root in
+    let within = inside by (c.requires.at.1 pairs layout by) in
+    let same = ap length c.guide_from-read_from.ensures.same in
+    omega arith
 
 -- ---- the counter
 pub returns-in-Ok-clause-visits : goal.returns-in-Ok-clause-visits

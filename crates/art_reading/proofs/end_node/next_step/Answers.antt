@@ -9,7 +9,7 @@ leaf_at-leaf-requires g c =
 
 pub returns-in-Leaf-clause-step : goal.returns-in-Leaf-clause-step
 returns-in-Leaf-clause-step g c path pairs layout by d =
-    leaf_step by d c.in-Leaf.ensures.name (sym c.leaf_at-leaf.ensures) c.kind_at_leaf.result c.kind_at_leaf.ensures
+    leaf_step by d c.in-Leaf.ensures.name (sym c.leaf_at-leaf.ensures) c.kind_at_leaf.result c.kind_at_leaf.ensures.kind
 
 pub step_at_inner-requires : goal.step_at_inner-requires
 step_at_inner-requires g c =

@@ -1,0 +1,34 @@
+-- What a list shares with another one and a byte after it.
+use Rattle.std.proofs.Common.{◌≡◌, ℕ, suc, ◌<◌, List, [], ◌∷◌, ◌++◌, length, get_or, refl, ap, arith, eqb, eq-eqb, Bool, true, false}
+use Rattle.std.proofs.lemmas.Bool.{ne_eqb}
+use Rattle.art_reading.specs.Matching.{shared_len}
+
+none_with : (a : List ℕ) → shared_len a [] ≡ 0
+none_with [] = refl
+none_with (x ∷ a) = refl
+
+module _ (end : ℕ) where
+  -- the byte after a list is shared where the whole list is and the byte stands there
+  abbrev pub IsEndShared : List ℕ → List ℕ → Type 0
+  IsEndShared bytes rest = (shared_len bytes rest ≡ length rest) × (length rest < length bytes) × (get_or bytes (length rest) 0 ≡ end)
+
+  pub end_shared : (bytes rest : List ℕ) → IsEndShared bytes rest → shared_len bytes (rest ++ end ∷ []) ≡ suc (length rest)
+  end_shared [] rest (whole, there, same) = absurd (omega arith)
+  end_shared (x ∷ bytes) [] (whole, there, same) = rw (eq-eqb x end same) (ap suc (none_with bytes))
+  end_shared (x ∷ bytes) (y ∷ rest) (whole, there, same) = go (end_shared bytes rest) (eqb x y) refl
+    where
+      go : (IsEndShared bytes rest → shared_len bytes (rest ++ end ∷ []) ≡ suc (length rest)) →
+          (t : Bool) → eqb x y ≡ t → shared_len (x ∷ bytes) (y ∷ rest ++ end ∷ []) ≡ suc (suc (length rest))
+      go ih true e = rw e (ap suc (ih ((let w = rw e at whole in omega arith), omega arith, same)))
+      go ih false e = absurd (let w = rw e at whole in omega arith)
+
+  -- and else nothing more is
+  pub end_apart : (bytes rest : List ℕ) → (IsEndShared bytes rest → ⊥) → shared_len bytes (rest ++ end ∷ []) ≡ shared_len bytes rest
+  end_apart [] rest apart = refl
+  end_apart (x ∷ bytes) [] apart = rw (ne_eqb x end (λ same. apart (refl, omega arith, same))) refl
+  end_apart (x ∷ bytes) (y ∷ rest) apart = go (end_apart bytes rest) (eqb x y) refl
+    where
+      go : ((IsEndShared bytes rest → ⊥) → shared_len bytes (rest ++ end ∷ []) ≡ shared_len bytes rest) →
+          (t : Bool) → eqb x y ≡ t → shared_len (x ∷ bytes) (y ∷ rest ++ end ∷ []) ≡ shared_len (x ∷ bytes) (y ∷ rest)
+      go ih true e = rw e (ap suc (ih (λ w. apart (rw e (ap suc w.0), omega arith, w.2))))
+      go ih false e = rw e refl
