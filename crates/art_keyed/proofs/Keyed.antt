@@ -1,5 +1,5 @@
 -- Keys of a type never conflict, and are in the order of their type.
-use Rattle.std.proofs.Common.{◌≡◌, ℕ, List, [], ◌∷◌, Bool, true, false, ◌||◌, ◌&&◌, if◌then◌else◌, not, ◌⊎◌, inl, inr, Option, Some, None, refl, ap, sym, ◌∙◌}
+use Rattle.std.proofs.Common.{◌≡◌, ℕ, List, [], ◌∷◌, Bool, true, false, ◌||◌, ◌&&◌, if◌then◌else◌, not, ◌⊎◌, inl, inr, Option, Some, None, is_some, refl, ap, sym, ◌∙◌}
 use Rattle.std.specs.List.{AllByRecursion as Each}
 use Rattle.std.specs.declared.cmp.Ordering.{Ordering}
 use Rattle.std.specs.declared.cmp.Ordering.TheVariants.{Less}
@@ -13,6 +13,9 @@ use Rattle.std.proofs.lemmas.Bool.{true≢false}
 use Rattle.art_map.specs.MapAnswers.{IsRefusalOf, refused_pair, with_value_at}
 use Rattle.art_map.specs.declared.map.MapInsertError.{MapInsertError}
 use Rattle.art_map.specs.declared.map.MapInsertError.TheVariants.{Conflict, Memory}
+use Rattle.art_map.specs.MadeKeys.{IsSourceRefusal, refused_value}
+use Rattle.art_map.specs.declared.map.to_key.MapSourceError.{MapSourceError}
+use Rattle.art_map.specs.declared.map.to_key.MapSourceError.TheVariants.{Insert, Memory as NoMemory, NoKey}
 use Rattle.art_map.specs.MapBoth.{IsRefusalOfBoth}
 use Rattle.art_map.specs.declared.map.both.BothInsertError.{BothInsertError}
 use Rattle.art_map.specs.declared.map.both.BothInsertError.TheVariants.{First, Second}
@@ -21,7 +24,7 @@ use Rattle.art_writing.specs.declared.insert.PairRefused.{PairRefused}
 use Rattle.art_model.proofs.keys.Keys.{front_same}
 use Rattle.art_model.proofs.keys.KeyLaws.{relation_is_decided, before_less}
 use Rattle.art_model.proofs.lists.Filters.{Each-filter, Each-add, Each-without_last}
-use Rattle.art_model.proofs.pairs.Puts.{first_has}
+use Rattle.art_model.proofs.pairs.Puts.{any_is_first, first_has}
 
 module _ {K : Type 0} (V : Type 0) (is_key : K → Type 0) (bytes : K → List ℕ) where
   -- ---- conflicts
@@ -69,10 +72,24 @@ module _ {K : Type 0} (V : Type 0) (is_key : K → Type 0) (bytes : K → List �
   refused_is_new law key value pairs of_key' all (Conflict k v error) told = absurd (true≢false (sym told.3 ∙ never_in_conflict law key pairs of_key' all))
   refused_is_new law key value pairs of_key' all (Memory k v) told = told.2
 
+  -- a value that is returned with no pair is the one that was passed, and its key is not stored
+  pub source_refused : HasNoPrefixes is_key bytes → (key : K) (value : V) (pairs : List (K × V)) → HaveKeys is_key pairs →
+      (error : MapSourceError K V) → IsSourceRefusal bytes key (is_key key) value pairs error →
+      (refused_value error ≡ value) × (has_key (of_key bytes) (bytes key) pairs ≡ false)
+  source_refused law key value pairs all (NoKey given) told = (told.0, told.2)
+  source_refused law key value pairs all (NoMemory given) told = told
+  source_refused law key value pairs all (Insert error) told =
+      let back = refusal_told law key value pairs told.0 all error told.1
+      (record { key = (refused_pair error).0; value = (refused_pair error).1 }) refl in
+      (back.0.1, back.1)
+
   -- ---- what stays
 
-  pub put_keeps : (key : K) (value : V) (pairs : List (K × V)) → is_key key → HaveKeys is_key pairs → HaveKeys is_key (put (of_key bytes) (key, value) pairs)
-  put_keeps key value pairs of_key' all =
+  -- an insertion keeps them if its key is one, unless an equal one is stored
+  pub new_put_keeps : (key : K) (value : V) (pairs : List (K × V)) →
+      (has_key (of_key bytes) (bytes key) pairs ≡ false → is_key key) → HaveKeys is_key pairs →
+      HaveKeys is_key (put (of_key bytes) (key, value) pairs)
+  new_put_keeps key value pairs of_key' all =
       Each-add (of_key bytes) (λ x. is_key x.0) (stored_for (of_key bytes) (key, value) pairs) _
       (stored (first_of (with_key (of_key bytes) (bytes key) pairs)) refl)
       (Each-filter (λ x. is_key x.0) _ pairs all)
@@ -82,8 +99,11 @@ module _ {K : Type 0} (V : Type 0) (is_key : K → Type 0) (bytes : K → List �
       kept (Some old) = (old.0, value)
 
       stored : (old : Option (K × V)) → first_of (with_key (of_key bytes) (bytes key) pairs) ≡ old → is_key (kept old).0
-      stored None e = of_key'
+      stored None e = of_key' (any_is_first (λ x. are_same (bytes key) (bytes x.0)) pairs ∙ ap is_some e)
       stored (Some old) e = first_has (λ x. is_key x.0) _ old (Each-filter (λ x. is_key x.0) _ pairs all) e
+
+  pub put_keeps : (key : K) (value : V) (pairs : List (K × V)) → is_key key → HaveKeys is_key pairs → HaveKeys is_key (put (of_key bytes) (key, value) pairs)
+  put_keeps key value pairs of_key' all = new_put_keeps key value pairs (λ none. of_key') all
 
   pub last_keeps : (pairs : List (K × V)) → HaveKeys is_key pairs → HaveKeys is_key (without_last pairs)
   last_keeps pairs all = Each-without_last (λ x. is_key x.0) pairs all

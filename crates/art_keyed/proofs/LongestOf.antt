@@ -63,14 +63,3 @@ module _ {V : Type 0} (bytes : List ℕ → List ℕ) (text : List ℕ) (pairs :
 
   pub longest_own : IsMap (of_key bytes) pairs → first_of (with_key (of_key bytes) (bytes x.0) pairs) ≡ Some x
   longest_own rise = found_own bytes (λ y. is_front y.0 text) pairs rise x (sym found)
-
--- if no string is a prefix, all pairs stay
-pub none_longest : {V : Type 0} (bytes : List ℕ → List ℕ) (text : List ℕ) (pairs : List (List ℕ × V)) →
-    None ≡ last_of (strings_in_front (λ string. string) text pairs) →
-    pairs ≡ without_longest bytes (λ string. string) text pairs
-none_longest {V} bytes text pairs none =
-    ap (λ (o : Option (List ℕ × V)). elim o as (λ _. List (List ℕ × V)) [
-      | None ↦ pairs
-      | Some pair ↦ remove_key (of_key bytes)
-          (bytes pair.0) pairs
-    ]) none

@@ -5,6 +5,9 @@ use Rattle.std.specs.declared.ops.Bound.TheVariants.{Included, Excluded, Unbound
 use Rattle.art_keys.specs.Ended.{HasNoZero}
 use Rattle.art_model.specs.Pairs.{last_of, of_key, remove_key}
 use Rattle.art_reading.specs.StandIns.{IsStandIn}
+use Rattle.art_map.specs.MapAnswers.{refused_pair}
+use Rattle.art_map.specs.declared.map.to_key.MapSourceError.{MapSourceError}
+use Rattle.art_map.specs.declared.map.to_key.MapSourceError.TheVariants as sources
 use Rattle.art_keyed.specs.KeyedPairs.{strings_in_front}
 use Rattle.art_keyed.specs.declared.map.texts.TextRefused.{TextRefused}
 use Rattle.art_keyed.specs.declared.map.texts.TextRefused.TheVariants.{InnerZero, Memory}
@@ -13,6 +16,12 @@ use Rattle.art_keyed.specs.declared.map.texts.TextRefused.TheVariants.{InnerZero
 abbrev pub IsTextRefusal : {V : Type 0} → List ℕ → V → TextRefused V → Type 0
 IsTextRefusal text value (InnerZero given) = (given ≡ value) × ¬ HasNoZero text
 IsTextRefusal text value (Memory given) = given ≡ value
+
+-- the error of a map of bytes, as an error of texts
+abbrev pub text_refused : {K V : Type 0} → MapSourceError K V → TextRefused V
+text_refused (sources.NoKey value) = InnerZero value
+text_refused (sources.Memory value) = Memory value
+text_refused (sources.Insert error) = Memory (refused_pair error).1
 
 module _ {K V : Type 0} (bytes text : K → List ℕ) (string : List ℕ) where
   -- the bytes of the key with the longest string that is a prefix of this one, if there is one

@@ -5,3 +5,4 @@ mod escaped_bytes;
 pub mod laws;
 pub mod map;
 pub mod set;
+mod terminated_text;

@@ -1,5 +1,5 @@
 -- The leaf of a key that is stored, or is inserted.
-use Rattle.std.proofs.Common.{◌≡◌, ℕ, Bool, List, Option, Some, None, Result, Ok, Err, refl, ap, sym, ◌∙◌, subst, true, false, is_some}
+use Rattle.std.proofs.Common.{◌≡◌, ℕ, Bool, List, Option, Some, None, [], ◌∷◌, Result, Ok, Err, refl, ap, sym, ◌∙◌, subst, true, false, is_some}
 use Rattle.std.proofs.lemmas.Bool.{false≢true}
 use Rattle.std.specs.Option.{UnwrapsOrElse, unwrap_or}
 use Rattle.art_parts.specs.declared.names.LeafPtr.{LeafPtr}
@@ -24,11 +24,12 @@ use Rattle.art_writing.proofs.Replaced.{own_leaf}
 use Rattle.art_writing.proofs.Standing.{tree_stays}
 use Rattle.art_writing.proofs.Unstored.{refused_new}
 use Rattle.art_map.specs.MapAnswers.{IsRefusalOf, value_at}
-use Rattle.art_map.specs.MapChanges.{HasEntered, HasMade, HasTried, IsPositionOf, NamesLeafOf, put_new}
+use Rattle.art_map.specs.MapChanges.{HasEntered, HasEnteredFrom, HasMade, HasTried, IsPositionOf, NamesLeafOf, put_new}
 use Rattle.art_map.specs.MapPairs.{HoldsPairs, pairs_at}
 use Rattle.art_map.specs.declared.map.MapInsertError.{MapInsertError}
 use Rattle.art_map.specs.declared.map.MapInsertError.TheVariants as errors
 use Rattle.art_map.specs.declared.map.MapMakeError.{MapMakeError}
+use Rattle.art_map.specs.declared.map.to_key.MapSourceError.{MapSourceError}
 use Rattle.art_map.specs.declared.map.position.Position.{Position}
 use Rattle.art_map.specs.declared.map.position.Position.TheVariants as positions
 use Rattle.art_map.proofs.Items.{no_pairs}
@@ -101,6 +102,16 @@ position_new bytes P {s} key is positions.Bare at off = ap (has_key (of_key byte
 position_new bytes P {s} {root} key is (positions.Refused error) (any, related) off =
     conflict_new (of_key bytes) key (pairs_at s root) (map_held (of_key bytes) P s is) related
 
+-- there are no pairs with a key that is not stored
+pub no_pair : {K V : Type 0} (bytes : K → List ℕ) (key : List ℕ) (pairs : List (K × V)) → has_key (of_key bytes) key pairs ≡ false →
+    with_key (of_key bytes) key pairs ≡ []
+no_pair bytes key pairs none = go (with_key (of_key bytes) key pairs) refl
+  where
+    go : (xs : List _) → with_key (of_key bytes) key pairs ≡ xs → xs ≡ []
+    go [] e = refl
+    go (x ∷ xs) e =
+        absurd (false≢true (sym none ∙ any_is_first (λ x. are_same key (bytes x.0)) pairs ∙ ap (λ ys. is_some (first_of ys)) e))
+
 -- a key without a value is not stored
 pub none_stored : {K V : Type 0} (bytes : K → List ℕ) (key : List ℕ) (pairs : List (K × V)) → value_at bytes key pairs ≡ None →
     has_key (of_key bytes) key pairs ≡ false
@@ -168,6 +179,13 @@ module _ {K V : Type 0} (bytes : K → List ℕ) (P : ℕ) (pairs : List (K × V
       HoldsPairs (of_key bytes) P t root len (pairs_at t root)
   enters_holds (Ok leaf) h = holds (of_key bytes) P t h.0
   enters_holds (Err error) h = holds (of_key bytes) P t h.0
+
+  -- the same if the key was made from a source
+  pub entered_from_holds : (IsKey : Type 0) (result : Result LeafPtr (MapSourceError K V)) →
+      HasEnteredFrom bytes P pairs key IsKey value result t root len →
+      HoldsPairs (of_key bytes) P t root len (pairs_at t root)
+  entered_from_holds IsKey (Ok leaf) h = holds (of_key bytes) P t h.0.0
+  entered_from_holds IsKey (Err error) h = holds (of_key bytes) P t h.0
 
 -- the same if the value was made
 pub made_holds : {K V : Type 0} (bytes : K → List ℕ) (P : ℕ) (pairs : List (K × V)) (t : Nodes K V) (root : Option OpaqueNodePtr) (len : ℕ)

@@ -1,5 +1,6 @@
 pub mod MapPairs
 pub mod MapAnswers
+pub mod MadeKeys
 pub mod MapChanges
 pub mod MapItems
 pub mod MapLends

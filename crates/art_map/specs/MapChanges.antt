@@ -18,12 +18,14 @@ use Rattle.art_writing.specs.Points.{IsRefusedFor}
 use Rattle.art_reading.specs.declared.end_node.InsertKind.TheVariants.{Exact}
 use Rattle.art_writing.specs.declared.insert.PrefixInsertResult.{PrefixInsertResult}
 use Rattle.art_writing.specs.declared.insert.PairRefused.{PairRefused}
+use Rattle.art_map.specs.MadeKeys.{IsSourceRefusal}
 use Rattle.art_map.specs.MapAnswers.{IsRefusalOf}
 use Rattle.art_map.specs.MapItems.{keys_of}
 use Rattle.art_map.specs.MapPairs.{HoldsPairs, pairs_at}
 use Rattle.art_map.specs.declared.map.MapInsertError.{MapInsertError}
 use Rattle.art_map.specs.MapCalls.{ChangesBy, IsMakeRefusal}
 use Rattle.art_map.specs.declared.map.MapMakeError.{MapMakeError}
+use Rattle.art_map.specs.declared.map.to_key.MapSourceError.{MapSourceError}
 use Rattle.art_map.specs.declared.map.position.Position.{Position}
 use Rattle.art_map.specs.declared.map.position.Position.TheVariants as positions
 
@@ -119,6 +121,13 @@ module _ {K V : Type 0} (bytes : K → List ℕ) (P : ℕ) (pairs : List (K × V
   HasTried key IsMade (Ok leaf) t root len = HasMade key (λ value. IsMade (Ok value)) (Ok leaf) t root len
   HasTried key IsMade (Err error) t root len =
       HoldsPairs (of_key bytes) P t root len pairs × IsMakeRefusal bytes key IsMade pairs error
+
+  -- the same with a key that is made if it is not stored; if it is not made or not inserted, the pairs are unchanged
+  abbrev pub HasEnteredFrom : K → Type 0 → V → Result LeafPtr (MapSourceError K V) → Nodes K V → Option OpaqueNodePtr → ℕ → Type 0
+  HasEnteredFrom key IsKey value (Ok leaf) t root len =
+      HasEntered key value (Ok leaf) t root len × (has_key (of_key bytes) (bytes key) pairs ≡ false → IsKey)
+  HasEnteredFrom key IsKey value (Err error) t root len =
+      HoldsPairs (of_key bytes) P t root len pairs × IsSourceRefusal bytes key IsKey value pairs error
 
   -- the pair replaced those with related keys; or it is returned, the pairs are unchanged, and not just one is related
   abbrev pub HasPutOver : K → V → Result ℕ (PairRefused K V) → Nodes K V → Option OpaqueNodePtr → ℕ → Type 0

@@ -57,6 +57,7 @@ mod replace;
 mod retain;
 mod split;
 mod texts;
+mod to_key;
 
 pub use art_writing::insert::PairRefused;
 pub use both::BothInsertError;
@@ -69,6 +70,7 @@ pub use parts::{Keys, KeysOf, Values, ValuesOf};
 pub use range::{Range, RangeOf};
 use remove::take_all_below;
 pub use split::SplitRefused;
+pub use to_key::{MapSourceError, ToKey};
 
 /// A pair that was not inserted.
 #[derive(Debug, Drop, Error)]

@@ -10,3 +10,4 @@ mod related;
 mod removals;
 mod set_splits;
 mod sets;
+mod sources;

@@ -1,5 +1,5 @@
 //! Calls of maps of strings by a text, for which no key is made.
-ghost use Rattle.std.specs.Prelude.{◌≡◌, ◌<◌, ◌^◌, [], ◌∷◌, ◌++◌, length, false, is_some, IfErr, IfOk, OnErr, option_copied};
+ghost use Rattle.std.specs.Prelude.{◌≡◌, ◌<◌, ◌^◌, [], ◌∷◌, ◌++◌, length, false, IfErr, IfOk, OnErr, option_copied};
 ghost use Rattle.std.specs.Borrow.{sem};
 ghost use Rattle.std.specs.Option.{option_copied_mut, option_map, unwrap_or};
 ghost use Rattle.art_keys.specs.Ended.{ended};
@@ -9,16 +9,16 @@ ghost use Rattle.art_map.specs.MapAnswers.{value_at};
 ghost use Rattle.art_map.specs.MapItems.{deref_pair};
 ghost use Rattle.art_reading.specs.StandIns.{IsStandIn};
 ghost use Rattle.art_keyed.specs.KeyedPairs.{strings_below, strings_in_front, strings_not_below};
-ghost use Rattle.art_keyed.specs.TextCalls.{IsTextRefusal, without_longest};
-ghost use Rattle.art_keyed.specs.declared.map.texts.TextRefused.TheVariants.{Memory};
+ghost use Rattle.art_keyed.specs.TextCalls.{IsTextRefusal, text_refused, without_longest};
 ghost use Rattle.art_keyed.specs.TextLends.{lends_escaped, lends_escaped_put, lends_longest, lends_text, lends_text_put};
 
-use super::{PairRefused, TreeMap};
+use super::TreeMap;
 use crate::escaped_bytes::EscapedBytes;
+use crate::terminated_text::TerminatedText;
 use art_keys::escaped::Escaped;
 use art_keys::terminated::{Terminated, has_zero};
-use art_map::map::Range;
-use art_nodes::node::{AsBytes, LeafPtr};
+use art_map::map::{MapSourceError, Range};
+use art_nodes::node::AsBytes;
 use art_reading::lookup::EndedQuery;
 use std::alloc::{AllocFailed, Global};
 use std::ops::Bound;
@@ -35,13 +35,17 @@ pub enum TextRefused<V> {
     Memory { value: V },
 }
 
-/// Drops the key, and returns the value.
-impl<K: Drop, V> From<PairRefused<K, V>> for TextRefused<V> {
-    ghost from_gives = { λ refused error. error ≡ Memory refused.value };
+/// Drops the key, if it was made, and returns the value.
+impl<K: Drop, V> From<MapSourceError<K, V>> for TextRefused<V> {
+    ghost from_gives = { λ error refused. refused ≡ text_refused error };
 
-    fn from(refused: PairRefused<K, V>) -> Self {
-        TextRefused::Memory {
-            value: refused.value,
+    fn from(error: MapSourceError<K, V>) -> Self {
+        match error {
+            MapSourceError::NoKey { value } => TextRefused::InnerZero { value },
+            MapSourceError::Memory { value } => TextRefused::Memory { value },
+            MapSourceError::Insert(error) => TextRefused::Memory {
+                value: error.into_pair().value,
+            },
         }
     }
 }
@@ -96,26 +100,9 @@ impl<V: Drop, const P: usize> TreeMap<Terminated, V, P> {
         self.map.get_mut_by(EndedQuery { text, end: 0 })
     }
 
-    // Returns the leaf of a text's key, or `None` if it is not stored.
-    fn leaf_of(&self, text: &[u8]) -> Option<LeafPtr>
-        ensures stored { is_some result ≡ has_key (of_key ended) (ended text.now) self.now }
-        ensures sorted { IsMap (of_key ended) self.now }
-    {
-        self.map.leaf_by(EndedQuery { text, end: 0 })
-    }
-
-    // Returns what `get_text_mut` does. The leaf that has the key is read alone.
-    fn value_near(&mut self, leaf: LeafPtr, text: &[u8]) -> Option<&mut V>
-        ensures* writes_back { sem 𝓛 (lends_text V.row P.row self.entry text.now result) }
-        ensures value { option_copied_mut result ≡ value_at ended (ended text.now) self.old }
-    {
-        self.map
-            .get_mut_near(leaf, &mut EndedQuery { text, end: 0 })
-    }
-
     /// Returns a mutable reference to the value of a text's key. If no equal key is stored, a copy of the text is
-    /// inserted with this value first; a key that is stored stays, with its value. It costs a lookup, and an insertion
-    /// if the text is new.
+    /// inserted with this value first; a key that is stored stays, with its value. It is a single descent, and costs
+    /// what `insert` does; the text is copied only if it is new.
     ///
     /// Fails with `InnerZero` if there is a zero in the text, and with `Memory` if an allocation fails. Both return the
     /// value, and the map is unchanged.
@@ -131,15 +118,8 @@ impl<V: Drop, const P: usize> TreeMap<Terminated, V, P> {
         ensures returned { IfErr result (IsTextRefusal text.now value) }
         ensures refused { OnErr result (has_key (of_key ended) (ended text.now) self.old ≡ false) }
     {
-        if let Some(leaf) = self.leaf_of(text) {
-            return Ok(self.value_near(leaf, text).unwrap());
-        }
-        let key = match Terminated::encode(alloc, text) {
-            Ok(Some(key)) => key,
-            Ok(None) => return Err(TextRefused::InnerZero { value }),
-            Err(_) => return Err(TextRefused::Memory { value }),
-        };
-        Ok(self.get_or_insert(key, value)?)
+        let source = TerminatedText { text };
+        Ok(self.map.get_or_insert_from(alloc, &source, value)?)
     }
 
     /// Returns a mutable reference to the value of the longest string that is a prefix of a text, or equal to it, or
@@ -198,8 +178,8 @@ impl<V: Drop, const P: usize> TreeMap<Terminated, V, P> {
     }
 }
 
-/// Calls by a text, for which no key is made. A text with a byte 0 or 1 is escaped as it is read, and costs two lookups
-/// more. Only `get_text_or_insert` allocates or fails.
+/// Calls by a text, for which no key is made. A text with a byte 0 or 1 is escaped as it is read; reads and `remove_text`
+/// then cost two lookups more. Only `get_text_or_insert` allocates or fails.
 impl<V: Drop, const P: usize> TreeMap<Escaped, V, P> {
     // Returns a query that stands for the key of a text.
     pub(super) fn query_of<'a>(&'a self, text: &'a [u8]) -> EndedQuery<'a>
@@ -265,29 +245,12 @@ impl<V: Drop, const P: usize> TreeMap<Escaped, V, P> {
         ensures* writes_back { sem 𝓛 (lends_escaped V.row P.row self.entry text.now result) }
         ensures value { option_copied_mut result ≡ value_at escape (escape text.now) self.old }
     {
-        let leaf = self.leaf_of(text)?;
-        self.value_near(leaf, text)
-    }
-
-    // Returns the leaf of a text's key, or `None` if it is not stored.
-    fn leaf_of(&self, text: &[u8]) -> Option<LeafPtr>
-        ensures stored { is_some result ≡ has_key (of_key escape) (escape text.now) self.now }
-        ensures sorted { IsMap (of_key escape) self.now }
-    {
-        self.map.leaf_by(self.query_of(text))
-    }
-
-    // Returns what `get_text_mut` does. The leaf that has the key is read alone.
-    fn value_near(&mut self, leaf: LeafPtr, text: &[u8]) -> Option<&mut V>
-        ensures* writes_back { sem 𝓛 (lends_escaped V.row P.row self.entry text.now result) }
-        ensures value { option_copied_mut result ≡ value_at escape (escape text.now) self.old }
-    {
-        self.map.get_mut_near(leaf, &mut EscapedBytes::new(text))
+        self.map.get_mut_by_bytes(&mut EscapedBytes::new(text))
     }
 
     /// Returns a mutable reference to the value of a text's key. If no equal key is stored, the text's key is inserted
-    /// with this value first; a key that is stored stays, with its value. It costs what `get_text_mut` does, and an
-    /// insertion if the text is new.
+    /// with this value first; a key that is stored stays, with its value. It is a single descent, and costs what
+    /// `insert` does; the key is made only if the text is new.
     ///
     /// Fails only if the text is new and an allocation fails. The error returns the value, and the map is unchanged.
     pub fn get_text_or_insert(
@@ -303,13 +266,8 @@ impl<V: Drop, const P: usize> TreeMap<Escaped, V, P> {
         ensures refused { OnErr result
             (has_key (of_key escape) (escape text.now) self.old ≡ false) }
     {
-        if let Some(leaf) = self.leaf_of(text) {
-            return Ok(self.value_near(leaf, text).unwrap());
-        }
-        let Ok(key) = Escaped::encode(alloc, text) else {
-            return Err(AllocFailed { value });
-        };
-        Ok(self.get_or_insert(key, value)?)
+        let source = EscapedBytes::new(text);
+        Ok(self.map.get_or_insert_from(alloc, &source, value)?)
     }
 
     /// Removes the pair of a text's key, and returns it, or `None` if it is not stored.

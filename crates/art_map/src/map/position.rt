@@ -1,19 +1,20 @@
 //! Where a key is in a map, or is inserted.
-ghost use Rattle.std.specs.Prelude.{◌≡◌, ◌<◌, ℕ, Some, IsTrue, false, length};
+ghost use Rattle.std.specs.Prelude.{◌≡◌, ℕ, IfErr, IfOk, IfSome, IsNone, IsTrue, Some, false, true};
 ghost use Rattle.std.specs.Borrow.{Bor};
 ghost use Rattle.std.specs.Fn.{FnOnceReturnsAt};
-ghost use Rattle.art_model.specs.Pairs.{has_key, of_key};
-ghost use Rattle.art_map.specs.MapChanges.{HasEntered, HasKeyAt, HasMade, HasTried, IsLeafOfKey, IsPositionOf};
+ghost use Rattle.art_model.specs.Pairs.{has_key, is_conflict, of_key};
+ghost use Rattle.art_map.specs.MapChanges.{HasEntered, HasEnteredFrom, HasKeyAt, HasMade, HasTried, IsLeafOfKey, IsPositionOf, NamesLeafOf};
 ghost use Rattle.art_map.specs.MapPairs.{HoldsPairs, pairs_at};
 
-use super::{MapInsertError, MapMakeError, one_more, without_memory};
+use super::{MapInsertError, MapMakeError, MapSourceError, ToKey, one_more, without_memory};
 use art_nodes::node::{AsBytes, LeafPtr, OpaqueNodePtr, OptionalLeafPtr};
 use art_nodes::store::NodeStore;
-use art_reading::lookup::{KeyBytes, search_for};
-use art_reading::stand_in::stand_in_unchecked;
+use art_reading::lookup::KeyBytes;
 use art_writing::insert::{
     InsertKind, InsertPoint, InsertSearchError, plant, search_for_insert_point,
+    search_for_insert_point_by,
 };
+use std::alloc::Global;
 
 // Where a key is in a tree, or is inserted.
 #[derive(Drop)]
@@ -83,56 +84,82 @@ fn has_key_at<K: AsBytes + Drop, V: Drop, const P: usize>(
     node.key.as_bytes() == key_bytes
 }
 
-// The leaf of a key, or `None` if it is not stored. A leaf that may have the key is read first.
-pub(super) fn leaf_near<B: KeyBytes, K: AsBytes + Drop, V: Drop, const P: usize>(
+// The leaf of a key whose bytes need not stand in a slice. If it is not stored, where it is inserted, or `None` if it
+// conflicts with a stored key.
+fn position_by<B: KeyBytes + Drop, K: AsBytes + Drop, V: Drop, const P: usize>(
+    store: &NodeStore<K, V, P>,
+    root: Option<OpaqueNodePtr>,
+    key: &mut B,
+) -> Result<LeafPtr, Option<Position>>
+    requires { (len : ℕ) × HoldsPairs (of_key K.bytes) P store.now root len
+        (pairs_at store.now root) }
+    ensures leaf { IfOk result (NamesLeafOf K.bytes P store.now root (B.key key.old)) }
+    ensures new { IfErr result (λ position.
+        has_key (of_key K.bytes) (B.key key.old) (pairs_at store.now root) ≡ false) }
+    ensures position { IfErr result (λ position. IfSome position
+        (IsPositionOf K.bytes P store.now root (B.key key.old))) }
+    ensures conflict { IfErr result (λ position. IsNone position →
+        is_conflict (of_key K.bytes) (B.key key.old) (pairs_at store.now root) ≡ true) }
+{
+    let Some(name) = root else {
+        return Err(Some(Position::Bare));
+    };
+    let Some(point) = search_for_insert_point_by(store, name, key) else {
+        return Err(None);
+    };
+    match point.insert_kind {
+        InsertKind::Exact { leaf_node_ptr } => Ok(leaf_node_ptr),
+        _ => Err(Some(Position::Point(point))),
+    }
+}
+
+// The leaf of a key whose bytes need not stand in a slice, or `None` if it is not stored.
+pub(super) fn leaf_by<B: KeyBytes + Drop, K: AsBytes + Drop, V: Drop, const P: usize>(
     store: &NodeStore<K, V, P>,
     root: OpaqueNodePtr,
-    leaf: LeafPtr,
-    bytes: &mut B,
+    key: &mut B,
 ) -> OptionalLeafPtr
-    requires holds { (len : ℕ) × HoldsPairs (of_key K.bytes) P store.now (Some root) len
+    requires { (len : ℕ) × HoldsPairs (of_key K.bytes) P store.now (Some root) len
         (pairs_at store.now (Some root)) }
-    requires some { 0 < length (B.key bytes.old) }
-    ensures { IsLeafOfKey K.bytes P store.now root (B.key bytes.old) result }
+    ensures { IsLeafOfKey K.bytes P store.now root (B.key key.old) result }
 {
-    if has_bytes_at(store, leaf, bytes) {
-        return Some(leaf);
+    match position_by(store, Some(root), key) {
+        Ok(leaf) => Some(leaf),
+        Err(_position) => None,
     }
-    let query = stand_in_unchecked(store, root, bytes);
-    search_for(store, root, query)
 }
 
-// Returns whether this leaf exists and has the key with these bytes.
-fn has_bytes_at<B: KeyBytes, K: AsBytes + Drop, V: Drop, const P: usize>(
-    store: &NodeStore<K, V, P>,
-    leaf: LeafPtr,
-    bytes: &mut B,
-) -> bool
-    ensures has { IsTrue result → HasKeyAt K.bytes store.now leaf (B.key bytes.old) }
-    ensures same { B.key bytes.new ≡ B.key bytes.old }
+// The leaf of a key: the one that it has, or a new one with the value at its place. The key is made if it is new.
+pub(super) fn leaf_from<S: ToKey<K> + Drop, K: AsBytes + Drop, V: Drop, const P: usize>(
+    store: &mut NodeStore<K, V, P>,
+    root: &mut Option<OpaqueNodePtr>,
+    len: &mut usize,
+    alloc: Global,
+    source: &S,
+    value: V,
+) -> Result<LeafPtr, MapSourceError<K, V>>
+    requires { HoldsPairs (of_key K.bytes) P store.old root.old len.old
+        (pairs_at store.old root.old) }
+    ensures { HasEnteredFrom K.bytes P (pairs_at store.old root.old) (S.made source.now)
+        (S.is_key source.now) value result store.new root.new len.new }
 {
-    let Some(node) = store.leaf(leaf) else {
-        return false;
+    let position = match position_by(store, *root, &mut source.again()) {
+        Ok(leaf) => return Ok(leaf),
+        Err(position) => position,
     };
-    are_bytes(node.key.as_bytes(), bytes)
-}
-
-// Returns whether these are the bytes of a key.
-fn are_bytes<B: KeyBytes>(key: &[u8], bytes: &mut B) -> bool
-    ensures equal { IsTrue result → key.now ≡ B.key bytes.old }
-    ensures same { B.key bytes.new ≡ B.key bytes.old }
-{
-    let mut place = 0;
-    while place < key.len() {
-        let Some(byte) = bytes.byte_after(place, 0) else {
-            return false;
-        };
-        if byte != key[place] {
-            return false;
-        }
-        place += 1;
+    let key = match source.to_key(alloc) {
+        Ok(Some(key)) => key,
+        Ok(None) => return Err(MapSourceError::NoKey { value }),
+        Err(_error) => return Err(MapSourceError::Memory { value }),
+    };
+    let position = match position {
+        Some(position) => position,
+        None => position_of(store, *root, key.as_bytes()),
+    };
+    match enter(store, root, len, position, key, value) {
+        Ok(entered) => Ok(entered),
+        Err(error) => Err(MapSourceError::Insert(error)),
     }
-    bytes.byte_after(place, 0).is_none()
 }
 
 // The leaf of a key: the one that it has, or a new one with the value at its place.

@@ -1,5 +1,5 @@
 //! Calls of a map by a key that is not built, such as a text and the byte that ends it.
-ghost use Rattle.std.specs.Prelude.{◌≡◌, ◌<◌, ◌^◌, [], ◌∷◌, ◌++◌, length, is_some, option_copied};
+ghost use Rattle.std.specs.Prelude.{◌≡◌, ◌<◌, ◌^◌, [], ◌∷◌, ◌++◌, length, option_copied};
 ghost use Rattle.std.specs.Borrow.{sem};
 ghost use Rattle.std.specs.Option.{option_copied_mut, option_map};
 ghost use Rattle.std.specs.Range.Bound.{bound_map};
@@ -10,9 +10,9 @@ ghost use Rattle.art_map.specs.MapItems.{deref_pair};
 ghost use Rattle.art_map.specs.MapLends.{lends_value};
 ghost use Rattle.art_reading.specs.StandIns.{IsStandIn};
 
-use super::position::leaf_near;
+use super::position::leaf_by;
 use super::{ByteMap, Range, RangeOf, take_bytes, take_key};
-use art_nodes::node::{AsBytes, LeafPtr};
+use art_nodes::node::AsBytes;
 use art_reading::iterator::RawIterator;
 use art_reading::lookup::{Asked, EndedQuery, KeyBytes, KeyQuery, find_unchecked, search_for};
 use art_reading::range::range_unchecked;
@@ -49,23 +49,14 @@ impl<K: AsBytes + Drop, V: Drop, const P: usize> ByteMap<K, V, P> {
         self.store.value_mut(leaf)
     }
 
-    /// Returns the leaf of the key that is asked for, or `None` if it is not stored. It costs what `get` does.
-    pub fn leaf_by<Q: KeyQuery>(&self, query: Q) -> Option<LeafPtr>
-        ensures stored { is_some result ≡ has_key (of_key K.bytes) (Q.key query) self.now }
-        ensures sorted { IsMap (of_key K.bytes) self.now }
-    {
-        search_for(&self.store, self.root?, query)
-    }
-
-    /// Returns the value of a key as `&mut V`, or `None` if it is not stored. The leaf is one that may have the key, such
-    /// as `leaf_by` returns. If it has, it alone is read; else the key is looked up.
-    pub fn get_mut_near<B: KeyBytes>(&mut self, leaf: LeafPtr, bytes: &mut B) -> Option<&mut V>
-        requires { 0 < length (B.key bytes.old) }
+    /// Returns what `get_mut_by` does, for a key whose bytes need not stand in a slice. It is a single descent, and
+    /// allocates nothing.
+    pub fn get_mut_by_bytes<B: KeyBytes + Drop>(&mut self, bytes: &mut B) -> Option<&mut V>
         ensures* writes_back { sem 𝓛
             (lends_value K.row V.row P.row K.AsBytes self.entry (B.key bytes.old) result) }
         ensures value { option_copied_mut result ≡ value_at K.bytes (B.key bytes.old) self.old }
     {
-        let leaf = leaf_near(&self.store, self.root?, leaf, bytes)?;
+        let leaf = leaf_by(&self.store, self.root?, bytes)?;
         self.store.value_mut(leaf)
     }
 

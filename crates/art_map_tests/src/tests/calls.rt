@@ -76,31 +76,3 @@ fn a_clone_goes_its_own_way(rt: HostRuntime) -> Result<(), Fail> {
         (Some(([Some(1), Some(5)], 4)), 5),
     )
 }
-
-// Adds ten to the values of three keys, one of which is not stored, from the leaf of the first.
-fn add_near(map: &mut Map) -> bool {
-    let Some(leaf) = map.leaf_by([1].as_slice()) else {
-        return false;
-    };
-    for byte in [1u8, 9, 2] {
-        let key = [byte];
-        if let Some(value) = map.get_mut_near(leaf, &mut key.as_slice()) {
-            *value = value.wrapping_add(10);
-        }
-    }
-    true
-}
-
-#[test]
-fn a_value_is_found_from_a_leaf(rt: HostRuntime) -> Result<(), Fail> {
-    let mut map = ByteMap::new(rt.alloc());
-    fill(&mut map, 3);
-    let is_found = add_near(&mut map);
-    let are_apart = map.leaf_by([1].as_slice()) != map.leaf_by([2].as_slice());
-    let taken = map.remove_by_bytes(&mut [1].as_slice());
-    let again = map.remove_by_bytes(&mut [1].as_slice());
-    same(
-        (is_found, are_apart, taken, again, map.get(&[2]).copied()),
-        (true, true, Some(([1], 11)), None, Some(12)),
-    )
-}

@@ -1,46 +1,41 @@
-use Rattle.std.proofs.Common.{◌≡◌, ap, is_some, refl, sym, ◌∙◌}
+use Rattle.std.proofs.Common.{◌≡◌, ℕ, Err, List, Ok, Result, ap₂, refl, ◌∙◌}
+use Rattle.std.specs.Bool.{⊤}
 use Rattle.std.specs.Option.{unwrap_or}
+use Rattle.std.specs.Result.{IsErrAnd}
+use Rattle.art_keys.specs.EscapeLaws.{escape_no_prefixes}
 use Rattle.art_keys.specs.Escapes.{escape}
 use Rattle.art_model.specs.Pairs.{of_key, put}
-use Rattle.art_map.specs.MapAnswers.{value_at, with_value_at}
-use Rattle.art_map.specs.MapChanges.{put_new}
-use Rattle.art_map.proofs.Puts.{is_some-map}
-use Rattle.art_map.proofs.ValueLaws.{new_value, new_written}
-use Rattle.art_map.proofs.Written.{lends_same, one_value}
+use Rattle.art_map.specs.MapAnswers.{value_at}
+use Rattle.art_map.proofs.Written.{lends_same}
+use Rattle.art_keyed.proofs.Keyed.{put_keeps, source_refused}
 use Rattle.art_keyed.proofs.map.texts.TreeMap+Escaped+V+P.get_text_or_insert.Goals as goal
 
-pub unwrap-requires : goal.unwrap-requires
-unwrap-requires g c =
-    let stored = sym c.in-Some.ensures.stored in
-    let stays : put_new escape (c.args.text.now, c.args.value) c.args.self.now ≡ c.args.self.now = rw stored refl in
-    let found = c.value_near.ensures.value ∙ ap (value_at escape (escape c.args.text.now)) (sym stays)
-    ∙ new_value escape c.args.text.now c.args.self.now c.leaf_of.ensures.sorted c.args.value in
-    sym (is_some-map (λ lent. lent.now) c.value_near.result) ∙ ap is_some found
+-- the error of a result, and what is told of it
+the_error : {A E : Type 0} {P : E → Type 0} (result : Result A E) → IsErrAnd result P → (error : E) × (result ≡ Err error) × P error
+the_error (Ok value) is = absurd is
+the_error (Err error) is = (error, refl, is)
 
-pub returns-in-Some : goal.returns-in-Some
-returns-in-Some g c =
-    let stored = sym c.in-Some.ensures.stored in
-    let stays : put_new escape (c.args.text.now, c.args.value) c.args.self.now ≡ c.args.self.now = rw stored refl in (
-      lends_same (λ w. ap (with_value_at escape (escape c.args.text.now) w) (sym stays)
-          ∙ new_written escape c.args.text.now c.args.self.now c.leaf_of.ensures.sorted c.args.value w),
-      record {
-        writes_back = tt;
-        value = one_value ((rw c.unwrap.ensures at c.value_near.ensures.value) ∙ ap (value_at escape (escape c.args.text.now)) (sym stays)
-            ∙ new_value escape c.args.text.now c.args.self.now c.leaf_of.ensures.sorted c.args.value);
-        returned = tt;
-        refused = tt;
-      },
+pub returns-in_err-get_or_insert_from : goal.returns-in_err-get_or_insert_from
+returns-in_err-get_or_insert_from g c =
+    let (error, result_is, value_is) = the_error c.from_residual.result c.from_residual.ensures.1 in
+    let told = source_refused g.row.V.Denot (λ (text : List ℕ). ⊤) escape escape_no_prefixes c.new-source.result c.args.value c.self.inside.map c.self.invariant
+    c.in_err-get_or_insert_from.field-0.0 c.in_err-get_or_insert_from.ensures.refused in
+    rw (result_is, ← c.self.view_is, ← c.new-source.ensures) (
+      refl,
+      record { writes_back = tt; value = tt; returned = value_is ∙ told.0; refused = told.1 },
     )
+
+pub invariant_of-self-lent : goal.invariant_of-self-lent
+invariant_of-self-lent g c w = put_keeps g.row.V.Denot (λ (text : List ℕ). ⊤) escape c.new-source.result w c.self.inside.map tt c.self.invariant
 
 pub returns : goal.returns
-returns g c =
-    let same : c.in-Ok.key ≡ c.args.text.now = c.in-Ok.ensures in (
-      lends_same (λ w. ap (λ key. put (of_key escape) (key, w) c.args.self.now) same),
-      record {
-        writes_back = tt;
-        value = c.in_ok-get_or_insert.ensures.value
-            ∙ ap (λ key. unwrap_or (value_at escape (escape key) c.args.self.now) c.args.value) same;
-        returned = tt;
-        refused = tt;
-      },
-    )
+returns g c = (
+  lends_same (λ w. ap₂ (λ text pairs. put (of_key escape) (text, w) pairs) c.new-source.ensures c.self.view_is),
+  record {
+    writes_back = tt;
+    value = c.in_ok-get_or_insert_from.ensures.value
+        ∙ ap₂ (λ text pairs. unwrap_or (value_at escape (escape text) pairs) c.args.value) c.new-source.ensures c.self.view_is;
+    returned = tt;
+    refused = tt;
+  },
+)

@@ -1,4 +1,4 @@
-use Rattle.std.proofs.Common.{◌<◌, ap, length, rules, subst, sym, ◌∙◌}
+use Rattle.std.proofs.Common.{ap, rules, sym, ◌∙◌}
 use Rattle.art_model.specs.Pairs.{of_key, remove_key, remove_reply}
 use Rattle.art_keys.specs.Escapes.{escape}
 use Rattle.art_keys.specs.EscapeLaws.{escape-plain}
@@ -18,14 +18,14 @@ returns-then-is_plain-clause-removed g c =
     ∙ ap (remove_reply (of_key escape) (escape c.args.text.now)) c.self.view_is
 
 pub remove_by_bytes-requires : goal.remove_by_bytes-requires
-remove_by_bytes-requires g c = (search rules, subst (λ key. 0 < length key) (sym c.new.ensures) (escape_some c.args.text.now))
+remove_by_bytes-requires g c = (search rules, escape_some c.new.result)
 
 pub returns-clause-pairs : goal.returns-clause-pairs
 returns-clause-pairs g c =
-    c.remove_by_bytes.ensures.pairs ∙ ap (λ key. remove_key (of_key escape) key c.self.inside.map) c.new.ensures
+    c.remove_by_bytes.ensures.pairs ∙ ap (λ text. remove_key (of_key escape) (escape text) c.self.inside.map) c.new.ensures
     ∙ ap (remove_key (of_key escape) (escape c.args.text.now)) c.self.view_is
 
 pub returns-clause-removed : goal.returns-clause-removed
 returns-clause-removed g c =
-    c.remove_by_bytes.ensures.removed ∙ ap (λ key. remove_reply (of_key escape) key c.self.inside.map) c.new.ensures
+    c.remove_by_bytes.ensures.removed ∙ ap (λ text. remove_reply (of_key escape) (escape text) c.self.inside.map) c.new.ensures
     ∙ ap (remove_reply (of_key escape) (escape c.args.text.now)) c.self.view_is

@@ -1,45 +1,41 @@
-use Rattle.std.proofs.Common.{◌≡◌, ap, is_some, refl, sym, ◌∙◌}
-use Rattle.std.specs.Option.{unwrap_or}
-use Rattle.art_keys.specs.Ended.{ended}
-use Rattle.art_model.specs.Pairs.{of_key, put}
-use Rattle.art_map.specs.MapAnswers.{value_at, with_value_at}
-use Rattle.art_map.specs.MapChanges.{put_new}
-use Rattle.art_map.proofs.Puts.{is_some-map}
-use Rattle.art_map.proofs.ValueLaws.{new_value, new_written}
-use Rattle.art_map.proofs.Written.{lends_same, one_value}
+use Rattle.std.proofs.Common.{◌≡◌, ℕ, Err, List, Ok, Result, ap, refl}
+use Rattle.std.specs.Result.{IsErrAnd}
+use Rattle.art_keys.specs.Ended.{HasNoZero, ended}
+use Rattle.art_keys.specs.EndedLaws.{ended_no_prefixes}
+use Rattle.art_map.specs.MadeKeys.{IsSourceRefusal}
+use Rattle.art_map.specs.declared.map.to_key.MapSourceError.{MapSourceError}
+use Rattle.art_map.specs.declared.map.to_key.MapSourceError.TheVariants.{Insert, Memory, NoKey}
+use Rattle.art_keyed.specs.KeyedPairs.{HaveKeys}
+use Rattle.art_keyed.specs.TextCalls.{IsTextRefusal, text_refused}
+use Rattle.art_keyed.proofs.Keyed.{new_put_keeps, source_refused}
 use Rattle.art_keyed.proofs.map.texts.TreeMap+Terminated+V+P.get_text_or_insert.Goals as goal
 
-pub unwrap-requires : goal.unwrap-requires
-unwrap-requires g c =
-    let stored = sym c.in-Some.ensures.stored in
-    let stays : put_new ended (c.args.text.now, c.args.value) c.args.self.now ≡ c.args.self.now = rw stored refl in
-    let found = c.value_near.ensures.value ∙ ap (value_at ended (ended c.args.text.now)) (sym stays)
-    ∙ new_value ended c.args.text.now c.args.self.now c.leaf_of.ensures.sorted c.args.value in
-    sym (is_some-map (λ lent. lent.now) c.value_near.result) ∙ ap is_some found
+-- an error that is told is the one that is returned
+this_error : {A E : Type 0} (result : Result A E) (error : E) → IsErrAnd result (λ other. other ≡ error) → result ≡ Err error
+this_error (Ok value) error is = absurd is
+this_error (Err other) error is = ap Err is
 
-pub returns-in-Some : goal.returns-in-Some
-returns-in-Some g c =
-    let stored = sym c.in-Some.ensures.stored in
-    let stays : put_new ended (c.args.text.now, c.args.value) c.args.self.now ≡ c.args.self.now = rw stored refl in (
-      lends_same (λ w. ap (with_value_at ended (ended c.args.text.now) w) (sym stays)
-          ∙ new_written ended c.args.text.now c.args.self.now c.leaf_of.ensures.sorted c.args.value w),
+-- the error of a map of bytes is one of texts
+text_told : {V : Type 0} (text : List ℕ) (value : V) (pairs : List (List ℕ × V)) → HaveKeys HasNoZero pairs →
+    (error : MapSourceError (List ℕ) V) → IsSourceRefusal ended text (HasNoZero text) value pairs error → IsTextRefusal text value (text_refused error)
+text_told text value pairs all (NoKey given) told = (told.0, told.1)
+text_told text value pairs all (Memory given) told = told.0
+text_told {V} text value pairs all (Insert error) told = (source_refused V HasNoZero ended ended_no_prefixes text value pairs all (Insert error) told).0
+
+pub returns-in_err-get_or_insert_from : goal.returns-in_err-get_or_insert_from
+returns-in_err-get_or_insert_from g c =
+    let error = c.in_err-get_or_insert_from.field-0.0 in
+    let told = c.in_err-get_or_insert_from.ensures.refused in
+    rw (this_error c.from_residual.result (text_refused error) c.from_residual.ensures.1) (rw (← c.self.view_is) (
+      refl,
       record {
         writes_back = tt;
-        value = one_value ((rw c.unwrap.ensures at c.value_near.ensures.value) ∙ ap (value_at ended (ended c.args.text.now)) (sym stays)
-            ∙ new_value ended c.args.text.now c.args.self.now c.leaf_of.ensures.sorted c.args.value);
-        returned = tt;
-        refused = tt;
+        value = tt;
+        returned = text_told c.args.text.now c.args.value c.self.inside.map c.self.invariant error told;
+        refused = (source_refused g.row.V.Denot HasNoZero ended ended_no_prefixes c.args.text.now c.args.value c.self.inside.map c.self.invariant error told).1;
       },
-    )
+    ))
 
-pub returns : goal.returns
-returns g c =
-    let same : c.in-Ok-Some.key ≡ c.args.text.now = rw c.in-Ok-Some.field-0-is at c.in-Ok-Some.ensures.key in (
-      lends_same (λ w. ap (λ key. put (of_key ended) (key, w) c.args.self.now) same),
-      record {
-        writes_back = tt;
-        value = c.in_ok-get_or_insert.ensures.value ∙ ap (λ key. unwrap_or (value_at ended (ended key) c.args.self.now) c.args.value) same;
-        returned = tt;
-        refused = tt;
-      },
-    )
+pub invariant_of-self-lent : goal.invariant_of-self-lent
+invariant_of-self-lent g c w =
+    new_put_keeps g.row.V.Denot HasNoZero ended c.args.text.now w c.self.inside.map c.in_ok-get_or_insert_from.ensures.is_key c.self.invariant

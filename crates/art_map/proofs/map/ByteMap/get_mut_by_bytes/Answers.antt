@@ -7,14 +7,14 @@ use Rattle.art_map.specs.MapPairs.{HoldsPairs, pairs_at}
 use Rattle.art_map.proofs.Puts.{is_some-map}
 use Rattle.art_map.proofs.Views.{holds, view_of}
 use Rattle.art_map.proofs.Written.{is_there, lends_same, some_of, value_read, value_written}
-use Rattle.art_map.proofs.map.ByteMap.get_mut_near.Goals as goal
+use Rattle.art_map.proofs.map.ByteMap.get_mut_by_bytes.Goals as goal
 
-pub leaf_near-requires : goal.leaf_near-requires
-leaf_near-requires g c =
+pub leaf_by-requires : goal.leaf_by-requires
+leaf_by-requires g c =
     let s = c.self.inside.store in
     let len = c.self.inside.len in
     let holds = subst (λ r. HoldsPairs (of_key g.K.AsBytes.bytes) g.row.P s r len (pairs_at s r)) c.in_ok-self.was c.self.invariant in
-    (search rules, ((len, holds), c.requires))
+    (search rules, (len, holds))
 
 pub returns-in_err-leaf : goal.returns-in_err-leaf
 returns-in_err-leaf g c =
@@ -24,7 +24,10 @@ returns-in_err-leaf g c =
     let none = subst (λ r. with_key (of_key bytes) key (pairs_at s r) ≡ []) (sym c.in_ok-self.was) c.in_err-leaf.ensures in
     rw c.from_residual-in_err-leaf.ensures (
       ap (λ s. inr s) c.self.view_is,
-      record { writes_back = tt; value = sym (ap (λ xs. option_map (λ x. x.1) (first_of xs)) none) ∙ ap (value_at bytes key) c.self.view_is },
+      record {
+        writes_back = tt;
+        value = sym (ap (λ xs. option_map (λ x. x.1) (first_of xs)) none) ∙ ap (value_at bytes key) c.self.view_is;
+      },
     )
 
 pub invariant_of-self-lent : goal.invariant_of-self-lent
@@ -42,7 +45,8 @@ returns g c =
     let s = c.self.inside.store in
     let named = subst (λ r. NamesLeafOf bytes g.row.P s r key c.in_ok-leaf.leaf) (sym c.in_ok-self.was) c.in_ok-leaf.ensures in
     let left = λ (w : g.row.V.Denot).
-    view_of (of_key bytes) g.row.P _ (value_written bytes g.row.P key named c.self.invariant w) ∙ ap (with_value_at bytes key w) c.self.view_is in
+    view_of (of_key bytes) g.row.P _ (value_written bytes g.row.P key named c.self.invariant w)
+    ∙ ap (with_value_at bytes key w) c.self.view_is in
     let lent = c.value_mut.ensures.value in
     let (r, is) = some_of c.value_mut.result
     (sym (is_some-map (λ x. x.now) c.value_mut.result) ∙ ap is_some lent ∙ is_some-map (λ node. node.value) _

@@ -1,7 +1,7 @@
 use Rattle.std.proofs.Common.{◌≡◌, ◌-◌, ◌≤◌, drop}
 use Rattle.art_keys.specs.Escapes.{escape}
 use Rattle.art_keyed.specs.EscapedBytes.{left_of}
-use Rattle.art_keyed.proofs.escaped_bytes.EscapedBytesKeyBytes.byte_after.Given as goal
+use Rattle.art_keyed.proofs.escaped_bytes.EscapedBytes.escaped_byte_after.Given as goal
 
 abbrev pub invariant-loop-at : goal.invariant-loop-at
 invariant-loop-at l = record {
