@@ -279,9 +279,9 @@ fn step_past_prefix<B: KeyBytes, const P: usize>(
         (depth + prefix_len + 1) }
     ensures same { B.key key.new ≡ B.key key.old }
 {
-    let next = key.byte_after(depth, prefix_len);
-    let place = depth + prefix_len;
-    let Some(byte) = next else {
+    // The sum is one of places of the key, whose number fits.
+    let place = depth.wrapping_add(prefix_len);
+    let Some(byte) = key.byte_after(place, 0) else {
         return SearchStep::End {
             insert_kind: None,
             key_bytes_used: place.saturating_sub(1),
@@ -363,8 +363,8 @@ fn match_full_prefix<B: KeyBytes + Drop, K: AsBytes + Drop, V: Drop, const P: us
     if len <= P {
         return match_prefix(node.read_prefix(), key, depth, None);
     }
-    let mut again = key.again();
-    let (result, more) = match_long_prefix(store, root, name, node, &mut again, depth, guide);
+    let again = key.again();
+    let (result, more) = match_long_prefix(store, root, name, node, again, depth, guide);
     visits.add(more);
     result
 }
@@ -373,12 +373,12 @@ fn match_full_prefix<B: KeyBytes + Drop, K: AsBytes + Drop, V: Drop, const P: us
 // searched for if there is none yet. This is a call, so that the loops into which `match_full_prefix` is inlined stay
 // small.
 #[inline(never)]
-fn match_long_prefix<B: KeyBytes, K: AsBytes + Drop, V: Drop, const P: usize>(
+fn match_long_prefix<B: KeyBytes + Drop, K: AsBytes + Drop, V: Drop, const P: usize>(
     store: &NodeStore<K, V, P>,
     root: OpaqueNodePtr,
     name: InnerPtr,
     node: InnerRef<'_, P>,
-    key: &mut B,
+    key: B,
     depth: usize,
     guide: &mut OptionalLeafPtr,
 ) -> (Result<PrefixMatch, ExplicitMismatch>, Visits)
@@ -387,28 +387,29 @@ fn match_long_prefix<B: KeyBytes, K: AsBytes + Drop, V: Drop, const P: usize>(
     requires node { Some (ref_view node) ≡ map.get store.now.inners name }
     requires long { P < (ref_view node).prefix.len }
     requires at { (path : TreePath) × ForTree (of_key K.bytes) P store.now root
-        (λ pairs layout. IsAt (of_key K.bytes) P (B.key key.old) layout
+        (λ pairs layout. IsAt (of_key K.bytes) P (B.key key) layout
         path (inner_name name) depth) }
     requires guide { ForTree (of_key K.bytes) P store.now root (λ pairs layout.
-        MayGuide (of_key K.bytes) (B.key key.old) layout guide.old) }
+        MayGuide (of_key K.bytes) (B.key key) layout guide.old) }
     ensures guide { ForTree (of_key K.bytes) P store.now root (λ pairs layout.
-        MayGuide (of_key K.bytes) (B.key key.old) layout guide.new) }
+        MayGuide (of_key K.bytes) (B.key key) layout guide.new) }
     ensures visits { IsPrefixCost store.now root (inner_name name) guide.old guide.new
         result.0 result.1 }
     ensures compared { (path : TreePath) → ForTree (of_key K.bytes) P store.now root
-        (λ pairs layout. (at : IsAt (of_key K.bytes) P (B.key key.old) layout
+        (λ pairs layout. (at : IsAt (of_key K.bytes) P (B.key key) layout
         path (inner_name name) depth) →
-        IsCompared (of_key K.bytes) P (B.key key.old) at.node depth result.0) }
+        IsCompared (of_key K.bytes) P (B.key key) at.node depth result.0) }
 {
+    let mut key = key;
     let len = node.prefix_len();
     let opaque = name.to_opaque();
     let mut visits = Visits::new();
-    let read_from = guide_from(store, root, key, opaque, depth, *guide, &mut visits);
+    let read_from = guide_from(store, root, &mut key, opaque, depth, *guide, &mut visits);
     *guide = Some(read_from);
     let leaf = store.leaf_at(read_from);
     visits.count_one();
     let prefix = &leaf.key.as_bytes()[depth..depth + len];
-    match match_prefix(prefix, key, depth, None) {
+    match match_prefix(prefix, &mut key, depth, None) {
         Ok(matched) => (Ok(matched), visits),
         Err(mismatch) => {
             let (least, more) = first_below_visiting(store, opaque);

@@ -16,7 +16,7 @@ guide_from-read_from-requires g c =
         (
           λ pairs layout by. (
             path,
-            subst (λ n. IsAt (of_key g.K.AsBytes.bytes) g.row.P (g.B.KeyBytes.key c.args.key.now) layout path n c.args.depth)
+            subst (λ n. IsAt (of_key g.K.AsBytes.bytes) g.row.P (g.B.KeyBytes.key c.args.key) layout path n c.args.depth)
                 (sym c.to_opaque-opaque.ensures) (at pairs layout by),
           ),
           c.requires.guide,
@@ -58,14 +58,14 @@ pub returns-in-Ok-clause-compared : goal.returns-in-Ok-clause-compared
 returns-in-Ok-clause-compared g c path pairs layout by at =
     matches_read (part_there by at refl) c.requires.inner c.requires.node c.leaf_at-leaf.result.now
     (guide_is by (c.guide_from-read_from.ensures.guide pairs layout by) at (sym c.leaf_at-leaf.ensures))
-    (g.B.KeyBytes.key c.args.key.now) refl c.prefix_len-len.ensures c.as_bytes.ensures refl
+    (g.B.KeyBytes.key c.args.key) refl c.prefix_len-len.ensures c.as_bytes.ensures refl
     (ap (drop c.args.depth) c.guide_from-read_from.ensures.same) c.in-Ok.ensures.len c.in-Ok.ensures.front
 
-pub returns-in-Err-clause-compared : goal.returns-in-Err-clause-compared
-returns-in-Err-clause-compared g c path pairs layout by at =
+pub returns-clause-compared : goal.returns-clause-compared
+returns-clause-compared g c path pairs layout by at =
     parts_read (part_there by at refl) c.requires.inner c.requires.node c.leaf_at-leaf.result.now
     (guide_is by (c.guide_from-read_from.ensures.guide pairs layout by) at (sym c.leaf_at-leaf.ensures))
-    (g.B.KeyBytes.key c.args.key.now) refl c.prefix_len-len.ensures c.as_bytes.ensures refl (ap (drop c.args.depth) c.guide_from-read_from.ensures.same)
+    (g.B.KeyBytes.key c.args.key) refl c.prefix_len-len.ensures c.as_bytes.ensures refl (ap (drop c.args.depth) c.guide_from-read_from.ensures.same)
     (let long = c.requires.long in let l = c.prefix_len-len.ensures in omega arith) c.in-Err.ensures.shared c.in-Err.ensures.byte refl
     (c.first_below_visiting-more.ensures.leaf at.node (is_full (part_there by at refl) c.requires.inner c.to_opaque-opaque.ensures))
 
@@ -84,8 +84,8 @@ returns-in-Ok-clause-visits g c =
     let seen = c.count_one.ensures in
     omega arith
 
-pub returns-in-Err-clause-visits : goal.returns-in-Err-clause-visits
-returns-in-Err-clause-visits g c =
+pub returns-clause-visits : goal.returns-clause-visits
+returns-clause-visits g c =
     let known = c.guide_from-read_from.ensures.visits.is_number in
     let found = c.guide_from-read_from.ensures.visits.counted in
     let seen = c.count_one.ensures in
