@@ -37,14 +37,6 @@ first_left key at place byte same is =
     ap (λ n. get_or key n 0) (omega arith) ∙ sym (get_or-drop at key 0 0) ∙ get_or_from_slice_get (drop at key) 0 byte 0 is in
     ap (slice_get key) (sym same) ∙ slice_get-get_or key at 0 (omega arith) ∙ ap Some get
 
--- a key has at least the zero at its end
-pub escape_some : (text : List ℕ) → 0 < length (escape text)
-escape_some [] = omega arith
-escape_some (byte ∷ text) =
-    let rest = escape_some text in
-    let both = length-append (escape_byte byte) (escape text) in
-    omega arith
-
 -- whether two slices share the bytes at two places, and how many they then share from there on
 compared_at : (a b : List ℕ) (i j : ℕ) → i < length a → (same : Bool) →
     same ≡ option_eq eqb (slice_get b j) (Some (get_or a i 0)) →

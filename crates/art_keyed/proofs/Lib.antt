@@ -2,7 +2,7 @@ pub mod Keyed
 pub mod KeyedLaws
 pub mod Between
 pub mod EscapedBytes
-pub mod StandIns
+pub mod EscapedFronts
 pub mod Retained
 pub mod Parted
 pub mod Fronts

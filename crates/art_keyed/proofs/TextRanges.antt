@@ -76,8 +76,9 @@ any_on (Included text) = tt
 any_on (Excluded text) = tt
 any_on Unbounded = tt
 
-pub escaped_between : (from to : Bound (Bor (List ℕ))) {V : Type 0} (pairs : List (List ℕ × V)) → HaveKeys (λ text. ⊤) pairs →
-    between (of_key escape) (bound_map (λ text. escape text.now) from) (bound_map (λ text. escape text.now) to) pairs ≡
-    keys_between (slice_cmp nat_cmp) (bound_map (λ b. b.now) from) (bound_map (λ b. b.now) to) pairs
-escaped_between from to =
-    between_keys (λ text. ⊤) escape escape_keeps_order from to _ _ refl refl (any_on (bound_map (λ b. b.now) from)) (any_on (bound_map (λ b. b.now) to))
+pub escaped_between : (from to : Bound (Bor (List ℕ))) (low high : Bound (List ℕ)) → low ≡ bound_map (λ text. escape text.now) from →
+    high ≡ bound_map (λ text. escape text.now) to → {V : Type 0} (pairs : List (List ℕ × V)) → HaveKeys (λ text. ⊤) pairs →
+    between (of_key escape) low high pairs ≡ keys_between (slice_cmp nat_cmp) (bound_map (λ b. b.now) from) (bound_map (λ b. b.now) to) pairs
+escaped_between from to low high is_low is_high =
+    between_keys (λ text. ⊤) escape escape_keeps_order from to low high is_low is_high (any_on (bound_map (λ b. b.now) from))
+    (any_on (bound_map (λ b. b.now) to))

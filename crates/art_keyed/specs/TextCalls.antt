@@ -1,10 +1,7 @@
 -- What calls by a text return, and the pairs after them.
-use Rattle.std.specs.Prelude.{◌≡◌, ℕ, List, [], Some, None, ⊤}
-use Rattle.std.specs.declared.ops.Bound.{Bound}
-use Rattle.std.specs.declared.ops.Bound.TheVariants.{Included, Excluded, Unbounded}
+use Rattle.std.specs.Prelude.{◌≡◌, ℕ, List, [], Some, None}
 use Rattle.art_keys.specs.Ended.{HasNoZero}
 use Rattle.art_model.specs.Pairs.{last_of, of_key, remove_key}
-use Rattle.art_reading.specs.StandIns.{IsStandIn}
 use Rattle.art_map.specs.MapAnswers.{refused_pair}
 use Rattle.art_map.specs.declared.map.to_key.MapSourceError.{MapSourceError}
 use Rattle.art_map.specs.declared.map.to_key.MapSourceError.TheVariants as sources
@@ -32,10 +29,3 @@ module _ {K V : Type 0} (bytes text : K → List ℕ) (string : List ℕ) where
   abbrev pub without_longest : List (K × V) → List (K × V)
   without_longest pairs =
       elim (last_of (strings_in_front text string pairs)) [ None ↦ pairs | Some pair ↦ remove_key (of_key bytes) (bytes pair.0) pairs ]
-
--- the bound of a query that stands for the key of another bound
-abbrev pub IsBoundFor : {A : Type 0} → (A → List ℕ) → List A → Bound (List ℕ) → Bound (List ℕ) → Type 0
-IsBoundFor bytes pairs (Included key) (Included query) = IsStandIn bytes key pairs query
-IsBoundFor bytes pairs (Excluded key) (Excluded query) = IsStandIn bytes key pairs query
-IsBoundFor bytes pairs Unbounded Unbounded = ⊤
-IsBoundFor bytes pairs bound other = ⊥

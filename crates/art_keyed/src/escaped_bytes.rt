@@ -50,7 +50,7 @@ impl<'t> EscapedBytes<'t> {
     }
 
     // Returns the bytes as a slice and the zero after it, if no byte of the text is escaped.
-    fn plain(&self) -> Option<EndedQuery<'t>>
+    pub(crate) fn plain(&self) -> Option<EndedQuery<'t>>
         ensures { IfSome result (λ query.
             query.text.now ++ query.end ∷ [] ≡ escape self.now) }
     {

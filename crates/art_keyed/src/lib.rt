@@ -2,6 +2,7 @@
 #![tactic(auto)]
 
 mod escaped_bytes;
+mod escaped_front;
 pub mod laws;
 pub mod map;
 pub mod set;

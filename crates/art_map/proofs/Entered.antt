@@ -1,28 +1,23 @@
 -- The leaf of a key that is stored, or is inserted.
-use Rattle.std.proofs.Common.{◌≡◌, ℕ, Bool, List, Option, Some, None, [], ◌∷◌, Result, Ok, Err, refl, ap, sym, ◌∙◌, subst, true, false, is_some}
+use Rattle.std.proofs.Common.{◌≡◌, ℕ, List, Option, Some, None, [], ◌∷◌, Result, Ok, Err, refl, ap, sym, ◌∙◌, subst, true, false, is_some}
 use Rattle.std.proofs.lemmas.Bool.{false≢true}
 use Rattle.std.specs.Option.{UnwrapsOrElse, unwrap_or}
 use Rattle.art_parts.specs.declared.names.LeafPtr.{LeafPtr}
-use Rattle.art_parts.specs.declared.names.NodeType.{NodeType}
 use Rattle.art_parts.specs.declared.names.OpaqueNodePtr.{OpaqueNodePtr}
-use Rattle.art_nodes.specs.Nodes.{Nodes, covers, no_promise}
-use Rattle.art_model.specs.Canonical.{IsCanonical, IsCanonicalTree}
-use Rattle.art_model.specs.Pairs.{IsMap, first_of, has_key, is_conflict, of_key, put, put_reply, replace_key, stored_for, with_key}
-use Rattle.art_model.specs.Promises.{is_covered}
+use Rattle.art_nodes.specs.Nodes.{Nodes}
+use Rattle.art_model.specs.Canonical.{IsCanonical}
+use Rattle.art_model.specs.Pairs.{IsMap, first_of, has_key, of_key, put, put_reply, replace_key, stored_for, with_key}
 use Rattle.art_model.specs.Roots.{ForTree}
 use Rattle.art_model.specs.Stores.{pair_of}
 use Rattle.art_model.specs.Keys.{are_same}
 use Rattle.art_model.proofs.pairs.Puts.{any_is_first, has_is_stored, put-new, put_reply-new, stored_bytes}
-use Rattle.art_writing.specs.Inserted.{HasInserted, IsPointIn, placed_for}
-use Rattle.art_writing.specs.Points.{AnswersTo}
-use Rattle.art_reading.specs.declared.end_node.InsertKind.{InsertKind}
-use Rattle.art_reading.specs.declared.end_node.InsertKind.TheVariants.{Exact, IntoExisting, MismatchPrefix, SplitLeaf}
+use Rattle.art_writing.specs.Inserted.{HasInserted, IsPointIn}
+use Rattle.art_reading.specs.declared.end_node.InsertKind.TheVariants.{Exact}
 use Rattle.art_writing.specs.declared.insert.InsertPoint.{InsertPoint}
 use Rattle.art_writing.specs.declared.insert.InsertResult.{InsertResult}
 use Rattle.art_writing.proofs.KeysFound.{conflict_new}
 use Rattle.art_writing.proofs.Replaced.{own_leaf}
-use Rattle.art_writing.proofs.Standing.{tree_stays}
-use Rattle.art_writing.proofs.Unstored.{refused_new}
+use Rattle.art_writing.proofs.Unstored.{unstored}
 use Rattle.art_map.specs.MapAnswers.{IsRefusalOf, value_at}
 use Rattle.art_map.specs.MapChanges.{HasEntered, HasEnteredFrom, HasMade, HasTried, IsPositionOf, NamesLeafOf, put_new}
 use Rattle.art_map.specs.MapPairs.{HoldsPairs, pairs_at}
@@ -35,18 +30,6 @@ use Rattle.art_map.specs.declared.map.position.Position.TheVariants as positions
 use Rattle.art_map.proofs.Items.{no_pairs}
 use Rattle.art_map.proofs.Puts.{is_some-map}
 use Rattle.art_map.proofs.Views.{holds, map_held, view_is}
-
--- an empty promise covers no leaf
-no_leaf : (inner : Option NodeType) → covers no_promise 1 inner ≡ true → ⊥
-no_leaf None e = false≢true e
-no_leaf (Some kind) e = false≢true e
-
--- so it does not cover what is placed for a point that names no leaf of the key
-uncovered : {K V : Type 0} (s : Nodes K V) (kind : InsertKind) → ((p : LeafPtr) → kind ≡ Exact p → ⊥) → is_covered (placed_for s kind) no_promise ≡ true → ⊥
-uncovered s (Exact p) off e = off p refl
-uncovered s (SplitLeaf p n) off e = false≢true e
-uncovered s (IntoExisting p) off e = no_leaf (placed_for s (IntoExisting p)).inner e
-uncovered s (MismatchPrefix m p) off e = false≢true e
 
 module _ {K V : Type 0} (bytes : K → List ℕ) (P : ℕ) {s : Nodes K V} {key : List ℕ} {point : InsertPoint} where
   -- where a point names the leaf of the key, the tree has it
@@ -68,28 +51,12 @@ module _ {K V : Type 0} (bytes : K → List ℕ) (P : ℕ) {s : Nodes K V} {key 
       }
 
   -- where a point names no leaf of the key, the key is not stored
-  pub unstored : {pairs : List (K × V)} {layout : _} → IsCanonicalTree (of_key bytes) P s point.root pairs layout →
-      AnswersTo (of_key bytes) P layout key point →
-      ((p : LeafPtr) → point.insert_kind ≡ Exact p → ⊥) → has_key (of_key bytes) key pairs ≡ false
-  unstored by at off = refused_new (tree_stays {mid = record s { promise = no_promise }} (refl, refl) by) at (uncovered s point.insert_kind off)
-
-  -- so it is not stored if the store stands for a list of pairs
   pub point_new : {root : Option OpaqueNodePtr} → root ≡ Some point.root → IsPointIn (of_key bytes) P s key point →
       ((p : LeafPtr) → point.insert_kind ≡ Exact p → ⊥) →
       has_key (of_key bytes) key (pairs_at s root) ≡ false
   point_new {root} e (pairs, layout, by, at) off =
       subst (λ xs. has_key (of_key bytes) key xs ≡ false)
       (sym (ap (pairs_at s) e ∙ view_is (of_key bytes) P s (Some point.root) (Some layout) by)) (unstored by at off)
-
--- a stored key does not conflict
-pub stored_free : {K V : Type 0} (bytes : K → List ℕ) (key : List ℕ) (pairs : List (K × V)) → IsMap (of_key bytes) pairs →
-    has_key (of_key bytes) key pairs ≡ true →
-    is_conflict (of_key bytes) key pairs ≡ false
-stored_free bytes key pairs rising stored = go (is_conflict (of_key bytes) key pairs) refl
-  where
-    go : (b : Bool) → is_conflict (of_key bytes) key pairs ≡ b → b ≡ false
-    go false e = refl
-    go true e = absurd (false≢true (sym (conflict_new (of_key bytes) key pairs rising e) ∙ stored))
 
 -- a key whose position is no leaf is not stored
 pub position_new : {K V : Type 0} (bytes : K → List ℕ) (P : ℕ) {s : Nodes K V} {root : Option OpaqueNodePtr} {len : ℕ} (key : List ℕ) →

@@ -10,7 +10,6 @@ pub mod Owned
 pub mod CallerLaws
 pub mod ValueLaws
 pub mod Written
-pub mod StandIns
 pub mod LeafOf
 pub mod Changed
 pub mod Entered

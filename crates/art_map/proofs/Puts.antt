@@ -28,7 +28,7 @@ use Rattle.art_writing.specs.declared.insert.PrefixInsertResult.{PrefixInsertRes
 use Rattle.art_writing.proofs.OneLeaf as one_leaf
 use Rattle.art_writing.proofs.Standing.{tree_stays}
 use Rattle.art_map.specs.MapChanges.{gone_count}
-use Rattle.art_map.specs.MapPairs.{HoldsPairs}
+use Rattle.art_map.specs.MapPairs.{HoldsPairs, pairs_at}
 use Rattle.art_map.proofs.Views.{none_other}
 
 module _ {K V : Type 0} (bytes : K × V → List ℕ) (P : ℕ) where
@@ -95,6 +95,11 @@ module _ {K V : Type 0} {bytes : K × V → List ℕ} {P : ℕ} where
       HoldsPairs bytes P s root len pairs →
       HasTreeAt bytes P s name len pairs
   at_some {s} {len = len} {pairs = pairs} e is = at_root bytes P (subst (λ r. HoldsPairs bytes P s r len pairs) e is)
+
+  -- the pairs are held at the root's name
+  pub held_there : {s : Nodes K V} {root : Option OpaqueNodePtr} {name : OpaqueNodePtr} {len : ℕ} → root ≡ Some name →
+      HoldsPairs bytes P s root len (pairs_at s root) → HoldsPairs bytes P s (Some name) len (pairs_at s (Some name))
+  held_there {s} {len = len} e is = subst (λ r. HoldsPairs bytes P s r len (pairs_at s r)) e is
 
   -- the name of an existing root is canonical
   pub canonical_root : {s : Nodes K V} {root : Option OpaqueNodePtr} {name : OpaqueNodePtr} {len : ℕ} {pairs : List (K × V)} →

@@ -26,6 +26,7 @@ use Rattle.art_model.proofs.pairs.MapLaws.{keys_are_once, removal_counts, first_
 use Rattle.art_model.proofs.places.Paths.{pairs_of-plug}
 use Rattle.art_model.proofs.pairs.Puts.{any_is_first}
 use Rattle.art_model.proofs.stores.StoreLaws.{has_one_map}
+use Rattle.art_model.proofs.stores.StoreLaws.{has_one_map}
 use Rattle.art_writing.specs.Deleted.{LeadsTo}
 use Rattle.art_writing.specs.Inserted.{unlinked_leaf}
 use Rattle.art_writing.specs.declared.delete.DeletePoint.{DeletePoint}
@@ -130,11 +131,24 @@ module _ {K V : Type 0} (bytes : K → List ℕ) (P : ℕ) {s : Nodes K V} {name
           let (node, there, its) = leaf_found (of_key bytes) P has.by has_leaf in
           sym read ∙ ap (option_map pair_of) there ∙ ap Some its ∙ sym some ∙ ap wanted view
 
-  -- a lookup finds the pair that is asked for, or nothing if there is none
-  pub found_pair : {root : Option OpaqueNodePtr} {len : ℕ} → root ≡ Some name → HoldsPairs (of_key bytes) P s root len (pairs_at s root) →
-      (sought : List (K × V) → List (K × V)) {found : Option (K × V)} → ForTree (of_key bytes) P s name (λ pairs _. found ≡ first_of (sought pairs)) →
-      {before : List (K × V)} → pairs_at s root ≡ before → found ≡ first_of (sought before)
-  found_pair {root} e is sought read view = let has = at_some e is in read (pairs_at s root) has.layout has.by ∙ ap (λ xs. first_of (sought xs)) view
+  module _ {root : Option OpaqueNodePtr} {len : ℕ} (e : root ≡ Some name) (is : HoldsPairs (of_key bytes) P s root len (pairs_at s root)) where
+    -- what holds of the map's pairs holds of its tree's
+    pub tree_has : (Q : List (K × V) → Type 0) {before : List (K × V)} → pairs_at s root ≡ before → Q before →
+        ForTree (of_key bytes) P s name (λ pairs _. Q pairs)
+    tree_has Q view holds pairs layout by =
+        let has = at_some e is in
+        let same = has_one_map _ _ _ _ _ _ layout has.layout by has.by in
+        subst Q (sym (sym same.0 ∙ view)) holds
+
+    -- a search finds the pair that is wanted, or nothing if there is none
+    pub found_in : (wanted : List (K × V) → Option (K × V)) {found : Option (K × V)} → ForTree (of_key bytes) P s name (λ pairs _. found ≡ wanted pairs) →
+        {before : List (K × V)} → pairs_at s root ≡ before → found ≡ wanted before
+    found_in wanted read view = let has = at_some e is in read (pairs_at s root) has.layout has.by ∙ ap wanted view
+
+    pub found_pair : (sought : List (K × V) → List (K × V)) {found : Option (K × V)} →
+        ForTree (of_key bytes) P s name (λ pairs _. found ≡ first_of (sought pairs)) →
+        {before : List (K × V)} → pairs_at s root ≡ before → found ≡ first_of (sought before)
+    found_pair sought = found_in (λ xs. first_of (sought xs))
 
 -- a value is found exactly if the key is stored
 pub value_stored : {K V : Type 0} (bytes : K → List ℕ) (key : List ℕ) (pairs : List (K × V)) →

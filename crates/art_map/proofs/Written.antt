@@ -109,6 +109,12 @@ module _ {K V : Type 0} (bytes : K → List ℕ) (P : ℕ) {s : Nodes K V} {p : 
   pub is_stored : has_key (of_key bytes) key (pairs_at s root) ≡ true
   is_stored = ap (has_key (of_key bytes) key) pairs_are ∙ any_is_first (λ x. are_same key (bytes x.0)) n.pairs ∙ ap (λ xs. is_some (first_of xs)) its_pair
 
+  -- the pair of the leaf is that of the key
+  pub pair_read : {found : Option (K × V)} {before : List (K × V)} → option_map pair_of (get s.leaves p) ≡ found → pairs_at s root ≡ before →
+      found ≡ first_of (with_key (of_key bytes) key before)
+  pair_read read view =
+      sym read ∙ ap (option_map pair_of) there ∙ ap first_of (sym its_pair) ∙ ap (λ xs. first_of (with_key (of_key bytes) key xs)) (sym pairs_are ∙ view)
+
   -- the value of the leaf is that of the key
   pub value_read : {before : List (K × V)} → pairs_at s root ≡ before → option_map (λ node. node.value) (get s.leaves p) ≡ value_at bytes key before
   value_read view = ap (option_map (λ node. node.value)) there ∙ ap (λ xs. option_map (λ x. x.1) (first_of xs)) (sym its_pair)

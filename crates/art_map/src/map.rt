@@ -21,11 +21,10 @@ use art_nodes::store::NodeStore;
 use art_reading::iterator::RawIterator;
 use art_reading::lookup::{Asked, KeyBytes, KeyQuery, find_unchecked, search_unchecked};
 use art_reading::minmax::{maximum_unchecked, minimum_unchecked};
-use art_reading::range::{first_from_unchecked, last_up_to_unchecked, prefix_unchecked};
-use art_reading::stand_in::stand_in_unchecked;
+use art_reading::range::{first_from_unchecked, last_up_to_unchecked};
 use art_writing::clone::clone_unchecked;
 use art_writing::delete::{
-    DeletePoint, find_maximum_to_delete, find_minimum_to_delete,
+    DeletePoint, find_maximum_to_delete, find_minimum_to_delete, search_for_delete_point_by,
     search_for_delete_point_by_lengths, search_for_first_delete_point_below,
 };
 use art_writing::insert::{
@@ -68,7 +67,6 @@ use owned::whole_walk;
 pub use owned::{IntoIter, IntoKeys, IntoValues};
 pub use parts::{Keys, KeysOf, Values, ValuesOf};
 pub use range::{Range, RangeOf};
-use remove::take_all_below;
 pub use split::SplitRefused;
 pub use to_key::{MapSourceError, ToKey};
 
@@ -265,11 +263,7 @@ impl<K: AsBytes + Drop, V: Drop, const P: usize> ByteMap<K, V, P> {
         ensures sorted { IsMap (of_key K.bytes) self.now }
         ensures fits { length result < 2 ^ 64 }
     {
-        let Some(root) = self.root else {
-            return RangeOf::new(&self.store, RawIterator::empty(), 0);
-        };
-        let walk = prefix_unchecked(&self.store, root, prefix);
-        RangeOf::new(&self.store, walk, self.len)
+        self.prefix_by(prefix)
     }
 
     /// Returns an iterator over the pairs whose keys are in a range, in the order of their keys. There are none if the
@@ -464,7 +458,7 @@ impl<K: AsBytes + Drop, V: Drop, const P: usize> ByteMap<K, V, P> {
         ensures pairs { self.new ≡ not_below (of_key K.bytes) prefix.now self.old }
         ensures removed { result ≡ length (below (of_key K.bytes) prefix.now self.old) }
     {
-        take_all_below(&mut self.store, &mut self.root, &mut self.len, prefix)
+        self.remove_prefix_by(prefix)
     }
 
     /// Removes all pairs, and allocates nothing. It frees slab by slab, without a descent. The store keeps the slots
@@ -753,16 +747,15 @@ fn take_key<Q: KeyQuery, K: AsBytes + Drop, V: Drop, const P: usize>(
     Some(take_out(store, root, len, name, point))
 }
 
-// Removes the pair of a key whose bytes are in no slice from the tree.
-fn take_bytes<B: KeyBytes, K: AsBytes + Drop, V: Drop, const P: usize>(
+// Removes the pair of a key whose bytes need not stand in a slice from the tree.
+fn take_bytes<B: KeyBytes + Drop, K: AsBytes + Drop, V: Drop, const P: usize>(
     store: &mut NodeStore<K, V, P>,
     root: &mut Option<OpaqueNodePtr>,
     len: &mut usize,
     bytes: &mut B,
 ) -> Option<(K, V)>
-    requires holds { HoldsPairs (of_key K.bytes) P store.old root.old len.old
+    requires { HoldsPairs (of_key K.bytes) P store.old root.old len.old
         (pairs_at store.old root.old) }
-    requires some { 0 < length (B.key bytes.old) }
     ensures { HasTaken K.bytes P
         (remove_reply (of_key K.bytes) (B.key bytes.old) (pairs_at store.old root.old))
         (remove_key (of_key K.bytes) (B.key bytes.old) (pairs_at store.old root.old)) result
@@ -771,8 +764,7 @@ fn take_bytes<B: KeyBytes, K: AsBytes + Drop, V: Drop, const P: usize>(
     let Some(name) = *root else {
         return None;
     };
-    let query = stand_in_unchecked(store, name, bytes);
-    let Some(point) = search_for_delete_point_by_lengths(store, name, query) else {
+    let Some(point) = search_for_delete_point_by(store, name, bytes) else {
         return None;
     };
     Some(take_out(store, root, len, name, point))

@@ -1,11 +1,8 @@
 -- the descent to the keys that start with a prefix
-use Rattle.std.proofs.Common.{◌≡◌, ◌≢◌, ℕ, ◌+◌, ◌<◌, ◌≤◌, List, [], ◌∷◌, ◌++◌, length, get_or, drop, refl, ap, sym, ◌∙◌, arith, subst, Some, None, Bool, true, false, eqb}
-use Rattle.std.specs.List.{AllByRecursion as Each, starts_with}
-use Rattle.std.proofs.lemmas.Bool.{false≢true}
-use Rattle.std.proofs.lemmas.Bool.Decides.{Decides-eqb}
+use Rattle.std.proofs.Common.{◌≡◌, ◌≢◌, ℕ, ◌+◌, ◌<◌, ◌≤◌, List, [], ◌∷◌, ◌++◌, length, get_or, refl, ap, sym, ◌∙◌, arith, subst, Some, None, Bool, true, false}
+use Rattle.std.specs.List.{AllByRecursion as Each}
 use Rattle.std.proofs.lemmas.List.{get_or_append_left}
 use Rattle.std.proofs.lemmas.List.Elements.{filter-append}
-use Rattle.std.proofs.lemmas.Slice.Eq.{starts_is}
 use Rattle.art_inner.specs.Inner.{Inner, child_at}
 use Rattle.art_parts.specs.declared.names.InnerPtr.{InnerPtr}
 use Rattle.art_parts.specs.declared.names.OpaqueNodePtr.{OpaqueNodePtr}
@@ -18,7 +15,7 @@ use Rattle.art_model.specs.Parts.{below}
 use Rattle.art_model.specs.Paths.{pairs_before, pairs_after}
 use Rattle.art_model.specs.Radix.{bytes_of, pairs_of}
 use Rattle.art_model.specs.Trees.{Tree, leaf}
-use Rattle.art_model.proofs.keys.Keys.{front_from, front_is}
+use Rattle.art_model.proofs.keys.Keys.{front_from}
 use Rattle.art_model.proofs.lists.Lists.{filter_none, front_cut}
 use Rattle.art_model.proofs.places.OnWay.{byte_after}
 use Rattle.art_model.proofs.places.Paths.{pairs_of-plug}
@@ -43,19 +40,10 @@ other_byte prefix front x c within other leads = go (is_front prefix x) refl
         absurd (other (sym (byte_after front x c leads) ∙ ap (λ z. get_or z (length front) 0) is ∙ get_or_append_left prefix r 0 (length front) within))
 
 -- as many bytes of a key as the prefix has determine whether the prefix is one of the key
-pub front_within : (prefix front r : List ℕ) → length prefix ≤ length front → is_front prefix (front ++ r) ≡ is_front prefix front
+front_within : (prefix front r : List ℕ) → length prefix ≤ length front → is_front prefix (front ++ r) ≡ is_front prefix front
 front_within [] front r h = refl
 front_within (a ∷ prefix) [] r h = absurd (omega arith)
 front_within (a ∷ prefix) (b ∷ front) r h = rw (front_within prefix front r (omega arith)) refl
-
--- what `starts_with` returns
-pub starts_front : (x prefix : List ℕ) (t : Bool) → t ≡ starts_with eqb x prefix → is_front prefix x ≡ t
-starts_front x prefix true e = let r = (starts_is Decides-eqb x prefix true e).0 refl in ap (is_front prefix) r ∙ front_is prefix (drop (length prefix) x)
-starts_front x prefix false e = go (is_front prefix x) refl
-  where
-    go : (t : Bool) → is_front prefix x ≡ t → t ≡ false
-    go false i = refl
-    go true i = let f = front_from prefix x i in absurd (false≢true ((starts_is Decides-eqb x prefix false e).1 f.0 f.1))
 
 -- A descent to a node of a tree between pairs that do not start with the prefix, by a path.
 pub record IsWayBelow {A : Type 0} (bytes : A → List ℕ) (P : ℕ) (prefix : List ℕ) (tree : Tree OpaqueNodePtr A) (path : TreePath)
@@ -110,11 +98,12 @@ module _ {A : Type 0} {bytes : A → List ℕ} {P : ℕ} (prefix : List ℕ) {tr
           other_byte prefix (front d at) (bytes x) c (omega arith) (λ e. other (e ∙ ap (λ n. get_or prefix n 0) l)) leads
 
       -- there is no child for its byte
-      pub at_gap : child_at shown.children (get_or prefix (depth + len) 0) ≡ None → EndsBelow bytes prefix tree None
-      at_gap none =
+      pub at_gap : {byte : ℕ} → get_or prefix (depth + len) 0 ≡ byte → child_at shown.children byte ≡ None → EndsBelow bytes prefix tree None
+      at_gap byte_is none =
           let test = λ (x : A). is_front prefix (bytes x) in
           let middle =
-          each_under d at (IsNotBelow bytes prefix) (λ c i x leads. off c (λ e. child_there d at c i (ap (child_at shown.children) e ∙ none)) x leads) in
+          each_under d at (IsNotBelow bytes prefix)
+          (λ c i x leads. off c (λ e. child_there d at c i (ap (child_at shown.children) (e ∙ byte_is) ∙ none)) x leads) in
           ap (λ t. below bytes prefix (pairs_of t)) (sym d.at.whole) ∙ ap (below bytes prefix) (pairs_of-plug d.at.path d.at.node)
           ∙ simp (
             filter-append,
@@ -124,11 +113,10 @@ module _ {A : Type 0} {bytes : A → List ℕ} {P : ℕ} (prefix : List ℕ) {tr
           ) refl
 
       -- the path continues below the child
-      pub goes_down : {to : OpaqueNodePtr} → child_at shown.children (get_or prefix (depth + len) 0) ≡ Some to →
-          (next : IsWayBelow bytes P prefix tree (step_down path p (get_or prefix (depth + len) 0)) to (depth + len + 1))
+      pub goes_down : {to : OpaqueNodePtr} {b : ℕ} → get_or prefix (depth + len) 0 ≡ b → child_at shown.children b ≡ Some to →
+          (next : IsWayBelow bytes P prefix tree (step_down path p b) to (depth + len + 1))
           × (left_on_way bytes prefix depth d.at.node ≤ left_on_way bytes prefix (depth + len + 1) next.descent.at.node + 1)
-      goes_down {to} there =
-          let b = get_or prefix (depth + len) 0 in
+      goes_down {to} {b} b_is there =
           let low : (c : ℕ) → IsIn c (bytes_of at.children) → c < b → (x : A) → IsFront (front d at ++ c ∷ []) (bytes x) → IsNotBelow bytes prefix x =
           λ c i less x leads. off c (λ e. omega arith) x leads in
           let high : (c : ℕ) → IsIn c (bytes_of at.children) → b < c → (x : A) → IsFront (front d at ++ c ∷ []) (bytes x) → IsNotBelow bytes prefix x =
@@ -136,7 +124,7 @@ module _ {A : Type 0} {bytes : A → List ℕ} {P : ℕ} (prefix : List ℕ) {tr
           subst (λ n. (next : IsWayBelow bytes P prefix tree (step_down path p b) to (depth + n + 1))
           × (left_on_way bytes prefix depth d.at.node ≤ left_on_way bytes prefix (depth + n + 1) next.descent.at.node + 1)) (sym len_is) (
             record { descent = down d at b there low high; path_is = ap (λ z. step_down z p b) way.path_is },
-            child_left d prefix at b (ap (λ n. get_or prefix (depth + n) 0) len_is) there low high,
+            child_left d prefix at b (sym b_is ∙ ap (λ n. get_or prefix (depth + n) 0) len_is) there low high,
           )
 
 -- Such a descent, and what it has read: the nodes above that are on the path of the prefix, and at most one for each level.

@@ -1,44 +1,38 @@
 -- the descent to a node next to a key
-use Rattle.std.proofs.Common.{◌≡◌, ◌≢◌, ℕ, suc, ◌+◌, ◌*◌, ◌<◌, ◌≤◌, ◌⊎◌, List, [], ◌∷◌, ◌++◌, length, take, drop, get_or, refl, ap, sym, ◌∙◌, arith, subst, length-append, append_assoc, Option, Some, None, Bool, IsTrue, ◌↔◌, inl, inr}
-use Rattle.std.specs.List.{AllByRecursion as Each, starts_with}
+use Rattle.std.proofs.Common.{◌≡◌, ℕ, suc, ◌+◌, ◌*◌, ◌<◌, ◌≤◌, ◌⊎◌, List, [], ◌∷◌, ◌++◌, length, drop, get_or, refl, ap, sym, ◌∙◌, arith, subst, append_assoc, Option, Some, None, ◌↔◌, inl, inr}
+use Rattle.std.specs.List.{AllByRecursion as Each}
 use Rattle.std.specs.Ordering.{is_lt}
-use Rattle.std.specs.FinMap as map
-use Rattle.std.proofs.Common.{eqb}
 use Rattle.std.proofs.lemmas.Bool.{cases_order}
-use Rattle.std.proofs.lemmas.List.{take_all, take_at, take-append-drop}
 use Rattle.art_inner.specs.Beside.{IsNextTo}
 use Rattle.art_inner.specs.Inner.{Inner, child_at}
 use Rattle.art_nodes.specs.Nodes.{Nodes}
 use Rattle.art_parts.specs.Names.{inner_name}
-use Rattle.art_parts.specs.declared.leaf.LeafNode.{LeafNode}
 use Rattle.art_parts.specs.declared.names.InnerPtr.{InnerPtr}
 use Rattle.art_parts.specs.declared.names.LeafPtr.{LeafPtr}
-use Rattle.art_parts.specs.declared.names.NodeType.TheVariants.{Leaf}
 use Rattle.art_parts.specs.declared.names.OpaqueNodePtr.{OpaqueNodePtr}
 use Rattle.art_model.specs.Canonical.{IsCanonicalTree}
 use Rattle.art_model.specs.Footprints.{IsIn}
-use Rattle.art_model.specs.Keys.{IsFront, Precedes, is_before, is_front}
+use Rattle.art_model.specs.Keys.{IsFront, Precedes, is_before}
 use Rattle.art_model.specs.Lookups.{nodes_on_way}
 use Rattle.art_model.specs.Paths.{IsPath}
 use Rattle.art_model.specs.Places.{prefix_of}
-use Rattle.art_model.specs.Radix.{IsRadix, bytes_of, pairs_of}
-use Rattle.art_model.specs.Stores.{header_at, pair_of}
+use Rattle.art_model.specs.Radix.{bytes_of, pairs_of}
+use Rattle.art_model.specs.Stores.{header_at}
 use Rattle.art_model.specs.Layouts.{slots_of}
 use Rattle.art_model.specs.Trees.{Tree, leaf, inner, Subtrees, child, no_child}
 use Rattle.art_model.proofs.lists.Lists.{Each-weaker, after_front, front_cut}
 use Rattle.art_model.proofs.places.OnWay.{byte_after, front_byte}
 use Rattle.art_model.proofs.places.Places.{prefix_is}
 use Rattle.art_model.proofs.radix.Radix.{parts}
-use Rattle.art_model.proofs.radix.Rebuild.{radix_below, radix_way}
-use Rattle.art_model.proofs.stores.Shown.{IsShown, inner_shown}
+use Rattle.art_model.proofs.radix.Rebuild.{radix_way}
+use Rattle.art_model.proofs.stores.Shown.{IsShown}
 use Rattle.art_reading.specs.EndNodes.{IsAt}
-use Rattle.art_reading.specs.PartEnds.{IsPlaced, StandsBeside}
+use Rattle.art_reading.specs.PartEnds.{StandsBeside}
 use Rattle.art_reading.specs.PathSteps.{path_of}
 use Rattle.art_reading.specs.Readings.{guide_cost, left_on_way, levels}
-use Rattle.art_reading.proofs.Below.{front_within, starts_front}
 use Rattle.art_reading.proofs.Left.{child_left}
-use Rattle.art_reading.proofs.Descents.{IsDescent, start, shown_radix, front, front_len, part_len, child_there, each_under, down, down_leads}
-use Rattle.art_reading.proofs.Sides.{apart_left, apart_right, ended_left, ended_right, whole_front}
+use Rattle.art_reading.proofs.Descents.{IsDescent, start, shown_radix, front, front_len, child_there, each_under, down, down_leads}
+use Rattle.art_reading.proofs.Sides.{apart_left, apart_right, ended_left, ended_right}
 
 slots_long : {N A : Type 0} (cs : Subtrees N A) → length (slots_of cs) ≡ length (bytes_of cs)
 slots_long no_child = refl
@@ -76,6 +70,51 @@ module _ {A : Type 0} {bytes : A → List ℕ} {P : ℕ} {key : List ℕ} {tree 
       upper = subst (λ t. Each (λ y. is_before key (bytes y) ≡ is_before key (bytes x)) (pairs_of t)) (sym is) (refl, tt);
     }
 
+    module _ {p : InnerPtr} {shown : Inner} (at : IsShown o.descent.at.node p shown) where
+      -- the node has a child
+      pub has_child : 0 < length shown.children
+      has_child =
+          let own = shown_radix o.descent at in
+          let two = own.2 in
+          let all = slots_long at.children in
+          rw at.slots (omega arith)
+
+      -- the key differs from the node's prefix
+      pub beside_off : (IsFront (front o.descent at) key → ⊥) → StandsBeside bytes key tree name
+      beside_off off =
+          let w = front o.descent at in
+          record {
+            at = o.descent.at;
+            is_lower = is_before w key;
+            is_upper = is_before key w;
+            lower = each_under o.descent at (λ x. is_before (bytes x) key ≡ is_before (front o.descent at) key)
+                (λ c i x f. let (r, e) = front_cut (front o.descent at) (c ∷ []) (bytes x) f in
+                ap (λ z. is_before z key) e ∙ ap is_lt (apart_left (front o.descent at) r key off));
+            upper = each_under o.descent at (λ x. is_before key (bytes x) ≡ is_before key (front o.descent at))
+                (λ c i x f. let (r, e) = front_cut (front o.descent at) (c ∷ []) (bytes x) f in
+                ap (is_before key) e ∙ ap is_lt (apart_right (front o.descent at) r key off));
+          }
+
+      own_prefix : prefix_of bytes depth o.descent.at.node ≡ (shown_radix o.descent at).0
+      own_prefix =
+          ap (prefix_of bytes depth) at.is
+          ∙ subst (λ n. prefix_of bytes n (inner (inner_name p) (header_at p.kind shown) at.children) ≡ (shown_radix o.descent at).0) o.descent.depth_is
+          (prefix_is bytes P (inner_name p) (header_at p.kind shown) at.children o.descent.place (shown_radix o.descent at))
+
+      -- the key continues where it goes on with the whole prefix
+      pub goes_on : IsFront (prefix_of bytes depth o.descent.at.node) (drop depth key) ↔ IsFront (front o.descent at) key
+      goes_on =
+          let place = o.descent.place in
+          let own = shown_radix o.descent at in
+          let rest : (r : List ℕ) → key ≡ place ++ r → drop depth key ≡ r =
+          λ r e. ap (λ m. drop m key) (sym o.descent.depth_is) ∙ after_front place key r e in (
+            λ (r, e). let (q, f) = o.on_way in (
+              r,
+              f ∙ ap (λ z. place ++ z) (sym (rest q f) ∙ e ∙ ap (λ z. z ++ r) own_prefix) ∙ sym (append_assoc place own.0 r),
+            ),
+            λ (r, e). (r, rest (own.0 ++ r) (e ∙ append_assoc place own.0 r) ∙ ap (λ z. z ++ r) (sym own_prefix)),
+          )
+
     module _ {p : InnerPtr} {shown : Inner} (at : IsShown o.descent.at.node p shown) {len : ℕ} (len_is : len ≡ shown.prefix.len) where
       place_len : length (front o.descent at) ≡ depth + len
       place_len = let l = front_len o.descent at in omega arith
@@ -95,22 +134,6 @@ module _ {A : Type 0} {bytes : A → List ℕ} {P : ℕ} {key : List ℕ} {tree 
             upper = each_under o.descent at (λ x. is_before key (bytes x) ≡ is_before key (front o.descent at ++ 0 ∷ []))
                 (λ c i x (r, e). ap (is_before key) (e ∙ append_assoc (front o.descent at) (c ∷ []) r)
                 ∙ ap is_lt (ended_right (front o.descent at) key r c long));
-          }
-
-      -- the key differs from the node's prefix
-      pub beside_off : (IsFront (front o.descent at) key → ⊥) → StandsBeside bytes key tree name
-      beside_off off =
-          let w = front o.descent at in
-          record {
-            at = o.descent.at;
-            is_lower = is_before w key;
-            is_upper = is_before key w;
-            lower = each_under o.descent at (λ x. is_before (bytes x) key ≡ is_before (front o.descent at) key)
-                (λ c i x f. let (r, e) = front_cut (front o.descent at) (c ∷ []) (bytes x) f in
-                ap (λ z. is_before z key) e ∙ ap is_lt (apart_left (front o.descent at) r key off));
-            upper = each_under o.descent at (λ x. is_before key (bytes x) ≡ is_before key (front o.descent at))
-                (λ c i x f. let (r, e) = front_cut (front o.descent at) (c ∷ []) (bytes x) f in
-                ap (is_before key) e ∙ ap is_lt (apart_right (front o.descent at) r key off));
           }
 
       module _ (long : depth + len < length key) (goes : IsFront (front o.descent at) key) where
@@ -171,43 +194,6 @@ module _ {A : Type 0} {bytes : A → List ℕ} {P : ℕ} {key : List ℕ} {tree 
                 go (inr (inl l)) = absurd (child_there o.descent at c i (next.below c more l))
                 go (inr (inr l)) = above_key c l
 
-      -- the node has a child
-      pub has_child : 0 < length shown.children
-      has_child =
-          let own = shown_radix o.descent at in
-          let two = own.2 in
-          let all = slots_long at.children in
-          rw at.slots (omega arith)
-
-      -- ---- the whole prefix, compared with a part of the key
-      own_prefix : prefix_of bytes depth o.descent.at.node ≡ (shown_radix o.descent at).0
-      own_prefix =
-          ap (prefix_of bytes depth) at.is
-          ∙ subst (λ n. prefix_of bytes n (inner (inner_name p) (header_at p.kind shown) at.children) ≡ (shown_radix o.descent at).0) o.descent.depth_is
-          (prefix_is bytes P (inner_name p) (header_at p.kind shown) at.children o.descent.place (shown_radix o.descent at))
-
-      -- they are the same where the key continues
-      pub same_goes : {part : List ℕ} (n : ℕ) → part ≡ take n (drop depth key) → part ≡ prefix_of bytes depth o.descent.at.node →
-          IsFront (front o.descent at) key
-      same_goes {part} n part_is same =
-          let (r, e) = o.on_way in
-          let rest : drop depth key ≡ r = ap (λ m. drop m key) (sym o.descent.depth_is) ∙ after_front o.descent.place key r e in
-          let own = shown_radix o.descent at in (
-            drop n r,
-            e ∙ ap (λ z. o.descent.place ++ z) (sym (take-append-drop n r)
-                ∙ ap (λ z. z ++ drop n r) (ap (take n) (sym rest) ∙ sym part_is ∙ same ∙ own_prefix))
-                ∙ sym (append_assoc o.descent.place own.0 (drop n r)),
-          )
-
-      -- and the other way round
-      pub goes_same : {part : List ℕ} (n : ℕ) → n ≡ len → part ≡ take n (drop depth key) → IsFront (front o.descent at) key →
-          part ≡ prefix_of bytes depth o.descent.at.node
-      goes_same {part} n count part_is (r, e) =
-          let own = shown_radix o.descent at in
-          let rest : drop depth key ≡ own.0 ++ r =
-          ap (λ m. drop m key) (sym o.descent.depth_is) ∙ after_front o.descent.place key (own.0 ++ r) (e ∙ append_assoc o.descent.place own.0 r) in
-          part_is ∙ ap (take n) rest ∙ take_at own.0 r n (let l = part_len o.descent at in omega arith) ∙ sym own_prefix
-
 module _ {K V : Type 0} {s : Nodes K V} {bytes : K × V → List ℕ} {P : ℕ} {root : OpaqueNodePtr} {pairs : List (K × V)} {layout : Tree OpaqueNodePtr (K × V)}
     (by : IsCanonicalTree bytes P s root pairs layout) {key : List ℕ} where
   abbrev pub on_key_start : IsOnKey bytes P key layout root 0
@@ -228,64 +214,6 @@ module _ {K V : Type 0} {s : Nodes K V} {bytes : K × V → List ℕ} {P : ℕ} 
     depth_is = o.descent.depth_is;
     path_is = refl;
   }
-
--- ---- the whole prefix of a node, as it is read
-module _ {K V : Type 0} {s : Nodes K V} {bytes : K × V → List ℕ} {P : ℕ} {p : InnerPtr} {depth : ℕ} {tree : Tree OpaqueNodePtr (K × V)}
-    (at : IsPlaced bytes P s (inner_name p) depth tree) where
-  module _ (proper : p.kind ≢ Leaf) {shown : Inner} (there : Some shown ≡ map.get s.inners p) where
-    seen_at : IsShown tree p shown
-    seen_at = inner_shown s p proper tree at.layout.named at.layout.holds shown there
-
-    own : IsRadix bytes P at.place (inner (inner_name p) (header_at p.kind shown) seen_at.children)
-    own = subst (IsRadix bytes P at.place) seen_at.is at.radix
-
-    whole_is : prefix_of bytes depth tree ≡ own.0
-    whole_is =
-        ap (prefix_of bytes depth) seen_at.is
-        ∙ subst (λ n. prefix_of bytes n (inner (inner_name p) (header_at p.kind shown) seen_at.children) ≡ own.0) at.depth_is
-        (prefix_is bytes P (inner_name p) (header_at p.kind shown) seen_at.children at.place own)
-
-    len_is : shown.prefix.len ≡ length own.0
-    len_is = ap (λ h. h.length_of) own.1
-
-    -- from what is stored
-    pub told_by_stored : {part stored : List ℕ} (t : Bool) → length part ≡ shown.prefix.len → length part ≤ P →
-        stored ≡ shown.prefix.stored → t ≡ starts_with eqb part stored →
-        IsTrue t ↔ (part ≡ prefix_of bytes depth tree)
-    told_by_stored {part} {stored} t long short read test =
-        let l = len_is in
-        let stored_is : stored ≡ prefix_of bytes depth tree = read ∙ ap (λ h. h.stored) own.1 ∙ take_all P own.0 (omega arith) ∙ sym whole_is in
-        let same_len : length (prefix_of bytes depth tree) ≡ length part = ap length whole_is ∙ sym l ∙ sym long in
-        whole_front (prefix_of bytes depth tree) part same_len t (ap (λ z. is_front z part) (sym stored_is) ∙ starts_front part stored t test)
-
-    -- from a leaf below
-    module _ (l : LeafNode K V) (below : (Q : K × V → Type 0) → Each Q (pairs_of tree) → Q (pair_of l)) where
-      leaf_begins : IsFront (at.place ++ own.0) (bytes (pair_of l))
-      leaf_begins =
-          below (λ x. IsFront (at.place ++ own.0) (bytes x))
-          (subst (λ t. Each (λ x. IsFront (at.place ++ own.0) (bytes x)) (pairs_of t)) (sym seen_at.is)
-          (radix_below bytes P seen_at.children (at.place ++ own.0) own.4))
-
-      pub leaf_long : depth ≤ length (bytes (pair_of l))
-      leaf_long =
-          let (r, e) = leaf_begins in
-          let n = ap length e in
-          let d = at.depth_is in
-          omega (arith, simp length-append at n)
-
-      pub told_by_leaf : {part rest : List ℕ} (t : Bool) → length part ≡ shown.prefix.len → rest ≡ drop depth (bytes (pair_of l)) →
-          t ≡ starts_with eqb rest part →
-          IsTrue t ↔ (part ≡ prefix_of bytes depth tree)
-      told_by_leaf {part} {rest} t long rest_is test =
-          let (r, e) = leaf_begins in
-          let is : rest ≡ own.0 ++ r =
-          rest_is ∙ ap (λ m. drop m (bytes (pair_of l))) (sym at.depth_is)
-          ∙ after_front at.place (bytes (pair_of l)) (own.0 ++ r) (e ∙ append_assoc at.place own.0 r) in
-          let same_len : length part ≡ length own.0 = let k = len_is in omega arith in
-          let told =
-          whole_front part own.0 same_len t (sym (front_within part own.0 r (omega arith)) ∙ ap (is_front part) (sym is)
-          ∙ starts_front rest part t test) in
-          (λ on. sym (told.0 on) ∙ sym whole_is, λ same. told.1 (sym whole_is ∙ sym same))
 
 -- A node on the key's path, and what was read before: the nodes above, at most twice as many as levels without those for the guide leaf.
 pub record IsReadOnKey {K V : Type 0} (bytes : K × V → List ℕ) (P : ℕ) (s : Nodes K V) (root : OpaqueNodePtr) (key : List ℕ)

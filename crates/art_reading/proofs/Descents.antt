@@ -56,7 +56,7 @@ module _ {A : Type 0} {bytes : A → List ℕ} {P : ℕ} {Lower Upper : A → Ty
   abbrev pub front : List ℕ
   front = d.place ++ shown_radix.0
 
-  pub part_len : shown.prefix.len ≡ length shown_radix.0
+  part_len : shown.prefix.len ≡ length shown_radix.0
   part_len = ap (λ h. h.length_of) shown_radix.1
 
   pub front_len : length front ≡ depth + shown.prefix.len

@@ -3,7 +3,7 @@ use Rattle.std.proofs.Common.{◌≡◌, ◌≢◌, ℕ, ◌+◌, ◌-◌, ◌<�
 use Rattle.std.specs.List.{cons_option}
 use Rattle.std.specs.Option.{option_map}
 use Rattle.std.proofs.lemmas.Bool.{le-ltb, lt-ltb, false≢true}
-use Rattle.std.proofs.lemmas.List.{drop-append-le, get_or_append_left, take-append-le, take_rest}
+use Rattle.std.proofs.lemmas.List.{drop-append-le, get_or_append_left, take_rest}
 use Rattle.std.proofs.lemmas.Option.{get_or_from_slice_get, slice_get_cases}
 use Rattle.art_inner.specs.Inner.{Inner, child_at}
 use Rattle.art_parts.specs.Headers.{Prefix}
@@ -95,16 +95,6 @@ module _ {key front : List ℕ} (has : HasRest key front) (depth : ℕ) where
   -- a byte of them is one of the key
   pub front_byte : depth < length front → get_or front depth 0 ≡ get_or key depth 0
   front_byte within = sym (ap (λ z. get_or z depth 0) has.is ∙ get_or_append_left front has.last 0 depth within)
-
-  -- a part of them before a byte of the key is one of the key
-  pub part_same : (len : ℕ) → depth + len < length key →
-      take (depth + len - depth) (drop depth front) ≡ take (depth + len - depth) (drop depth key)
-  part_same len within =
-      let near = front_near in
-      let left = length-drop depth front in
-      sym (ap (λ z. take (depth + len - depth) (drop depth z)) has.is
-      ∙ ap (take (depth + len - depth)) (drop-append-le depth front has.last (omega arith))
-      ∙ take-append-le (depth + len - depth) (drop depth front) has.last (omega arith))
 
 -- the byte of a key at a place, as it is returned
 module _ {before key : List ℕ} (same : before ≡ key) (place : ℕ) {answer : Option ℕ} (is : answer ≡ slice_get before place) where

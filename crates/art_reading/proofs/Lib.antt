@@ -21,10 +21,10 @@ pub mod Shared
 pub mod Partings
 pub mod Prefixes
 pub mod Guides
+pub mod GuideTexts
 pub mod EndNodes
 pub mod Endings
 pub mod TextWays
 pub mod LongestTexts
 pub mod ShortTexts
-pub mod StandIns
 pub mod Levels

@@ -38,7 +38,7 @@ use Rattle.art_reading.specs.declared.lookup.texts.TextEnd.TheVariants.{Passed, 
 use Rattle.art_model.proofs.keys.Texts.{ended_text, front_short, fronts_first, not_front, true_front}
 
 -- two tests that agree
-same_front : (a b c : List ℕ) → (IsFront a b → IsFront a c) → (IsFront a c → IsFront a b) → is_front a b ≡ is_front a c
+pub same_front : (a b c : List ℕ) → (IsFront a b → IsFront a c) → (IsFront a c → IsFront a b) → is_front a b ≡ is_front a c
 same_front a b c to from = go (is_front a b) refl
   where
     go : (t : Bool) → is_front a b ≡ t → t ≡ is_front a c

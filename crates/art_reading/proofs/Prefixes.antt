@@ -1,5 +1,5 @@
 -- the whole prefix of a node, as it is read
-use Rattle.std.proofs.Common.{◌≡◌, ◌≢◌, ℕ, ◌+◌, ◌-◌, ◌<◌, ◌≤◌, List, ◌++◌, length, take, drop, slice_get, ap, sym, ◌∙◌, arith, subst, append_assoc, length-append, Option, Some, None, Result, Ok, Err}
+use Rattle.std.proofs.Common.{◌≡◌, ◌≢◌, ◌↔◌, ℕ, ◌+◌, ◌-◌, ◌<◌, ◌≤◌, List, ◌++◌, length, take, drop, slice_get, ap, sym, ◌∙◌, arith, subst, append_assoc, length-append, eqb-true, eq-eqb, nat_eq, IsTrue, Option, Some, None, Result, Ok, Err}
 use Rattle.std.specs.Result.{IfOk, IfErr}
 use Rattle.std.specs.List.{AllByRecursion as Each}
 use Rattle.std.proofs.lemmas.List.{nil_from_length, take_all, take_at}
@@ -22,6 +22,7 @@ use Rattle.art_model.specs.Radix.{IsRadix, pairs_of}
 use Rattle.art_model.specs.Layouts.{IsLayout}
 use Rattle.art_model.specs.Stores.{node_at, header_at, pair_of}
 use Rattle.art_model.specs.Places.{prefix_of}
+use Rattle.art_model.proofs.keys.Fronts.{shared_whole, whole_shared}
 use Rattle.art_model.proofs.lists.Lists.{after_front}
 use Rattle.art_model.proofs.places.Places.{prefix_is}
 use Rattle.art_model.proofs.radix.Rebuild.{radix_below}
@@ -48,6 +49,13 @@ module _ {A : Type 0} (bytes : A → List ℕ) (P : ℕ) (key : List ℕ) (node 
     byte = subst (λ p. slice_get p m.matched_bytes ≡ Some m.prefix_byte) whole byte;
     least_leaf = subst (IsLeafForPrefix P (prefix_of bytes depth node) node) (sym read) least;
   }
+
+-- bytes go on with a prefix where they share all of it
+shares_all : (prefix rest : List ℕ) {n len : ℕ} → len ≡ length prefix → n ≡ shared_len prefix rest → IsTrue (nat_eq n len) ↔ IsFront prefix rest
+shares_all prefix rest {n} {len} long shared = (
+  λ all. shared_whole prefix rest (let e = eqb-true n len all in omega arith),
+  λ front. eq-eqb n len (shared ∙ whole_shared prefix rest front ∙ sym long),
+)
 
 module _ {K V : Type 0} {s : Nodes K V} {bytes : K × V → List ℕ} {P : ℕ} {p : InnerPtr} {depth : ℕ} {node : Tree OpaqueNodePtr (K × V)}
     (part : IsPlaced bytes P s (inner_name p) depth node) (proper : p.kind ≢ Leaf) where
@@ -82,6 +90,12 @@ module _ {K V : Type 0} {s : Nodes K V} {bytes : K × V → List ℕ} {P : ℕ} 
     -- a prefix that is stored whole
     stored_is : shown.prefix.len ≤ P → shown.prefix.stored ≡ prefix_of bytes depth node
     stored_is short = ap (λ h. h.stored) radix.1 ∙ take_all P radix.0 (let l = ap (λ h. h.length_of) radix.1 in omega arith) ∙ sym whole_prefix
+
+    -- whether a key goes on with it
+    pub goes_stored : {len n : ℕ} {stored : List ℕ} (key : List ℕ) → len ≡ shown.prefix.len → len ≤ P → stored ≡ shown.prefix.stored →
+        n ≡ shared_len stored (drop depth key) → IsTrue (nat_eq n len) ↔ IsFront (prefix_of bytes depth node) (drop depth key)
+    goes_stored {len} {n} {stored} key l short st shared =
+        shares_all _ (drop depth key) (l ∙ len_is) (shared ∙ ap (λ z. shared_len z (drop depth key)) (st ∙ stored_is (omega arith)))
 
     -- what the comparison with a prefix that is stored whole returns
     pub matches_stored : {header : Prefix} {len : ℕ} {stored rest : List ℕ} (key : List ℕ) (r : Result PrefixMatch ExplicitMismatch) →
@@ -134,6 +148,12 @@ module _ {K V : Type 0} {s : Nodes K V} {bytes : K × V → List ℕ} {P : ℕ} 
             let k = ap (λ z. z.len) header_is in
             let count : depth + len - depth ≡ shown.prefix.len = omega arith in
             read ∙ ap (λ n. take n (drop depth text)) count ∙ ap (λ z. take shown.prefix.len (drop depth z)) text_is ∙ prefix_read
+
+        -- whether the key goes on with it
+        pub goes_read : {n : ℕ} → n ≡ shared_len prefix rest → IsTrue (nat_eq n len) ↔ IsFront (prefix_of bytes depth node) (drop depth key)
+        goes_read shared =
+            shares_all _ (drop depth key) (long_is ∙ ap (λ z. z.len) header_is ∙ len_is)
+            (shared ∙ ap (shared_len prefix) rest_is ∙ ap (λ z. shared_len z (drop depth key)) whole_read)
 
         pub matches_read : {m : PrefixMatch} → m.matched_bytes ≡ length prefix → IsFront prefix rest → IsCompared bytes P key node depth (Ok m)
         matches_read len front = (len ∙ ap length whole_read, subst (λ p. IsFront p (drop depth key)) whole_read (subst (IsFront prefix) rest_is front))

@@ -1,6 +1,8 @@
 -- What a list shares with another one and a byte after it.
-use Rattle.std.proofs.Common.{◌≡◌, ℕ, suc, ◌<◌, List, [], ◌∷◌, ◌++◌, length, get_or, refl, ap, arith, eqb, eq-eqb, Bool, true, false}
-use Rattle.std.proofs.lemmas.Bool.{ne_eqb}
+use Rattle.std.proofs.Common.{◌≡◌, ℕ, suc, ◌<◌, List, [], ◌∷◌, ◌++◌, length, get_or, slice_get, is_some, refl, ap, sym, ◌∙◌, arith}
+use Rattle.std.proofs.Common.{Bool, true, false, not, eqb, eq-eqb, eqb-true}
+use Rattle.std.proofs.lemmas.Bool.{false≢true, ne_eqb}
+use Rattle.art_model.specs.Keys.{is_front}
 use Rattle.art_reading.specs.Matching.{shared_len}
 
 none_with : (a : List ℕ) → shared_len a [] ≡ 0
@@ -32,3 +34,15 @@ module _ (end : ℕ) where
           (t : Bool) → eqb x y ≡ t → shared_len (x ∷ bytes) (y ∷ rest ++ end ∷ []) ≡ shared_len (x ∷ bytes) (y ∷ rest)
       go ih true e = rw e (ap suc (ih (λ w. apart (rw e (ap suc w.0), omega arith, w.2))))
       go ih false e = rw e refl
+
+-- a byte of a list is left after what it shares with another one, except where it is a prefix of that one
+pub some_left : (a b : List ℕ) → is_some (slice_get b (shared_len a b)) ≡ not (is_front b a)
+some_left [] [] = refl
+some_left [] (y ∷ b) = refl
+some_left (x ∷ a) [] = refl
+some_left (x ∷ a) (y ∷ b) = go (some_left a b) (eqb x y) refl
+  where
+    go : is_some (slice_get b (shared_len a b)) ≡ not (is_front b a) → (t : Bool) → eqb x y ≡ t →
+        is_some (slice_get (y ∷ b) (shared_len (x ∷ a) (y ∷ b))) ≡ not (is_front (y ∷ b) (x ∷ a))
+    go ih true e = rw (e, eq-eqb y x (sym (eqb-true x y e))) ih
+    go ih false e = rw (e, ne_eqb y x (λ same. false≢true (sym e ∙ eq-eqb x y (sym same)))) refl

@@ -1,10 +1,9 @@
 -- on which side of a key others are that start alike
-use Rattle.std.proofs.Common.{◌≡◌, ℕ, ◌<◌, ◌≤◌, ◌⊎◌, List, [], ◌∷◌, ◌++◌, length, refl, ap, sym, ◌∙◌, arith, length-append, append-nil, Bool, IsTrue, ◌↔◌, inl, inr}
+use Rattle.std.proofs.Common.{◌≡◌, ℕ, ◌<◌, ◌≤◌, ◌⊎◌, List, [], ◌∷◌, ◌++◌, length, refl, ap, sym, ◌∙◌, arith, inl, inr}
 use Rattle.std.specs.Cmp.Lexicographic.{slice_cmp}
 use Rattle.std.specs.Ordering.{nat_cmp, ordering_then}
 use Rattle.std.proofs.lemmas.Bool.{cases_order, le-ltb, lt-ltb, ne_eqb}
-use Rattle.art_model.specs.Keys.{IsFront, is_front}
-use Rattle.art_model.proofs.keys.Keys.{front_from, front_is}
+use Rattle.art_model.specs.Keys.{IsFront}
 
 -- a byte that is not the key's decides
 decided_left : (a k : ℕ) (w v s : List ℕ) → (a ≡ k → slice_cmp nat_cmp w s ≡ slice_cmp nat_cmp v s) →
@@ -51,11 +50,3 @@ ended_right [] [] r c h = refl
 ended_right [] (k ∷ key) r c h = absurd (omega arith)
 ended_right (a ∷ w) [] r c h = refl
 ended_right (a ∷ w) (k ∷ key) r c h = ap (ordering_then (nat_cmp k a)) (ended_right w key r c (omega arith))
-
--- a prefix of a list of the same length is the list
-pub whole_front : (a b : List ℕ) → length a ≡ length b → (t : Bool) → is_front a b ≡ t → IsTrue t ↔ (b ≡ a)
-whole_front a b same t e = (λ yes'. whole (front_from a b (e ∙ yes')), λ is. sym e ∙ ap (is_front a) (is ∙ sym (append-nil a)) ∙ front_is a [])
-  where
-    whole : IsFront a b → b ≡ a
-    whole ([], f) = f ∙ append-nil a
-    whole (c ∷ r, f) = absurd (let n = ap length f in omega (arith, simp length-append at n))

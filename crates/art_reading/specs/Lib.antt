@@ -14,4 +14,3 @@ pub mod Iterators
 pub mod PartEnds
 pub mod TextWays
 pub mod ShortTexts
-pub mod StandIns

@@ -16,7 +16,7 @@ ghost use Rattle.art_reading.specs.Descents.{CountsVisitsFrom, IsEndChild, IsKey
 
 use crate::matching::{Asked, PrefixMatchBehavior, Step};
 use crate::path::{LastSteps, TreePath};
-use crate::query::KeyQuery;
+use crate::query::{KeyBytes, KeyQuery};
 use art_nodes::node::{AsBytes, InnerPtr, InnerRef, LeafNode, LeafPtr, NodePtr, OpaqueNodePtr};
 use art_nodes::store::NodeStore;
 use std::marker::Model;
@@ -297,32 +297,34 @@ pub struct LastNode {
 /// Descends to the node below which all keys with a prefix are, or to `None` only if no key has it. Either all keys
 /// below the node have the prefix, or none has: the prefixes of nodes are skipped, and not compared.
 #[inline(always)]
-pub fn walk_below<K: AsBytes + Drop, V: Drop, const P: usize>(
+pub fn walk_below<B: KeyBytes, K: AsBytes + Drop, V: Drop, const P: usize>(
     store: &NodeStore<K, V, P>,
     root: OpaqueNodePtr,
-    prefix: &[u8],
+    prefix: &mut B,
 ) -> Option<LastNode>
     requires { IsCanonicalRoot (of_key K.bytes) P store.now root }
-    ensures { ForTree (of_key K.bytes) P store.now root (λ pairs layout.
-        EndsBelow (of_key K.bytes) prefix.now layout result) }
+    ensures end { ForTree (of_key K.bytes) P store.now root (λ pairs layout.
+        EndsBelow (of_key K.bytes) (B.key prefix.old) layout result) }
+    ensures same { B.key prefix.new ≡ B.key prefix.old }
 {
     walk_below_visiting(store, root, prefix, &mut Visits::new())
 }
 
 // The same, and counts each inner node that it reads.
 #[inline(always)]
-pub(crate) fn walk_below_visiting<K: AsBytes + Drop, V: Drop, const P: usize>(
+pub(crate) fn walk_below_visiting<B: KeyBytes, K: AsBytes + Drop, V: Drop, const P: usize>(
     store: &NodeStore<K, V, P>,
     root: OpaqueNodePtr,
-    prefix: &[u8],
+    prefix: &mut B,
     visits: &mut Visits,
 ) -> Option<LastNode>
     requires { IsCanonicalRoot (of_key K.bytes) P store.now root }
     ensures end { ForTree (of_key K.bytes) P store.now root (λ pairs layout.
-        EndsBelow (of_key K.bytes) prefix.now layout result) }
+        EndsBelow (of_key K.bytes) (B.key prefix.old) layout result) }
     ensures visits { CountsReadings visits.old visits.new (λ number.
         ForTree (of_key K.bytes) P store.now root (λ pairs layout.
-        ReadsBelow (of_key K.bytes) store.now root prefix.now layout result number)) }
+        ReadsBelow (of_key K.bytes) store.now root (B.key prefix.old) layout result number)) }
+    ensures same { B.key prefix.new ≡ B.key prefix.old }
 {
     let mut steps = LastSteps::new();
     let mut name = root;
@@ -337,17 +339,15 @@ pub(crate) fn walk_below_visiting<K: AsBytes + Drop, V: Drop, const P: usize>(
         let node = store.inner_at(inner);
         visits.count_one();
         let prefix_len = node.prefix_len();
-        if prefix_len >= prefix.len() - depth {
+        let Some(byte) = prefix.byte_after(depth, prefix_len) else {
             return Some(LastNode {
                 path: steps.path(),
                 name,
             });
-        }
-        let place = depth + prefix_len;
-        let byte = prefix[place];
+        };
         let child = node.lookup_child(byte)?;
         steps.step_down(inner, byte);
         name = child;
-        depth = place + 1;
+        depth = depth + prefix_len + 1;
     }
 }

@@ -279,7 +279,7 @@ fn step_past_prefix<B: KeyBytes, const P: usize>(
         (depth + prefix_len + 1) }
     ensures same { B.key key.new ≡ B.key key.old }
 {
-    // The sum is one of places of the key, whose number fits.
+    // The place is within the key, so the sum did not wrap.
     let place = depth.wrapping_add(prefix_len);
     let Some(byte) = key.byte_after(place, 0) else {
         return SearchStep::End {

@@ -12,4 +12,3 @@ pub mod minmax;
 pub mod path;
 pub mod query;
 pub mod range;
-pub mod stand_in;

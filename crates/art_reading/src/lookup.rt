@@ -14,11 +14,11 @@ mod texts;
 pub use crate::descent::Visits;
 use crate::descent::walk_to_key;
 pub use crate::matching::{Asked, PrefixMatchBehavior};
-pub use crate::query::{EndedQuery, KeyBytes, KeyQuery};
+pub use crate::query::{EndedQuery, KeyBytes, KeyQuery, starts_with};
 use art_nodes::node::{AsBytes, LeafNode, OpaqueNodePtr, OptionalLeafPtr};
 use art_nodes::store::NodeStore;
 pub use shortest::{shortest_text_unchecked, shortest_text_visiting};
-pub use texts::{longest_text_unchecked, longest_text_visiting};
+pub use texts::{longest_text_by, longest_text_unchecked, longest_text_visiting};
 
 /// Returns the leaf of a key, or `None` if no stored key is equal to it.
 ///

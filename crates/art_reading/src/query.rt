@@ -1,7 +1,7 @@
 //! Keys to look up: one slice of bytes, a text and its end byte, or bytes that are made as they are read.
 ghost use Rattle.std.specs.Prelude.{◌≡◌, ◌+◌, ◌<◌, ◌≤◌, ◌^◌, ◌↔◌, [], ◌∷◌, ◌++◌, drop, min, length, IsTrue, List, ℕ, slice_get, OnSome};
 ghost use Rattle.std.specs.List.{cons_option};
-ghost use Rattle.art_model.specs.Keys.{IsFront};
+ghost use Rattle.art_model.specs.Keys.{IsFront, is_front};
 ghost use Rattle.art_reading.specs.Descents.{IsAskedFor};
 ghost use Rattle.art_reading.specs.Matching.{LeafKeyIsPrefix, MatchesLeafKey, shared_len};
 ghost use Rattle.art_reading.specs.declared.matching.PrefixMatchBehavior.TheVariants.{Optimistic, Pessimistic};
@@ -55,6 +55,16 @@ impl KeyBytes for &[u8] {
     fn shared_after(&mut self, place: usize, bytes: &[u8]) -> usize {
         shared_len(bytes, &self[place..])
     }
+}
+
+/// Returns whether a slice starts with these bytes.
+#[inline(always)]
+pub fn starts_with<B: KeyBytes>(slice: &[u8], bytes: &mut B) -> bool
+    ensures starts { result ≡ is_front (B.key bytes.old) slice.now }
+    ensures same { B.key bytes.new ≡ B.key bytes.old }
+{
+    let shared = bytes.shared_after(0, slice);
+    bytes.byte_after(shared, 0).is_none()
 }
 
 /// The bytes of a key to look up.

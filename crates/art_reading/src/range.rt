@@ -1,5 +1,5 @@
 //! Parts of a tree: the leaves whose keys start with a prefix, and those between two bounds.
-ghost use Rattle.std.specs.Prelude.{◌≡◌, ◌≢◌, ◌+◌, ◌*◌, ◌≤◌, ◌↔◌, [], ◌∷◌, ◌++◌, length, Some, IsSome, IfSome, IsTrue};
+ghost use Rattle.std.specs.Prelude.{◌≡◌, ◌≢◌, ◌+◌, ◌*◌, ◌≤◌, ◌↔◌, drop, length, Some, IsSome, IfSome, IsTrue};
 ghost use Rattle.std.specs.FinMap as map;
 ghost use Rattle.std.specs.Cmp.Lexicographic.{slice_cmp};
 ghost use Rattle.std.specs.Option.{option_map};
@@ -10,7 +10,7 @@ ghost use Rattle.art_inner.specs.Views.{ref_view};
 ghost use Rattle.art_parts.specs.Names.{inner_name, leaf_name};
 ghost use Rattle.art_parts.specs.declared.names.NodeType.TheVariants.{Leaf};
 ghost use Rattle.art_parts.specs.declared.names.OpaqueNodePtr.{OpaqueNodePtr};
-ghost use Rattle.art_model.specs.Keys.{is_front};
+ghost use Rattle.art_model.specs.Keys.{IsFront, is_front};
 ghost use Rattle.art_model.specs.Lookups.{nodes_on_way};
 ghost use Rattle.art_model.specs.Pairs.{first_of, last_of, of_key};
 ghost use Rattle.art_model.specs.Parts.{is_between, is_from, is_up_to, leaves_where};
@@ -26,7 +26,7 @@ ghost use Rattle.art_reading.specs.declared.path.TreePath.{TreePath};
 use crate::descent::{End, Visits, walk_below_visiting, walk_to_end_visiting};
 use crate::guide::guide_from;
 use crate::iterator::RawIterator;
-use crate::query::KeyQuery;
+use crate::query::{KeyBytes, starts_with};
 use art_nodes::node::{AsBytes, InnerPtr, InnerRef, NodePtr, OpaqueNodePtr, OptionalLeafPtr};
 use art_nodes::store::NodeStore;
 use std::cmp::Ordering;
@@ -36,15 +36,15 @@ use std::ops::Bound;
 ///
 /// It allocates nothing. It descends to the node below which these leaves are, by at most one inner node for each byte
 /// of the prefix, then to the first and the last of them, and reads one key.
-pub fn prefix_unchecked<K: AsBytes + Drop, V: Drop, const P: usize>(
+pub fn prefix_unchecked<B: KeyBytes + Drop, K: AsBytes + Drop, V: Drop, const P: usize>(
     store: &NodeStore<K, V, P>,
     root: OpaqueNodePtr,
-    prefix: &[u8],
+    prefix: B,
 ) -> RawIterator
     requires { IsCanonicalRoot (of_key K.bytes) P store.now root }
     ensures { ForTree (of_key K.bytes) P store.now root (λ pairs layout.
         IsIteratorOf store.now result
-        (leaves_where (λ x. is_front prefix.now (K.bytes x.0)) layout)) }
+        (leaves_where (λ x. is_front (B.key prefix) (K.bytes x.0)) layout)) }
 {
     prefix_visiting(store, root, prefix, &mut Visits::new())
 }
@@ -52,26 +52,27 @@ pub fn prefix_unchecked<K: AsBytes + Drop, V: Drop, const P: usize>(
 /// Returns what `prefix_unchecked` does, and counts each reading of a node: at least the nodes whose place is a prefix
 /// of these bytes, and at most two for each level of the tree, the leaves being a level. A full counter stays full.
 #[inline(always)]
-pub fn prefix_visiting<K: AsBytes + Drop, V: Drop, const P: usize>(
+pub fn prefix_visiting<B: KeyBytes + Drop, K: AsBytes + Drop, V: Drop, const P: usize>(
     store: &NodeStore<K, V, P>,
     root: OpaqueNodePtr,
-    prefix: &[u8],
+    prefix: B,
     visits: &mut Visits,
 ) -> RawIterator
     requires { IsCanonicalRoot (of_key K.bytes) P store.now root }
     ensures leaves { ForTree (of_key K.bytes) P store.now root (λ pairs layout.
         IsIteratorOf store.now result
-        (leaves_where (λ x. is_front prefix.now (K.bytes x.0)) layout)) }
-    ensures visits { CountsBelow (of_key K.bytes) P store.now root prefix.now
+        (leaves_where (λ x. is_front (B.key prefix) (K.bytes x.0)) layout)) }
+    ensures visits { CountsBelow (of_key K.bytes) P store.now root (B.key prefix)
         visits.old visits.new }
 {
-    let Some(end) = walk_below_visiting(store, root, prefix, visits) else {
+    let mut bytes = prefix;
+    let Some(end) = walk_below_visiting(store, root, &mut bytes, visits) else {
         return RawIterator::empty();
     };
     let (_, first) = walk_to_end_visiting(store, end.name, End::First, visits);
     let leaf = store.leaf_at(first);
     visits.count_one();
-    if !leaf.key.as_bytes().starts_with(prefix) {
+    if !starts_with(leaf.key.as_bytes(), &mut bytes) {
         return RawIterator::empty();
     }
     let (_, last) = walk_to_end_visiting(store, end.name, End::Last, visits);
@@ -82,16 +83,16 @@ pub fn prefix_visiting<K: AsBytes + Drop, V: Drop, const P: usize>(
 /// after the second.
 ///
 /// It allocates nothing, and costs at most what `first_from_unchecked` and `last_up_to_unchecked` do together.
-pub fn range_unchecked<Q: KeyQuery, K: AsBytes + Drop, V: Drop, const P: usize>(
+pub fn range_unchecked<B: KeyBytes + Drop, K: AsBytes + Drop, V: Drop, const P: usize>(
     store: &NodeStore<K, V, P>,
     root: OpaqueNodePtr,
-    from: Bound<Q>,
-    to: Bound<Q>,
+    from: Bound<B>,
+    to: Bound<B>,
 ) -> RawIterator
     requires { IsCanonicalRoot (of_key K.bytes) P store.now root }
     ensures { ForTree (of_key K.bytes) P store.now root (λ pairs layout.
         IsIteratorOf store.now result (leaves_where (λ x.
-        is_between (bound_map Q.key from) (bound_map Q.key to) (K.bytes x.0))
+        is_between (bound_map B.key from) (bound_map B.key to) (K.bytes x.0))
         layout)) }
 {
     range_visiting(store, root, from, to, &mut Visits::new())
@@ -100,27 +101,27 @@ pub fn range_unchecked<Q: KeyQuery, K: AsBytes + Drop, V: Drop, const P: usize>(
 /// Returns what `range_unchecked` does, and counts each reading of a node: at least the nodes whose place is a prefix
 /// of the first bound's key, and at most twice the most that `first_from_visiting` counts, and one.
 #[inline(always)]
-pub fn range_visiting<Q: KeyQuery, K: AsBytes + Drop, V: Drop, const P: usize>(
+pub fn range_visiting<B: KeyBytes + Drop, K: AsBytes + Drop, V: Drop, const P: usize>(
     store: &NodeStore<K, V, P>,
     root: OpaqueNodePtr,
-    from: Bound<Q>,
-    to: Bound<Q>,
+    from: Bound<B>,
+    to: Bound<B>,
     visits: &mut Visits,
 ) -> RawIterator
     requires { IsCanonicalRoot (of_key K.bytes) P store.now root }
     ensures leaves { ForTree (of_key K.bytes) P store.now root (λ pairs layout.
         IsIteratorOf store.now result (leaves_where (λ x.
-        is_between (bound_map Q.key from) (bound_map Q.key to) (K.bytes x.0))
+        is_between (bound_map B.key from) (bound_map B.key to) (K.bytes x.0))
         layout)) }
     ensures visits { CountsToBounds (of_key K.bytes) P store.now root
-        (bound_map Q.key from) visits.old visits.new }
+        (bound_map B.key from) visits.old visits.new }
 {
     let Some(first) = first_from_visiting(store, root, from, visits) else {
         return RawIterator::empty();
     };
     let leaf = store.leaf_at(first);
     visits.count_one();
-    if !ends_after(to, leaf.key.as_bytes()) {
+    if !ends_after(&to, leaf.key.as_bytes()) {
         return RawIterator::empty();
     }
     let last = last_up_to_visiting(store, root, to, visits).unwrap();
@@ -132,15 +133,15 @@ pub fn range_visiting<Q: KeyQuery, K: AsBytes + Drop, V: Drop, const P: usize>(
 /// It allocates nothing. It descends by the bytes of the bound, and from where this ends to the first and the last leaf
 /// below. Prefixes that are not stored whole are all read from the same leaf, which takes a further descent.
 /// `first_from_visiting` counts what it reads.
-pub fn first_from_unchecked<Q: KeyQuery, K: AsBytes + Drop, V: Drop, const P: usize>(
+pub fn first_from_unchecked<B: KeyBytes + Drop, K: AsBytes + Drop, V: Drop, const P: usize>(
     store: &NodeStore<K, V, P>,
     root: OpaqueNodePtr,
-    from: Bound<Q>,
+    from: Bound<B>,
 ) -> OptionalLeafPtr
     requires { IsCanonicalRoot (of_key K.bytes) P store.now root }
     ensures leaf { ForTree (of_key K.bytes) P store.now root (λ pairs layout.
         option_map leaf_name result ≡ first_of
-        (leaves_where (λ x. is_from (bound_map Q.key from) (K.bytes x.0)) layout)) }
+        (leaves_where (λ x. is_from (bound_map B.key from) (K.bytes x.0)) layout)) }
     ensures there { IfSome result (λ leaf. IsSome (map.get store.now.leaves leaf)) }
 {
     first_from_visiting(store, root, from, &mut Visits::new())
@@ -150,26 +151,26 @@ pub fn first_from_unchecked<Q: KeyQuery, K: AsBytes + Drop, V: Drop, const P: us
 /// prefix of the bound's key, and at most three for each level of the tree, the leaves being a level, and two. A full
 /// counter stays full.
 #[inline(always)]
-pub fn first_from_visiting<Q: KeyQuery, K: AsBytes + Drop, V: Drop, const P: usize>(
+pub fn first_from_visiting<B: KeyBytes + Drop, K: AsBytes + Drop, V: Drop, const P: usize>(
     store: &NodeStore<K, V, P>,
     root: OpaqueNodePtr,
-    from: Bound<Q>,
+    from: Bound<B>,
     visits: &mut Visits,
 ) -> OptionalLeafPtr
     requires { IsCanonicalRoot (of_key K.bytes) P store.now root }
     ensures leaf { ForTree (of_key K.bytes) P store.now root (λ pairs layout.
         option_map leaf_name result ≡ first_of
-        (leaves_where (λ x. is_from (bound_map Q.key from) (K.bytes x.0)) layout)) }
+        (leaves_where (λ x. is_from (bound_map B.key from) (K.bytes x.0)) layout)) }
     ensures there { IfSome result (λ leaf. IsSome (map.get store.now.leaves leaf)) }
     ensures visits { CountsToBound (of_key K.bytes) P store.now root
-        (bound_map Q.key from) visits.old visits.new }
+        (bound_map B.key from) visits.old visits.new }
 {
     match from {
-        Bound::Included(query) => {
-            leaf_at_cut(store, root, Cut::Before, query, End::First, visits)
+        Bound::Included(bytes) => {
+            leaf_at_cut(store, root, Cut::Before, bytes, End::First, visits)
         }
-        Bound::Excluded(query) => {
-            leaf_at_cut(store, root, Cut::After, query, End::First, visits)
+        Bound::Excluded(bytes) => {
+            leaf_at_cut(store, root, Cut::After, bytes, End::First, visits)
         }
         Bound::Unbounded => Some(walk_to_end_visiting(store, root, End::First, visits).1),
     }
@@ -177,15 +178,15 @@ pub fn first_from_visiting<Q: KeyQuery, K: AsBytes + Drop, V: Drop, const P: usi
 
 /// Returns the last leaf whose key is before a bound, or at it if that is included. It costs what
 /// `first_from_unchecked` does.
-pub fn last_up_to_unchecked<Q: KeyQuery, K: AsBytes + Drop, V: Drop, const P: usize>(
+pub fn last_up_to_unchecked<B: KeyBytes + Drop, K: AsBytes + Drop, V: Drop, const P: usize>(
     store: &NodeStore<K, V, P>,
     root: OpaqueNodePtr,
-    to: Bound<Q>,
+    to: Bound<B>,
 ) -> OptionalLeafPtr
     requires { IsCanonicalRoot (of_key K.bytes) P store.now root }
     ensures leaf { ForTree (of_key K.bytes) P store.now root (λ pairs layout.
         option_map leaf_name result ≡ last_of
-        (leaves_where (λ x. is_up_to (bound_map Q.key to) (K.bytes x.0)) layout)) }
+        (leaves_where (λ x. is_up_to (bound_map B.key to) (K.bytes x.0)) layout)) }
     ensures there { IfSome result (λ leaf. IsSome (map.get store.now.leaves leaf)) }
 {
     last_up_to_visiting(store, root, to, &mut Visits::new())
@@ -193,36 +194,36 @@ pub fn last_up_to_unchecked<Q: KeyQuery, K: AsBytes + Drop, V: Drop, const P: us
 
 /// Returns what `last_up_to_unchecked` does, and counts as `first_from_visiting` does.
 #[inline(always)]
-pub fn last_up_to_visiting<Q: KeyQuery, K: AsBytes + Drop, V: Drop, const P: usize>(
+pub fn last_up_to_visiting<B: KeyBytes + Drop, K: AsBytes + Drop, V: Drop, const P: usize>(
     store: &NodeStore<K, V, P>,
     root: OpaqueNodePtr,
-    to: Bound<Q>,
+    to: Bound<B>,
     visits: &mut Visits,
 ) -> OptionalLeafPtr
     requires { IsCanonicalRoot (of_key K.bytes) P store.now root }
     ensures leaf { ForTree (of_key K.bytes) P store.now root (λ pairs layout.
         option_map leaf_name result ≡ last_of
-        (leaves_where (λ x. is_up_to (bound_map Q.key to) (K.bytes x.0)) layout)) }
+        (leaves_where (λ x. is_up_to (bound_map B.key to) (K.bytes x.0)) layout)) }
     ensures there { IfSome result (λ leaf. IsSome (map.get store.now.leaves leaf)) }
     ensures visits { CountsToBound (of_key K.bytes) P store.now root
-        (bound_map Q.key to) visits.old visits.new }
+        (bound_map B.key to) visits.old visits.new }
 {
     match to {
-        Bound::Included(query) => { leaf_at_cut(store, root, Cut::After, query, End::Last, visits) }
-        Bound::Excluded(query) => {
-            leaf_at_cut(store, root, Cut::Before, query, End::Last, visits)
+        Bound::Included(bytes) => { leaf_at_cut(store, root, Cut::After, bytes, End::Last, visits) }
+        Bound::Excluded(bytes) => {
+            leaf_at_cut(store, root, Cut::Before, bytes, End::Last, visits)
         }
         Bound::Unbounded => Some(walk_to_end_visiting(store, root, End::Last, visits).1),
     }
 }
 
 // Returns whether a key is before an upper bound, or at it if that is included.
-fn ends_after<Q: KeyQuery>(to: Bound<Q>, key_bytes: &[u8]) -> bool
-    ensures { result ≡ is_up_to (bound_map Q.key to) key_bytes.now }
+fn ends_after<B: KeyBytes + Drop>(to: &Bound<B>, key_bytes: &[u8]) -> bool
+    ensures { result ≡ is_up_to (bound_map B.key to.now) key_bytes.now }
 {
     match to {
-        Bound::Included(query) => Cut::After.is_after(query, key_bytes),
-        Bound::Excluded(query) => Cut::Before.is_after(query, key_bytes),
+        Bound::Included(bytes) => Cut::After.is_after(&mut bytes.again(), key_bytes),
+        Bound::Excluded(bytes) => Cut::Before.is_after(&mut bytes.again(), key_bytes),
         Bound::Unbounded => true,
     }
 }
@@ -238,10 +239,10 @@ enum Cut {
 
 impl Cut {
     // Returns whether the cut at a key is after another one.
-    fn is_after<Q: KeyQuery>(self, query: Q, other: &[u8]) -> bool
-        ensures { result ≡ is_before_cut self (Q.key query) other.now }
+    fn is_after<B: KeyBytes>(self, bytes: &mut B, other: &[u8]) -> bool
+        ensures { result ≡ is_before_cut self (B.key bytes.old) other.now }
     {
-        let order = compare(other, query);
+        let order = compare(other, bytes);
         match self {
             Cut::Before => order.is_lt(),
             Cut::After => order.is_le(),
@@ -249,46 +250,42 @@ impl Cut {
     }
 }
 
-// Compares bytes with a key.
+// Compares a slice with a key.
 #[inline(always)]
-fn compare<Q: KeyQuery>(bytes: &[u8], query: Q) -> Ordering
-    ensures { result ≡ slice_cmp nat_cmp bytes.now (Q.key query) }
+fn compare<B: KeyBytes>(slice: &[u8], bytes: &mut B) -> Ordering
+    ensures { result ≡ slice_cmp nat_cmp slice.now (B.key bytes.old) }
 {
-    match query.parts() {
-        (front, None) => bytes.cmp(front),
-        (front, Some(last)) => compare_to_ended(bytes, front, last),
+    let shared = bytes.shared_after(0, slice);
+    match (slice.get(shared), bytes.byte_after(shared, 0)) {
+        (None, None) => Ordering::Equal,
+        (None, Some(_)) => Ordering::Less,
+        (Some(_), None) => Ordering::Greater,
+        (Some(byte), Some(other)) => byte.cmp(&other),
     }
-}
-
-// Compares bytes with a text and its end.
-fn compare_to_ended(bytes: &[u8], text: &[u8], end: u8) -> Ordering
-    ensures { result ≡ slice_cmp nat_cmp bytes.now (text.now ++ end ∷ []) }
-{
-    let (front, rest) = bytes.split_at(bytes.len().min(text.len()));
-    front.cmp(text).then(rest.cmp([end].as_slice()))
 }
 
 // Returns the first leaf after a cut, or the last one before it.
 #[inline(always)]
-fn leaf_at_cut<Q: KeyQuery, K: AsBytes + Drop, V: Drop, const P: usize>(
+fn leaf_at_cut<B: KeyBytes + Drop, K: AsBytes + Drop, V: Drop, const P: usize>(
     store: &NodeStore<K, V, P>,
     root: OpaqueNodePtr,
     cut: Cut,
-    query: Q,
+    bytes: B,
     end: End,
     visits: &mut Visits,
 ) -> OptionalLeafPtr
     requires { IsCanonicalRoot (of_key K.bytes) P store.now root }
     ensures leaf { ForTree (of_key K.bytes) P store.now root (λ pairs layout.
-        IsLeafAtCut (of_key K.bytes) cut (Q.key query) layout end result) }
+        IsLeafAtCut (of_key K.bytes) cut (B.key bytes) layout end result) }
     ensures visits { CountsToBound (of_key K.bytes) P store.now root
-        (Included (Q.key query)) visits.old visits.new }
+        (Included (B.key bytes)) visits.old visits.new }
 {
-    let name = walk_beside(store, root, query, visits);
+    let mut bytes = bytes;
+    let name = walk_beside(store, root, &mut bytes, visits);
     let (_, first) = walk_to_end_visiting(store, name, End::First, visits);
     let leaf = store.leaf_at(first);
     visits.count_one();
-    if !cut.is_after(query, leaf.key.as_bytes()) {
+    if !cut.is_after(&mut bytes, leaf.key.as_bytes()) {
         return end.of((Some(first), leaf.previous));
     }
     let (_, last) = walk_to_end_visiting(store, name, End::Last, visits);
@@ -300,60 +297,54 @@ fn leaf_at_cut<Q: KeyQuery, K: AsBytes + Drop, V: Drop, const P: usize>(
 // Returns a node next to a key: what is before the node is before the key, what is after it is after the key, and all
 // keys below it are on one side.
 #[inline(always)]
-fn walk_beside<Q: KeyQuery, K: AsBytes + Drop, V: Drop, const P: usize>(
+fn walk_beside<B: KeyBytes + Drop, K: AsBytes + Drop, V: Drop, const P: usize>(
     store: &NodeStore<K, V, P>,
     root: OpaqueNodePtr,
-    query: Q,
+    bytes: &mut B,
     visits: &mut Visits,
 ) -> OpaqueNodePtr
     requires { IsCanonicalRoot (of_key K.bytes) P store.now root }
     ensures beside { ForTree (of_key K.bytes) P store.now root (λ pairs layout.
-        StandsBeside (of_key K.bytes) (Q.key query) layout result) }
+        StandsBeside (of_key K.bytes) (B.key bytes.old) layout result) }
     ensures visits { CountsReadings visits.old visits.new (λ number.
         (number + 2 * levels store.now result ≤ 3 * (levels store.now root + 1)) ×
         ForTree (of_key K.bytes) P store.now root (λ pairs layout.
-        length (nodes_on_way (of_key K.bytes) (Q.key query) layout) ≤ number + 1)) }
+        length (nodes_on_way (of_key K.bytes) (B.key bytes.old) layout) ≤ number + 1)) }
+    ensures same { B.key bytes.new ≡ B.key bytes.old }
 {
     let mut name = root;
     let mut depth = 0;
     let mut guide = None;
-    let (front, _) = query.parts();
-    let mut bytes = query;
     'down: loop {
         let NodePtr::Inner(inner) = name.split() else {
             return name;
         };
         let node = store.inner_at(inner);
         visits.count_one();
+        if !has_prefix(store, root, bytes, inner, node, depth, &mut guide, visits) {
+            return name;
+        }
         let prefix_len = node.prefix_len();
         let Some(byte) = bytes.byte_after(depth, prefix_len) else {
             return name;
         };
-        let place = depth + prefix_len;
-        let part = &front[depth..place];
-        if !has_prefix(
-            store, root, query, inner, node, part, depth, &mut guide, visits,
-        ) {
-            return name;
-        }
         let Some(child) = node.lookup_child(byte) else {
             return node.beside(byte).1;
         };
         name = child;
-        depth = place + 1;
+        depth = depth + prefix_len + 1;
     }
 }
 
-// Returns whether the whole prefix of a node on the key's path is this one, of the same length. A prefix that is not
-// stored whole is read from the guide leaf.
+// Returns whether the key goes on with the whole prefix of a node on its path. A prefix that is not stored whole is
+// read from the guide leaf.
 #[inline(always)]
-fn has_prefix<Q: KeyQuery, K: AsBytes + Drop, V: Drop, const P: usize>(
+fn has_prefix<B: KeyBytes + Drop, K: AsBytes + Drop, V: Drop, const P: usize>(
     store: &NodeStore<K, V, P>,
     root: OpaqueNodePtr,
-    query: Q,
+    bytes: &mut B,
     name: InnerPtr,
     node: InnerRef<'_, P>,
-    prefix: &[u8],
     depth: usize,
     guide: &mut OptionalLeafPtr,
     visits: &mut Visits,
@@ -361,29 +352,30 @@ fn has_prefix<Q: KeyQuery, K: AsBytes + Drop, V: Drop, const P: usize>(
     requires root { IsCanonicalRoot (of_key K.bytes) P store.now root }
     requires proper { name.kind ≢ Leaf }
     requires node { Some (ref_view node) ≡ map.get store.now.inners name }
-    requires len { length prefix.now ≡ (ref_view node).prefix.len }
     requires at { ForTree (of_key K.bytes) P store.now root (λ pairs layout.
         (path : TreePath) ×
-        IsAt (of_key K.bytes) P (Q.key query) layout path (inner_name name) depth) }
+        IsAt (of_key K.bytes) P (B.key bytes.old) layout path (inner_name name) depth) }
     requires guide { ForTree (of_key K.bytes) P store.now root (λ pairs layout.
-        MayGuide (of_key K.bytes) (Q.key query) layout guide.old) }
+        MayGuide (of_key K.bytes) (B.key bytes.old) layout guide.old) }
     ensures guide { ForTree (of_key K.bytes) P store.now root (λ pairs layout.
-        MayGuide (of_key K.bytes) (Q.key query) layout guide.new) }
+        MayGuide (of_key K.bytes) (B.key bytes.old) layout guide.new) }
     ensures visits { CountsReadings visits.old visits.new (λ number.
         number + guide_cost store.now root guide.old ≤ 1 + guide_cost store.now root guide.new) }
-    ensures same { ForTree (of_key K.bytes) P store.now root (λ pairs layout.
-        (path : TreePath) →
-        (at : IsAt (of_key K.bytes) P (Q.key query) layout path (inner_name name) depth) →
-        IsTrue result ↔ (prefix.now ≡ prefix_of (of_key K.bytes) depth at.node)) }
+    ensures goes { ForTree (of_key K.bytes) P store.now root (λ pairs layout.
+        (path : TreePath) → (at : IsAt (of_key K.bytes) P (B.key bytes.old) layout
+        path (inner_name name) depth) → IsTrue result ↔
+        IsFront (prefix_of (of_key K.bytes) depth at.node) (drop depth (B.key bytes.old))) }
+    ensures same { B.key bytes.new ≡ B.key bytes.old }
 {
-    if prefix.len() <= P {
-        return prefix.starts_with(node.read_prefix());
+    let len = node.prefix_len();
+    if len <= P {
+        return bytes.shared_after(depth, node.read_prefix()) == len;
     }
+    let mut again = bytes.again();
     let opaque = name.to_opaque();
-    let mut key = query;
-    let read_from = guide_from(store, root, &mut key, opaque, depth, *guide, visits);
+    let read_from = guide_from(store, root, &mut again, opaque, depth, *guide, visits);
     *guide = Some(read_from);
     let leaf = store.leaf_at(read_from);
     visits.count_one();
-    leaf.key.as_bytes()[depth..].starts_with(prefix)
+    bytes.shared_after(depth, &leaf.key.as_bytes()[depth..depth + len]) == len
 }

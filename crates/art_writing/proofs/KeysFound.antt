@@ -1,5 +1,5 @@
 -- What is found under a key in a list of pairs, and in a tree.
-use Rattle.std.proofs.Common.{◌≡◌, ℕ, List, [], ◌∷◌, length, map, refl, ap, ap₂, sym, ◌&&◌, ◌||◌, ◌∙◌, subst, Option, Some, None, Bool, true, false, not, IfSome}
+use Rattle.std.proofs.Common.{◌≡◌, ℕ, List, [], ◌∷◌, length, map, refl, ap, ap₂, sym, ◌&&◌, ◌||◌, ◌∙◌, subst, Option, Some, None, Bool, true, false, not, IfSome, if◌then◌else◌}
 use Rattle.std.specs.List.{AllByRecursion as Each}
 use Rattle.std.specs.Option.{is_some}
 use Rattle.std.proofs.lemmas.Bool.{true≢false}
@@ -10,10 +10,11 @@ use Rattle.art_parts.specs.declared.leaf.LeafNode.{LeafNode}
 use Rattle.art_parts.specs.declared.names.LeafPtr.{LeafPtr}
 use Rattle.art_parts.specs.declared.names.OpaqueNodePtr.{OpaqueNodePtr}
 use Rattle.art_model.specs.Canonical.{IsCanonicalTree}
-use Rattle.art_model.specs.Keys.{are_related, are_same, Precedes}
+use Rattle.art_model.specs.Keys.{are_related, are_same, is_front, Precedes}
 use Rattle.art_model.specs.Layouts.{Holds}
 use Rattle.art_model.specs.Lookups.{FindsLeaf}
 use Rattle.art_model.specs.Pairs.{first_of, IsMap, with_key, has_key, is_conflict, of_key, remove_key, remove_reply}
+use Rattle.art_model.specs.Parts.{below}
 use Rattle.art_model.specs.Roots.{IsRootOf}
 use Rattle.art_model.specs.Stores.{node_at, pair_of}
 use Rattle.art_model.specs.Trees.{Tree, leaf}
@@ -46,6 +47,14 @@ module _ {A : Type 0} (bytes : A → List ℕ) (key : List ℕ) where
       (Each-weaker (λ x. are_same key (bytes x) ≡ false) (λ x. not (are_same key (bytes x)) ≡ true) (λ x e. ap not e) pairs
       (none_passes (λ x. are_same key (bytes x)) pairs (first_none (with_key bytes key pairs) none)))
 
+  -- nothing is removed under a key that is not stored
+  pub new_removes_none : (pairs : List A) → has_key bytes key pairs ≡ false → remove_reply bytes key pairs ≡ None
+  new_removes_none pairs new = go (remove_reply bytes key pairs) refl
+    where
+      go : (reply : Option A) → remove_reply bytes key pairs ≡ reply → reply ≡ None
+      go None e = refl
+      go (Some x) e = absurd (true≢false (sym (ap is_some e) ∙ sym (any_is_first (λ y. are_same key (bytes y)) pairs) ∙ new))
+
   -- the pair that is removed has the key
   pub removed_key : (pairs : List A) (x : A) → remove_reply bytes key pairs ≡ Some x → bytes x ≡ key
   removed_key pairs x e = go (with_key bytes key pairs) e (filter_passes (λ y. are_same key (bytes y)) pairs)
@@ -64,7 +73,7 @@ module _ {A : Type 0} (bytes : A → List ℕ) (key : List ℕ) where
       by ih false other = ih (rw other at e)
 
   -- a key that a map has never conflicts
-  stored_free : (pairs : List A) → IsMap bytes pairs → has_key bytes key pairs ≡ true → is_conflict bytes key pairs ≡ false
+  pub stored_free : (pairs : List A) → IsMap bytes pairs → has_key bytes key pairs ≡ true → is_conflict bytes key pairs ≡ false
   stored_free [] rising e = refl
   stored_free (x ∷ xs) rising e = go (λ later. stored_free xs rising.1 later) (are_same key (bytes x)) refl
     where
@@ -85,6 +94,42 @@ module _ {A : Type 0} (bytes : A → List ℕ) (key : List ℕ) where
       go : (b : Bool) → has_key bytes key pairs ≡ b → b ≡ false
       go false e = refl
       go true e = absurd (true≢false (sym related ∙ stored_free pairs rising e))
+
+  -- the first pair whose key starts with a key is that key's own, or the key is not stored
+  pub first_below : (pairs : List A) (x : A) → IsMap bytes pairs → first_of (below bytes key pairs) ≡ Some x →
+      remove_reply bytes key pairs ≡ (if is_front (bytes x) key then Some x else None)
+  first_below [] x rising e = absurd cc
+  first_below (z ∷ zs) x rising e = go (first_below zs x rising.1) (is_front key (bytes z)) refl e
+    where
+      later : is_front key (bytes z) ≡ true → remove_reply bytes key zs ≡ None
+      later leads = by (has_key bytes key zs) refl
+        where
+          by : (b : Bool) → has_key bytes key zs ≡ b → remove_reply bytes key zs ≡ None
+          by false e = new_removes_none zs e
+          by true e = absurd (true≢false (let apart = before_stored z zs rising.0 e in rw leads at apart))
+
+      own : (b : Bool) → is_front (bytes z) key ≡ b → is_front key (bytes z) ≡ true →
+          remove_reply bytes key (z ∷ zs) ≡ (if is_front (bytes z) key then Some z else None)
+      own true e leads = rw (leads, e) refl
+      own false e leads = rw (leads, e) (later leads)
+
+      go : (first_of (below bytes key zs) ≡ Some x → remove_reply bytes key zs ≡ (if is_front (bytes x) key then Some x else None)) →
+          (b : Bool) → is_front key (bytes z) ≡ b → first_of (below bytes key (z ∷ zs)) ≡ Some x →
+          remove_reply bytes key (z ∷ zs) ≡ (if is_front (bytes x) key then Some x else None)
+      go ih true leads e =
+          let same : z ≡ x = (let f = rw leads at e in cc) in
+          subst (λ y. remove_reply bytes key (z ∷ zs) ≡ (if is_front (bytes y) key then Some y else None)) same (own (is_front (bytes z) key) refl leads)
+      go ih false off e = rw off (ih (rw off at e))
+
+  -- where no key starts with it, it is not stored
+  pub none_below : (pairs : List A) → first_of (below bytes key pairs) ≡ None → remove_reply bytes key pairs ≡ None
+  none_below [] e = refl
+  none_below (z ∷ zs) e = go (none_below zs) (is_front key (bytes z)) refl e
+    where
+      go : (first_of (below bytes key zs) ≡ None → remove_reply bytes key zs ≡ None) → (b : Bool) → is_front key (bytes z) ≡ b →
+          first_of (below bytes key (z ∷ zs)) ≡ None → remove_reply bytes key (z ∷ zs) ≡ None
+      go ih true leads e = absurd (let f = rw leads at e in cc)
+      go ih false off e = rw off (ih (rw off at e))
 
 -- a point is found exactly where there is a pair for it
 pub point_none : {A : Type 0} (tree : Tree OpaqueNodePtr A) (pair : Option A) → IsDeletePoint tree pair None → pair ≡ None

@@ -5,6 +5,7 @@ pub mod OneTree
 pub mod LeafWrites
 pub mod KeysFound
 pub mod EndsAgree
+pub mod EqualBelow
 pub mod OneLeaf
 pub mod Deletions
 pub mod Below

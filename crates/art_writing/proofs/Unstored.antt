@@ -3,6 +3,7 @@ use Rattle.std.proofs.Common.{◌≡◌, ℕ, ◌+◌, ◌<◌, ◌≤◌, List,
 use Rattle.std.proofs.Math.Dec.{leb-zero}
 use Rattle.std.specs.List.{AllByRecursion as Each}
 use Rattle.art_nodes.specs.Nodes.{Nodes}
+use Rattle.art_parts.specs.declared.names.LeafPtr.{LeafPtr}
 use Rattle.art_parts.specs.declared.names.OpaqueNodePtr.{OpaqueNodePtr}
 use Rattle.art_model.specs.Canonical.{IsCanonicalTree}
 use Rattle.art_model.specs.Keys.{IsFront, are_same}
@@ -75,15 +76,20 @@ module _ {K V : Type 0} {bytes : K × V → List ℕ} {P : ℕ} {s : Nodes K V} 
       not_stored (ap (λ t. with_key bytes key (pairs_of t)) is ∙ filter_none (λ x. are_same key (bytes x)) (pairs_below cs)
       (not_below bytes P key (depth_of at.path) cs (place ++ part) (depth_of at.path + header.length_of + 1) (omega arith) len below long_below.1))
 
-  -- so where an insertion may fail its key is not stored
-  pub refused_new : (is_covered (placed_for s point.insert_kind) s.promise ≡ true → ⊥) → has_key bytes key pairs ≡ false
-  refused_new uncovered = go point.key_bytes_used point.insert_kind at.kind_is uncovered
+  -- so a key that ends at no leaf of its own is not stored
+  pub unstored : ((p : LeafPtr) → point.insert_kind ≡ Exact p → ⊥) → has_key bytes key pairs ≡ false
+  unstored off = go point.key_bytes_used point.insert_kind at.kind_is off
     where
       go : (used : ℕ) (kind : InsertKind) → IsKindOf bytes P key at.node (depth_of at.path) used kind →
-          (is_covered (placed_for s kind) s.promise ≡ true → ⊥) → has_key bytes key pairs ≡ false
-      go used (Exact p) h off = absurd (off (leb-zero s.promise.leaves))
+          ((p : LeafPtr) → kind ≡ Exact p → ⊥) → has_key bytes key pairs ≡ false
+      go used (Exact p) h off = absurd (off p refl)
       go used (SplitLeaf p n) (e, (pair, is, (apart, shared))) off =
           let other = same_related key (bytes pair) apart in
           not_stored (ap (λ t. with_key bytes key (pairs_of t)) is ∙ rw other refl)
       go used (IntoExisting p) (goes_on, (header, cs, is, free)) off = ends_at_inner _ header cs is
       go used (MismatchPrefix m p) (e, (header, cs, is, (part, short))) off = ends_at_inner _ header cs is
+
+  -- nor is one whose insertion may fail
+  pub refused_new : (is_covered (placed_for s point.insert_kind) s.promise ≡ true → ⊥) → has_key bytes key pairs ≡ false
+  refused_new uncovered =
+      unstored (λ p exact. uncovered (subst (λ kind. is_covered (placed_for s kind) s.promise ≡ true) (sym exact) (leb-zero s.promise.leaves)))

@@ -18,7 +18,9 @@ mod below;
 mod compress;
 mod subtree;
 
-pub use below::{search_for_first_delete_point_below, search_for_prefix_delete_point};
+pub use below::{
+    search_for_delete_point_by, search_for_first_delete_point_below, search_for_prefix_delete_point,
+};
 pub use subtree::{SubtreeDeletePoint, SubtreeDeleteResult};
 
 /// Where a leaf is removed from a tree.

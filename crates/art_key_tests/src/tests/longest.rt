@@ -497,16 +497,15 @@ fn found(map: &Bytes<4>) -> Option<([u32; 2], [bool; 3])> {
     Some((values, are_there))
 }
 
-// How many words start with a text, how many of two are removed, how many with the text, and how many are left.
-fn taken(map: &mut Bytes<4>) -> Option<[usize; 4]> {
+// How many words start with a text, how many of two are removed, how many that start with each of two texts, and how many
+// are left.
+fn taken(map: &mut Bytes<4>) -> [usize; 5] {
     let below = map.prefix_text(b"a").count();
     let stored = map.remove_text(b"b\x01").is_some() as usize;
     let other = map.remove_text(b"b\0").is_some() as usize;
-    if !Escaped::is_plain(b"a") {
-        return None;
-    }
+    let ended = map.remove_prefix_text(b"a\0");
     let gone = map.remove_prefix_text(b"a");
-    Some([below, stored + other, gone, map.len()])
+    [below, stored + other, ended, gone, map.len()]
 }
 
 #[test]
@@ -526,7 +525,7 @@ fn words_of_any_bytes_are_counted(rt: HostRuntime) -> Result<(), Fail> {
             true,
             [true, false, true, false],
             Some(([4, 12], [true, false, true])),
-            Some([2, 1, 2, 0]),
+            [2, 1, 1, 1, 0],
         ),
     )
 }

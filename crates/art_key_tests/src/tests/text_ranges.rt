@@ -124,7 +124,17 @@ fn put_any(map: &mut Any, model: &mut Model, alloc: Global, number: usize) -> Op
     Some(())
 }
 
-// The number of the first string that is not found as in the model, or of the first draw for which the parts differ.
+// Whether both give the same as a string is removed.
+fn take_alike(map: &mut Any, model: &mut Model, string: Short) -> bool {
+    let taken = match map.remove_text(string.as_slice()) {
+        Some((_, value)) => Some(value),
+        None => None,
+    };
+    taken == model.remove(&string)
+}
+
+// The number of the first string that is not found or removed as in the model, or of the first draw for which the parts
+// differ.
 fn any_differ_at(map: &mut Any, model: &mut Model, alloc: Global) -> Option<usize> {
     for number in 0..COUNT {
         if number % 3 != 0 && put_any(map, model, alloc, number).is_none() {
@@ -142,6 +152,11 @@ fn any_differ_at(map: &mut Any, model: &mut Model, alloc: Global) -> Option<usiz
         let (from, to) = (Drawn::draw(&mut numbers), Drawn::draw(&mut numbers));
         if digest_of_any(map, from, to) != digest_of_model(model, from, to) {
             return Some(draw);
+        }
+    }
+    for number in 0..COUNT {
+        if !take_alike(map, model, Short::new(number)) {
+            return Some(number);
         }
     }
     None

@@ -6,10 +6,10 @@ ghost use Rattle.std.specs.Range.Bound.{bound_map};
 ghost use Rattle.art_keys.specs.Ended.{ended};
 ghost use Rattle.art_keys.specs.Escapes.{escape};
 ghost use Rattle.art_model.specs.Pairs.{IsMap, of_key};
-ghost use Rattle.art_keyed.specs.TextCalls.{IsBoundFor};
 ghost use Rattle.art_keyed.specs.KeyedPairs.{keys_between};
 
 use super::TreeMap;
+use crate::escaped_bytes::EscapedBytes;
 use art_keys::escaped::Escaped;
 use art_keys::terminated::Terminated;
 use art_map::map::Range;
@@ -38,19 +38,19 @@ impl<V: Drop, const P: usize> TreeMap<Escaped, V, P> {
         ensures sorted { IsMap (of_key escape) self.now }
         ensures fits { length result < 2 ^ 64 }
     {
-        self.map.range_by(self.query_at(from), self.query_at(to))
+        self.map.range_by(bytes_at(from), bytes_at(to))
     }
+}
 
-    // Returns the bound of a query that stands for the key of a bound's text.
-    fn query_at<'a>(&'a self, bound: Bound<&'a [u8]>) -> Bound<EndedQuery<'a>>
-        ensures { IsBoundFor (of_key escape) self.now (bound_map (λ text. escape text.now) bound.entry)
-            (bound_map (λ query. query.text.now ++ query.end ∷ []) result) }
-    {
-        match bound {
-            Bound::Included(text) => Bound::Included(self.query_of(text)),
-            Bound::Excluded(text) => Bound::Excluded(self.query_of(text)),
-            Bound::Unbounded => Bound::Unbounded,
-        }
+// Returns the bound at the key of a text, which is escaped as it is read.
+fn bytes_at(bound: Bound<&[u8]>) -> Bound<EscapedBytes<'_>>
+    ensures { bound_map (λ text. escape text) result ≡
+        bound_map (λ text. escape text.now) bound.entry }
+{
+    match bound {
+        Bound::Included(text) => Bound::Included(EscapedBytes::new(text)),
+        Bound::Excluded(text) => Bound::Excluded(EscapedBytes::new(text)),
+        Bound::Unbounded => Bound::Unbounded,
     }
 }
 

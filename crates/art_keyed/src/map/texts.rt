@@ -1,19 +1,19 @@
 //! Calls of maps of strings by a text, for which no key is made.
-ghost use Rattle.std.specs.Prelude.{◌≡◌, ◌<◌, ◌^◌, [], ◌∷◌, ◌++◌, length, false, IfErr, IfOk, OnErr, option_copied};
+ghost use Rattle.std.specs.Prelude.{◌≡◌, ◌<◌, ◌^◌, length, false, IfErr, IfOk, OnErr, option_copied};
 ghost use Rattle.std.specs.Borrow.{sem};
 ghost use Rattle.std.specs.Option.{option_copied_mut, option_map, unwrap_or};
 ghost use Rattle.art_keys.specs.Ended.{ended};
-ghost use Rattle.art_keys.specs.Escapes.{IsPlain, escape};
+ghost use Rattle.art_keys.specs.Escapes.{escape};
 ghost use Rattle.art_model.specs.Pairs.{IsMap, first_of, has_key, last_of, of_key, remove_key, remove_reply, with_key};
 ghost use Rattle.art_map.specs.MapAnswers.{value_at};
 ghost use Rattle.art_map.specs.MapItems.{deref_pair};
-ghost use Rattle.art_reading.specs.StandIns.{IsStandIn};
 ghost use Rattle.art_keyed.specs.KeyedPairs.{strings_below, strings_in_front, strings_not_below};
 ghost use Rattle.art_keyed.specs.TextCalls.{IsTextRefusal, text_refused, without_longest};
 ghost use Rattle.art_keyed.specs.TextLends.{lends_escaped, lends_escaped_put, lends_longest, lends_text, lends_text_put};
 
 use super::TreeMap;
 use crate::escaped_bytes::EscapedBytes;
+use crate::escaped_front::EscapedFront;
 use crate::terminated_text::TerminatedText;
 use art_keys::escaped::Escaped;
 use art_keys::terminated::{Terminated, has_zero};
@@ -178,32 +178,22 @@ impl<V: Drop, const P: usize> TreeMap<Terminated, V, P> {
     }
 }
 
-/// Calls by a text, for which no key is made. A text with a byte 0 or 1 is escaped as it is read; reads and `remove_text`
-/// then cost two lookups more. Only `get_text_or_insert` allocates or fails.
+/// Calls by a text, for which no key is made: a text with a byte 0 or 1 is escaped as it is read. They cost what the
+/// calls by key do. Only `get_text_or_insert` allocates or fails.
 impl<V: Drop, const P: usize> TreeMap<Escaped, V, P> {
-    // Returns a query that stands for the key of a text.
-    pub(super) fn query_of<'a>(&'a self, text: &'a [u8]) -> EndedQuery<'a>
-        ensures { IsStandIn (of_key escape) (escape text.now) self.now
-            (result.text.now ++ result.end ∷ []) }
-    {
-        if Escaped::is_plain(text) {
-            return EndedQuery { text, end: 0 };
-        }
-        self.map.stand_in(&mut EscapedBytes::new(text))
-    }
-
     /// Returns the value of a text's key, or `None` if it is not stored.
     pub fn get_text(&self, text: &[u8]) -> Option<&V>
         ensures { option_copied result ≡ value_at escape (escape text.now) self.now }
     {
-        self.map.get_by(self.query_of(text))
+        let (_, value) = self.get_key_value_text(text)?;
+        Some(value)
     }
 
     /// Returns whether a text's key is stored.
     pub fn contains_text(&self, text: &[u8]) -> bool
         ensures { result ≡ has_key (of_key escape) (escape text.now) self.now }
     {
-        self.map.contains_key_by(self.query_of(text))
+        self.get_key_value_text(text).is_some()
     }
 
     /// Returns the pair of a text's key, or `None` if it is not stored.
@@ -211,7 +201,11 @@ impl<V: Drop, const P: usize> TreeMap<Escaped, V, P> {
         ensures { option_map deref_pair result ≡
             first_of (with_key (of_key escape) (escape text.now) self.now) }
     {
-        self.map.get_key_value_by(self.query_of(text))
+        let mut bytes = EscapedBytes::new(text);
+        match bytes.plain() {
+            Some(query) => self.map.get_key_value_by(query),
+            None => self.map.get_key_value_by_bytes(&mut bytes),
+        }
     }
 
     /// Returns the pair with the longest string that is a prefix of a text, or equal to it, or `None` if there is none.
@@ -220,7 +214,10 @@ impl<V: Drop, const P: usize> TreeMap<Escaped, V, P> {
         ensures { option_map deref_pair result ≡
             last_of (strings_in_front (λ text. text) text.now self.now) }
     {
-        self.map.longest_text(self.query_of(text).text, 0)
+        if Escaped::is_plain(text) {
+            return self.map.longest_text(text, 0);
+        }
+        self.map.longest_text_by(&mut EscapedFront::new(text), 0)
     }
 
     /// Returns an iterator over the pairs whose strings start with a text, in the order of their keys. It costs what
@@ -230,14 +227,7 @@ impl<V: Drop, const P: usize> TreeMap<Escaped, V, P> {
         ensures sorted { IsMap (of_key escape) self.now }
         ensures fits { length result < 2 ^ 64 }
     {
-        let query = self.query_of(text);
-        if query.end != 0 {
-            // No key starts with the query, which is a prefix of the text's bytes.
-            return self
-                .map
-                .range((Bound::Included(query.text), Bound::Excluded(query.text)));
-        }
-        self.map.prefix(query.text)
+        self.map.prefix_by(EscapedFront::new(text))
     }
 
     /// Returns a mutable reference to the value of a text's key, or `None` if it is not stored.
@@ -275,20 +265,19 @@ impl<V: Drop, const P: usize> TreeMap<Escaped, V, P> {
         ensures pairs { self.new ≡ remove_key (of_key escape) (escape text.now) self.old }
         ensures removed { result ≡ remove_reply (of_key escape) (escape text.now) self.old }
     {
-        if Escaped::is_plain(text) {
-            return self.map.remove_by(EndedQuery { text, end: 0 });
+        let mut bytes = EscapedBytes::new(text);
+        match bytes.plain() {
+            Some(query) => self.map.remove_by(query),
+            None => self.map.remove_by_bytes(&mut bytes),
         }
-        self.map.remove_by_bytes(&mut EscapedBytes::new(text))
     }
 
-    /// Removes all pairs whose strings start with a text, at once, and returns how many. It never fails.
-    ///
-    /// The text must have no byte 0 or 1 (`Escaped::is_plain`). `remove_prefix` takes any key.
+    /// Removes all pairs whose strings start with a text at once, and returns how many there were. It costs what
+    /// `remove_prefix` does.
     pub fn remove_prefix_text(&mut self, text: &[u8]) -> usize
-        requires { IsPlain text.now }
         ensures pairs { self.new ≡ strings_not_below (λ string. string) text.now self.old }
         ensures removed { result ≡ length (strings_below (λ string. string) text.now self.old) }
     {
-        self.map.remove_prefix(text)
+        self.map.remove_prefix_by(EscapedFront::new(text))
     }
 }

@@ -10,6 +10,7 @@ use super::{MapInsertError, MapMakeError, MapSourceError, ToKey, one_more, witho
 use art_nodes::node::{AsBytes, LeafPtr, OpaqueNodePtr, OptionalLeafPtr};
 use art_nodes::store::NodeStore;
 use art_reading::lookup::KeyBytes;
+use art_writing::delete::search_for_delete_point_by;
 use art_writing::insert::{
     InsertKind, InsertPoint, InsertSearchError, plant, search_for_insert_point,
     search_for_insert_point_by,
@@ -123,10 +124,8 @@ pub(super) fn leaf_by<B: KeyBytes + Drop, K: AsBytes + Drop, V: Drop, const P: u
         (pairs_at store.now (Some root)) }
     ensures { IsLeafOfKey K.bytes P store.now root (B.key key.old) result }
 {
-    match position_by(store, Some(root), key) {
-        Ok(leaf) => Some(leaf),
-        Err(_position) => None,
-    }
+    let point = search_for_delete_point_by(store, root, key)?;
+    Some(point.leaf_node_ptr)
 }
 
 // The leaf of a key: the one that it has, or a new one with the value at its place. The key is made if it is new.

@@ -8,7 +8,9 @@ ghost use Rattle.art_reading.specs.ShortTexts.{texts_from};
 
 use super::{ByteMap, pair_at};
 use art_nodes::node::AsBytes;
-use art_reading::lookup::{longest_text_unchecked, shortest_text_unchecked};
+use art_reading::lookup::{
+    KeyBytes, longest_text_by, longest_text_unchecked, shortest_text_unchecked,
+};
 
 impl<K: AsBytes + Drop, V: Drop, const P: usize> ByteMap<K, V, P> {
     /// Returns the pair with the longest text that is a prefix of the query, or `None` if there is none. Each key must
@@ -23,6 +25,19 @@ impl<K: AsBytes + Drop, V: Drop, const P: usize> ByteMap<K, V, P> {
         ensures sorted { IsMap (of_key K.bytes) self.now }
     {
         let leaf = longest_text_unchecked(&self.store, self.root?, query, end)?;
+        Some(pair_at(&self.store, leaf))
+    }
+
+    /// Returns what `longest_text` does, for a query whose bytes need not stand in a slice. Its condition is the same.
+    ///
+    /// It descends by the bytes to a pair, and then along what its key and the query share. It allocates nothing.
+    pub fn longest_text_by<B: KeyBytes>(&self, query: &mut B, end: u8) -> Option<(&K, &V)>
+        requires { AreEnded (of_key K.bytes) end self.now }
+        ensures pair { option_map deref_pair result ≡
+            last_of (texts_in_front (of_key K.bytes) (B.key query.old) self.now) }
+        ensures sorted { IsMap (of_key K.bytes) self.now }
+    {
+        let leaf = longest_text_by(&self.store, self.root?, query, end)?;
         Some(pair_at(&self.store, leaf))
     }
 

@@ -8,7 +8,7 @@ ghost use Rattle.art_reading.specs.ShortTexts.{texts_from};
 
 use super::{ByteSet, KeyRange, KeyRangeOf};
 use art_nodes::node::AsBytes;
-use art_reading::lookup::KeyQuery;
+use art_reading::lookup::{KeyBytes, KeyQuery};
 use std::ops::Bound;
 
 impl<K: AsBytes + Drop, const P: usize> ByteSet<K, P> {
@@ -30,8 +30,8 @@ impl<K: AsBytes + Drop, const P: usize> ByteSet<K, P> {
 
     /// Returns an iterator over the keys between two bounds, in ascending order. There are none if the first bound is
     /// after the second. It costs what `range` does.
-    pub fn range_by<Q: KeyQuery>(&self, from: Bound<Q>, to: Bound<Q>) -> KeyRange<'_, K, P>
-        ensures keys { result ≡ between K.bytes (bound_map Q.key from) (bound_map Q.key to)
+    pub fn range_by<B: KeyBytes + Drop>(&self, from: Bound<B>, to: Bound<B>) -> KeyRange<'_, K, P>
+        ensures keys { result ≡ between K.bytes (bound_map B.key from) (bound_map B.key to)
             self.now }
         ensures sorted { IsMap K.bytes self.now }
         ensures fits { length result < 2 ^ 64 }

@@ -6,6 +6,7 @@ use art_map::map::{ByteMap, MapSourceError, ToKey};
 use art_node_support::expected::same;
 use art_reading::lookup::KeyBytes;
 use std::alloc::{AllocError, Global};
+use std::ops::Bound;
 use std::test::Fail;
 
 // A byte of which a key is made, but for 0.
@@ -84,5 +85,29 @@ fn a_value_is_written_and_removed_by_bytes(rt: HostRuntime) -> Result<(), Fail> 
     same(
         (is_there, taken, again, map.len()),
         (false, Some(([2], 20)), None, 2),
+    )
+}
+
+// The pair of a key of one byte.
+fn pair_of(map: &Map, byte: u8) -> Option<([u8; 1], u32)> {
+    let (key, value) = map.get_key_value_by_bytes(&mut Source { byte })?;
+    Some((*key, *value))
+}
+
+#[test]
+fn pairs_are_found_and_removed_by_bytes(rt: HostRuntime) -> Result<(), Fail> {
+    let mut map = ByteMap::new(rt.alloc());
+    fill(&mut map, 5);
+    let found = [pair_of(&map, 3), pair_of(&map, 9)];
+    let below = map.prefix_by(Source { byte: 4 }).count();
+    let from = Bound::Included(Source { byte: 1 });
+    let between = map
+        .range_by(from, Bound::Excluded(Source { byte: 3 }))
+        .count();
+    let gone = map.remove_prefix_by(Source { byte: 4 });
+    let again = map.remove_prefix_by(Source { byte: 4 });
+    same(
+        (found, [below, between, gone, again], map.len()),
+        ([Some(([3], 3)), None], [1, 2, 1, 0], 4),
     )
 }

@@ -256,7 +256,8 @@ fn readings_of_parts<const P: usize>(
     let (mut of_range, mut of_prefix) = (Visits::new(), Visits::new());
     let from = Bound::Included(TWO_LEVELS[0]);
     let _ = range_visiting(store, root, from, Bound::Unbounded, &mut of_range);
-    let _ = prefix_visiting(store, root, &[1, 1, 1], &mut of_prefix);
+    let prefix: &[u8] = &[1, 1, 1];
+    let _ = prefix_visiting(store, root, prefix, &mut of_prefix);
     [of_range.count(), of_prefix.count()]
 }
 

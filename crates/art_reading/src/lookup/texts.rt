@@ -10,7 +10,9 @@ ghost use Rattle.art_model.specs.Texts.{AreEnded, texts_in_front};
 ghost use Rattle.art_reading.specs.TextWays.{EndsAt, IsLeafOr, IsTextStep, leaf_of_end};
 
 use crate::descent::Visits;
+use crate::guide::find_guide;
 use crate::matching::{begins_with, shared_len};
+use crate::query::KeyBytes;
 use art_nodes::node::{
     AsBytes, InnerNode, InnerRef, LeafPtr, NodePtr, OpaqueNodePtr, OptionalLeafPtr,
 };
@@ -37,6 +39,31 @@ pub fn longest_text_unchecked<K: AsBytes + Drop, V: Drop, const P: usize>(
         last_of (texts_in_front (of_key K.bytes) query.now pairs)) }
 {
     longest_text_visiting(store, root, query, end, &mut Visits::new())
+}
+
+/// Returns what `longest_text_unchecked` does, for a query whose bytes need not stand in a slice.
+///
+/// It descends by the bytes to a leaf, and then along what its key and the query share.
+pub fn longest_text_by<B: KeyBytes, K: AsBytes + Drop, V: Drop, const P: usize>(
+    store: &NodeStore<K, V, P>,
+    root: OpaqueNodePtr,
+    query: &mut B,
+    end: u8,
+) -> OptionalLeafPtr
+    requires root { IsCanonicalRoot (of_key K.bytes) P store.now root }
+    requires ended { ForTree (of_key K.bytes) P store.now root (λ pairs _.
+        AreEnded (of_key K.bytes) end pairs) }
+    ensures leaf { ForTree (of_key K.bytes) P store.now root (λ pairs layout.
+        FindsLast layout (texts_in_front (of_key K.bytes) (B.key query.old) pairs) result) }
+    ensures there { IfSome result (λ leaf. IsSome (map.get store.now.leaves leaf)) }
+    ensures pair { ForTree (of_key K.bytes) P store.now root (λ pairs _.
+        pair_under store.now result ≡
+        last_of (texts_in_front (of_key K.bytes) (B.key query.old) pairs)) }
+{
+    let (guide, _) = find_guide(store, root, query, root, 0);
+    let key = store.leaf_at(guide).key.as_bytes();
+    let shared = query.shared_after(0, key);
+    longest_text_unchecked(store, root, &key[..shared], end)
 }
 
 /// Returns what `longest_text_unchecked` does, and adds one to the counter for each node that it reads: at

@@ -1,6 +1,7 @@
-//! The points of keys that start with a prefix: that of all, and that of the first.
-ghost use Rattle.std.specs.Prelude.{◌≡◌, IfSome};
-ghost use Rattle.art_model.specs.Pairs.{first_of, of_key};
+//! The points of keys that start with a prefix: that of all, that of the first, and that of an equal one.
+ghost use Rattle.std.specs.Prelude.{◌≡◌, IfNone, IfSome, Some};
+ghost use Rattle.art_model.specs.Canonical.{IsCanonical};
+ghost use Rattle.art_model.specs.Pairs.{first_of, of_key, remove_key, remove_reply};
 ghost use Rattle.art_model.specs.Parts.{below};
 ghost use Rattle.art_model.specs.Roots.{ForTree, IsCanonicalRoot};
 ghost use Rattle.art_writing.specs.Deleted.{IsDeletePoint, IsDeletePointIn, pair_at};
@@ -11,20 +12,22 @@ use super::subtree::SubtreeDeletePoint;
 use art_nodes::node::{AsBytes, OpaqueNodePtr};
 use art_nodes::store::NodeStore;
 use art_reading::descent::{End, walk_below, walk_to_end};
+use art_reading::lookup::{KeyBytes, starts_with};
 use art_reading::path::TreePath;
 
 /// Returns the point of all keys that start with a prefix, or `None` where no key does.
 ///
 /// It allocates nothing. It descends to the node below which these keys are, by at most one inner node for each byte of
 /// the prefix, then to the first leaf, and reads its key.
-pub fn search_for_prefix_delete_point<K: AsBytes + Drop, V: Drop, const P: usize>(
-    store: &NodeStore<K, V, P>,
-    root: OpaqueNodePtr,
-    prefix: &[u8],
-) -> Option<SubtreeDeletePoint>
+pub fn search_for_prefix_delete_point<
+    B: KeyBytes + Drop,
+    K: AsBytes + Drop,
+    V: Drop,
+    const P: usize,
+>(store: &NodeStore<K, V, P>, root: OpaqueNodePtr, prefix: B) -> Option<SubtreeDeletePoint>
     requires { IsCanonicalRoot (of_key K.bytes) P store.now root }
     ensures point { ForTree (of_key K.bytes) P store.now root (λ pairs layout.
-        IsPrefixPoint (of_key K.bytes) prefix.now layout result) }
+        IsPrefixPoint (of_key K.bytes) (B.key prefix) layout result) }
     ensures applies { IfSome result (IsSubtreePointIn (of_key K.bytes) P store.now root) }
 {
     let (all, _) = points_below(store, root, prefix)?;
@@ -34,38 +37,66 @@ pub fn search_for_prefix_delete_point<K: AsBytes + Drop, V: Drop, const P: usize
 /// Returns the point of the first key that starts with a prefix, or `None` where no key does.
 ///
 /// It descends as `search_for_prefix_delete_point` does, at the same cost.
-pub fn search_for_first_delete_point_below<K: AsBytes + Drop, V: Drop, const P: usize>(
-    store: &NodeStore<K, V, P>,
-    root: OpaqueNodePtr,
-    prefix: &[u8],
-) -> Option<DeletePoint>
+pub fn search_for_first_delete_point_below<
+    B: KeyBytes + Drop,
+    K: AsBytes + Drop,
+    V: Drop,
+    const P: usize,
+>(store: &NodeStore<K, V, P>, root: OpaqueNodePtr, prefix: B) -> Option<DeletePoint>
     requires { IsCanonicalRoot (of_key K.bytes) P store.now root }
     ensures point { ForTree (of_key K.bytes) P store.now root (λ pairs layout.
-        IsDeletePoint layout (first_of (below (of_key K.bytes) prefix.now pairs)) result) }
+        IsDeletePoint layout (first_of (below (of_key K.bytes) (B.key prefix) pairs)) result) }
     ensures pair { ForTree (of_key K.bytes) P store.now root (λ pairs _.
-        pair_at store.now result ≡ first_of (below (of_key K.bytes) prefix.now pairs)) }
+        pair_at store.now result ≡ first_of (below (of_key K.bytes) (B.key prefix) pairs)) }
     ensures applies { IfSome result (IsDeletePointIn (of_key K.bytes) P store.now root) }
 {
     let (_, first) = points_below(store, root, prefix)?;
     Some(first)
 }
 
+/// Returns the point of a key whose bytes need not stand in a slice, or `None` where no stored key is equal to it.
+///
+/// On its descent it skips prefixes by their lengths, without a comparison; at the leaf it compares the whole key.
+pub fn search_for_delete_point_by<B: KeyBytes + Drop, K: AsBytes + Drop, V: Drop, const P: usize>(
+    store: &NodeStore<K, V, P>,
+    root: OpaqueNodePtr,
+    key: &mut B,
+) -> Option<DeletePoint>
+    requires { IsCanonicalRoot (of_key K.bytes) P store.now root }
+    ensures point { ForTree (of_key K.bytes) P store.now root (λ pairs layout.
+        IsDeletePoint layout (remove_reply (of_key K.bytes) (B.key key.old) pairs) result) }
+    ensures pair { ForTree (of_key K.bytes) P store.now root (λ pairs _.
+        pair_at store.now result ≡ remove_reply (of_key K.bytes) (B.key key.old) pairs) }
+    ensures absent { ForTree (of_key K.bytes) P store.now root (λ pairs _.
+        IfNone result (IsCanonical (of_key K.bytes) P store.now (Some root)
+        (remove_key (of_key K.bytes) (B.key key.old) pairs))) }
+    ensures applies { IfSome result (IsDeletePointIn (of_key K.bytes) P store.now root) }
+{
+    let point = search_for_first_delete_point_below(store, root, key.again())?;
+    let bytes = store.leaf_at(point.leaf_node_ptr).key.as_bytes();
+    if key.shared_after(0, bytes) < bytes.len() {
+        return None;
+    }
+    Some(point)
+}
+
 // Returns the point of all keys that start with a prefix and that of the first of them, by a descent to the node below
 // which they are, and on to the first leaf.
 #[inline(always)]
-fn points_below<K: AsBytes + Drop, V: Drop, const P: usize>(
+fn points_below<B: KeyBytes + Drop, K: AsBytes + Drop, V: Drop, const P: usize>(
     store: &NodeStore<K, V, P>,
     root: OpaqueNodePtr,
-    prefix: &[u8],
+    prefix: B,
 ) -> Option<(SubtreeDeletePoint, DeletePoint)>
     requires { IsCanonicalRoot (of_key K.bytes) P store.now root }
     ensures { ForTree (of_key K.bytes) P store.now root (λ _ layout.
-        ArePointsBelow (of_key K.bytes) prefix.now layout result) }
+        ArePointsBelow (of_key K.bytes) (B.key prefix) layout result) }
 {
-    let end = walk_below(store, root, prefix)?;
+    let mut bytes = prefix;
+    let end = walk_below(store, root, &mut bytes)?;
     let (path, first) = walk_to_end(store, end.name, End::First);
     let leaf = store.leaf_at(first);
-    if !leaf.key.as_bytes().starts_with(prefix) {
+    if !starts_with(leaf.key.as_bytes(), &mut bytes) {
         return None;
     }
     let all = SubtreeDeletePoint {

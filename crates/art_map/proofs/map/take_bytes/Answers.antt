@@ -1,28 +1,23 @@
-use Rattle.std.proofs.Common.{rules, sym, subst, Some, ap, ◌∙◌}
-use Rattle.art_model.specs.Pairs.{first_of, of_key, remove_key, remove_reply}
+use Rattle.std.proofs.Common.{rules, sym, subst, Some}
+use Rattle.art_model.specs.Pairs.{of_key, remove_key, remove_reply}
 use Rattle.art_writing.proofs.KeysFound.{point_none, point_some, removed_key, removes_none}
 use Rattle.art_map.specs.MapChanges.{HasTaken}
 use Rattle.art_map.specs.MapPairs.{HoldsPairs, pairs_at}
 use Rattle.art_map.proofs.Puts.{at_some, canonical_root}
-use Rattle.art_map.proofs.StandIns.{same_keys}
 use Rattle.art_map.proofs.map.take_bytes.Goals as goal
 
-pub stand_in_unchecked-query-requires : goal.stand_in_unchecked-query-requires
-stand_in_unchecked-query-requires g c = (search rules, (canonical_root c.in-Some.is c.requires.holds, c.requires.some))
+pub search_for_delete_point_by-requires : goal.search_for_delete_point_by-requires
+search_for_delete_point_by-requires g c = (search rules, canonical_root c.in-Some.is c.requires)
 
-pub search_for_delete_point_by_lengths-requires : goal.search_for_delete_point_by_lengths-requires
-search_for_delete_point_by_lengths-requires g c = (search rules, canonical_root c.in-Some.is c.requires.holds)
-
-pub returns-in_default-search_for_delete_point_by_lengths : goal.returns-in_default-search_for_delete_point_by_lengths
-returns-in_default-search_for_delete_point_by_lengths g c =
+pub returns-in_default-search_for_delete_point_by : goal.returns-in_default-search_for_delete_point_by
+returns-in_default-search_for_delete_point_by g c =
     let B = of_key g.K.AsBytes.bytes in
     let key = g.B.KeyBytes.key c.args.bytes.now in
     let pairs = pairs_at c.args.store.now c.args.root.now in
-    let has = at_some c.in-Some.is c.requires.holds in
-    let same = ap first_of (same_keys B (c.stand_in_unchecked-query.ensures pairs has.layout has.by)) in
-    let none = sym same ∙ point_none has.layout (remove_reply B _ pairs)
-    (c.in_default-search_for_delete_point_by_lengths.ensures.point pairs has.layout has.by) in (
-      subst (HoldsPairs B g.row.P c.args.store.now c.args.root.now c.args.len.now) (sym (removes_none B key pairs none)) c.requires.holds,
+    let has = at_some c.in-Some.is c.requires in
+    let none = point_none has.layout (remove_reply B key pairs)
+    (c.in_default-search_for_delete_point_by.ensures.point pairs has.layout has.by) in (
+      subst (HoldsPairs B g.row.P c.args.store.now c.args.root.now c.args.len.now) (sym (removes_none B key pairs none)) c.requires,
       sym none,
     )
 
@@ -31,15 +26,13 @@ returns g c =
     let B = of_key g.K.AsBytes.bytes in
     let key = g.B.KeyBytes.key c.args.bytes.now in
     let pairs = pairs_at c.args.store.now c.args.root.now in
-    let has = at_some c.in-Some.is c.requires.holds in
-    let same = ap first_of (same_keys B (c.stand_in_unchecked-query.ensures pairs has.layout has.by)) in
+    let has = at_some c.in-Some.is c.requires in
     let (x, e, leads) =
-    point_some has.layout c.in-Some-search_for_delete_point_by_lengths.point (remove_reply B _ pairs)
-    (c.in-Some-search_for_delete_point_by_lengths.ensures.point pairs has.layout has.by) in
-    let is = sym same ∙ e in
+    point_some has.layout c.in-Some-search_for_delete_point_by.point (remove_reply B key pairs)
+    (c.in-Some-search_for_delete_point_by.ensures.point pairs has.layout has.by) in
     let Taken = HasTaken g.K.AsBytes.bytes g.row.P in
-    subst (λ reply. Taken reply (remove_key B key pairs) (Some c.take_out.result) c.take_out.new.store c.take_out.new.root c.take_out.new.len) (sym is)
+    subst (λ reply. Taken reply (remove_key B key pairs) (Some c.take_out.result) c.take_out.new.store c.take_out.new.root c.take_out.new.len) (sym e)
     (subst (λ gone. Taken (Some x) (remove_key B gone pairs)
     (Some c.take_out.result) c.take_out.new.store c.take_out.new.root c.take_out.new.len)
-    (removed_key B key pairs x is)
+    (removed_key B key pairs x e)
     (c.take_out.ensures pairs has.layout has.by x leads))

@@ -1,4 +1,4 @@
-use Rattle.std.proofs.Common.{◌-◌, ◌≤◌, length}
+use Rattle.std.proofs.Common.{◌≡◌, ◌-◌, ◌≤◌, length}
 use Rattle.art_model.specs.Pairs.{of_key}
 use Rattle.art_model.specs.Roots.{ForTree}
 use Rattle.art_reading.specs.PathSteps.{path_after}
@@ -8,10 +8,12 @@ use Rattle.art_reading.proofs.descent.walk_below_visiting.Given as goal
 
 abbrev pub invariant-down : goal.invariant-down
 invariant-down g l = record {
-  within : l.depth ≤ length l.prefix;
+  within : l.depth ≤ length (g.B.KeyBytes.key l.fn.prefix);
+  same : g.B.KeyBytes.key l.prefix ≡ g.B.KeyBytes.key l.fn.prefix;
   readings : CountsReadings l.fn.visits l.visits (λ number. ForTree (of_key g.K.AsBytes.bytes) g.row.P l.store l.fn.root
-      (λ pairs layout. IsReadBelow (of_key g.K.AsBytes.bytes) g.row.P l.store l.fn.root l.prefix layout (path_after l.steps) l.name l.depth number));
+      (λ pairs layout.
+      IsReadBelow (of_key g.K.AsBytes.bytes) g.row.P l.store l.fn.root (g.B.KeyBytes.key l.fn.prefix) layout (path_after l.steps) l.name l.depth number));
 }
 
 abbrev pub decreases-down : goal.decreases-down
-decreases-down g l = length l.prefix - l.depth
+decreases-down g l = length (g.B.KeyBytes.key l.fn.prefix) - l.depth

@@ -18,7 +18,7 @@ walk_to_end_visiting-requires g c =
 pub returns-in-Included-clause-leaf : goal.returns-in-Included-clause-leaf
 returns-in-Included-clause-leaf g c pairs layout by =
     c.leaf_at_cut.ensures.leaf pairs layout by
-    ∙ ap (λ b. first_of (leaves_where (λ x. is_from (bound_map g.Q.KeyBytes.key b) (g.K.AsBytes.bytes x.0)) layout)) (sym c.in-Included.is)
+    ∙ ap (λ b. first_of (leaves_where (λ x. is_from (bound_map g.B.KeyBytes.key b) (g.K.AsBytes.bytes x.0)) layout)) (sym c.in-Included.is)
 
 pub returns-in-Included-clause-there : goal.returns-in-Included-clause-there
 returns-in-Included-clause-there g c =
@@ -28,9 +28,9 @@ returns-in-Included-clause-there g c =
 pub returns-in-Excluded-clause-leaf : goal.returns-in-Excluded-clause-leaf
 returns-in-Excluded-clause-leaf g c pairs layout by =
     c.leaf_at_cut-in-Excluded.ensures.leaf pairs layout by
-    ∙ ap first_of (where_same _ (λ x. is_before (g.Q.KeyBytes.key c.in-Excluded.query) (g.K.AsBytes.bytes x.0))
-    (λ x. not_not (is_before (g.Q.KeyBytes.key c.in-Excluded.query) (g.K.AsBytes.bytes x.0))) layout)
-    ∙ ap (λ b. first_of (leaves_where (λ x. is_from (bound_map g.Q.KeyBytes.key b) (g.K.AsBytes.bytes x.0)) layout)) (sym c.in-Excluded.is)
+    ∙ ap first_of (where_same _ (λ x. is_before (g.B.KeyBytes.key c.in-Excluded.bytes) (g.K.AsBytes.bytes x.0))
+    (λ x. not_not (is_before (g.B.KeyBytes.key c.in-Excluded.bytes) (g.K.AsBytes.bytes x.0))) layout)
+    ∙ ap (λ b. first_of (leaves_where (λ x. is_from (bound_map g.B.KeyBytes.key b) (g.K.AsBytes.bytes x.0)) layout)) (sym c.in-Excluded.is)
 
 pub returns-in-Excluded-clause-there : goal.returns-in-Excluded-clause-there
 returns-in-Excluded-clause-there g c =
@@ -40,7 +40,7 @@ returns-in-Excluded-clause-there g c =
 pub returns-in-Unbounded-clause-leaf : goal.returns-in-Unbounded-clause-leaf
 returns-in-Unbounded-clause-leaf g c pairs layout by =
     sym (c.walk_to_end_visiting.ensures.leads layout (has_children _ _ _ _ _ layout by)).0.name_is ∙ ap first_of (sym (where_any layout))
-    ∙ ap (λ b. first_of (leaves_where (λ x. is_from (bound_map g.Q.KeyBytes.key b) (g.K.AsBytes.bytes x.0)) layout))
+    ∙ ap (λ b. first_of (leaves_where (λ x. is_from (bound_map g.B.KeyBytes.key b) (g.K.AsBytes.bytes x.0)) layout))
     (sym c.in-Unbounded.is)
 
 pub returns-in-Unbounded-clause-there : goal.returns-in-Unbounded-clause-there

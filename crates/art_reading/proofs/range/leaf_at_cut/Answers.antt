@@ -22,10 +22,10 @@ pub returns-then-not-is_after-clause-leaf : goal.returns-then-not-is_after-claus
 returns-then-not-is_after-clause-leaf g c pairs layout by =
     let b = c.walk_beside-name.ensures.beside pairs layout by in
     let first = (c.walk_to_end_visiting.ensures.leads b.at.node (node_full by b.at)).0 in
-    let told = first_is by b.at first (λ x. is_before_cut c.args.cut (g.Q.KeyBytes.key c.args.query) (g.K.AsBytes.bytes x.0) ≡ side by b c.args.cut)
+    let told = first_is by b.at first (λ x. is_before_cut c.args.cut (g.B.KeyBytes.key c.args.bytes) (g.K.AsBytes.bytes x.0) ≡ side by b c.args.cut)
     (all_on_side by b c.args.cut) _ (sym c.leaf_at-leaf.ensures) in
-    from_first by b c.args.cut (sym told ∙ ap (is_before_cut c.args.cut (g.Q.KeyBytes.key c.args.query)) (sym c.as_bytes.ensures)
-    ∙ sym c.is_after.ensures ∙ c.if-not-is_after.true)
+    from_first by b c.args.cut (sym told ∙ ap (is_before_cut c.args.cut (g.B.KeyBytes.key c.args.bytes)) (sym c.as_bytes.ensures)
+    ∙ sym (ap (λ k. is_before_cut c.args.cut k c.as_bytes.result.now) c.walk_beside-name.ensures.same) ∙ sym c.is_after.ensures ∙ c.if-not-is_after.true)
     first (sym c.leaf_at-leaf.ensures) c.args.end c.of.ensures
 
 pub walk_to_end_visiting-requires-2 : goal.walk_to_end_visiting-requires-2
@@ -44,10 +44,10 @@ pub returns-clause-leaf : goal.returns-clause-leaf
 returns-clause-leaf g c pairs layout by =
     let b = c.walk_beside-name.ensures.beside pairs layout by in
     let first = (c.walk_to_end_visiting.ensures.leads b.at.node (node_full by b.at)).0 in
-    let told = first_is by b.at first (λ x. is_before_cut c.args.cut (g.Q.KeyBytes.key c.args.query) (g.K.AsBytes.bytes x.0) ≡ side by b c.args.cut)
+    let told = first_is by b.at first (λ x. is_before_cut c.args.cut (g.B.KeyBytes.key c.args.bytes) (g.K.AsBytes.bytes x.0) ≡ side by b c.args.cut)
     (all_on_side by b c.args.cut) _ (sym c.leaf_at-leaf.ensures) in
-    from_last by b c.args.cut (sym told ∙ ap (is_before_cut c.args.cut (g.Q.KeyBytes.key c.args.query)) (sym c.as_bytes.ensures)
-    ∙ sym c.is_after.ensures ∙ c.if-not-is_after.false)
+    from_last by b c.args.cut (sym told ∙ ap (is_before_cut c.args.cut (g.B.KeyBytes.key c.args.bytes)) (sym c.as_bytes.ensures)
+    ∙ sym (ap (λ k. is_before_cut c.args.cut k c.as_bytes.result.now) c.walk_beside-name.ensures.same) ∙ sym c.is_after.ensures ∙ c.if-not-is_after.false)
     ((c.walk_to_end_visiting-2.ensures.leads b.at.node (node_full by b.at)).0) (sym c.leaf_at-leaf-2.ensures) c.args.end c.of-2.ensures
 
 -- ---- the counter

@@ -1,7 +1,6 @@
 use Rattle.std.proofs.Common.{arith, ◌+◌, rules, ◌≡◌, ap, sym, ◌∙◌}
 use Rattle.art_model.specs.Keys.{is_front}
 use Rattle.art_model.specs.Layouts.{leaf_names}
-use Rattle.art_reading.proofs.Below.{starts_front}
 use Rattle.art_reading.proofs.Counts.{count_both}
 use Rattle.art_reading.proofs.Levels.{root_levels, under_root}
 use Rattle.art_reading.proofs.Parts.{first_is, first_there, node_full, node_segment, none_begins, others_begin, these_begin}
@@ -24,12 +23,12 @@ leaf_at-leaf-requires g c =
 
 pub returns-then-not-starts_with-clause-leaves : goal.returns-then-not-starts_with-clause-leaves
 returns-then-not-starts_with-clause-leaves g c pairs layout by =
+    let key = g.B.KeyBytes.key c.args.prefix in
     let at = (c.in-Some.ensures.end pairs layout by).0 in
     let first = (c.walk_to_end_visiting.ensures.leads at.at.node (node_full by at.at)).0 in
-    let told = first_is by at.at first (λ x. is_front c.args.prefix.now (g.K.AsBytes.bytes x.0) ≡ at.begin) at.alike _ (sym c.leaf_at-leaf.ensures) in
+    let told = first_is by at.at first (λ x. is_front key (g.K.AsBytes.bytes x.0) ≡ at.begin) at.alike _ (sym c.leaf_at-leaf.ensures) in
     let tested =
-    ap (is_front c.args.prefix.now) (sym c.as_bytes.ensures)
-    ∙ starts_front c.as_bytes.result.now c.args.prefix.now _ c.starts_with.ensures.value in
+    ap (is_front key) (sym c.as_bytes.ensures) ∙ ap (λ k. is_front k c.as_bytes.result.now) (sym c.in-Some.ensures.same) ∙ sym c.starts_with.ensures.starts in
     rw c.empty-then-not-starts_with.ensures (others_begin by _ at (sym told ∙ tested ∙ c.if-not-starts_with.true))
 
 pub walk_to_end_visiting-requires-2 : goal.walk_to_end_visiting-requires-2
@@ -49,14 +48,14 @@ new-requires g c =
 
 pub returns-clause-leaves : goal.returns-clause-leaves
 returns-clause-leaves g c pairs layout by =
+    let key = g.B.KeyBytes.key c.args.prefix in
     let at = (c.in-Some.ensures.end pairs layout by).0 in
     let full = node_full by at.at in
     let first = (c.walk_to_end_visiting.ensures.leads at.at.node full).0 in
     let last = (c.walk_to_end_visiting-2.ensures.leads at.at.node full).0 in
-    let told = first_is by at.at first (λ x. is_front c.args.prefix.now (g.K.AsBytes.bytes x.0) ≡ at.begin) at.alike _ (sym c.leaf_at-leaf.ensures) in
+    let told = first_is by at.at first (λ x. is_front key (g.K.AsBytes.bytes x.0) ≡ at.begin) at.alike _ (sym c.leaf_at-leaf.ensures) in
     let tested =
-    ap (is_front c.args.prefix.now) (sym c.as_bytes.ensures)
-    ∙ starts_front c.as_bytes.result.now c.args.prefix.now _ c.starts_with.ensures.value in
+    ap (is_front key) (sym c.as_bytes.ensures) ∙ ap (λ k. is_front k c.as_bytes.result.now) (sym c.in-Some.ensures.same) ∙ sym c.starts_with.ensures.starts in
     rw c.new.ensures (these_begin by _ at (sym told ∙ tested ∙ c.if-not-starts_with.false) first last)
 
 -- ---- the counter

@@ -9,20 +9,22 @@ use Rattle.art_reading.proofs.range.range_visiting.Goals as goal
 
 pub returns-in_default-clause-leaves : goal.returns-in_default-clause-leaves
 returns-in_default-clause-leaves g c pairs layout by =
-    rw c.empty.ensures (none_after by (bound_map g.Q.KeyBytes.key c.args.from) (bound_map g.Q.KeyBytes.key c.args.to) (c.in_default.ensures.leaf pairs layout by))
+    rw c.empty.ensures
+    (none_after by (bound_map g.B.KeyBytes.key c.args.from) (bound_map g.B.KeyBytes.key c.args.to) (c.in_default.ensures.leaf pairs layout by))
 
 pub returns-then-not-ends_after-clause-leaves : goal.returns-then-not-ends_after-clause-leaves
 returns-then-not-ends_after-clause-leaves g c pairs layout by =
     rw c.empty-then-not-ends_after.ensures
-    (first_past by (bound_map g.Q.KeyBytes.key c.args.from) (bound_map g.Q.KeyBytes.key c.args.to) (c.in-Some.ensures.leaf pairs layout by) (sym c.leaf_at-leaf.ensures)
-    (ap (is_up_to (bound_map g.Q.KeyBytes.key c.args.to)) (sym c.as_bytes.ensures) ∙ sym c.ends_after.ensures ∙ c.if-not-ends_after.true))
+    (first_past by (bound_map g.B.KeyBytes.key c.args.from) (bound_map g.B.KeyBytes.key c.args.to) (c.in-Some.ensures.leaf pairs layout by)
+    (sym c.leaf_at-leaf.ensures)
+    (ap (is_up_to (bound_map g.B.KeyBytes.key c.args.to)) (sym c.as_bytes.ensures) ∙ sym c.ends_after.ensures ∙ c.if-not-ends_after.true))
 
 pub unwrap-last-requires : goal.unwrap-last-requires
 unwrap-last-requires g c =
     let (pairs, layout, by) = c.requires in
-    last_is_there by (bound_map g.Q.KeyBytes.key c.args.from) (bound_map g.Q.KeyBytes.key c.args.to) (c.in-Some.ensures.leaf pairs layout by)
+    last_is_there by (bound_map g.B.KeyBytes.key c.args.from) (bound_map g.B.KeyBytes.key c.args.to) (c.in-Some.ensures.leaf pairs layout by)
     (sym c.leaf_at-leaf.ensures)
-    (ap (is_up_to (bound_map g.Q.KeyBytes.key c.args.to)) (sym c.as_bytes.ensures) ∙ sym c.ends_after.ensures ∙ c.if-not-ends_after.false) _
+    (ap (is_up_to (bound_map g.B.KeyBytes.key c.args.to)) (sym c.as_bytes.ensures) ∙ sym c.ends_after.ensures ∙ c.if-not-ends_after.false) _
     (c.last_up_to_visiting.ensures.leaf pairs layout by)
 
 pub new-requires : goal.new-requires
@@ -30,10 +32,10 @@ new-requires g c =
     let (pairs, layout, by) = c.requires in (
       search rules,
       (
-        leaves_where (λ x. is_between (bound_map g.Q.KeyBytes.key c.args.from) (bound_map g.Q.KeyBytes.key c.args.to) (g.K.AsBytes.bytes x.0)) layout,
-        span_walk by (bound_map g.Q.KeyBytes.key c.args.from) (bound_map g.Q.KeyBytes.key c.args.to) (c.in-Some.ensures.leaf pairs layout by)
+        leaves_where (λ x. is_between (bound_map g.B.KeyBytes.key c.args.from) (bound_map g.B.KeyBytes.key c.args.to) (g.K.AsBytes.bytes x.0)) layout,
+        span_walk by (bound_map g.B.KeyBytes.key c.args.from) (bound_map g.B.KeyBytes.key c.args.to) (c.in-Some.ensures.leaf pairs layout by)
             (sym c.leaf_at-leaf.ensures)
-            (ap (is_up_to (bound_map g.Q.KeyBytes.key c.args.to)) (sym c.as_bytes.ensures) ∙ sym c.ends_after.ensures
+            (ap (is_up_to (bound_map g.B.KeyBytes.key c.args.to)) (sym c.as_bytes.ensures) ∙ sym c.ends_after.ensures
             ∙ c.if-not-ends_after.false) (ap (option_map leaf_name) (sym c.unwrap-last.ensures)
             ∙ c.last_up_to_visiting.ensures.leaf pairs layout by),
       ),
@@ -41,9 +43,9 @@ new-requires g c =
 
 pub returns-clause-leaves : goal.returns-clause-leaves
 returns-clause-leaves g c pairs layout by =
-    rw c.new.ensures (span_walk by (bound_map g.Q.KeyBytes.key c.args.from) (bound_map g.Q.KeyBytes.key c.args.to)
+    rw c.new.ensures (span_walk by (bound_map g.B.KeyBytes.key c.args.from) (bound_map g.B.KeyBytes.key c.args.to)
     (c.in-Some.ensures.leaf pairs layout by) (sym c.leaf_at-leaf.ensures)
-    (ap (is_up_to (bound_map g.Q.KeyBytes.key c.args.to)) (sym c.as_bytes.ensures) ∙ sym c.ends_after.ensures ∙ c.if-not-ends_after.false)
+    (ap (is_up_to (bound_map g.B.KeyBytes.key c.args.to)) (sym c.as_bytes.ensures) ∙ sym c.ends_after.ensures ∙ c.if-not-ends_after.false)
     (ap (option_map leaf_name) (sym c.unwrap-last.ensures) ∙ c.last_up_to_visiting.ensures.leaf pairs layout by))
 
 -- ---- the counter

@@ -1,27 +1,4 @@
-use Rattle.std.proofs.Common.{ap, sym, ◌∙◌}
-use Rattle.art_model.specs.Keys.{is_front}
-use Rattle.art_model.specs.Pairs.{of_key}
-use Rattle.art_model.specs.Parts.{below}
-use Rattle.art_map.specs.MapItems.{pairs_between}
-use Rattle.art_map.proofs.Items.{no_pairs}
-use Rattle.art_map.proofs.Puts.{at_some}
-use Rattle.art_map.proofs.Ranges.{no_range, range_pairs, range_there}
 use Rattle.art_map.proofs.map.ByteMap.prefix.Goals as goal
 
-pub returns-in_default-clause-pairs : goal.returns-in_default-clause-pairs
-returns-in_default-clause-pairs g c =
-    let B = of_key g.K.AsBytes.bytes in
-    c.new.ensures.pairs ∙ ap (λ walk. pairs_between c.self.inside.store walk 0) c.empty.ensures ∙ no_range c.self.inside.store 0
-    ∙ ap (below B c.args.prefix.now) (sym (no_pairs B g.row.P c.self.inside.store c.in_default.is c.self.invariant) ∙ c.self.view_is)
-
-pub new-requires-2 : goal.new-requires-2
-new-requires-2 g c =
-    let has = at_some c.in-Some.is c.self.invariant in
-    range_there has.by (λ x. is_front c.args.prefix.now (g.K.AsBytes.bytes x.0)) (c.prefix_unchecked-walk.ensures _ has.layout has.by) has.len_is
-
 pub returns-clause-pairs : goal.returns-clause-pairs
-returns-clause-pairs g c =
-    let has = at_some c.in-Some.is c.self.invariant in
-    c.new-2.ensures.pairs ∙ range_pairs has.by (λ x. is_front c.args.prefix.now (g.K.AsBytes.bytes x.0))
-    (c.prefix_unchecked-walk.ensures _ has.layout has.by) has.len_is
-    ∙ ap (below (of_key g.K.AsBytes.bytes) c.args.prefix.now) c.self.view_is
+returns-clause-pairs g c = c.prefix_by.ensures.pairs

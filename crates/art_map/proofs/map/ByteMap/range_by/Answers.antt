@@ -12,19 +12,19 @@ pub returns-in_default-clause-pairs : goal.returns-in_default-clause-pairs
 returns-in_default-clause-pairs g c =
     let B = of_key g.K.AsBytes.bytes in
     c.new.ensures.pairs ∙ ap (λ walk. pairs_between c.self.inside.store walk 0) c.empty.ensures ∙ no_range c.self.inside.store 0
-    ∙ ap (between B (bound_map g.Q.KeyBytes.key c.args.from) (bound_map g.Q.KeyBytes.key c.args.to))
+    ∙ ap (between B (bound_map g.B.KeyBytes.key c.args.from) (bound_map g.B.KeyBytes.key c.args.to))
     (sym (no_pairs B g.row.P c.self.inside.store c.in_default.is c.self.invariant) ∙ c.self.view_is)
 
 pub new-requires-2 : goal.new-requires-2
 new-requires-2 g c =
     let has = at_some c.in-Some.is c.self.invariant in
-    range_there has.by (λ x. is_between (bound_map g.Q.KeyBytes.key c.args.from) (bound_map g.Q.KeyBytes.key c.args.to) (g.K.AsBytes.bytes x.0))
+    range_there has.by (λ x. is_between (bound_map g.B.KeyBytes.key c.args.from) (bound_map g.B.KeyBytes.key c.args.to) (g.K.AsBytes.bytes x.0))
     (c.range_unchecked-walk.ensures _ has.layout has.by) has.len_is
 
 pub returns-clause-pairs : goal.returns-clause-pairs
 returns-clause-pairs g c =
     let has = at_some c.in-Some.is c.self.invariant in
     c.new-2.ensures.pairs
-    ∙ range_pairs has.by (λ x. is_between (bound_map g.Q.KeyBytes.key c.args.from) (bound_map g.Q.KeyBytes.key c.args.to) (g.K.AsBytes.bytes x.0))
+    ∙ range_pairs has.by (λ x. is_between (bound_map g.B.KeyBytes.key c.args.from) (bound_map g.B.KeyBytes.key c.args.to) (g.K.AsBytes.bytes x.0))
     (c.range_unchecked-walk.ensures _ has.layout has.by) has.len_is
-    ∙ ap (between (of_key g.K.AsBytes.bytes) (bound_map g.Q.KeyBytes.key c.args.from) (bound_map g.Q.KeyBytes.key c.args.to)) c.self.view_is
+    ∙ ap (between (of_key g.K.AsBytes.bytes) (bound_map g.B.KeyBytes.key c.args.from) (bound_map g.B.KeyBytes.key c.args.to)) c.self.view_is

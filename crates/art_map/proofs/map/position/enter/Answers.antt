@@ -2,11 +2,11 @@ use Rattle.std.proofs.Common.{◌≡◌, ◌+◌, [], ◌∷◌, rules, refl, ap
 use Rattle.art_parts.specs.Names.{leaf_name}
 use Rattle.art_model.specs.Pairs.{of_key}
 use Rattle.art_model.specs.Trees.{leaf}
-use Rattle.art_writing.proofs.KeysFound.{conflict_new}
+use Rattle.art_writing.proofs.KeysFound.{conflict_new, stored_free}
 use Rattle.art_writing.proofs.OneLeaf as one_leaf
 use Rattle.art_map.specs.MapPairs.{pairs_at}
 use Rattle.art_map.proofs.Enough.{enough}
-use Rattle.art_map.proofs.Entered.{leaf_of_result, new_is_put, none_back, point_new, stored_free}
+use Rattle.art_map.proofs.Entered.{leaf_of_result, new_is_put, none_back, point_new}
 use Rattle.art_map.proofs.Items.{no_pairs}
 use Rattle.art_map.proofs.Puts.{at_some, left_holds, one_more, planted, stays}
 use Rattle.art_map.proofs.Views.{map_held}
@@ -33,7 +33,7 @@ returns-in-Leaf g c =
     rw stored (
       c.requires.holds,
       named,
-      stored_free bytes (bytes c.args.key) (pairs_at c.args.store.now c.args.root.now)
+      stored_free (of_key bytes) (bytes c.args.key) (pairs_at c.args.store.now c.args.root.now)
           (map_held (of_key bytes) g.row.P c.args.store.now c.requires.holds) stored,
     )
 

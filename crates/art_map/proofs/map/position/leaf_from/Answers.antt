@@ -1,9 +1,9 @@
 use Rattle.std.proofs.Common.{◌≡◌, Ok, ap, false, is_some, refl, rules, subst, sym, ◌∙◌}
 use Rattle.std.proofs.lemmas.Bool.{false≢true}
 use Rattle.art_model.specs.Pairs.{has_key, of_key}
+use Rattle.art_writing.proofs.KeysFound.{stored_free}
 use Rattle.art_map.specs.MapChanges.{HasEntered, NamesLeafOf}
 use Rattle.art_map.specs.MapPairs.{pairs_at}
-use Rattle.art_map.proofs.Entered.{stored_free}
 use Rattle.art_map.proofs.Views.{map_held}
 use Rattle.art_map.proofs.Written.{is_stored}
 use Rattle.art_map.proofs.map.position.leaf_from.Goals as goal
@@ -17,7 +17,7 @@ returns-in-Ok g c =
     let same = c.again.ensures ∙ sym (g.met.S.ToKey.same_bytes c.args.source.now) in
     let named = subst (λ k. NamesLeafOf bytes g.row.P s root k c.in-Ok.leaf) same c.in-Ok.ensures.leaf in
     let stored = is_stored bytes g.row.P key named in (
-      rw stored (c.requires, named, stored_free bytes key (pairs_at s root) (map_held (of_key bytes) g.row.P s c.requires) stored),
+      rw stored (c.requires, named, stored_free (of_key bytes) key (pairs_at s root) (map_held (of_key bytes) g.row.P s c.requires) stored),
       λ none. absurd (false≢true (sym none ∙ stored)),
     )
 

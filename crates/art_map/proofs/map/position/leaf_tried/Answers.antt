@@ -1,8 +1,9 @@
 use Rattle.std.proofs.Common.{refl, sym, ◌∙◌}
 use Rattle.std.proofs.lemmas.Bool.{false≢true}
 use Rattle.art_model.specs.Pairs.{of_key}
+use Rattle.art_writing.proofs.KeysFound.{stored_free}
 use Rattle.art_map.specs.MapPairs.{pairs_at}
-use Rattle.art_map.proofs.Entered.{position_new, stored_free}
+use Rattle.art_map.proofs.Entered.{position_new}
 use Rattle.art_map.proofs.Views.{map_held}
 use Rattle.art_map.proofs.Written.{is_stored}
 use Rattle.art_map.proofs.map.position.leaf_tried.Goals as goal
@@ -12,7 +13,7 @@ returns-in-Leaf g c =
     let bytes = g.K.AsBytes.bytes in
     let named = rw c.in-Leaf.is at c.requires.position in
     let stored = is_stored bytes g.row.P (bytes c.args.key) named in
-    let free = stored_free bytes (bytes c.args.key) (pairs_at c.args.store.now c.args.root.now)
+    let free = stored_free (of_key bytes) (bytes c.args.key) (pairs_at c.args.store.now c.args.root.now)
     (map_held (of_key bytes) g.row.P c.args.store.now c.requires.holds) stored in
     (named.pair.1, λ none. absurd (false≢true (sym none ∙ stored)), rw stored (c.requires.holds, named, free))
 

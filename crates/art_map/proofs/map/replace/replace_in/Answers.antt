@@ -1,7 +1,8 @@
 use Rattle.std.proofs.Common.{refl, rules, sym, subst}
 use Rattle.art_model.specs.Pairs.{of_key}
+use Rattle.art_writing.proofs.KeysFound.{stored_free}
 use Rattle.art_map.specs.MapPairs.{HoldsPairs, pairs_at}
-use Rattle.art_map.proofs.Entered.{new_replaces, position_new, stored_free}
+use Rattle.art_map.proofs.Entered.{new_replaces, position_new}
 use Rattle.art_map.proofs.Views.{map_held}
 use Rattle.art_map.proofs.Written.{is_stored, is_there, pair_swapped, pair_written}
 use Rattle.art_map.proofs.map.replace.replace_in.Goals as goal
@@ -20,7 +21,7 @@ returns-in-Leaf g c =
     let rising = map_held (of_key bytes) g.row.P c.args.store.now c.requires in (
       pair_written bytes g.row.P key named (c.args.key, c.args.value) refl c.requires c.swap_pair.ensures.leaves c.swap_pair.ensures.inners,
       pair_swapped bytes g.row.P key named c.swap_pair.ensures.pair,
-      stored_free bytes key (pairs_at c.args.store.now c.args.root.now) rising (is_stored bytes g.row.P key named),
+      stored_free (of_key bytes) key (pairs_at c.args.store.now c.args.root.now) rising (is_stored bytes g.row.P key named),
     )
 
 pub returns-in-Ok : goal.returns-in-Ok

@@ -13,6 +13,6 @@ turned_le Greater = refl
 
 pub returns-in-After : goal.returns-in-After
 returns-in-After g c =
-    let key = g.Q.KeyBytes.key c.args.query in
+    let key = g.B.KeyBytes.key c.args.bytes.now in
     let turned = nat_list_cmp_total.antisymm c.args.other.now key in
     rw c.in-After.is (c.is_le.ensures ∙ ap is_le (c.compare-order.ensures ∙ turned) ∙ turned_le (slice_cmp nat_cmp key c.args.other.now))

@@ -1,7 +1,7 @@
-use Rattle.std.proofs.Common.{◌≡◌, ℕ, Err, List, Ok, Result, ap₂, refl, ◌∙◌}
+use Rattle.std.proofs.Common.{ℕ, List, ap₂, refl, ◌∙◌}
+use Rattle.std.proofs.lemmas.Result.{err_from_is_err_and}
 use Rattle.std.specs.Bool.{⊤}
 use Rattle.std.specs.Option.{unwrap_or}
-use Rattle.std.specs.Result.{IsErrAnd}
 use Rattle.art_keys.specs.EscapeLaws.{escape_no_prefixes}
 use Rattle.art_keys.specs.Escapes.{escape}
 use Rattle.art_model.specs.Pairs.{of_key, put}
@@ -10,14 +10,9 @@ use Rattle.art_map.proofs.Written.{lends_same}
 use Rattle.art_keyed.proofs.Keyed.{put_keeps, source_refused}
 use Rattle.art_keyed.proofs.map.texts.TreeMap+Escaped+V+P.get_text_or_insert.Goals as goal
 
--- the error of a result, and what is told of it
-the_error : {A E : Type 0} {P : E → Type 0} (result : Result A E) → IsErrAnd result P → (error : E) × (result ≡ Err error) × P error
-the_error (Ok value) is = absurd is
-the_error (Err error) is = (error, refl, is)
-
 pub returns-in_err-get_or_insert_from : goal.returns-in_err-get_or_insert_from
 returns-in_err-get_or_insert_from g c =
-    let (error, result_is, value_is) = the_error c.from_residual.result c.from_residual.ensures.1 in
+    let (error, result_is, value_is) = err_from_is_err_and c.from_residual.result c.from_residual.ensures.1 in
     let told = source_refused g.row.V.Denot (λ (text : List ℕ). ⊤) escape escape_no_prefixes c.new-source.result c.args.value c.self.inside.map c.self.invariant
     c.in_err-get_or_insert_from.field-0.0 c.in_err-get_or_insert_from.ensures.refused in
     rw (result_is, ← c.self.view_is, ← c.new-source.ensures) (

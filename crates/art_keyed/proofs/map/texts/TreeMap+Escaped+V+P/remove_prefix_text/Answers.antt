@@ -1,26 +1,23 @@
-use Rattle.std.proofs.Common.{◌≡◌, ℕ, List, ap, length, sym, ◌∙◌}
+use Rattle.std.proofs.Common.{ℕ, List, ap, length, ◌∙◌}
 use Rattle.std.specs.Bool.{⊤}
 use Rattle.art_keys.specs.Escapes.{escape, escape_inside}
-use Rattle.art_keys.specs.EscapeLaws.{escape-plain, escape_begins, escape_is, snoc_same}
-use Rattle.art_model.specs.Keys.{is_front}
+use Rattle.art_keys.specs.EscapeLaws.{escape_begins}
+use Rattle.art_model.specs.Pairs.{of_key}
+use Rattle.art_model.specs.Parts.{below, not_below}
 use Rattle.art_keyed.specs.KeyedPairs.{strings_below, strings_not_below}
 use Rattle.art_keyed.proofs.Between.{below_strings, not_below_strings}
 use Rattle.art_keyed.proofs.map.texts.TreeMap+Escaped+V+P.remove_prefix_text.Goals as goal
 
 pub returns-clause-pairs : goal.returns-clause-pairs
 returns-clause-pairs g c =
-    let plain : c.args.text.now ≡ escape_inside c.args.text.now =
-    sym (snoc_same (escape_inside c.args.text.now) c.args.text.now 0 0 (sym (escape_is c.args.text.now) ∙ escape-plain c.args.text.now c.requires)).0 in
-    c.remove_prefix.ensures.pairs
-    ∙ not_below_strings (λ (t : List ℕ). ⊤) escape (λ t. t) c.args.text.now c.args.text.now
-    (λ other of_other. ap (λ z. is_front z (escape other)) plain ∙ escape_begins c.args.text.now other) c.self.inside.map c.self.invariant
+    c.remove_prefix_by.ensures.pairs ∙ ap (λ t. not_below (of_key escape) (escape_inside t) c.self.inside.map) c.new.ensures
+    ∙ not_below_strings (λ (t : List ℕ). ⊤) escape (λ t. t) c.args.text.now (escape_inside c.args.text.now)
+    (λ other of_other. escape_begins c.args.text.now other) c.self.inside.map c.self.invariant
     ∙ ap (strings_not_below (λ t. t) c.args.text.now) c.self.view_is
 
 pub returns-clause-removed : goal.returns-clause-removed
 returns-clause-removed g c =
-    let plain : c.args.text.now ≡ escape_inside c.args.text.now =
-    sym (snoc_same (escape_inside c.args.text.now) c.args.text.now 0 0 (sym (escape_is c.args.text.now) ∙ escape-plain c.args.text.now c.requires)).0 in
-    c.remove_prefix.ensures.removed
-    ∙ ap length (below_strings (λ (t : List ℕ). ⊤) escape (λ t. t) c.args.text.now c.args.text.now
-    (λ other of_other. ap (λ z. is_front z (escape other)) plain ∙ escape_begins c.args.text.now other) c.self.inside.map c.self.invariant)
+    c.remove_prefix_by.ensures.removed ∙ ap (λ t. length (below (of_key escape) (escape_inside t) c.self.inside.map)) c.new.ensures
+    ∙ ap length (below_strings (λ (t : List ℕ). ⊤) escape (λ t. t) c.args.text.now (escape_inside c.args.text.now)
+    (λ other of_other. escape_begins c.args.text.now other) c.self.inside.map c.self.invariant)
     ∙ ap (λ pairs. length (strings_below (λ t. t) c.args.text.now pairs)) c.self.view_is

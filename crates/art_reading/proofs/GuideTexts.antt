@@ -1,33 +1,31 @@
--- no key of the tree shares more bytes with a key than a guide leaf's
-use Rattle.std.proofs.Common.{◌≡◌, ◌≢◌, ◌⊎◌, ℕ, suc, ◌+◌, ◌<◌, ◌≤◌, List, [], ◌∷◌, ◌++◌, length, take, get_or, slice_get, ap, refl, sym, ◌∙◌, arith, subst, append-nil, length-append, length-take, inl, inr, Some, false}
+-- No key of a tree shares more bytes with a key than a guide leaf's.
+use Rattle.std.proofs.Common.{◌≡◌, ◌≢◌, ℕ, ◌+◌, ◌<◌, List, [], ◌∷◌, ◌++◌, length, take, ap, refl, sym, ◌∙◌, arith, subst, length-append, inl, inr}
 use Rattle.std.specs.List.{AllByRecursion as Each}
 use Rattle.std.proofs.lemmas.Bool.{cases_lt}
-use Rattle.std.proofs.lemmas.Option.{get_or_from_slice_get, slice_get_within}
-use Rattle.std.proofs.Math.Seq.{take-suc}
-use Rattle.std.specs.FinMap as map
+use Rattle.std.proofs.lemmas.List.{take_at}
 use Rattle.art_nodes.specs.Nodes.{Nodes}
-use Rattle.art_parts.specs.declared.leaf.LeafNode.{LeafNode}
 use Rattle.art_parts.specs.declared.names.LeafPtr.{LeafPtr}
 use Rattle.art_parts.specs.declared.names.OpaqueNodePtr.{OpaqueNodePtr}
 use Rattle.art_model.specs.Canonical.{IsCanonicalTree}
 use Rattle.art_model.specs.Footprints.{IsIn}
-use Rattle.art_model.specs.Keys.{IsFront, is_front}
-use Rattle.art_model.specs.Parts.{below}
+use Rattle.art_model.specs.Keys.{IsFront, common_front, is_front}
+use Rattle.art_model.specs.Pairs.{without_last}
 use Rattle.art_model.specs.Places.{place_of, places, places_below}
 use Rattle.art_model.specs.Radix.{AreRadix, BytesRise, IsRadix, bytes_of, pairs_below, pairs_of}
-use Rattle.art_model.specs.Stores.{pair_of}
+use Rattle.art_model.specs.Texts.{text_of, texts_in_front}
 use Rattle.art_model.specs.Trees.{Subtrees, Tree, child, inner, leaf, no_child}
-use Rattle.art_model.proofs.leaves.LeavesFound.{leaf_found}
-use Rattle.art_model.proofs.keys.Texts.{front_of_fronts, front_short, not_front}
-use Rattle.art_model.proofs.lists.Lists.{Each-left, Each-right, each_from, filter_none, each_in, front_cut, front_trans, in_either}
-use Rattle.art_model.proofs.places.OnWay.{byte_after, front_byte}
+use Rattle.art_model.proofs.keys.KeyLaws.{common_front_is_longest}
+use Rattle.art_model.proofs.keys.Texts.{front_of_fronts}
+use Rattle.art_model.proofs.lists.Lists.{Each-left, Each-right, common_front_left, common_front_right, each_from, each_in, front_cut, front_trans, in_either}
+use Rattle.art_model.proofs.places.OnWay.{byte_after}
 use Rattle.art_model.proofs.places.PlaceLaws.{own_place}
 use Rattle.art_model.proofs.places.Places.{place_is}
 use Rattle.art_model.proofs.radix.Rebuild.{radix_way}
 use Rattle.art_model.proofs.stores.Canonical.{tree_radix}
 use Rattle.art_reading.specs.Guides.{IsGuide}
+use Rattle.art_reading.specs.Matching.{shared_len}
 use Rattle.art_reading.proofs.Guides.{GoesToo, in_tree}
-use Rattle.art_reading.specs.StandIns.{IsStandIn}
+use Rattle.art_reading.proofs.LongestTexts.{filter_same, same_front}
 
 -- of two keys of a tree, the second one has each place that is a prefix of a third key: then it has each prefix of that key which the first one has
 module _ {A : Type 0} (bytes : A → List ℕ) (key part : List ℕ) (on_key : IsFront part key) (x y : A) (leads : IsFront part (bytes x)) where
@@ -110,73 +108,30 @@ module _ {N A : Type 0} (bytes : A → List ℕ) (P : ℕ) (key part : List ℕ)
           ]
         ]
 
--- a prefix that is no shorter is the whole
-front_of_all : (a k : List ℕ) → IsFront a k → length k ≤ length a → a ≡ k
-front_of_all a k ([], e) short = sym (append-nil a) ∙ sym e
-front_of_all a k (b ∷ r, e) short = absurd (let l = ap length e in omega (arith, simp length-append at l))
-
--- the bytes that a key shares with others, and the next of the others
-module _ (own key : List ℕ) where
-  -- no byte is shared yet
-  pub first_byte : (end : ℕ) → 0 < length key → slice_get key 0 ≡ Some end → IsFront (end ∷ []) key
-  first_byte end some is =
-      subst (λ b. IsFront (b ∷ []) key) (get_or_from_slice_get key 0 end 0 is) (front_byte [] key (key, refl) some)
-
-  -- a further byte is shared
-  pub next_byte : (len end next : ℕ) → IsFront (take len own ++ end ∷ []) key → len < length own → get_or own len 0 ≡ end →
-      slice_get key (len + 1) ≡ Some next → IsFront (take (len + 1) own ++ next ∷ []) key
-  next_byte len end next front less same is =
-      let long : length (take (len + 1) own) ≡ len + 1 = omega (arith, length-take {A = ℕ}) in
-      let one : len + 1 ≡ suc len = omega arith in
-      let taken : take (len + 1) own ≡ take len own ++ end ∷ [] =
-      ap (λ n. take n own) one ∙ take-suc own len 0 less ∙ ap (λ b. take len own ++ b ∷ []) same in
-      let on = subst (λ z. IsFront z key) (sym taken) front in
-      let within = slice_get_within key (len + 1) next is in
-      let byte : get_or key (length (take (len + 1) own)) 0 ≡ next = ap (λ n. get_or key n 0) long ∙ get_or_from_slice_get key (len + 1) next 0 is in
-      subst (λ b. IsFront (take (len + 1) own ++ b ∷ []) key) byte (front_byte (take (len + 1) own) key on (omega arith))
-
-  -- the own bytes end there
-  pub own_ends : (len end : ℕ) → length own ≤ len → len ≤ length own → IsFront (take len own ++ end ∷ []) own → ⊥
-  own_ends len end short within front =
-      let long = front_short (take len own ++ end ∷ []) own front in
-      let count = length-append (take len own) (end ∷ []) in
-      let taken : length (take len own) ≡ len = omega (arith, length-take {A = ℕ}) in
-      omega arith
-
-  -- the own byte there is another one
-  pub other_own : (len end : ℕ) → len < length own → (get_or own len 0 ≡ end → ⊥) → IsFront (take len own ++ end ∷ []) own → ⊥
-  other_own len end less other front =
-      let taken : length (take len own) ≡ len = omega (arith, length-take {A = ℕ}) in
-      other (ap (λ n. get_or own n 0) (sym taken) ∙ byte_after (take len own) own end front)
-
-  -- the others end there
-  pub all_taken : (len end : ℕ) → len ≤ length own → IsFront (take len own ++ end ∷ []) key → length key ≤ len + 1 → take len own ++ end ∷ [] ≡ key
-  all_taken len end within front short =
-      let count = length-append (take len own) (end ∷ []) in
-      let taken : length (take len own) ≡ len = omega (arith, length-take {A = ℕ}) in
-      front_of_all (take len own ++ end ∷ []) key front (omega arith)
+-- a text is a prefix of its key
+text_first : (key : List ℕ) → IsFront (without_last key) key
+text_first [] = ([], refl)
+text_first (x ∷ []) = (x ∷ [], refl)
+text_first (x ∷ y ∷ key) = let (r, e) = text_first (y ∷ key) in (r, ap (λ z. x ∷ z) e)
 
 module _ {K V : Type 0} {s : Nodes K V} {bytes : K × V → List ℕ} {P : ℕ} {root : OpaqueNodePtr} {pairs : List (K × V)} {layout : Tree OpaqueNodePtr (K × V)}
     (by : IsCanonicalTree bytes P s root pairs layout) {key : List ℕ} {guide : LeafPtr} (g : IsGuide bytes key layout guide) where
-  -- where a guide leaf's key does not start with a prefix of the key, no key of the tree does
-  none_starts : (part : List ℕ) → IsFront part key → (IsFront part (bytes g.pair) → ⊥) → below bytes part pairs ≡ []
-  none_starts part on off =
-      let (radix, are) = tree_radix by in
-      let all = each_from (λ x. is_front part (bytes x) ≡ false) (pairs_of layout) (λ x i. not_front part (bytes x) (λ leads.
-      off (shared bytes P key part on x g.pair leads layout [] radix g.along i (in_tree by g)))) in
-      ap (below bytes part) (sym are) ∙ filter_none (λ x. is_front part (bytes x)) (pairs_of layout) all
+  -- a guide leaf's key has each prefix of the key that another one of the tree has
+  has_too : (part : List ℕ) → IsFront part key → (x : K × V) → IsIn x (pairs_of layout) → IsFront part (bytes x) → IsFront part (bytes g.pair)
+  has_too part on x i leads = shared bytes P key part on x g.pair leads layout [] (tree_radix by).0 g.along i (in_tree by g)
 
-  -- the query stands for the key
-  pub stands_in : {l : LeafNode K V} → Some l ≡ map.get s.leaves guide → {own : List ℕ} → own ≡ bytes (pair_of l) → (query : List ℕ) →
-      IsFront query key → (query ≡ key) ⊎ (IsFront query own → ⊥) → IsStandIn bytes key pairs query
-  stands_in {l} read {own} read_own query on either =
-      let (node, there, its) = leaf_found bytes P by g.has in
-      let same : node ≡ l = cc in
-      let own_is : own ≡ bytes g.pair = read_own ∙ ap (λ z. bytes (pair_of z)) (sym same) ∙ ap bytes its in
-      record {
-        prefix = on;
-        alone = elim either [
-          | inl whole ↦ inl whole
-          | inr off ↦ inr (none_starts query on (subst (λ z. IsFront query z → ⊥) own_is off))
-        ];
-      }
+  -- so the texts that are prefixes of the key are those that are prefixes of what both share
+  pub same_texts : {own : List ℕ} → own ≡ bytes g.pair → {n : ℕ} → n ≡ shared_len own key →
+      texts_in_front bytes (take n own) pairs ≡ texts_in_front bytes key pairs
+  same_texts {own} own_is {n} is =
+      let are = (tree_radix by).1 in
+      let both = common_front own key in
+      let (r, e) = common_front_left own key in
+      let cut : take n own ≡ both = ap (take n) e ∙ take_at both r n (sym is) in
+      let agree : Each (λ x. is_front (text_of bytes x) both ≡ is_front (text_of bytes x) key) (pairs_of layout) =
+      each_from (λ x. is_front (text_of bytes x) both ≡ is_front (text_of bytes x) key) (pairs_of layout) (λ x i.
+      same_front (text_of bytes x) both key (λ f. front_trans (text_of bytes x) both key f (common_front_right own key))
+      (λ f. (common_front_is_longest own key).2 (text_of bytes x)
+      (subst (IsFront (text_of bytes x)) (sym own_is) (has_too (text_of bytes x) f x i (text_first (bytes x)))) f)) in
+      ap (λ q. texts_in_front bytes q pairs) cut ∙ ap (texts_in_front bytes both) (sym are)
+      ∙ filter_same (λ x. is_front (text_of bytes x) both) (λ x. is_front (text_of bytes x) key) (pairs_of layout) agree ∙ ap (texts_in_front bytes key) are
