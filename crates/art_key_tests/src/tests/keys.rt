@@ -111,14 +111,20 @@ fn numbers_are_set_in_fields(rt: HostRuntime) -> Result<(), Fail> {
     same(in_a_field(rt.alloc()), Some(true))
 }
 
-// Whether an escaped string has these bytes, and is recovered.
-fn escaped(alloc: Global) -> Option<[bool; 2]> {
+// Whether an escaped string has these bytes, and is recovered, and whether three strings are plain.
+fn escaped(alloc: Global) -> Option<([bool; 2], [bool; 3])> {
     let key = Escaped::encode_str(alloc, "a\0\u{1}b").ok()?;
     let string = key.decode(alloc).ok()?;
-    Some([
+    let is_as_told = [
         key.as_bytes() == b"a\x01\x01\x01\x02b\0".as_slice(),
         string.as_slice() == b"a\0\x01b".as_slice(),
-    ])
+    ];
+    let are_plain = [
+        Escaped::is_plain(b"a\x02"),
+        Escaped::is_plain(b"a\0"),
+        Escaped::is_plain(b"\x01"),
+    ];
+    Some((is_as_told, are_plain))
 }
 
 // Whether a string has these bytes with its end, and without it.
@@ -142,7 +148,11 @@ fn strings_have_these_bytes(rt: HostRuntime) -> Result<(), Fail> {
     let alloc = rt.alloc();
     same(
         (escaped(alloc), ended(alloc), is_zero_reported(alloc)),
-        (Some([true; 2]), Some([true; 2]), Some(true)),
+        (
+            Some(([true; 2], [true, false, false])),
+            Some([true; 2]),
+            Some(true),
+        ),
     )
 }
 
