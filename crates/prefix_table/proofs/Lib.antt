@@ -1,0 +1,18 @@
+-- which networks cover an address
+pub mod CoverLemmas
+-- the columns of starts
+pub mod StartLemmas
+-- rows in order
+pub mod RowLemmas
+-- rows that are sorted
+pub mod SortingLemmas
+-- rows in order
+pub mod OrderLemmas
+-- tables of rows and values
+pub mod TableLemmas
+-- parts of tables
+pub mod PartLemmas
+-- parts of a list that pass a test
+pub mod FilterLemmas
+-- networks worked out by hand
+mod NetworkExamples

@@ -1,0 +1,16 @@
+-- addresses and networks as numbers
+pub mod Networks
+-- where networks start
+pub mod Starts
+-- networks in order, each with the place of its value
+pub mod Rows
+-- these in columns
+pub mod Columns
+-- rows in order
+pub mod Sorting
+-- tables as rows and values
+pub mod Tables
+-- parts of tables
+pub mod Parts
+-- networks with values, and which of them an address gets
+pub mod Entries

@@ -1,0 +1,10 @@
+//! Tables of IP networks that are built once and then find the longest network of an address.
+#![tactic(auto)]
+
+mod guesses;
+pub mod iteration;
+pub mod network;
+mod rows;
+mod sorting;
+mod starts;
+pub mod table;

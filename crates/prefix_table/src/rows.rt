@@ -1,0 +1,192 @@
+//! Networks in order, in columns, each with the network around it.
+ghost use Rattle.std.specs.Prelude.{◌≡◌, ℕ, ◌+◌, ◌^◌, ◌<◌, ◌≤◌, length, IfOk, ◌++◌, ◌∷◌, [], true};
+ghost use Rattle.prefix_table.specs.Networks.{IsAddress, IsNetwork, IsUpTo, Precedes, start_of};
+ghost use Rattle.prefix_table.specs.Rows.{AreInOrder, IsLast, IsNestedIn, IsPosition, IsRowCount, network_of, row_at};
+ghost use Rattle.prefix_table.specs.Columns.{AreRows, IsLastOf, IsNested, network_at, rest_at, rows_of};
+ghost use Rattle.prefix_table.specs.Starts.{start_at};
+
+use crate::network::{Address, Network, covers, precedes, start_of};
+use crate::starts::Starts;
+use std::alloc::{AllocError, Global};
+use std::marker::Model;
+
+/// A network, and the place of its value.
+#[derive(Clone, Copy)]
+pub struct Row {
+    pub number: u128,
+    pub place: u32,
+    pub version: u8,
+    pub length: u8,
+}
+
+/// Returns the network of a row.
+pub fn network_of(row: Row) -> Network
+    ensures { result ≡ network_of row }
+{
+    Network {
+        number: row.number,
+        version: row.version,
+        length: row.length,
+    }
+}
+
+/// What a row has beside where its network starts.
+#[derive(Clone, Copy)]
+pub struct Rest {
+    /// How many rows there are up to that of the next longer network around this one, 0 if there is none.
+    pub around: u32,
+    /// The place of the network's value.
+    pub place: u32,
+    /// The length of the network.
+    pub length: u8,
+}
+
+/// Networks in order, each with the place of its value. Contracts see the list of the rows.
+#[derive(Drop)]
+pub struct Rows {
+    starts: Starts,
+    rests: Vec<Rest>,
+}
+
+impl Model for Rows {
+    ghost use Rattle.std.specs.Prelude.{List};
+    ghost use Rattle.prefix_table.specs.declared.rows.Row.{Row};
+
+    ghost Value = { List Row };
+
+    ghost use Rattle.prefix_table.specs.Columns.{AreRows, rows_of};
+
+    ghost view = { λ r. rows_of r.starts r.rests.items };
+
+    ghost invariant = { λ r. AreRows r.starts r.rests.items };
+}
+
+impl Rows {
+    /// Returns these rows.
+    pub fn from_slice(alloc: Global, rows: &[Row]) -> Result<Self, AllocError>
+        requires few { length rows.now < 2 ^ 32 }
+        requires order { AreInOrder rows.now }
+        ensures { IfOk result (λ made. made ≡ rows.now) }
+    {
+        let four = rows.partition_point(|row| row.version == 4);
+        let mut starts = Starts::with_capacity(alloc, four, rows.len() - four)?;
+        let mut rests = Vec::with_capacity(alloc, rows.len())?;
+        for row in rows {
+            let network = network_of(*row);
+            let start = start_of(network);
+            let found = last_covering(&starts, &rests, rests.len(), start);
+            starts.push(start)?;
+            rests.push(Rest {
+                around: found.upto as u32,
+                place: row.place,
+                length: row.length,
+            })?;
+        }
+        starts.guess(alloc)?;
+        Ok(Rows { starts, rests })
+    }
+
+    /// Returns how many rows there are.
+    pub fn len(&self) -> usize
+        ensures { result ≡ length self.now }
+    {
+        let _starts = &self.starts;
+        self.rests.len()
+    }
+
+    /// Returns the row at an index.
+    pub fn get(&self, index: usize) -> Row
+        requires { index < length self.now }
+        ensures { result ≡ row_at self.now index }
+    {
+        let start = self.starts.get(index);
+        let rest = self.rests[index];
+        Row {
+            number: start.number,
+            place: rest.place,
+            version: start.version,
+            length: rest.length,
+        }
+    }
+
+    /// Returns how many rows start at an address or before it.
+    pub fn count_up_to(&self, address: Address) -> usize
+        requires { IsAddress address }
+        ensures { IsRowCount self.now address result }
+    {
+        let _rests = &self.rests;
+        self.starts.count_up_to(address)
+    }
+
+    /// Finds the last one of the first `upto` rows that covers an address.
+    pub fn last_covering(&self, upto: usize, address: Address) -> Found
+        requires within { upto ≤ length self.now }
+        requires started { (k : ℕ) → k < upto → IsUpTo (start_of (network_of (row_at self.now k))) address }
+        ensures last { IsLast self.now address upto result.upto }
+        ensures nested { IsNestedIn self.now upto result.looked }
+    {
+        last_covering(&self.starts, &self.rests, upto, address)
+    }
+}
+
+/// Returns how many rows are before a network in order.
+pub fn position(rows: &Rows, network: Network) -> usize
+    requires order { AreInOrder rows.now }
+    requires network { IsAddress (start_of network) }
+    ensures { IsPosition rows.now network result }
+{
+    let mut at = rows.count_up_to(start_of(network));
+    while at > 0 {
+        if precedes(network_of(rows.get(at - 1)), network) {
+            return at;
+        }
+        at -= 1;
+    }
+    0
+}
+
+// Returns the network at an index of both columns.
+fn network_at(starts: &Starts, rests: &[Rest], index: usize) -> Network
+    requires starts { index < length starts.now }
+    requires rests { index < length rests.now }
+    ensures { result ≡ network_at starts.now rests.now index }
+{
+    let start = starts.get(index);
+    Network {
+        number: start.number,
+        version: start.version,
+        length: rests[index].length,
+    }
+}
+
+/// What a step outwards from row to row has found.
+#[derive(Clone, Copy)]
+pub struct Found {
+    /// How many rows reach to the last one that covers the address, 0 if none does.
+    pub upto: usize,
+    /// How many rows were looked at.
+    pub looked: usize,
+}
+
+// Finds the last one of the first `upto` rows that covers an address.
+fn last_covering(starts: &Starts, rests: &[Rest], upto: usize, address: Address) -> Found
+    requires rows { AreRows starts.now rests.now }
+    requires within { upto ≤ length rests.now }
+    requires started { (k : ℕ) → k < upto → IsUpTo (start_at starts.now k) address }
+    ensures last { IsLastOf starts.now rests.now address upto result.upto }
+    ensures nested { IsNested starts.now rests.now upto result.looked }
+{
+    let mut found = upto;
+    let mut looked = 0;
+    while found > 0 {
+        looked += 1;
+        if covers(network_at(starts, rests, found - 1), address) {
+            return Found {
+                upto: found,
+                looked,
+            };
+        }
+        found = rests[found - 1].around as usize;
+    }
+    Found { upto: 0, looked }
+}

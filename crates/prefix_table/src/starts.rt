@@ -1,0 +1,160 @@
+//! The addresses at which networks start, with numbers of their own width.
+ghost use Rattle.std.specs.Prelude.{◌≡◌, ℕ, ◌^◌, ◌<◌, ◌≤◌, [], ◌∷◌, ◌++◌, length, IfOk, OnOk};
+ghost use Rattle.std.specs.List.Sorted.{IsNonDecreasing, IsPartitionPoint};
+ghost use Rattle.prefix_table.specs.Networks.{IsAddress, IsUpTo};
+ghost use Rattle.prefix_table.specs.Starts.{AreUpwards, IsCount, IsPartFor, start_at};
+ghost use Rattle.std.specs.Bool.{OnTrue};
+
+use crate::guesses::Guesses;
+use crate::network::Address;
+use std::alloc::{AllocError, Global};
+use std::marker::Model;
+
+/// Addresses in order: numbers of 4 bytes for version 4, and of 16 for version 6. Contracts see the list of them.
+#[derive(Drop)]
+pub struct Starts {
+    four: Vec<u32>,
+    six: Vec<u128>,
+    guesses_four: Guesses,
+    guesses_six: Guesses,
+}
+
+impl Model for Starts {
+    ghost use Rattle.std.specs.Prelude.{List};
+    ghost use Rattle.prefix_table.specs.declared.network.Address.{Address};
+    ghost use Rattle.prefix_table.specs.Starts.{starts_of};
+
+    ghost Value = { List Address };
+
+    ghost view = { λ s. starts_of s.four.items s.six.items };
+}
+
+impl Starts {
+    /// Returns no address, with room for so many of both versions.
+    pub fn with_capacity(alloc: Global, four: usize, six: usize) -> Result<Self, AllocError>
+        ensures { IfOk result (λ starts. starts ≡ []) }
+    {
+        Ok(Starts {
+            four: Vec::with_capacity(alloc, four)?,
+            six: Vec::with_capacity(alloc, six)?,
+            guesses_four: Guesses::none(alloc),
+            guesses_six: Guesses::none(alloc),
+        })
+    }
+
+    /// Returns the address at an index.
+    pub fn get(&self, index: usize) -> Address
+        requires { index < length self.now }
+        ensures { result ≡ start_at self.now index }
+    {
+        let four = self.four.len();
+        if index < four {
+            Address {
+                number: u128::from(self.four[index]),
+                version: 4,
+            }
+        } else {
+            Address {
+                number: self.six[index - four],
+                version: 6,
+            }
+        }
+    }
+
+    /// Adds an address that is not before the last one.
+    pub fn push(&mut self, address: Address) -> Result<(), AllocError>
+        requires address { IsAddress address }
+        requires order { (k : ℕ) → k < length self.old → IsUpTo (start_at self.old k) address }
+        ensures { OnOk result (self.new ≡ self.old ++ address ∷ []) }
+    {
+        if address.version == 4 {
+            self.four.push(address.number as u32)?;
+        } else {
+            self.six.push(address.number)?;
+        }
+        Ok(())
+    }
+
+    /// Makes `count_up_to` fast for the addresses that are there now.
+    pub fn guess(&mut self, alloc: Global) -> Result<(), AllocError>
+        ensures { self.new ≡ self.old }
+    {
+        self.guesses_four = Guesses::of_four(alloc, &self.four)?;
+        self.guesses_six = Guesses::of_six(alloc, &self.six)?;
+        Ok(())
+    }
+
+    /// Returns how many addresses are not after this one.
+    pub fn count_up_to(&self, address: Address) -> usize
+        requires few { length self.now < 2 ^ 64 }
+        requires address { IsAddress address }
+        requires order { AreUpwards self.now }
+        ensures { IsCount self.now address result }
+    {
+        if address.version == 4 {
+            count_four(&self.four, &self.guesses_four, address.number as u32)
+        } else {
+            self.four.len() + count_six(&self.six, &self.guesses_six, address.number)
+        }
+    }
+}
+
+// Returns how many of sorted numbers are at most this one: a search in the part that is guessed, if that is right.
+fn count_four(numbers: &[u32], guesses: &Guesses, most: u32) -> usize
+    requires { IsNonDecreasing numbers.now }
+    ensures parts { IsPartitionPoint (λ n. n ≤ most) (λ n. most < n) numbers.now result }
+    ensures bounded { result ≤ length numbers.now }
+{
+    let (from, to) = guesses.around_four(most);
+    if !is_part_four(numbers, from, to, most) {
+        return search_four(numbers, most);
+    }
+    from + search_four(&numbers[from..to], most)
+}
+
+fn is_part_four(numbers: &[u32], from: usize, to: usize, most: u32) -> bool
+    ensures { OnTrue result (IsPartFor numbers.now from to most) }
+{
+    from <= to
+        && to <= numbers.len()
+        && (from == 0 || numbers[from - 1] <= most)
+        && (to == numbers.len() || most < numbers[to])
+}
+
+fn search_four(numbers: &[u32], most: u32) -> usize
+    requires { IsNonDecreasing numbers.now }
+    ensures parts { IsPartitionPoint (λ n. n ≤ most) (λ n. most < n) numbers.now result }
+    ensures bounded { result ≤ length numbers.now }
+{
+    numbers.partition_point(|number| *number <= most)
+}
+
+// The same of numbers of 128 bits.
+fn count_six(numbers: &[u128], guesses: &Guesses, most: u128) -> usize
+    requires { IsNonDecreasing numbers.now }
+    ensures parts { IsPartitionPoint (λ n. n ≤ most) (λ n. most < n) numbers.now result }
+    ensures bounded { result ≤ length numbers.now }
+{
+    let (from, to) = guesses.around_six(most);
+    if !is_part_six(numbers, from, to, most) {
+        return search_six(numbers, most);
+    }
+    from + search_six(&numbers[from..to], most)
+}
+
+fn is_part_six(numbers: &[u128], from: usize, to: usize, most: u128) -> bool
+    ensures { OnTrue result (IsPartFor numbers.now from to most) }
+{
+    from <= to
+        && to <= numbers.len()
+        && (from == 0 || numbers[from - 1] <= most)
+        && (to == numbers.len() || most < numbers[to])
+}
+
+fn search_six(numbers: &[u128], most: u128) -> usize
+    requires { IsNonDecreasing numbers.now }
+    ensures parts { IsPartitionPoint (λ n. n ≤ most) (λ n. most < n) numbers.now result }
+    ensures bounded { result ≤ length numbers.now }
+{
+    numbers.partition_point(|number| *number <= most)
+}

@@ -1,0 +1,223 @@
+//! A table of networks with values, which is built once.
+ghost use Rattle.std.specs.Prelude.{◌≡◌, ℕ, ◌^◌, ◌<◌, ◌≤◌, ◌==◌, length, vec_len, All, AllPairs, Contains, IfErr, IfNone, IfOk, IfSome, filter, reverse, slice_index_or, ◌≢◌};
+ghost use Rattle.std.specs.List.{zip};
+ghost use Rattle.std.specs.List.Sorted.{IsPermutation};
+ghost use Rattle.std.specs.Option.{option_map};
+ghost use Rattle.prefix_table.specs.Networks.{IsAddress, IsNetwork, IsUpTo, Precedes, covers, start_of};
+ghost use Rattle.prefix_table.specs.Rows.{AreInOrder};
+ghost use Rattle.prefix_table.specs.Sorting.{numbered};
+ghost use Rattle.prefix_table.specs.Parts.{AreStarted, IsLastEntry, IsPositionIn, is_inside, network_in};
+ghost use Rattle.prefix_table.specs.Entries.{IsBuildFault, IsLongestMatch, nesting, shown};
+
+use crate::iteration::{Entries, Matches};
+use crate::network::{Address, Network, address_of, last_of};
+use crate::rows::{Rows, network_of, position};
+use crate::sorting::{first_pair, sorted_rows};
+use std::alloc::Global;
+use std::marker::Model;
+use std::net::IpAddr;
+use thiserror::Error;
+
+/// Why there is no table.
+#[derive(Clone, Copy, PartialEq, Eq, Debug, Drop, Error)]
+pub enum BuildFault {
+    /// The networks at these places of the list are equal. Before the second one no two are.
+    #[error("the networks at {0} and {1} are equal")]
+    Twice(usize, usize),
+    /// There are 2^32 networks or more.
+    #[error("too many networks")]
+    TooMany,
+    /// An allocation failed.
+    #[error("out of memory")]
+    NoMemory,
+}
+
+/// Why there is no table, and the values that it was to have.
+#[derive(Drop)]
+pub struct BuildError<V> {
+    pub fault: BuildFault,
+    pub values: Vec<V>,
+}
+
+/// A table of networks with values, built once. Contracts see the list of the networks in order, each with its value:
+/// by version, then by number, then by length.
+#[derive(Drop)]
+pub struct PrefixTable<V> {
+    pub(crate) rows: Rows,
+    pub(crate) values: Vec<V>,
+}
+
+impl<V> Model for PrefixTable<V> {
+    ghost use Rattle.std.specs.Prelude.{List};
+    ghost use Rattle.prefix_table.specs.declared.network.Network.{Network};
+    ghost use Rattle.prefix_table.specs.Tables.{IsTable, entries_of};
+
+    ghost Value = { List (Network × V) };
+
+    ghost view = { λ t. entries_of t.rows t.values.items };
+
+    ghost invariant = { λ t. IsTable t.rows t.values.items };
+}
+
+impl<V> PrefixTable<V> {
+    /// Builds the table of these networks, in any order, each with the value at its place. An error returns the values.
+    pub fn build(alloc: Global, networks: &[Network], values: Vec<V>) -> Result<Self, BuildError<V>>
+        requires networks { All IsNetwork networks.now }
+        requires values { vec_len values ≡ length networks.now }
+        // It has each network with its value, in order.
+        ensures entries { IfOk result (λ table. IsPermutation (zip networks.now values.items) table) }
+        ensures order { IfOk result (AllPairs (λ a b. Precedes a.0 b.0)) }
+        // On failure no value is lost.
+        ensures fault { IfErr result (λ error. IsBuildFault networks.now error.fault) }
+        ensures kept { IfErr result (λ error. error.values.items ≡ values.items) }
+    {
+        match ordered_rows(alloc, networks) {
+            Ok(rows) => Ok(PrefixTable { rows, values }),
+            Err(fault) => Err(BuildError { fault, values }),
+        }
+    }
+
+    /// Returns how many networks there are.
+    pub fn len(&self) -> usize
+        ensures { result ≡ length self.now }
+    {
+        let _values = &self.values;
+        self.rows.len()
+    }
+
+    /// Returns whether there is no network.
+    pub fn is_empty(&self) -> bool
+        ensures { result ≡ (length self.now == 0) }
+    {
+        self.len() == 0
+    }
+
+    // Returns the network at an index, and its value.
+    pub(crate) fn entry(&self, index: usize) -> (Network, &V)
+        requires { index < length self.now }
+        ensures { shown result ≡ slice_index_or self.now index (shown result) }
+    {
+        let row = self.rows.get(index);
+        (network_of(row), &self.values[row.place as usize])
+    }
+
+    // Returns how many entries start at an address or before it.
+    fn count_up_to(&self, address: Address) -> usize
+        requires { IsAddress address }
+        ensures started { AreStarted self.now address result }
+        ensures others { (k : ℕ) → result ≤ k → k < length self.now →
+            ¬ IsUpTo (start_of (network_in self.now k)) address }
+        ensures order { AllPairs (λ a b. Precedes a.0 b.0) self.now }
+    {
+        let _values = &self.values;
+        self.rows.count_up_to(address)
+    }
+
+    // Returns how many entries reach to the last one of the first `upto` that covers an address, 0 if none does.
+    pub(crate) fn last_covering(&self, upto: usize, address: Address) -> usize
+        requires { AreStarted self.now address upto }
+        ensures { IsLastEntry self.now address upto result }
+    {
+        let _values = &self.values;
+        self.rows.last_covering(upto, address).upto
+    }
+
+    // Returns how many entries are before a network in order.
+    fn position(&self, network: Network) -> usize
+        requires { IsNetwork network }
+        ensures position { IsPositionIn self.now network result }
+        ensures order { AllPairs (λ a b. Precedes a.0 b.0) self.now }
+        ensures networks { All (λ entry. IsNetwork entry.0) self.now }
+    {
+        let _values = &self.values;
+        position(&self.rows, network)
+    }
+
+    /// Returns the value of a network, or `None` if the table doesn't have it.
+    pub fn get(&self, network: Network) -> Option<&V>
+        requires { IsNetwork network }
+        ensures found { IfSome result (λ value. Contains self.now (network, value.now)) }
+        ensures none { IfNone result (All (λ entry. entry.0 ≢ network) self.now) }
+    {
+        let at = self.position(network);
+        if at == self.len() {
+            return None;
+        }
+        let (found, value) = self.entry(at);
+        if found == network { Some(value) } else { None }
+    }
+
+    /// Returns all networks that cover an address, from the longest to the shortest.
+    pub fn matches(&self, address: &IpAddr) -> Matches<'_, V>
+        ensures all { result ≡ reverse (filter (λ entry. covers entry.0 address.now) self.now) }
+        ensures longest_first { AllPairs (λ a b. b.0.length < a.0.length) result }
+    {
+        let address = address_of(address);
+        Matches::new(self, address, self.count_up_to(address))
+    }
+
+    /// Returns all networks in order, with their values.
+    pub fn iter(&self) -> Entries<'_, V>
+        ensures { result ≡ self.now }
+    {
+        Entries::new(self, 0, self.len())
+    }
+
+    /// Returns the networks inside a network, itself included, in order.
+    pub fn within(&self, network: Network) -> Entries<'_, V>
+        requires { IsNetwork network }
+        ensures { result ≡ filter (λ entry. is_inside network entry.0) self.now }
+    {
+        let from = self.position(network);
+        let to = self.count_up_to(last_of(network));
+        Entries::new(self, from, to)
+    }
+
+    /// Returns the longest network that covers an address, and its value, or `None` if none does. It allocates nothing.
+    pub fn longest_match(&self, address: &IpAddr) -> Option<(Network, &V)>
+        ensures { IsLongestMatch self.now address.now (option_map shown result) }
+    {
+        self.longest_match_counted(address).0
+    }
+
+    /// Does what `longest_match` does, and returns how many networks it looked at after its binary search: no more than
+    /// lie around one network, itself included.
+    pub fn longest_match_counted(&self, address: &IpAddr) -> (Option<(Network, &V)>, usize)
+        ensures found { IsLongestMatch self.now address.now (option_map shown result.0) }
+        ensures nested { result.1 ≤ nesting self.now }
+    {
+        let address = address_of(address);
+        let upto = self.rows.count_up_to(address);
+        let found = self.rows.last_covering(upto, address);
+        if found.upto == 0 {
+            return (None, found.looked);
+        }
+        let row = self.rows.get(found.upto - 1);
+        (
+            Some((network_of(row), &self.values[row.place as usize])),
+            found.looked,
+        )
+    }
+}
+
+// Returns networks in order, with their places.
+fn ordered_rows(alloc: Global, networks: &[Network]) -> Result<Rows, BuildFault>
+    requires { All IsNetwork networks.now }
+    ensures rows { IfOk result (λ rows. IsPermutation (numbered 0 networks.now) rows) }
+    ensures order { IfOk result AreInOrder }
+    ensures fault { IfErr result (IsBuildFault networks.now) }
+{
+    if networks.len() > u32::MAX as usize {
+        return Err(BuildFault::TooMany);
+    }
+    let Ok(rows) = sorted_rows(alloc, networks) else {
+        return Err(BuildFault::NoMemory);
+    };
+    if let Some((first, second)) = first_pair(&rows) {
+        return Err(BuildFault::Twice(first as usize, second as usize));
+    }
+    let Ok(rows) = Rows::from_slice(alloc, &rows) else {
+        return Err(BuildFault::NoMemory);
+    };
+    Ok(rows)
+}

@@ -1,0 +1,4 @@
+mod drawn;
+mod expected;
+mod faults;
+mod tables;
