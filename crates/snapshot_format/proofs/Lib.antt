@@ -1,0 +1,10 @@
+mod Examples
+pub mod Faults
+pub mod Known
+pub mod Numbers
+pub mod NumberReads
+pub mod Keys
+pub mod Parts
+pub mod Taking
+pub mod Whole
+pub mod Written

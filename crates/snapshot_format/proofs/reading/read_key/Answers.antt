@@ -1,0 +1,56 @@
+use Rattle.std.proofs.Common.{◌≡◌, ◌++◌, true, false, take, ap, ◌∙◌, arith}
+use Rattle.std.proofs.lemmas.Result.{err_from_is_err_and}
+use Rattle.std.specs.List.{slice_get}
+use Rattle.snapshot_format.specs.Numbers.{number_bytes}
+use Rattle.snapshot_format.specs.Snapshots.{sized}
+use Rattle.snapshot_format.proofs.Faults.{if_fault}
+use Rattle.snapshot_format.proofs.Known.{reads_more}
+use Rattle.snapshot_format.proofs.Parts.{key_is, no_number_key, no_rest, not_above, rest_is, tested, shares_less}
+use Rattle.snapshot_format.proofs.reading.read_key.Goals as goal
+
+pub returns-in_err-shared-clause-fault : goal.returns-in_err-shared-clause-fault
+returns-in_err-shared-clause-fault g c =
+    let p = err_from_is_err_and c.from_residual.result c.from_residual.ensures.1 in
+    rw (p.1, p.2) (if_fault c.in_err-shared.field-0.0 (λ none next rest small after.
+    no_number_key (g.R.Read.remaining c.args.source.now.input) c.args.key.now.items none (omega arith) next rest) c.in_err-shared.ensures.fault)
+
+pub returns-then-shared-len-clause-fault : goal.returns-then-shared-len-clause-fault
+returns-then-shared-len-clause-fault g c =
+    rw c.malformed.ensures (λ next rest small after.
+    shares_less (g.R.Read.remaining c.args.source.now.input) (g.R.Read.remaining c.number.new.self.input) c.args.key.now.items c.in_ok-shared.shared
+    c.in_ok-shared.ensures.read.taken (omega arith) next rest)
+
+pub returns-in_err-append_sized-clause-fault : goal.returns-in_err-append_sized-clause-fault
+returns-in_err-append_sized-clause-fault g c =
+    let p = err_from_is_err_and c.from_residual-in_err-append_sized.result c.from_residual-in_err-append_sized.ensures.1 in
+    rw (p.1, p.2) (if_fault c.in_err-append_sized.field-0.0 (λ none next rest small after.
+    no_rest (g.R.Read.remaining c.args.source.now.input) (g.R.Read.remaining c.number.new.self.input) c.args.key.now.items c.in_ok-shared.shared
+    c.in_ok-shared.ensures.read.taken none next rest small) c.in_err-append_sized.ensures.fault)
+
+pub returns-then-not-is_next-clause-fault : goal.returns-then-not-is_next-clause-fault
+returns-then-not-is_next-clause-fault g c =
+    let read = c.in_ok-append_sized.ensures.read in
+    let before = c.args.key.now.items in
+    let shared = c.in_ok-shared.shared in
+    let key : c.append_sized.new.into.items ≡ take shared before ++ read.bytes = rw (← c.truncate.ensures.items) read.items in
+    let others = rest_is before read.bytes c.append_sized.new.into.items shared (omega arith) key in
+    rw c.malformed-then-not-is_next.ensures (λ next rest small after.
+    not_above (g.R.Read.remaining c.args.source.now.input) (g.R.Read.remaining c.number.new.self.input) (g.R.Read.remaining c.append_sized.new.self.input) before read.bytes c.args.is_first shared
+    c.in_ok-shared.ensures.read.taken read.reads.taken (tested c.args.is_first c.byte_at-byte.result (slice_get before shared) _ read.bytes c.is_next.result false c.is_next.ensures (c.byte_at-byte.ensures ∙ ap (λ bytes. slice_get bytes shared) c.deref.ensures.value) (rw c.deref-2.ensures.value others) c.if-not-is_next.true) next rest after)
+
+pub returns-clause-read : goal.returns-clause-read
+returns-clause-read g c =
+    let read = c.in_ok-append_sized.ensures.read in
+    let before = c.args.key.now.items in
+    let shared = c.in_ok-shared.shared in
+    let key : c.append_sized.new.into.items ≡ take shared before ++ read.bytes = rw (← c.truncate.ensures.items) read.items in
+    let is = key_is c.args.is_first before read.bytes shared (omega arith) c.requires (tested c.args.is_first c.byte_at-byte.result (slice_get before shared) _ read.bytes c.is_next.result true c.is_next.ensures (c.byte_at-byte.ensures ∙ ap (λ bytes. slice_get bytes shared) c.deref.ensures.value) (rw c.deref-2.ensures.value (rest_is before read.bytes c.append_sized.new.into.items shared (omega arith) key)) c.if-not-is_next.false) in
+    rw (key, ← is.0) (reads_more g.R.Read.remaining c.args.source.now c.number.new.self c.append_sized.new.self (number_bytes shared) (sized read.bytes) c.in_ok-shared.ensures.read read.reads)
+
+pub returns-clause-after : goal.returns-clause-after
+returns-clause-after g c =
+    let read = c.in_ok-append_sized.ensures.read in
+    let before = c.args.key.now.items in
+    let shared = c.in_ok-shared.shared in
+    let key : c.append_sized.new.into.items ≡ take shared before ++ read.bytes = rw (← c.truncate.ensures.items) read.items in
+    rw key (key_is c.args.is_first before read.bytes shared (omega arith) c.requires (tested c.args.is_first c.byte_at-byte.result (slice_get before shared) _ read.bytes c.is_next.result true c.is_next.ensures (c.byte_at-byte.ensures ∙ ap (λ bytes. slice_get bytes shared) c.deref.ensures.value) (rw c.deref-2.ensures.value (rest_is before read.bytes c.append_sized.new.into.items shared (omega arith) key)) c.if-not-is_next.false)).1

@@ -1,0 +1,6 @@
+pub mod Numbers
+pub mod Snapshots
+pub mod Entries
+pub mod Lists
+pub mod Reading
+pub mod Writing

@@ -1,0 +1,5 @@
+mod bytes;
+mod faults;
+mod in_memory;
+mod lists;
+mod maps;

@@ -1,0 +1,123 @@
+//! What is wrong with bytes that are no snapshot, and where.
+use super::bytes::{THREE, THREE_BYTES};
+use super::in_memory::Pieces;
+use super::lists::{error_of, reads};
+use snapshot_format::{Fault, Malformed, ReadError};
+use std::alloc::Global;
+use std::test::*;
+
+// Returns whether this is the fault, found after so many bytes.
+fn is_fault(error: Option<ReadError>, at: u64, fault: Fault) -> bool {
+    match error {
+        Some(ReadError::Malformed(malformed)) => malformed == Malformed { at, fault },
+        _ => false,
+    }
+}
+
+// Returns whether the bytes of the snapshot of three entries, with another one in this place, have this fault.
+fn has_fault(alloc: Global, place: usize, byte: u8, at: u64, fault: Fault) -> bool {
+    let mut bytes = THREE_BYTES;
+    let Some(changed) = bytes.get_mut(place) else {
+        return false;
+    };
+    *changed = byte;
+    is_fault(error_of(alloc, &bytes[..]), at, fault)
+}
+
+#[test]
+fn faults_of_bytes(rt: HostRuntime) {
+    let alloc = rt.alloc();
+    let rows = [
+        // The start, and the version.
+        (6, b'Q', 7, Fault::NotASnapshot),
+        (0, b'B', 1, Fault::NotASnapshot),
+        (7, 2, 8, Fault::UnknownVersion(2)),
+        // Two entries, and then no checksum.
+        (8, 2, 20, Fault::WrongChecksum),
+        // The first key shares a byte with none.
+        (9, 1, 10, Fault::OutOfOrder),
+        // "abc" shares three bytes of "ab".
+        (15, 3, 16, Fault::OutOfOrder),
+        // "ab" and "a" after "abc".
+        (19, 1, 22, Fault::OutOfOrder),
+        (21, b'a', 22, Fault::OutOfOrder),
+        // A number of two bytes that needs one.
+        (18, 128, 20, Fault::BadNumber),
+        // A value of 128 bytes.
+        (22, 255, 57, Fault::CutShort),
+        // Another value, and another checksum.
+        (14, b'y', 26, Fault::WrongChecksum),
+        (56, 0, 57, Fault::WrongChecksum),
+    ];
+    for (place, byte, at, fault) in rows {
+        assert!(rt;
+            has_fault(alloc, place, byte, at, fault),
+            "{byte} in {place}"
+        );
+    }
+}
+
+// Returns whether the first bytes of the snapshot are cut short.
+fn is_cut(alloc: Global, len: usize) -> bool {
+    match THREE_BYTES.get(..len) {
+        Some(cut) => is_fault(error_of(alloc, cut), len as u64, Fault::CutShort),
+        None => false,
+    }
+}
+
+#[test]
+fn each_cut(rt: HostRuntime) {
+    for len in 0..THREE_BYTES.len() {
+        assert!(rt; is_cut(rt.alloc(), len), "{len} bytes");
+    }
+}
+
+// Returns whether the bytes with a bit flipped are no snapshot.
+fn is_refused(alloc: Global, place: usize, bit: u8) -> bool {
+    let mut bytes = THREE_BYTES;
+    if let Some(byte) = bytes.get_mut(place) {
+        *byte ^= bit;
+    }
+    matches!(error_of(alloc, &bytes[..]), Some(ReadError::Malformed(_)))
+}
+
+#[test]
+fn each_bit_flipped(rt: HostRuntime) {
+    for place in 0..THREE_BYTES.len() {
+        for bit in [1, 2, 4, 8, 16, 32, 64, 128u8] {
+            assert!(rt;
+                is_refused(rt.alloc(), place, bit),
+                "bit {bit} of byte {place}"
+            );
+        }
+    }
+}
+
+// Returns whether a byte after the snapshot is reported.
+fn is_trailing(alloc: Global) -> bool {
+    let mut bytes = [0u8; 58];
+    let (all, _) = bytes.split_at_mut(57);
+    all.copy_from_slice(&THREE_BYTES);
+    is_fault(error_of(alloc, &bytes[..]), 58, Fault::TrailingBytes)
+}
+
+#[test]
+fn a_byte_too_many(rt: HostRuntime) {
+    assert!(rt; is_trailing(rt.alloc()));
+}
+
+// Returns whether the reader's error is reported.
+fn is_reported(alloc: Global, call: u64) -> bool {
+    matches!(
+        error_of(alloc, Pieces::failing_at(&THREE_BYTES, call)),
+        Some(ReadError::Reader(_))
+    )
+}
+
+#[test]
+fn failing_reads(rt: HostRuntime) {
+    assert!(rt; reads(rt.alloc(), Pieces::failing_at(&THREE_BYTES, 0), &THREE));
+    for call in 1..40u64 {
+        assert!(rt; is_reported(rt.alloc(), call), "call {call}");
+    }
+}
