@@ -1,0 +1,2 @@
+pub mod HintedLends
+pub mod HintedTexts
