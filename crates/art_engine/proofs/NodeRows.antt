@@ -98,7 +98,7 @@ module _ (s : Nodes Key ℕ) where
       (tree_text depth (Some b) t) others (t, [], is, refl, refl)
 
   -- A node's line is written, and then what is left gives the rest.
-  pub record IsTurned (next : Pending) (left : List Pending) (text : List ℕ) : Type 0 where
+  record IsTurned (next : Pending) (left : List Pending) (text : List ℕ) : Type 0 where
     pub there : Node OpaqueNodePtr (Key × ℕ)
     pub is_there : node_at s next.name ≡ Some there
     pub rest : List ℕ
@@ -127,7 +127,7 @@ module _ (s : Nodes Key ℕ) where
         text_is = ap (λ count. line_at next.depth next.byte (inner_text head count) ++ children_text (one_deeper next.depth) cs) (sym (length-slots_of cs));
       }
 
-  pub comes_turned : (pending : List Pending) (next : Pending) (text : List ℕ) → last_of pending ≡ Some next → ComesTo pending text →
+  comes_turned : (pending : List Pending) (next : Pending) (text : List ℕ) → last_of pending ≡ Some next → ComesTo pending text →
       IsTurned next (after_turn s pending) text
   comes_turned [] next text last comes = absurd cc
   comes_turned (only ∷ []) next text last (layout, before, is, none, text_is) =
@@ -183,7 +183,7 @@ module _ (s : Nodes Key ℕ) where
 
 module _ (P : ℕ) (s : Nodes Key ℕ) (root : OpaqueNodePtr) where
   -- what holds of a canonical root's pairs
-  abbrev pub ForPairs : (List (Key × ℕ) → Type 0) → Type 0
+  abbrev ForPairs : (List (Key × ℕ) → Type 0) → Type 0
   ForPairs Holds = (pairs : List (Key × ℕ)) → IsCanonical (of_key key_bytes) P s (Some root) pairs → Holds pairs
 
   pub begins : (pending : List Pending) (old : Option (List ℕ)) → pending ≡ pending_root root ∷ [] →

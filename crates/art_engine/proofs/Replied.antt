@@ -2,7 +2,6 @@
 use Rattle.std.proofs.Common.{◌≡◌, ℕ, List, [], ◌∷◌, ◌++◌, codes, Option, Some, OnOk, Result, Ok, Err, inl, inr}
 use Rattle.std.specs.Io.KnownBytes.{Appends}
 use Rattle.art_engine.specs.declared.lines.Request.{Request}
-use Rattle.art_engine.specs.declared.lines.Request.TheVariants.{Insert, Prefix, Delete, First, Last, Clone, Find, Longest, Walk, Back, Nodes, Check}
 use Rattle.art_operations.specs.Runs.{IsRun}
 use Rattle.art_operations.specs.declared.run.Command.{Command}
 use Rattle.art_operations.specs.declared.run.Reply.{Reply}
@@ -25,18 +24,3 @@ module _ {E : Type 0} (IsClone : Key × ℕ → Key × ℕ → Type 0) (request 
       OnOk r (Appends old new (codes "no memory\n")) → OnOk r (IsReplied IsClone request tree after old new)
   no_memory_replied (Err e) asks same written = tt
   no_memory_replied (Ok u) asks same written = inl (asks, same, written)
-
--- a request that a command is for asks for one
-pub asks_for : (request : Request) (command : Command Key ℕ) → IsCommandFor request (Some command) → AsksForCommand request
-asks_for (Insert key value) command asked = tt
-asks_for (Prefix key value) command asked = tt
-asks_for (Delete key) command asked = tt
-asks_for First command asked = tt
-asks_for Last command asked = tt
-asks_for Clone command asked = tt
-asks_for (Find key) command asked = tt
-asks_for (Longest key) command asked = tt
-asks_for Walk command asked = asked
-asks_for Back command asked = asked
-asks_for Nodes command asked = asked
-asks_for Check command asked = asked

@@ -3,10 +3,8 @@ use Rattle.std.proofs.Common.{◌≡◌, ◌≢◌, ℕ, ◌<◌, ◌^◌, List,
 use Rattle.std.proofs.Math.Logic.{∥∥₁_elim}
 use Rattle.std.specs.Fmt.{decimal}
 use Rattle.art_engine.specs.KeyTexts.{IsKeyWord}
-use Rattle.art_engine.specs.CommandLines.{line_of, HasSmallValue}
 use Rattle.art_engine.specs.Served.{AsksForNothing}
 use Rattle.art_engine.specs.declared.lines.KeyWord.{KeyWord}
-use Rattle.art_engine.specs.declared.lines.Request.{Request}
 use Rattle.art_engine.specs.declared.lines.Request.TheVariants.{Insert, Prefix, Delete, First, Last, Clone, Find, Longest, Walk, Back, Nodes, Check}
 
 -- the character at a place of a line

@@ -59,7 +59,7 @@ pub record IsRow (s : Nodes Key ℕ) (order : Order) (walk : Option (LeafPtr × 
 
 module _ {bytes : Key × ℕ → List ℕ} {P : ℕ} {s : Nodes Key ℕ} {root : OpaqueNodePtr} {pairs : List (Key × ℕ)} {layout : Tree OpaqueNodePtr (Key × ℕ)}
     (by : IsCanonicalTree bytes P s root pairs layout) where
-  pub row_begins : (order : Order) (old : Option (List ℕ)) (p q : LeafPtr) (walk : Option (LeafPtr × LeafPtr)) → walk ≡ Some (p, q) →
+  row_begins : (order : Order) (old : Option (List ℕ)) (p q : LeafPtr) (walk : Option (LeafPtr × LeafPtr)) → walk ≡ Some (p, q) →
       HasFirstLeaf layout (leaf_name p) → HasLastLeaf layout (leaf_name q) → IsRow s order walk pairs 0 old old
   row_begins order old p q walk is first last = subst (λ w. IsRow s order w pairs 0 old old) (sym is) (record {
     len = length pairs;
@@ -70,10 +70,10 @@ module _ {bytes : Key × ℕ → List ℕ} {P : ℕ} {s : Nodes Key ℕ} {root :
     text = appends_none old;
   })
 
-  pub full_tree : IsFullTree s root layout
+  full_tree : IsFullTree s root layout
   full_tree = (by.stands.0, one_child layout (have_two_children bytes P [] layout (tree_radix by).0))
 
-  pub some_pairs : pairs ≢ []
+  some_pairs : pairs ≢ []
   some_pairs e = none (subst (λ xs. IsCanonicalTree bytes P s root xs layout) e by)
     where
       none : IsCanonicalTree bytes P s root [] layout → ⊥
@@ -125,7 +125,7 @@ module _ (s : Nodes Key ℕ) (walk left : Option (LeafPtr × LeafPtr)) (pairs : 
   nothing_ordered Rising = refl
   nothing_ordered Falling = refl
 
-  pub row_ends : (order : Order) → IsRow s order walk pairs written old now → pairs ≢ [] →
+  row_ends : (order : Order) → IsRow s order walk pairs written old now → pairs ≢ [] →
       ((names : List OpaqueNodePtr) → IsIteratorOf s walk names → TakesEnd (starting_end order) s names None left) →
       Appends now next (codes "\n") → Appends old next (pairs_text (in_order order pairs) ++ codes "\n")
   row_ends order h some taken ended =
@@ -139,7 +139,7 @@ module _ (s : Nodes Key ℕ) (walk left : Option (LeafPtr × LeafPtr)) (pairs : 
 
 module _ (P : ℕ) (s : Nodes Key ℕ) (order : Order) (root : OpaqueNodePtr) where
   -- what holds of a canonical root's pairs
-  abbrev pub ForPairs : (List (Key × ℕ) → Type 0) → Type 0
+  abbrev ForPairs : (List (Key × ℕ) → Type 0) → Type 0
   ForPairs Holds = (pairs : List (Key × ℕ)) → IsCanonical (of_key key_bytes) P s (Some root) pairs → Holds pairs
 
   pub rows_begin : (old : Option (List ℕ)) (p q : LeafPtr) (walk : Option (LeafPtr × LeafPtr)) → walk ≡ Some (p, q) →

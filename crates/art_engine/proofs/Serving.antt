@@ -16,67 +16,68 @@ use Rattle.art_engine.specs.Served.{AllAsk, AreServed, AreServedAnew, AsksFor, A
 -- Whatever the replies to the remaining lines are from here, those to all lines are from the start.
 abbrev pub GoesOn : ℕ → KeptTree → KeptTree → Option (List ℕ) → Option (List ℕ) → List (List ℕ) → Type 0
 GoesOn number first tree old now before =
-    (rest : List (List ℕ)) (why : Ending) (new : Option (List ℕ)) → AreServed rest number tree now why new → AreServed (before ++ rest) 1 first old why new
+    (rest : List (List ℕ)) (last : KeptTree) (why : Ending) (new : Option (List ℕ)) → AreServed rest number tree last now why new →
+    AreServed (before ++ rest) 1 first last old why new
 
 pub none_served : (tree : KeptTree) (old : Option (List ℕ)) → GoesOn 1 tree tree old old []
-none_served tree old rest why new served = served
+none_served tree old rest last why new served = served
 
 module _ (number : ℕ) (first tree : KeptTree) (old now : Option (List ℕ)) (line : List ℕ) where
   pub one_line_more : (request : Request) (after : KeptTree) (replied kept : Option (List ℕ)) → AsksFor line request →
       IsReplied IsClone request tree after now replied → Keeps replied kept →
       (before : List (List ℕ)) → number ≡ length before + 1 → GoesOn number first tree old now before →
       GoesOn (number + 1) first after old kept (before ++ line ∷ [])
-  one_line_more request after replied kept asked reply keeps before n goes rest why new served =
-      subst (λ ls. AreServed ls 1 first old why new) (sym (append_assoc before (line ∷ []) rest))
-      (goes (line ∷ rest) why new (inr (request, after, replied, kept, asked, reply, keeps, served)))
+  one_line_more request after replied kept asked reply keeps before n goes rest last why new served =
+      subst (λ ls. AreServed ls 1 first last old why new) (sym (append_assoc before (line ∷ []) rest))
+      (goes (line ∷ rest) last why new (inr (request, after, replied, kept, asked, reply, keeps, served)))
 
-  pub all_served : (ls : List (List ℕ)) → GoesOn number first tree old now ls → AreServed ls 1 first old Input now
-  all_served ls goes = subst (λ all. AreServed all 1 first old Input now) (append-nil ls) (goes [] Input now (refl, keeps_itself now))
+  pub all_served : (ls : List (List ℕ)) → GoesOn number first tree old now ls → AreServed ls 1 first tree old Input now
+  all_served ls goes = subst (λ all. AreServed all 1 first tree old Input now) (append-nil ls) (goes [] tree Input now (refl, refl, keeps_itself now))
 
   pub refused_here : (new : Option (List ℕ)) → AsksForNothing line → Appends now new (refusal number) → (before after : List (List ℕ)) →
       number ≡ length before + 1 →
-      GoesOn number first tree old now before → AreServed (before ++ line ∷ after) 1 first old BadLine new
-  refused_here new nothing appends before after n goes = goes (line ∷ after) BadLine new (inl (nothing, refl, appends))
+      GoesOn number first tree old now before → AreServed (before ++ line ∷ after) 1 first tree old BadLine new
+  refused_here new nothing appends before after n goes = goes (line ∷ after) tree BadLine new (inl (nothing, refl, refl, appends))
 
 -- ---- what the status reports of the lines
 
 -- lines that are served to their end all ask for something
-all_ask : (ls : List (List ℕ)) (number : ℕ) (tree : KeptTree) (old new : Option (List ℕ)) → AreServed ls number tree old Input new → AllAsk ls
-all_ask [] number tree old new h = tt
-all_ask (line ∷ ls) number tree old new (inl h) = let e = h.1 in absurd cc
-all_ask (line ∷ ls) number tree old new (inr (request, left, replied, kept, asked, reply, keeps, served)) =
-    ((request, asked), all_ask ls (number + 1) left kept new served)
+all_ask : (ls : List (List ℕ)) (number : ℕ) (tree last : KeptTree) (old new : Option (List ℕ)) → AreServed ls number tree last old Input new → AllAsk ls
+all_ask [] number tree last old new h = tt
+all_ask (line ∷ ls) number tree last old new (inl h) = let e = h.1 in absurd cc
+all_ask (line ∷ ls) number tree last old new (inr (request, left, replied, kept, asked, reply, keeps, served)) =
+    ((request, asked), all_ask ls (number + 1) left last kept new served)
 
 -- those that end before have one that doesn't
-one_asks_for_nothing : (ls : List (List ℕ)) (number : ℕ) (tree : KeptTree) (old new : Option (List ℕ)) →
-    AreServed ls number tree old BadLine new → OneAsksForNothing ls
-one_asks_for_nothing [] number tree old new h = let e = h.0 in absurd cc
-one_asks_for_nothing (line ∷ ls) number tree old new (inl (nothing, is, refused)) = ([], line, ls, refl, tt, nothing)
-one_asks_for_nothing (line ∷ ls) number tree old new (inr (request, left, replied, kept, asked, reply, keeps, served)) =
-    let (before, bad, after, are, ask, nothing) = one_asks_for_nothing ls (number + 1) left kept new served in
+one_asks_for_nothing : (ls : List (List ℕ)) (number : ℕ) (tree last : KeptTree) (old new : Option (List ℕ)) →
+    AreServed ls number tree last old BadLine new → OneAsksForNothing ls
+one_asks_for_nothing [] number tree last old new h = let e = h.0 in absurd cc
+one_asks_for_nothing (line ∷ ls) number tree last old new (inl (nothing, is, stays, refused)) = ([], line, ls, refl, tt, nothing)
+one_asks_for_nothing (line ∷ ls) number tree last old new (inr (request, left, replied, kept, asked, reply, keeps, served)) =
+    let (before, bad, after, are, ask, nothing) = one_asks_for_nothing ls (number + 1) left last kept new served in
     (line ∷ before, bad, after, ap (λ all. line ∷ all) are, ((request, asked), ask), nothing)
 
 -- what was served stays so while what was written stays
-still_served : (ls : List (List ℕ)) (number : ℕ) (tree : KeptTree) (old now new : Option (List ℕ)) (why : Ending) →
-    AreServed ls number tree old why now → Keeps now new → AreServed ls number tree old why new
-still_served [] number tree old now new why served keeps = (served.0, keeps_both old now new served.1 keeps)
-still_served (line ∷ ls) number tree old now new why (inl (nothing, is, refused)) keeps =
-    inl (nothing, is, appends_kept old now new (refusal number) refused keeps)
-still_served (line ∷ ls) number tree old now new why (inr (request, left, replied, kept, asked, reply, same, served)) keeps =
-    inr (request, left, replied, kept, asked, reply, same, still_served ls (number + 1) left kept now new why served keeps)
+still_served : (ls : List (List ℕ)) (number : ℕ) (tree last : KeptTree) (old now new : Option (List ℕ)) (why : Ending) →
+    AreServed ls number tree last old why now → Keeps now new → AreServed ls number tree last old why new
+still_served [] number tree last old now new why served keeps = (served.0, served.1, keeps_both old now new served.2 keeps)
+still_served (line ∷ ls) number tree last old now new why (inl (nothing, is, stays, refused)) keeps =
+    inl (nothing, is, stays, appends_kept old now new (refusal number) refused keeps)
+still_served (line ∷ ls) number tree last old now new why (inr (request, left, replied, kept, asked, reply, same, served)) keeps =
+    inr (request, left, replied, kept, asked, reply, same, still_served ls (number + 1) left last kept now new why served keeps)
 
-module _ (text : Option (List ℕ)) (tree : KeptTree) (old new : Option (List ℕ)) where
+module _ (text : Option (List ℕ)) (tree last_tree : KeptTree) (old new : Option (List ℕ)) where
   -- what is known of the lines where they were served to this end
   abbrev pub Served : Ending → Type 0
-  Served why = IfSome text (λ bs. AreServed (lines bs) 1 tree old why new)
+  Served why = IfSome text (λ bs. AreServed (lines bs) 1 tree last_tree old why new)
 
-  served_whole : (text : Option (List ℕ)) → IfSome text (λ bs. AreServed (lines bs) 1 tree old Input new) → IfSome text (λ bs. AllAsk (lines bs))
+  served_whole : (text : Option (List ℕ)) → IfSome text (λ bs. AreServed (lines bs) 1 tree last_tree old Input new) → IfSome text (λ bs. AllAsk (lines bs))
   served_whole None h = tt
-  served_whole (Some bs) h = all_ask (lines bs) 1 tree old new h
+  served_whole (Some bs) h = all_ask (lines bs) 1 tree last_tree old new h
 
-  served_in_part : (text : Option (List ℕ)) → IfSome text (λ bs. AreServed (lines bs) 1 tree old BadLine new) → IfSome text (λ bs. OneAsksForNothing (lines bs))
+  served_in_part : (text : Option (List ℕ)) → IfSome text (λ bs. AreServed (lines bs) 1 tree last_tree old BadLine new) → IfSome text (λ bs. OneAsksForNothing (lines bs))
   served_in_part None h = tt
-  served_in_part (Some bs) h = one_asks_for_nothing (lines bs) 1 tree old new h
+  served_in_part (Some bs) h = one_asks_for_nothing (lines bs) 1 tree last_tree old new h
 
   pub ended : {E F : Type 0} (end : Result Ending E) (written : Result (Unit {0}) F) (status : ℕ) → IfOk end Served →
       (IsOkAnd end (λ why. why ≡ BadLine) → IsOk written → status ≡ 2) → (¬ (IsOk end × IsOk written) → status ≡ 1) → status ≡ 0 →
@@ -98,9 +99,9 @@ module _ (text : Option (List ℕ)) (tree : KeptTree) (old new : Option (List �
       (state_of tree).root ≡ None → (¬ (IsOk end × IsOk written) → status ≡ 1) → status ≢ 1 → IfSome text (λ bs. AreServedAnew (lines bs) old last)
   served (Ok why) (Ok u) status last done keeps empty failed other = anew text done
     where
-      anew : (text : Option (List ℕ)) → IfSome text (λ bs. AreServed (lines bs) 1 tree old why new) → IfSome text (λ bs. AreServedAnew (lines bs) old last)
+      anew : (text : Option (List ℕ)) → IfSome text (λ bs. AreServed (lines bs) 1 tree last_tree old why new) → IfSome text (λ bs. AreServedAnew (lines bs) old last)
       anew None h = tt
-      anew (Some bs) h = (tree, why, empty, still_served (lines bs) 1 tree old new last why h keeps)
+      anew (Some bs) h = (tree, last_tree, why, empty, still_served (lines bs) 1 tree last_tree old new last why h keeps)
   served (Ok why) (Err e) status last done keeps empty failed other = absurd (other (failed (λ both. false≢true both.1)))
   served (Err e) written status last done keeps empty failed other = absurd (other (failed (λ both. false≢true both.0)))
 

@@ -2,12 +2,7 @@
 use Rattle.std.proofs.Common.{◌≡◌, ◌≢◌, ℕ, [], ◌∷◌, List, refl, ap, sym, ◌∙◌, subst, Option, Some, None}
 use Rattle.std.specs.List.{AllByRecursion as Each}
 use Rattle.std.specs.Option.{IfSome}
-use Rattle.std.specs.FinMap as map
-use Rattle.art_parts.specs.Names.{leaf_name, inner_name}
 use Rattle.art_nodes.specs.Nodes.{Nodes}
-use Rattle.art_parts.specs.declared.names.NodeType.TheVariants.{Leaf}
-use Rattle.art_parts.specs.declared.names.LeafPtr.{LeafPtr}
-use Rattle.art_parts.specs.declared.names.InnerPtr.{InnerPtr}
 use Rattle.art_parts.specs.declared.names.OpaqueNodePtr.{OpaqueNodePtr}
 use Rattle.art_model.specs.Trees.{leaf, inner, Subtrees, child, no_child}
 use Rattle.art_model.specs.Layouts.{name_of, slots_of, names_of, names_below, HoldsBelow, AreDistinct, IsLayout}
@@ -15,7 +10,6 @@ use Rattle.art_model.specs.Pairs.{last_of, of_key}
 use Rattle.art_model.specs.Stores.{node_at}
 use Rattle.art_model.proofs.lists.Filters.{last_each}
 use Rattle.art_model.proofs.lists.Lists.{Each-append}
-use Rattle.art_model.proofs.stores.Views.{leaf_there, leaf_name_is, inner_there, inner_name_is}
 use Rattle.art_model.proofs.lists.Pairwises.{Pairwise-left, Pairwise-right}
 use Rattle.art_model.proofs.stores.StoreLaws.{has_children}
 use Rattle.art_engine.specs.KeptKeys.{IsTreeIn, IsLinkedTreeIn, Key, HasCanonicalTree, key_bytes}
@@ -23,17 +17,6 @@ use Rattle.art_engine.specs.NodeWalks.{children_of, reversed_children, one_deepe
 use Rattle.art_engine.specs.declared.keeping.walk.Pending.{Pending}
 
 module _ {K V : Type 0} (s : Nodes K V) where
-  -- the leaf of a leaf's name is in the store
-  pub leaf_is_there : (p : LeafPtr) (root : OpaqueNodePtr) → leaf_name p ≡ root → IsTreeIn s root → map.get s.leaves p ≢ None
-  leaf_is_there p root is (leaf n x, h) none = let there = leaf_there s p x (ap (node_at s) (is ∙ sym h.named) ∙ h.holds) in let e = there.1 in cc
-  leaf_is_there p root is (inner n head cs, h) none = leaf_name_is s p head (slots_of cs) (ap (node_at s) (is ∙ sym h.named) ∙ h.holds.0)
-
-  -- the node of an inner node's name is in the store
-  pub inner_is_there : (p : InnerPtr) (root : OpaqueNodePtr) → p.kind ≢ Leaf → inner_name p ≡ root → IsTreeIn s root → map.get s.inners p ≢ None
-  inner_is_there p root proper is (leaf n x, h) none = inner_name_is s p x proper (ap (node_at s) (is ∙ sym h.named) ∙ h.holds)
-  inner_is_there p root proper is (inner n head cs, h) none =
-      let there = inner_there s p head (slots_of cs) proper (ap (node_at s) (is ∙ sym h.named) ∙ h.holds.0) in let e = there.1 in cc
-
   -- a pending node stands for a tree
   abbrev pub IsPendingTree : Pending → Type 0
   IsPendingTree next = IsTreeIn s next.name

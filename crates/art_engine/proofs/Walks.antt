@@ -1,18 +1,16 @@
 -- What is left of a traversal of nodes, and the room that it needs.
-use Rattle.std.proofs.Common.{◌≡◌, ◌≢◌, ℕ, zero, suc, ◌+◌, ◌-◌, ◌≤◌, List, [], ◌∷◌, ◌++◌, length, refl, ap, sym, ◌∙◌, subst, arith, length-append, append_assoc, Option, Some, None, inl, inr}
+use Rattle.std.proofs.Common.{◌≡◌, ◌≢◌, ℕ, zero, suc, ◌+◌, ◌-◌, ◌≤◌, List, [], ◌∷◌, ◌++◌, length, refl, ap, sym, ◌∙◌, subst, arith, length-append, append_assoc, Some, inl, inr}
 use Rattle.std.specs.Option.{option_map}
 use Rattle.std.specs.FinMap as map
 use Rattle.std.proofs.lemmas.Bool.{cases_order}
 use Rattle.art_inner.specs.Inner.{Children, Inner}
-use Rattle.art_parts.specs.Names.{leaf_name, inner_name}
+use Rattle.art_parts.specs.Names.{inner_name}
 use Rattle.art_nodes.specs.Nodes.{Nodes}
 use Rattle.art_parts.specs.declared.names.NodeType.TheVariants.{Leaf}
-use Rattle.art_parts.specs.declared.leaf.LeafNode.{LeafNode}
-use Rattle.art_parts.specs.declared.names.LeafPtr.{LeafPtr}
 use Rattle.art_parts.specs.declared.names.InnerPtr.{InnerPtr}
 use Rattle.art_parts.specs.declared.names.OpaqueNodePtr.{OpaqueNodePtr}
 use Rattle.art_model.specs.Pairs.{last_of}
-use Rattle.art_model.specs.Stores.{held_leaf, held_inner, node_at, tree_node}
+use Rattle.art_model.specs.Stores.{held_inner, node_at, tree_node}
 use Rattle.art_model.proofs.stores.Views.{held_in_inner}
 use Rattle.art_engine.specs.NodeWalks.{HasRoom, below, children_of, reversed_children, left_after, after_turn}
 use Rattle.art_engine.specs.declared.keeping.walk.Pending.{Pending}
@@ -26,11 +24,6 @@ last-pushed old pending next is = ap last_of is ∙ go pending
     go (first ∷ []) = refl
     go (first ∷ second ∷ before) = go (second ∷ before)
 
--- nothing has no last one
-pub last-none : (pending : List Pending) → length pending ≡ 0 → last_of pending ≡ None
-last-none [] none = refl
-last-none (next ∷ pending) none = absurd (omega arith)
-
 -- a list without elements is empty
 pub none_left : (pending : List Pending) → length pending ≡ 0 → pending ≡ []
 none_left [] none = refl
@@ -38,11 +31,11 @@ none_left (next ∷ pending) none = absurd (omega arith)
 
 module _ (depth : ℕ) where
   -- a child under its byte, at the depth
-  abbrev pub pending_child : ℕ × OpaqueNodePtr → Pending
+  abbrev pending_child : ℕ × OpaqueNodePtr → Pending
   pending_child slot = record { depth = depth; byte = Some slot.0; name = slot.1 }
 
   -- children with one more at the end
-  pub reversed_children-push : (slots : Children) (slot : ℕ × OpaqueNodePtr) →
+  reversed_children-push : (slots : Children) (slot : ℕ × OpaqueNodePtr) →
       reversed_children depth (slots ++ slot ∷ []) ≡ pending_child slot ∷ reversed_children depth slots
   reversed_children-push [] slot = refl
   reversed_children-push (other ∷ slots) slot = ap (λ below. below ++ pending_child other ∷ []) (reversed_children-push slots slot)
@@ -68,25 +61,11 @@ module _ (depth : ℕ) where
 
 module _ {K V : Type 0} (s : Nodes K V) where
   module _ (depth : ℕ) where
-    -- a leaf has no children
-    pub children-leaf : (p : LeafPtr) → children_of depth (node_at s (leaf_name p)) ≡ []
-    children-leaf p = go (map.get s.leaves p)
-      where
-        go : (o : Option (LeafNode K V)) → children_of depth (option_map (tree_node {K = K} {V = V} Leaf) (option_map held_leaf o)) ≡ []
-        go None = refl
-        go (Some node) = refl
-
     -- an inner node has its own
     pub children-inner : (p : InnerPtr) → p.kind ≢ Leaf → (node : Inner) → Some node ≡ map.get s.inners p →
         children_of depth (node_at s (inner_name p)) ≡ reversed_children depth node.children
     children-inner p proper node there =
         ap (λ o. children_of depth (option_map (tree_node p.kind) o)) (held_in_inner s p.kind p.slot proper ∙ ap (option_map held_inner) (sym there))
-
-    -- and there are none where there is no node
-    pub children-none : (p : InnerPtr) → p.kind ≢ Leaf → None ≡ map.get s.inners p → children_of depth (node_at s (inner_name p)) ≡ []
-    children-none p proper there =
-        ap (λ o. children_of depth (option_map (tree_node p.kind) o))
-        (held_in_inner s p.kind p.slot proper ∙ ap (option_map held_inner) (sym there))
 
   -- a step of a list with its last node
   after_turn-push : (pending : List Pending) (next : Pending) → after_turn s (pending ++ next ∷ []) ≡ pending ++ below s next
@@ -102,11 +81,6 @@ module _ {K V : Type 0} (s : Nodes K V) where
     -- there is room for what is left after so many steps, and after fewer
     abbrev pub HasRoomTo : ℕ → ℕ → Type 0
     HasRoomTo turns capacity = (earlier : ℕ) → earlier ≤ turns → length (left_after s root earlier) ≤ capacity
-
-    -- at first
-    pub room_first : (capacity : ℕ) → 1 ≤ capacity → HasRoomTo 0 capacity
-    room_first capacity some zero few = some
-    room_first capacity some (suc n) few = absurd (omega arith)
 
     -- and after one more step, with room for that
     pub room_next : (turns capacity more : ℕ) → capacity ≤ more → HasRoomTo turns capacity → length (left_after s root (suc turns)) ≤ more →

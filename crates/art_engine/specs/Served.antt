@@ -43,17 +43,17 @@ refusal number = codes "line " ++ decimal number ++ codes ": refused\n"
 abbrev pub IsClone : Key × ℕ → Key × ℕ → Type 0
 IsClone = IsPairClone (λ old new. AllZip (λ b c. c ≡ b) old.items new.items × (vec_len new ≡ vec_len old)) (λ old new. new ≡ old)
 
--- Each line is answered in its turn, and leaves the tree that the next one finds; the first that is no valid request
--- gets an error with its number, and no further one is answered.
-abbrev pub AreServed : List (List ℕ) → ℕ → KeptTree → Option (List ℕ) → Ending → Option (List ℕ) → Type 0
-AreServed [] number tree old why new = (why ≡ Input) × Keeps old new
-AreServed (line ∷ lines) number tree old why new =
-    (AsksForNothing line × (why ≡ BadLine) × Appends old new (refusal number)) ⊎
+-- Each line is answered in its turn, and leaves the tree that the next one finds; the last tree is the one that they all leave.
+-- The first line that is no valid request gets an error with its number, and no further one is answered.
+abbrev pub AreServed : List (List ℕ) → ℕ → KeptTree → KeptTree → Option (List ℕ) → Ending → Option (List ℕ) → Type 0
+AreServed [] number tree last old why new = (why ≡ Input) × (last ≡ tree) × Keeps old new
+AreServed (line ∷ lines) number tree last old why new =
+    (AsksForNothing line × (why ≡ BadLine) × (last ≡ tree) × Appends old new (refusal number)) ⊎
     ((request : Request) × (left : KeptTree) × (replied : Option (List ℕ)) × (kept : Option (List ℕ)) ×
     AsksFor line request × IsReplied IsClone request tree left old replied × Keeps replied kept ×
-    AreServed lines (number + 1) left kept why new)
+    AreServed lines (number + 1) left last kept why new)
 
 -- each line is answered in its turn, the first one from no tree
 abbrev pub AreServedAnew : List (List ℕ) → Option (List ℕ) → Option (List ℕ) → Type 0
 AreServedAnew lines old new =
-    (tree : KeptTree) × (why : Ending) × ((state_of tree).root ≡ None) × AreServed lines 1 tree old why new
+    (tree : KeptTree) × (last : KeptTree) × (why : Ending) × ((state_of tree).root ≡ None) × AreServed lines 1 tree last old why new

@@ -59,7 +59,7 @@ pub fn answer_lines<R: Read, W: Write>(
     requires { IsKept tree.old }
     ensures kept { IsKept tree.new }
     ensures served { IfOk result (λ why. IfSome (reader_remaining R.remaining input.old) (λ text.
-        AreServed (lines text) 1 tree.old (W.contents output.old) why (W.contents output.new))) }
+        AreServed (lines text) 1 tree.old tree.new (W.contents output.old) why (W.contents output.new))) }
 {
     let mut line = Vec::new(alloc);
     for number in 1..u64::MAX {

@@ -34,7 +34,7 @@ pub returns-then-not-branch-clause-served : goal.returns-then-not-branch-clause-
 returns-then-not-branch-clause-served g c =
     ends (GoesOn c.loop-number.number-counter c.args.tree.now c.loop-number.tree (g.W.Write.contents c.args.output.now)
     (g.W.Write.contents c.loop-number.output))
-    (λ ls. AreServed ls 1 c.args.tree.now (g.W.Write.contents c.args.output.now) Input (g.W.Write.contents c.loop-number.output))
+    (λ ls. AreServed ls 1 c.args.tree.now c.loop-number.tree (g.W.Write.contents c.args.output.now) Input (g.W.Write.contents c.loop-number.output))
     (reader_remaining g.R.Read.remaining c.args.input.now) (reader_remaining g.R.Read.remaining c.loop-number.input)
     (reader_remaining g.R.Read.remaining c.next_line.new.input) c.loop-number.number-counter c.next_line.new.line.items c.loop-number.invariant.1
     (read_as _ _ _ c.in_ok-next_line.field-0 false c.if-not-branch.true c.in_ok-next_line.ensures)
@@ -45,7 +45,7 @@ pub returns-in_default-clause-served : goal.returns-in_default-clause-served
 returns-in_default-clause-served g c =
     stops (GoesOn c.loop-number.number-counter c.args.tree.now c.loop-number.tree (g.W.Write.contents c.args.output.now)
     (g.W.Write.contents c.loop-number.output))
-    (λ ls. AreServed ls 1 c.args.tree.now (g.W.Write.contents c.args.output.now) BadLine (g.W.Write.contents c.writeln.new.self))
+    (λ ls. AreServed ls 1 c.args.tree.now c.loop-number.tree (g.W.Write.contents c.args.output.now) BadLine (g.W.Write.contents c.writeln.new.self))
     (reader_remaining g.R.Read.remaining c.args.input.now) (reader_remaining g.R.Read.remaining c.loop-number.input)
     (reader_remaining g.R.Read.remaining c.next_line.new.input) c.loop-number.number-counter c.next_line.new.line.items c.loop-number.invariant.1
     (read_as _ _ _ c.in_ok-next_line.field-0 true c.if-not-branch.false c.in_ok-next_line.ensures)

@@ -1,4 +1,4 @@
-use Rattle.std.proofs.Common.{rules, List, Some, ap, sym}
+use Rattle.std.proofs.Common.{rules, List, Some, ap}
 use Rattle.std.specs.Option.{option_map}
 use Rattle.art_parts.specs.Names.{leaf_name}
 use Rattle.art_nodes.specs.Nodes.{Nodes}

@@ -1,0 +1,58 @@
+-- The memory of the tree is borrowed for the call, and is the caller's again after it.
+use Rattle.art_page.proofs.Steps.{ℕ, List, [], ◌∷◌, ◌++◌, refl, w32, MutBor, proved, full_share, id⊢, sep, Lft, flft, flent, named, Val, vptr, fact, tables, WpFn, sem, Body, ‵, raw, ◌⊛◌, some, later, prop, ◌$◌, ◌∵◌, !, qed, done, move, drop, use1, use2, use3, split, join, fsplit, fjoin, feq_l, pick, await, regoal, suffices, frame, group, show, enter, of_opd, addr, stop, fld, hop, from, no_more, and_then, returns, agg, whole, sub, alloc_all, pass_all, free_all, look_at, look_in_at, get, get_in, through, sets, lands_as, lft_new, lft_end, u8, u32, usize, yes, Is, shows, uint_Lawful, owns, Ptr, RawPtr, block_ptr, lies_at, in_a_block, rawptr_vals, rawptr_Tells, MutRef, mut_vals, mut_Tells, ShrSlice, MutSlice, shr_slice_vals, shr_slice_Tells, mut_slice_vals, mut_slice_Tells, part_at, mem, lends_ref, ref_back, plain, shr_slice_of, nothing, heard, peeks, calls_at, lasts, alive, triple_of, Stays, walk_of, says, stay_dropped, gave_ref, gave_slice, Goes-dropped, Goes-gave_ref, Goes-gave_slice, ends_at, framed}
+use Rattle.page_tree.specs.Answered.{AnswersText}
+use Rattle.page_tree.specs.contracts.PageTree.{the_row as R}
+use Rattle.page_tree.specs.contracts.calls.answer as g
+use Rattle.page_tree.proofs.calls.answer.Met.{met}
+use Rattle.art_page.specs.contracts.vokujin_tree_answer as f
+use Rattle.art_page.proofs.vokujin_tree_answer.Statement.{statement}
+use Rattle.art_page.proofs.vokujin_tree_answer.Code as code
+
+abbrev stayed : Stays f.ended.signature.params f.ended.kept
+stayed = (stay_dropped _ yes, (stay_dropped _ yes, (gave_slice (1 ∷ []) tt (plain (λ _. u8)), (gave_ref (2 ∷ []) tt (plain (λ _. usize)), tt))))
+
+pub vokujin_tree_answer_spec : {M : Type 1} → statement M
+vokujin_tree_answer_spec 𝓤 𝓛 𝓜 𝓡 wired =
+    let c = f.clauses 𝓛 𝓜.mem 𝓡.returns in let W = walk_of 𝓛 f.ended stayed c in let 𝓣 = tables 𝓤 𝓛.H 𝓜 𝓡 𝓡.env in
+    proved 𝓛 f.ended stayed c 𝓜 𝓡 (Goes-dropped 𝓛 3 (plain (λ _. RawPtr)) yes (λ κs x w. refl), (Goes-dropped 𝓛 3 (shr_slice_of (0 ∷ []) tt (plain (λ _. u8))) yes (λ κs x w. refl), (Goes-gave_slice 𝓛 3 1 tt (plain (λ _. u8)), (Goes-gave_ref 𝓛 3 2 tt (plain (λ _. usize)), tt))))
+    f.Key.name code.function (code.unfolded 𝓤 𝓛.H 𝓜 𝓡 wired)
+    (λ κs. (rawptr_vals, (shr_slice_vals, (mut_slice_vals, (mut_vals, tt))))) (λ κs. (rawptr_Tells, (shr_slice_Tells (named 0) κs.0 u8, (mut_slice_Tells (named 1) κs.1.0 u8, (mut_Tells (named 2) κs.1.1.0 usize, tt))))) (λ κs qs bounds a m are.
+    let vs : List Val × (List Val × (List Val × (Unit {0}))) = (shr_slice_vals a.1.0, (mut_slice_vals a.1.1.0, (mut_vals a.1.1.1.0, tt))) in let T = alive 𝓛 f.signature κs qs in let Others = owns (ShrSlice (named 0) κs.0 u8 ∷ MutSlice (named 1) κs.1.0 u8 ∷ MutRef (named 2) κs.1.1.0 usize ∷ []) a.1 vs in
+    let y : Ptr → W.Ghost = λ p. ((κs, qs, bounds, (p, a.1), (rawptr_vals p, vs)), m) in
+    qed 𝓛 ((raw T ⊛ (‵ (RawPtr.own_val a.0 (rawptr_vals a.0)) ⊛ ‵ Others)) ∷ ‵ (lies_at R full_share a.0 m) ∷ []) ∵
+    split ! $ move ! (1 ∷ []) $ split ! $ drop ! $ move ! (2 ∷ []) $
+    in_a_block ! a.0 (λ p. lies_at R full_share p m) (id⊢ 𝓤 _) (λ b o e.
+    regoal ! (λ p. prop (WpFn 𝓤 𝓛.H 𝓣.C 𝓣.Λ code.function (rawptr_vals p ++ (shr_slice_vals a.1.0 ++ (mut_slice_vals a.1.1.0 ++ (mut_vals a.1.1.1.0 ++ [])))) (W.post (y p)))) e refl $
+    -- [the tree's memory; what the others own; their tokens; the locals]
+    enter ! _ _ _ _ _ $ alloc_all ! (λ l. pass_all ! refl ((tt, tt), ((tt, (tt, (record { fits = are.1.0.0.1.0 }, tt))), ((tt, (tt, (record { fits = are.1.1.0.0.1.0 }, tt))), ((tt, tt), tt)))) $
+    sets ! (of_opd ! (get ! refl)) refl (tt, tt) $ sets ! (addr ! (through ! refl (stop !))) refl (tt, tt) $
+    sets ! (addr ! (from ! (fld ! refl (hop ! (look_in_at ! 3 (sub ! 0 refl (whole !))) (stop !))))) refl (tt, tt) $
+    sets ! (agg ! (and_then ! (get ! refl) (and_then ! (get_in ! (fld ! refl (stop !)) (sub ! 1 refl (whole !))) (no_more !)))) refl (tt, (tt, (record { fits = are.1.1.0.0.1.0 }, tt))) $
+    sets ! (addr ! (through ! refl (stop !))) refl (tt, tt) $
+    lft_new ! tt (λ α. let κ : Lft = α ∷ [] in move ! (1 ∷ 0 ∷ []) $
+    let lent : ℕ → MutBor _ = λ γ. record { ref_ptr = (b, o); ghost_name = γ; now = m } in
+    use1 𝓛 (later (some (λ (γ : ℕ). ‵ ((MutRef (named 0) κ R).own_val (lent γ) (vptr b o ∷ [])) ⊛ ‵ (flent κ (Body (mem R) b o γ)))))
+    (lends_ref 𝓛 R (named 0) κ m b o) $ await ! tt $ pick ! (λ γ. split ! $ let s = lent γ in
+    let G = triple_of 𝓛 g.signature (g.spec 𝓛 𝓜.mem 𝓡.returns) in
+    let z : G.Ghost = (((κ, κs), (full_share, qs), tt, (s, a.1), (vptr b o ∷ [], vs)), tt) in
+    move ! (0 ∷ 3 ∷ []) $ join ! $ move ! (2 ∷ 3 ∷ 0 ∷ []) $ join ! $ join ! $ nothing ! $ move ! (1 ∷ 0 ∷ []) $ use2 𝓛 (raw (G.pre z)) (id⊢ 𝓤 _) $
+    calls_at ! (framed 𝓤 𝓛.H 𝓜 (tables 𝓤 𝓛.H 𝓜 𝓡 𝓡.env)) G (met 𝓤 𝓛 𝓜 𝓡 (code.calls-page_tree::calls::answer 𝓡.env wired)) z
+    (and_then ! (get ! refl) (and_then ! (get ! refl) (and_then ! (get ! refl) (and_then ! (get ! refl) (no_more !))))) (λ v.
+    use1 𝓛 (later (some (λ (r : ℕ). ((‵ (flft κ full_share) ⊛ raw T) ⊛ ‵ (u32.own_val r (v ∷ []))) ⊛
+    some (λ (ws : _). ‵ (lasts g.ended z.0.0 z.0.3 ws) ⊛ raw (fact 𝓤 (AnswersText m ws.0 a.1.0.now r ws.1.1.1.0 ws.1.1.0)))))) (id⊢ 𝓤 _) $
+    await ! tt $ pick ! (λ r. split ! $ split ! $ split ! $ lft_end ! tt $
+    move ! (3 ∷ []) $ pick ! (λ ws. split ! $ fsplit ! $ fsplit ! $
+    move ! (3 ∷ []) $ heard ! _ (λ told.
+    -- [the tree's last value; its borrow; the others' last values; α is over; the tokens; the result; the lender's part]
+    move ! (3 ∷ 6 ∷ 0 ∷ []) $ use3 𝓛 (later (‵ (part_at R full_share ws.0 b o))) (ref_back 𝓛 R κ γ ws.0 b o) $ await ! tt $
+    move ! (1 ∷ []) $ drop ! $
+    move ! (1 ∷ []) $
+    fsplit ! $ drop ! $ fsplit ! $ fsplit ! $ fsplit ! $ move ! (1 ∷ []) $ feq_l ! (λ same. fjoin ! $ fjoin ! $ nothing ! $ fjoin ! $
+    move ! (1 ∷ []) $
+    move ! (3 ∷ []) $
+    -- [the result; the tree's memory; the others' last values; the tokens]
+    peeks ! u32 (Is u32) (shows 𝓛 u32) r (v ∷ []) (λ is. lands_as ! refl refl ((uint_Lawful 𝓛 w32).typed r _ is).0 $
+    returns ! (look_at ! 0 refl) $ free_all ! refl $
+    suffices ! _ (ends_at 𝓛 f.ended stayed c (y (block_ptr b o)) v r (tt, ws.1) (tt, (tt, (same, (tt, tt))))) $
+    nothing ! $ move ! (0 ∷ 3 ∷ []) $ join ! $ move ! (3 ∷ 0 ∷ 1 ∷ []) $ group ! 3 $ frame ! $
+    show ! (λ (w : R.Denot). sep 𝓤 (sem 𝓛 (lies_at R full_share (block_ptr b o) w)) (fact 𝓤 (AnswersText m w a.1.0.now r ws.1.1.1.0 ws.1.1.0))) ws.0 $ says ! told $ done !)))))))))))
