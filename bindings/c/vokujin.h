@@ -5,8 +5,10 @@
  *   - A vokujin_map is memory of the program. vokujin_new makes an empty map there, and must be the first call on it. After
  *     vokujin_free the other calls return VOKUJIN_FREED, as long as nothing else is written to the memory.
  *   - The program neither reads nor writes the words of a map. It may copy them to another place; the map is there from then
- *     on, and the words at the old place are no map any more.
- *   - All calls on a map are made by one thread, one at a time, those that only read too.
+ *     on, and the words at the old place are no map any more. The same of a vokujin_frozen, which vokujin_frozen_new makes.
+ *   - A call that takes a const vokujin_map or a const vokujin_frozen only reads it, and many threads may make such calls on it
+ *     at once. While any other call works on a map or a handle, no call of another thread does. What threads do one after
+ *     another is ordered as memory is otherwise: by a lock, or by the start or the end of a thread.
  *   - A pointer is never null. A pointer to bytes or pairs points to as many as its length says, also if that is 0. What a
  *     call writes to overlaps with nothing else that is passed to it.
  *   - malloc, realloc and free are one allocator, as those of the C library are.
@@ -27,8 +29,13 @@ extern "C" {
 #endif
 
 typedef struct {
-    uint64_t words[36];
+    uint64_t words[35];
 } vokujin_map;
+
+/* A handle of a frozen map: one that is no longer changed. */
+typedef struct {
+    uint64_t words[2];
+} vokujin_frozen;
 
 /* A pair whose key is in a buffer. */
 typedef struct {
@@ -114,8 +121,38 @@ uint32_t vokujin_next_pairs(const vokujin_map *map, const void *from, size_t fro
  * is 0 if all strings from the prefix on start with it: that range has no end. */
 size_t vokujin_prefix_end(void *prefix, size_t prefix_len);
 
+/* Returns the size of a handle of a frozen map in bytes. It is aligned to eight bytes. */
+size_t vokujin_frozen_size(void);
+
+/* Makes a handle of no map in the memory of the caller: calls on it return `VOKUJIN_FREED`. It allocates nothing. */
+void vokujin_frozen_new(vokujin_frozen *frozen);
+
+/* Moves the pairs of a map to a frozen map, which is not changed any more, and makes the handle one of it. The map is
+ * empty then. What the handle had is freed before. */
+uint32_t vokujin_freeze(vokujin_map *map, vokujin_frozen *frozen);
+
+/* Makes another handle of a frozen map. It may be passed to another thread. What the other handle had is freed before. */
+uint32_t vokujin_frozen_share(const vokujin_frozen *frozen, vokujin_frozen *other);
+
+/* Frees a handle, and with the last one the frozen map. Calls on it return `VOKUJIN_FREED` from then on. */
+uint32_t vokujin_frozen_free(vokujin_frozen *frozen);
+
+/* Writes the number of pairs of a frozen map. */
+uint32_t vokujin_frozen_len(const vokujin_frozen *frozen, size_t *len);
+
+/* Looks up a key of a frozen map, and writes its value. */
+uint32_t vokujin_frozen_get(const vokujin_frozen *frozen, const void *key, size_t key_len, uint64_t *value);
+
+/* Looks up the longest key of a frozen map that is a prefix of the query. Writes its length, and its value. */
+uint32_t vokujin_frozen_longest_match(const vokujin_frozen *frozen, const void *query, size_t query_len, vokujin_pair *pair);
+
+/* Writes the pairs of a range of a frozen map, as `vokujin_next_pairs` does. */
+uint32_t vokujin_frozen_next_pairs(const vokujin_frozen *frozen, const void *from, size_t from_len, uint32_t from_kind, const void *to, size_t to_len, uint32_t to_kind, bool is_backward, void *buffer, size_t buffer_len, vokujin_pair *pairs, size_t pairs_len, vokujin_given *given);
+
 #ifdef __cplusplus
 }
 #endif
+
+#include "vokujin_cursor.h"
 
 #endif

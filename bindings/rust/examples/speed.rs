@@ -30,7 +30,12 @@ type Model = BTreeMap<Vec<u8>, u64>;
 fn keys(file: &str, count: usize, random: &mut Random) -> Vec<Vec<u8>> {
     let mut keys: Vec<Vec<u8>> = match file {
         "random" => (0..count).map(|_| random.next().to_be_bytes().to_vec()).collect(),
-        file => std::fs::read(file).unwrap().split(|byte| *byte == b'\n').filter(|it| !it.is_empty()).map(<[u8]>::to_vec).collect(),
+        file => std::fs::read(file)
+            .unwrap()
+            .split(|byte| *byte == b'\n')
+            .filter(|it| !it.is_empty())
+            .map(<[u8]>::to_vec)
+            .collect(),
     };
     keys.sort();
     keys.dedup();
@@ -40,7 +45,7 @@ fn keys(file: &str, count: usize, random: &mut Random) -> Vec<Vec<u8>> {
 }
 
 #[inline(never)]
-fn fill_here(keys: &[Vec<u8>]) -> Map {
+fn fill_here(keys: &[Vec<u8>]) -> Map<u64> {
     let mut map = Map::new();
     for (key, at) in keys.iter().zip(0..) {
         map.insert(key, at);
@@ -58,8 +63,8 @@ fn fill_std(keys: &[Vec<u8>]) -> Model {
 }
 
 #[inline(never)]
-fn get_here(map: &Map, keys: &[Vec<u8>]) -> u64 {
-    keys.iter().map(|key| map.get(key).unwrap()).fold(0, u64::wrapping_add)
+fn get_here(map: &Map<u64>, keys: &[Vec<u8>]) -> u64 {
+    keys.iter().map(|key| *map.get(key).unwrap()).fold(0, u64::wrapping_add)
 }
 
 #[inline(never)]
@@ -68,7 +73,7 @@ fn get_std(map: &Model, keys: &[Vec<u8>]) -> u64 {
 }
 
 #[inline(never)]
-fn walk_here(map: &Map) -> u64 {
+fn walk_here(map: &Map<u64>) -> u64 {
     let (mut pairs, mut sum) = (map.iter(), 0u64);
     while let Some((key, value)) = pairs.next_borrowed() {
         sum = sum.wrapping_add(value + key.first().map_or(0, |byte| *byte as u64));
@@ -94,7 +99,7 @@ fn copy_std(map: &Model, buffer: &mut [u8]) -> u64 {
 }
 
 #[inline(never)]
-fn remove_here(map: &mut Map, keys: &[Vec<u8>]) -> u64 {
+fn remove_here(map: &mut Map<u64>, keys: &[Vec<u8>]) -> u64 {
     keys.iter().map(|key| map.remove(key).unwrap()).fold(0, u64::wrapping_add)
 }
 
@@ -143,7 +148,7 @@ fn main() {
     println!("the boundary alone (len)   {len:6.1}");
 }
 
-fn one_part(part: &str, here: &mut Map, model: &mut Model, keys: &[Vec<u8>], asked: &[Vec<u8>]) {
+fn one_part(part: &str, here: &mut Map<u64>, model: &mut Model, keys: &[Vec<u8>], asked: &[Vec<u8>]) {
     let sum = match part {
         "insert here" => fill_here(keys).len() as u64,
         "insert std" => fill_std(keys).len() as u64,

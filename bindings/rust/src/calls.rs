@@ -5,7 +5,11 @@ use std::mem::MaybeUninit;
 
 /// The memory of a map.
 #[repr(C)]
-pub struct Place(pub MaybeUninit<[u64; 36]>);
+pub struct Place(pub MaybeUninit<[u64; 35]>);
+
+/// The memory of a handle of a frozen map.
+#[repr(C)]
+pub struct FrozenPlace(pub MaybeUninit<[u64; 2]>);
 
 /// A pair whose key is in a buffer.
 #[repr(C)]
@@ -49,4 +53,13 @@ unsafe extern "C" {
     pub fn vokujin_last(map: *const Place, buffer: *mut u8, buffer_len: usize, pair: *mut Pair) -> u32;
     pub fn vokujin_next_pairs(map: *const Place, from: *const u8, from_len: usize, from_kind: u32, to: *const u8, to_len: usize, to_kind: u32, is_backward: bool, buffer: *mut u8, buffer_len: usize, pairs: *mut Pair, pairs_len: usize, given: *mut Given) -> u32;
     pub fn vokujin_prefix_end(prefix: *mut u8, prefix_len: usize) -> usize;
+    pub fn vokujin_frozen_size() -> usize;
+    pub fn vokujin_frozen_new(frozen: *mut FrozenPlace);
+    pub fn vokujin_freeze(map: *mut Place, frozen: *mut FrozenPlace) -> u32;
+    pub fn vokujin_frozen_share(frozen: *const FrozenPlace, other: *mut FrozenPlace) -> u32;
+    pub fn vokujin_frozen_free(frozen: *mut FrozenPlace) -> u32;
+    pub fn vokujin_frozen_len(frozen: *const FrozenPlace, len: *mut usize) -> u32;
+    pub fn vokujin_frozen_get(frozen: *const FrozenPlace, key: *const u8, key_len: usize, value: *mut u64) -> u32;
+    pub fn vokujin_frozen_longest_match(frozen: *const FrozenPlace, query: *const u8, query_len: usize, pair: *mut Pair) -> u32;
+    pub fn vokujin_frozen_next_pairs(frozen: *const FrozenPlace, from: *const u8, from_len: usize, from_kind: u32, to: *const u8, to_len: usize, to_kind: u32, is_backward: bool, buffer: *mut u8, buffer_len: usize, pairs: *mut Pair, pairs_len: usize, given: *mut Given) -> u32;
 }

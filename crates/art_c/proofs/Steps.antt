@@ -2,8 +2,8 @@
 pub use Rattle.std.proofs.Common.{◌≡◌, ℕ, ◌≤◌, List, [], ◌∷◌, ◌++◌, refl, sym, ap, ◌∙◌, subst, w8, w32, w64, Bor, MutBor, arith}
 pub use Rattle.std.proofs.raw_atomic.Walks.{proved}
 pub use base.Fraction.{full_share}
-pub use base.Logic.{id⊢, sep}
-pub use base.Fml.{Lft, ftrue, fat, flft, fres, flent, froom, Incl-refl}
+pub use base.Logic.{id⊢, sep, fst∗}
+pub use base.Fml.{Lft, ftrue, ffalse, fat, flft, fres, flent, froom, Incl-refl}
 pub use borrow.Table.OneValue.{part_in, part_out}
 pub use mir.Syntax.{named}
 pub use mir.Val.{Val, vunit, vint, vptr}
@@ -22,10 +22,12 @@ pub use denote.Exit.{yes, no}
 pub use denote.Laws.{Is, shows}
 pub use denote.Plain.{uint_Makes, uint_vals, uint_Tells, uint_Lawful, bool_vals, bool_Tells}
 pub use denote.RattleType.{owns}
-pub use denote.RawPtr.{Ptr, RawPtr, block_ptr, lies_at, room_at, in_a_block, rawptr_vals, rawptr_Tells}
+pub use denote.RawPtr.{Ptr, RawPtr, block_ptr, null_ptr, block_of, count_of, lies_at, room_at, in_a_block, rawptr_vals, rawptr_Tells}
 pub use denote.Ref.{MutRef, ShrRef, mut_vals, mut_Tells}
 pub use denote.Slice.{ShrSlice, MutSlice, shr_slice_vals, shr_slice_Tells, mut_slice_vals, mut_slice_Tells}
-pub use denote.Memory.{part_at, mem, lone}
+pub use denote.Memory.{part_at, mem, lone, shared_of}
+pub use denote.Opens.{hide}
+pub use denote.Struct.Lending.{lent_at}
 pub use denote.Lend.{lends_ref, ref_back, lends_shr}
 pub use denote.Signature.{plain, shr_slice_of}
 pub use denote.Steps.{nothing, owned, heard, peeks, only}

@@ -1,5 +1,5 @@
 -- Many pairs, written where the caller requests.
-use Rattle.std.specs.Prelude.{◌≡◌, ◌≢◌, ◌<◌, ◌≤◌, ◌+◌, ◌⊎◌, ℕ, zero, suc, Bool, true, false, List, length, take, drop, map, reverse, IsSomeAnd, MatchOption, Option}
+use Rattle.std.specs.Prelude.{◌≡◌, ◌≢◌, ◌<◌, ◌≤◌, ◌+◌, ℕ, zero, suc, Bool, true, false, List, length, take, drop, map, reverse, IsSomeAnd, MatchOption, Option}
 use Rattle.std.specs.Cmp.Lexicographic.{slice_cmp}
 use Rattle.std.specs.List.{flat_map}
 use Rattle.std.specs.Ordering.{nat_cmp}
@@ -31,20 +31,23 @@ wanted_of from to is_backward pairs = in_direction is_backward (keys_between (sl
 abbrev pub joined_keys : List (List ℕ × ℕ) → List ℕ
 joined_keys pairs = flat_map (λ pair. pair.0) pairs
 
--- The first of the wanted pairs are written, and their keys, one after another, at the front of a buffer.
-pub record Gives (wanted : List (List ℕ × ℕ)) (code : ℕ) (buffer : List ℕ) (written : List Pair) (given : Given) : Type 0 where
+-- The first of the wanted pairs are written and no others, and their keys, one after another, at the front of a buffer.
+pub record Gives (wanted : List (List ℕ × ℕ)) (code : ℕ) (buffer : List ℕ) (before written : List Pair) (given : Given) : Type 0 where
   pub few : given.count ≤ length wanted
   pub pairs : take given.count written ≡ map pair_of (take given.count wanted)
+  pub others : drop given.count written ≡ drop given.count before
   pub keys : take (length (joined_keys (take given.count wanted))) buffer ≡ joined_keys (take given.count wanted)
   pub all : code ≡ done → given.count ≡ length wanted
   pub fills : code ≡ full → given.count ≡ length written
   pub longer : code ≡ too_long → IsSomeAnd (first_of (drop given.count wanted)) (λ pair.
       (given.key_len ≡ length pair.0) ×
       (length buffer < length (joined_keys (take given.count wanted)) + length pair.0))
+  pub no_longer : code ≢ too_long → given.key_len ≡ 0
   pub only : (code ≢ absent) × (code ≢ no_memory) × (code < freed)
 
--- A call writes the first of the wanted pairs of a map. It fails if the map was freed, or if an allocation fails.
-pub record GivesPairs (map : Option (List (List ℕ × ℕ))) (wanted : List (List ℕ × ℕ) → List (List ℕ × ℕ)) (code : ℕ) (buffer : List ℕ)
-    (written : List Pair) (before after : Given) : Type 0 where
-  pub gives : MatchOption map (code ≡ freed) (λ pairs. code ≢ no_memory → Gives (wanted pairs) code buffer written after)
-  pub stays : (code ≡ no_memory) ⊎ (code ≡ freed) → after ≡ before
+-- A call writes the first of the wanted pairs of a map. Of a map that was freed it writes nothing.
+abbrev pub GivesPairs : Option (List (List ℕ × ℕ)) → (List (List ℕ × ℕ) → List (List ℕ × ℕ)) → ℕ → List ℕ → List ℕ → List Pair → List Pair →
+    Given → Given → Type 0
+GivesPairs map wanted code buffer filled before written given counted = MatchOption map
+    ((code ≡ freed) × (filled ≡ buffer) × (written ≡ before) × (counted ≡ given))
+    (λ pairs. Gives (wanted pairs) code filled before written counted)

@@ -1,4 +1,5 @@
 pub mod Calls
+pub mod Frozen
 pub mod Given
 pub mod PrefixEnds
 pub mod Shown

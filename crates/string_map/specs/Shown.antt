@@ -13,12 +13,12 @@ IsInFront key code buffer =
     (length key ≤ length buffer → (code ≡ done) × (take (length key) buffer ≡ key)) ×
     (length buffer < length key → code ≡ too_long)
 
--- a pair is written, if there is one
-abbrev pub Shows : Option (List ℕ × ℕ) → ℕ → List ℕ → Pair → Pair → Type 0
-Shows found code buffer before after = MatchOption found ((code ≡ absent) × (after ≡ before))
-    (λ pair. (after ≡ pair_of pair) × IsInFront pair.0 code buffer)
+-- a pair is written, if there is one, and else nothing
+abbrev pub Shows : Option (List ℕ × ℕ) → ℕ → List ℕ → List ℕ → Pair → Pair → Type 0
+Shows found code buffer filled before after = MatchOption found ((code ≡ absent) × (filled ≡ buffer) × (after ≡ before))
+    (λ pair. (after ≡ pair_of pair) × IsInFront pair.0 code filled)
 
--- A call writes one of the pairs of a map, if there is one. It fails if the map was freed.
-abbrev pub ShowsPair : Option (List (List ℕ × ℕ)) → (List (List ℕ × ℕ) → Option (List ℕ × ℕ)) → ℕ → List ℕ → Pair → Pair → Type 0
-ShowsPair map wanted code buffer before after = MatchOption map ((code ≡ freed) × (after ≡ before))
-    (λ pairs. Shows (wanted pairs) code buffer before after)
+-- A call writes one of the pairs of a map, if there is one. Of a map that was freed it writes nothing.
+abbrev pub ShowsPair : Option (List (List ℕ × ℕ)) → (List (List ℕ × ℕ) → Option (List ℕ × ℕ)) → ℕ → List ℕ → List ℕ → Pair → Pair → Type 0
+ShowsPair map wanted code buffer filled before after = MatchOption map ((code ≡ freed) × (filled ≡ buffer) × (after ≡ before))
+    (λ pairs. Shows (wanted pairs) code buffer filled before after)

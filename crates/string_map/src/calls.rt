@@ -191,7 +191,7 @@ pub fn longest_match(map: &StringMap, query: &[u8], pair: &mut Pair) -> u32
 /// Writes the first pair, and its key to the front of a buffer. Returns `DONE`, `ABSENT` if there is no pair, or
 /// `TOO_LONG` if the key is longer than the buffer; then the value and the length of the key are written.
 pub fn first(map: &StringMap, buffer: &mut [u8], pair: &mut Pair) -> u32
-    ensures { ShowsPair map.now first_of result buffer.new pair.old pair.new }
+    ensures { ShowsPair map.now first_of result buffer.old buffer.new pair.old pair.new }
 {
     let Some(pairs) = &map.pairs else {
         return FREED;
@@ -201,7 +201,7 @@ pub fn first(map: &StringMap, buffer: &mut [u8], pair: &mut Pair) -> u32
 
 /// Writes the last pair, and its key to the front of a buffer. Returns what `first` does.
 pub fn last(map: &StringMap, buffer: &mut [u8], pair: &mut Pair) -> u32
-    ensures { ShowsPair map.now last_of result buffer.new pair.old pair.new }
+    ensures { ShowsPair map.now last_of result buffer.old buffer.new pair.old pair.new }
 {
     let Some(pairs) = &map.pairs else {
         return FREED;
@@ -211,7 +211,8 @@ pub fn last(map: &StringMap, buffer: &mut [u8], pair: &mut Pair) -> u32
 
 // Writes a pair, if there is one, and its key to the front of a buffer.
 fn show(found: Option<(&Escaped, &u64)>, buffer: &mut [u8], pair: &mut Pair) -> u32
-    ensures { Shows (option_map deref_pair found.entry) result buffer.new pair.old pair.new }
+    ensures { Shows (option_map deref_pair found.entry) result buffer.old buffer.new
+        pair.old pair.new }
 {
     let Some((key, value)) = found else {
         return ABSENT;

@@ -9,8 +9,10 @@ use std::marker::Model;
 
 pub mod calls;
 pub mod codes;
+pub mod frozen;
 pub mod pairs;
 pub mod prefixes;
+pub mod threads;
 
 /// A map of byte strings to numbers, until it is freed. Any string of bytes is a key, also the empty one.
 #[derive(Drop)]

@@ -5,7 +5,7 @@ ghost use Rattle.art_map.specs.MapItems.{TakesFirst};
 ghost use Rattle.string_map.specs.Given.{Gives, GivesPairs, bound_at, in_direction, wanted_of};
 
 use super::StringMap;
-use super::codes::{DONE, FREED, FULL, INCLUDED, NO_MEMORY, TOO_LONG, UNBOUNDED};
+use super::codes::{DONE, FREED, FULL, INCLUDED, TOO_LONG, UNBOUNDED};
 use art_keys::escaped::Escaped;
 use art_map::map::Range;
 use std::ops::Bound;
@@ -32,7 +32,8 @@ pub struct Given {
 ///
 /// A bound is a kind and a key: `UNBOUNDED` (the key is ignored), `INCLUDED` or `EXCLUDED`. Returns `DONE` when all
 /// pairs are written, `FULL` when `pairs` is full, `TOO_LONG` when the next key is longer than the rest of the buffer,
-/// and `NO_MEMORY` if an allocation fails. To continue, call it again with the last key as an excluded bound.
+/// and `FREED` if the map was freed; then nothing is written. To continue, call it again with the last key as an excluded
+/// bound. It allocates nothing: the keys of the bounds are escaped as they are read.
 pub fn next_pairs(
     map: &StringMap,
     from: &[u8],
@@ -46,41 +47,36 @@ pub fn next_pairs(
 ) -> u32
     ensures { GivesPairs map.now
         (wanted_of (bound_at from_kind from.now) (bound_at to_kind to.now) is_backward)
-        result buffer.new pairs.new given.old given.new }
+        result buffer.old buffer.new pairs.old pairs.new given.old given.new }
 {
     let Some(stored) = &map.pairs else {
         return FREED;
     };
-    let Ok(from) = Escaped::encode(map.alloc, from) else {
-        return NO_MEMORY;
-    };
-    let Ok(to) = Escaped::encode(map.alloc, to) else {
-        return NO_MEMORY;
-    };
-    let range = stored.range((bound_of(from_kind, &from), bound_of(to_kind, &to)));
+    let range = stored.range_text(text_bound(from_kind, from), text_bound(to_kind, to));
     fill(range, is_backward, buffer, pairs, given)
 }
 
-// Returns the bound of this kind, with this key.
-fn bound_of(kind: u32, key: &Escaped) -> Bound<&Escaped>
-    ensures { bound_map (λ b. b.now) result ≡ bound_at kind key.now }
+// Returns the bound of this kind, at this text.
+pub(crate) fn text_bound(kind: u32, text: &[u8]) -> Bound<&[u8]>
+    ensures { bound_map (λ b. b.now) result ≡ bound_at kind text.now }
 {
     match kind {
         UNBOUNDED => Bound::Unbounded,
-        INCLUDED => Bound::Included(key),
-        _ => Bound::Excluded(key),
+        INCLUDED => Bound::Included(text),
+        _ => Bound::Excluded(text),
     }
 }
 
 // Writes the pairs that are left, as many as there is space for.
-fn fill(
+pub(crate) fn fill(
     mut left: Range<'_, Escaped, u64, 16>,
     is_backward: bool,
     buffer: &mut [u8],
     pairs: &mut [Pair],
     given: &mut Given,
 ) -> u32
-    ensures { Gives (in_direction is_backward left.entry) result buffer.new pairs.new given.new }
+    ensures { Gives (in_direction is_backward left.entry) result buffer.new
+        pairs.old pairs.new given.new }
 {
     let mut count = 0;
     let mut end = 0;

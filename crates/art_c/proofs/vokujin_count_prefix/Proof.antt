@@ -1,9 +1,8 @@
--- The memory of the map is borrowed for the call, and is the caller's again after it.
-use Rattle.art_c.proofs.Steps.{ℕ, List, [], ◌∷◌, ◌++◌, refl, w32, Bor, proved, full_share, id⊢, Lft, flft, flent, Incl-refl, named, Val, vptr, fact, tables, WpFn, ‵, raw, ◌⊛◌, some, later, prop, ◌$◌, ◌∵◌, !, qed, done, move, drop, use1, use2, split, join, fsplit, pick, await, regoal, suffices, frame, group, enter, of_opd, addr, stop, no_more, and_then, returns, alloc_all, pass_all, free_all, look_at, get, through, sets, lands_as, lft_new, lft_end, lent_back, u8, u32, usize, yes, Is, shows, uint_Lawful, owns, Ptr, RawPtr, block_ptr, lies_at, in_a_block, rawptr_vals, rawptr_Tells, MutRef, ShrRef, mut_vals, mut_Tells, ShrSlice, shr_slice_vals, shr_slice_Tells, part_at, lends_shr, plain, shr_slice_of, nothing, heard, peeks, calls_at, lasts, alive, triple_of, Stays, walk_of, says, stay_dropped, gave_ref, Goes-dropped, Goes-gave_ref, ends_at, framed}
+-- The caller has lent the map: the reference is made of the loan.
+use Rattle.art_c.proofs.Steps.{ℕ, List, [], ◌∷◌, ◌++◌, refl, w32, Bor, proved, id⊢, fst∗, Lft, ffalse, flft, named, Val, vptr, fact, tables, WpFn, sem, ‵, raw, ◌⊛◌, some, later, prop, ◌$◌, ◌∵◌, !, qed, done, move, drop, use1, use2, split, join, fsplit, fjoin, feq_i, pick, await, regoal, suffices, frame, group, enter, of_opd, addr, stop, no_more, and_then, returns, alloc_all, pass_all, free_all, look_at, get, through, sets, lands_as, env, u8, u32, usize, yes, Is, shows, uint_Lawful, owns, Ptr, RawPtr, block_ptr, null_ptr, block_of, count_of, in_a_block, rawptr_vals, rawptr_Tells, MutRef, mut_vals, mut_Tells, ShrSlice, shr_slice_vals, shr_slice_Tells, mem, shared_of, hide, lent_at, plain, shr_slice_of, nothing, heard, peeks, calls_at, lasts, alive, triple_of, Stays, walk_of, says, stay_dropped, gave_ref, Goes-dropped, Goes-gave_ref, ends_at, framed}
 use Rattle.std.specs.Prelude.{◌≢◌, length, Some}
 use Rattle.art_keyed.specs.KeyedPairs.{strings_below}
 use Rattle.string_map.specs.Calls.{Answers, no_memory}
-use Rattle.string_map.proofs.StringMap.TheLaws.{the_row_laws, the_within}
 use Rattle.string_map.specs.contracts.StringMap.{the_row as R}
 use Rattle.string_map.specs.contracts.calls.count_prefix as g
 use Rattle.string_map.proofs.calls.count_prefix.Met.{met}
@@ -22,33 +21,32 @@ vokujin_count_prefix_spec 𝓤 𝓛 𝓜 𝓡 wired =
     (λ κs. (rawptr_vals, (shr_slice_vals, (mut_vals, tt)))) (λ κs. (rawptr_Tells, (shr_slice_Tells (named 0) κs.0 u8, (mut_Tells (named 1) κs.1.0 usize, tt)))) (λ κs qs bounds a m are.
     let vs : List Val × (List Val × (Unit {0})) = (shr_slice_vals a.1.0, (mut_vals a.1.1.0, tt)) in let T = alive 𝓛 f.signature κs qs in let Others = owns (ShrSlice (named 0) κs.0 u8 ∷ MutRef (named 1) κs.1.0 usize ∷ []) a.1 vs in
     let y : Ptr → W.Ghost = λ p. ((κs, qs, bounds, (p, a.1), (rawptr_vals p, vs)), m) in
-    qed 𝓛 ((raw T ⊛ (‵ (RawPtr.own_val a.0 (rawptr_vals a.0)) ⊛ ‵ Others)) ∷ ‵ (lies_at R full_share a.0 m) ∷ []) ∵
-    split ! $ move ! (1 ∷ []) $ split ! $ drop ! $ move ! (2 ∷ []) $
-    in_a_block ! a.0 (λ p. lies_at R full_share p m) (id⊢ 𝓤 _) (λ b o e.
+    qed 𝓛 ((raw T ⊛ (‵ (RawPtr.own_val a.0 (rawptr_vals a.0)) ⊛ ‵ Others)) ∷ (‵ (lent_at R a.0 m.1 m.0.0) ⊛ ‵ (flft m.0.0 m.0.1)) ∷ []) ∵
+    split ! $ move ! (1 ∷ []) $ split ! $ drop ! $ move ! (2 ∷ []) $ split ! $
+    in_a_block ! a.0 (λ p. lent_at R p m.1 m.0.0) (fst∗ 𝓤 (sem 𝓛 ffalse) (sem 𝓛 (shared_of R m.1 (block_of null_ptr) (count_of null_ptr) m.0.0))) (λ b o e.
     regoal ! (λ p. prop (WpFn 𝓤 𝓛.H 𝓣.C 𝓣.Λ code.function (rawptr_vals p ++ (shr_slice_vals a.1.0 ++ (mut_vals a.1.1.0 ++ []))) (W.post (y p)))) e refl $
-    -- [the map's memory; what the others own; their tokens; the locals]
+    -- [what the caller lent; the token of its lifetime; what the others own; their tokens; the locals]
     enter ! _ _ _ _ _ $ alloc_all ! (λ l. pass_all ! refl ((tt, tt), ((tt, (tt, (record { fits = are.1.0.0.1.0 }, tt))), ((tt, tt), tt))) $
     sets ! (of_opd ! (get ! refl)) refl (tt, tt) $ sets ! (addr ! (through ! refl (stop !))) refl (tt, tt) $
     sets ! (addr ! (through ! refl (stop !))) refl (tt, tt) $
-    lft_new ! tt (λ α. let κ : Lft = α ∷ [] in move ! (1 ∷ 0 ∷ []) $
-    let s : Bor _ = record { ref_ptr = (b, o); now = m } in
-    use2 𝓛 (later ((‵ ((ShrRef (named 0) κ R).own_val s (vptr b o ∷ [])) ⊛ ‵ (flent κ (part_at R full_share m b o))) ⊛ ‵ (flft κ full_share)))
-    (lends_shr 𝓛 R (named 0) κ full_share m b o R.lives (the_row_laws.shares 𝓛 m) ((κ, full_share) ∷ []) (the_within κ) (Incl-refl κ)) $ await ! tt $ split ! $ split ! $
+    let κ : Lft = m.0.0 in
+    let s : Bor _ = record { ref_ptr = (b, o); now = m.1 } in
+    fsplit ! $ drop ! $ hide ! $ feq_i ! (List Val) (vptr b o ∷ []) (vptr b o ∷ []) refl $ fjoin ! $
     let G = triple_of 𝓛 g.signature (g.spec 𝓛 𝓜.mem 𝓡.returns) in
-    let z : G.Ghost = (((κ, κs), (full_share, qs), tt, (s, a.1), (vptr b o ∷ [], vs)), tt) in
-    move ! (0 ∷ 3 ∷ []) $ join ! $ move ! (2 ∷ 3 ∷ 0 ∷ []) $ join ! $ join ! $ nothing ! $ move ! (1 ∷ 0 ∷ []) $ use2 𝓛 (raw (G.pre z)) (id⊢ 𝓤 _) $
+    let z : G.Ghost = (((κ, κs), (m.0.1, qs), tt, (s, a.1), (vptr b o ∷ [], vs)), tt) in
+    move ! (0 ∷ 2 ∷ []) $ join ! $ move ! (1 ∷ 2 ∷ 0 ∷ []) $ join ! $ join ! $ nothing ! $ move ! (1 ∷ 0 ∷ []) $ use2 𝓛 (raw (G.pre z)) (id⊢ 𝓤 _) $
     calls_at ! (framed 𝓤 𝓛.H 𝓜 (tables 𝓤 𝓛.H 𝓜 𝓡 𝓡.env)) G (met 𝓤 𝓛 𝓜 𝓡 (code.calls-string_map::calls::count_prefix 𝓡.env wired)) z
     (and_then ! (get ! refl) (and_then ! (get ! refl) (and_then ! (get ! refl) (no_more !)))) (λ v.
-    use1 𝓛 (later (some (λ (r : ℕ). ((‵ (flft κ full_share) ⊛ raw T) ⊛ ‵ (u32.own_val r (v ∷ []))) ⊛
-    some (λ (ws : _). ‵ (lasts g.ended z.0.0 z.0.3 ws) ⊛ raw (fact 𝓤 (Answers m (λ all. Some (length (strings_below (λ text. text) a.1.0.now all))) r a.1.1.0.now ws.1.1.0 × (r ≢ no_memory))))))) (id⊢ 𝓤 _) $
-    await ! tt $ pick ! (λ r. split ! $ split ! $ split ! $ lft_end ! tt $
+    use1 𝓛 (later (some (λ (r : ℕ). ((‵ (flft κ m.0.1) ⊛ raw T) ⊛ ‵ (u32.own_val r (v ∷ []))) ⊛
+    some (λ (ws : _). ‵ (lasts g.ended z.0.0 z.0.3 ws) ⊛ raw (fact 𝓤 (Answers m.1 (λ all. Some (length (strings_below (λ text. text) a.1.0.now all))) r a.1.1.0.now ws.1.1.0 × (r ≢ no_memory))))))) (id⊢ 𝓤 _) $
+    await ! tt $ pick ! (λ r. split ! $ split ! $ split ! $
     move ! (3 ∷ []) $ pick ! (λ ws. split ! $ fsplit ! $ drop ! $
     move ! (1 ∷ []) $ heard ! _ (λ told.
-    -- [the others' last values; α is over; the tokens; the result; the lender's part]
-    move ! (1 ∷ 4 ∷ []) $ lent_back ! tt $ move ! (3 ∷ []) $
-    -- [the result; the map's memory; the others' last values; the tokens]
+    -- [the others' last values; the token of κ; the tokens; the result]
+    move ! (3 ∷ []) $
+    -- [the result; the others' last values; the token of κ; the tokens]
     peeks ! u32 (Is u32) (shows 𝓛 u32) r (v ∷ []) (λ is. lands_as ! refl refl ((uint_Lawful 𝓛 w32).typed r _ is).0 $
     returns ! (look_at ! 0 refl) $ free_all ! refl $
     suffices ! _ (ends_at 𝓛 f.ended stayed c (y (block_ptr b o)) v r (tt, ws.1) (tt, (tt, (tt, tt)))) $
-    nothing ! $ move ! (0 ∷ 3 ∷ []) $ join ! $ move ! (3 ∷ 0 ∷ 1 ∷ []) $ group ! 3 $ frame ! $
-    says ! told $ done !)))))))))
+    nothing ! $ move ! (0 ∷ 2 ∷ []) $ join ! $ move ! (3 ∷ 0 ∷ 1 ∷ []) $ group ! 3 $ frame ! $
+    says ! told $ done !))))))))
