@@ -2,13 +2,14 @@
 
 use crate::parts::{begin, between};
 use crate::{Counts, parts};
+use art_operations::keys::ShortBytes;
 use art_operations::map::ByteMap;
 use std::alloc::Global;
 use std::ops::Bound;
 
 const PREFIX_LEN: usize = 16;
 
-type Map = ByteMap<Vec<u8>, u32, PREFIX_LEN>;
+type Map = ByteMap<ShortBytes, u32, PREFIX_LEN>;
 
 /// Makes each call on all keys, part by part.
 #[inline(always)]
@@ -60,7 +61,7 @@ fn insert_all(map: &mut Map, alloc: Global, keys: &[u8], ends: &[u64]) -> u64 {
     let (mut count, mut value, mut from) = (0u64, 0u32, 0);
     for end in ends {
         let to = *end as usize;
-        if let Ok(key) = Vec::from_slice(alloc, between(keys, from, to)) {
+        if let Ok(key) = ShortBytes::from_slice(alloc, between(keys, from, to)) {
             count = count.wrapping_add(u64::from(is_new(map, key, value)));
         }
         value = value.wrapping_add(1);
@@ -70,7 +71,7 @@ fn insert_all(map: &mut Map, alloc: Global, keys: &[u8], ends: &[u64]) -> u64 {
 }
 
 #[inline(always)]
-fn is_new(map: &mut Map, key: Vec<u8>, value: u32) -> bool {
+fn is_new(map: &mut Map, key: ShortBytes, value: u32) -> bool {
     match map.insert(key, value) {
         Ok(replaced) => replaced.is_none(),
         Err(_) => false,
@@ -83,7 +84,7 @@ fn insert_again(map: &mut Map, alloc: Global, keys: &[u8], ends: &[u64]) -> u64 
     let (mut count, mut from) = (0u64, 0);
     for end in ends {
         let to = *end as usize;
-        if let Ok(key) = Vec::from_slice(alloc, between(keys, from, to)) {
+        if let Ok(key) = ShortBytes::from_slice(alloc, between(keys, from, to)) {
             count = count.wrapping_add(u64::from(is_stored_now(map, key)));
         }
         from = to;
@@ -92,7 +93,7 @@ fn insert_again(map: &mut Map, alloc: Global, keys: &[u8], ends: &[u64]) -> u64 
 }
 
 #[inline(always)]
-fn is_stored_now(map: &mut Map, key: Vec<u8>) -> bool {
+fn is_stored_now(map: &mut Map, key: ShortBytes) -> bool {
     map.insert(key, 7).is_ok()
 }
 
@@ -102,7 +103,7 @@ fn over_all(map: &mut Map, alloc: Global, keys: &[u8], ends: &[u64]) -> u64 {
     let (mut count, mut from) = (0u64, 0);
     for end in ends {
         let to = *end as usize;
-        if let Ok(key) = Vec::from_slice(alloc, between(keys, from, to)) {
+        if let Ok(key) = ShortBytes::from_slice(alloc, between(keys, from, to)) {
             count = count.wrapping_add(u64::from(map.insert_over(key, 7).is_ok()));
         }
         from = to;
@@ -301,19 +302,19 @@ fn write_more(map: &mut Map, alloc: Global, key_bytes: &[u8]) {
 }
 
 fn insert_more(map: &mut Map, alloc: Global, key_bytes: &[u8]) {
-    if let Ok(key) = Vec::from_slice(alloc, key_bytes) {
+    if let Ok(key) = ShortBytes::from_slice(alloc, key_bytes) {
         let _ = map.insert(key, 1);
     }
 }
 
 fn get_more(map: &mut Map, alloc: Global, key_bytes: &[u8]) {
-    if let Ok(key) = Vec::from_slice(alloc, key_bytes) {
+    if let Ok(key) = ShortBytes::from_slice(alloc, key_bytes) {
         let _ = map.get_or_insert(key, 2);
     }
 }
 
 fn over_more(map: &mut Map, alloc: Global, key_bytes: &[u8]) {
-    if let Ok(key) = Vec::from_slice(alloc, key_bytes) {
+    if let Ok(key) = ShortBytes::from_slice(alloc, key_bytes) {
         let _ = map.insert_over(key, 3);
     }
 }

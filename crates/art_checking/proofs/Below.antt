@@ -133,7 +133,7 @@ module _ {K V : Type 0} {bytes : K × V → List ℕ} {P : ℕ} {s : Nodes K V} 
   module _ {root : OpaqueNodePtr} {above : List Above} {now : Seen} {whole pushed : List ℕ} {name : InnerPtr} {depth : ℕ}
       {rest left : Children} {byte : ℕ} {child : OpaqueNodePtr}
       (at : IsAt bytes P s root above now whole name depth rest) (steps : rest ≡ (byte, child) ∷ left) (more : pushed ≡ whole ++ byte ∷ []) where
-    pub turn_of : IsTurn bytes P s at.old now at.place whole pushed name at.node byte child left
+    turn_of : IsTurn bytes P s at.old now at.place whole pushed name at.node byte child left
     turn_of = turn_from at.met.proper at.met.there at.met.rising steps at.turns more
 
     pub child_is_reached : Reaches bytes P s root pushed child
@@ -157,7 +157,7 @@ module _ {K V : Type 0} {bytes : K × V → List ℕ} {P : ℕ} {s : Nodes K V} 
     }
 
     -- once all below it was passed the others follow
-    pub turn_over : {new : Seen} {behind cut : List ℕ} {len : ℕ} → IsPassed bytes P s now new pushed child →
+    turn_over : {new : Seen} {behind cut : List ℕ} {len : ℕ} → IsPassed bytes P s now new pushed child →
         IsWalked bytes P s (place_in now) (place_in new) pushed child →
         behind ≡ pushed → length behind ≡ len → cut ≡ take (len - 1) behind → IsAt bytes P s root above new cut name depth left
     turn_over passed walked kept long cut = record {
@@ -180,7 +180,7 @@ module _ {K V : Type 0} {bytes : K × V → List ℕ} {P : ℕ} {s : Nodes K V} 
 
   module _ {root : OpaqueNodePtr} {above : List Above} {now : Seen} {whole : List ℕ} {name : InnerPtr} {depth : ℕ} {rest : Children}
       (at : IsAt bytes P s root above now whole name depth rest) (none : rest ≡ []) (enough : kind_least name.kind ≤ length at.node.children) where
-    pub node_passed : IsPassed bytes P s at.before now at.place (inner_name name)
+    node_passed : IsPassed bytes P s at.before now at.place (inner_name name)
     node_passed =
         let has = subst (λ l. HasTurned bytes P s at.old now at.place whole name at.node l) none at.turns in
         passed_inner at.met.first name refl at.met.proper

@@ -25,7 +25,7 @@ module _ {K V : Type 0} (s : Nodes K V) where
       node_at s (inner_name p) ≡ Some (inner_node (header_at p.kind node) node.children)
   inner_at p node proper there = ap (option_map (tree_node p.kind)) (held_in_inner s p.kind p.slot proper ∙ ap (option_map held_inner) there)
 
-  pub none_at_inner : (p : InnerPtr) → p.kind ≢ Leaf → map.get s.inners p ≡ None → node_at s (inner_name p) ≡ None
+  none_at_inner : (p : InnerPtr) → p.kind ≢ Leaf → map.get s.inners p ≡ None → node_at s (inner_name p) ≡ None
   none_at_inner p proper gone = ap (option_map (tree_node p.kind)) (held_in_inner s p.kind p.slot proper ∙ ap (option_map held_inner) gone)
 
   pub leaf_at : (p : LeafPtr) (node : LeafNode K V) → map.get s.leaves p ≡ Some node → node_at s (leaf_name p) ≡ Some (leaf_node (pair_of node))

@@ -1,6 +1,6 @@
 -- A fold proceeds child by child: some children of a node are joined, and the others are left.
 use Rattle.std.specs.Option.{option_map}
-use Rattle.std.proofs.Common.{◌≡◌, ◌≢◌, ℕ, ◌<◌, ◌≤◌, List, [], ◌∷◌, length, refl, ap, ap₂, sym, ◌∙◌, arith, subst, IsSome, Option, Some, None}
+use Rattle.std.proofs.Common.{◌≡◌, ◌≢◌, ℕ, ◌<◌, ◌≤◌, List, [], ◌∷◌, length, refl, ap, ap₂, sym, ◌∙◌, arith, subst, IsSome, Some}
 use Rattle.std.specs.FinMap as map
 use Rattle.art_inner.specs.Inner.{Inner}
 use Rattle.art_parts.specs.Names.{leaf_name, inner_name}
@@ -45,7 +45,7 @@ module _ {K V : Type 0} (s : Nodes K V) where
   -- a child of a full tree has one too, a lower one
   module _ {name n : OpaqueNodePtr} {h : NodeHeader} (l : Subtrees OpaqueNodePtr (K × V)) (b : ℕ) (t : Tree OpaqueNodePtr (K × V))
       (r : Subtrees OpaqueNodePtr (K × V)) (full : IsFullTree s name (inner n h (join l (child b t r)))) where
-    pub child_full : IsFullTree s (name_of t) t
+    child_full : IsFullTree s (name_of t) t
     child_full =
         let below = subst AreDistinct (names_below-join l (child b t r)) full.0.distinct.1 in (
           record {
@@ -56,7 +56,7 @@ module _ {K V : Type 0} (s : Nodes K V) where
           (children_right 1 l (child b t r) full.1.1).0,
         )
 
-    pub child_lower : height (node_at s) (map.len s.inners) (name_of t) < height (node_at s) (map.len s.inners) name
+    child_lower : height (node_at s) (map.len s.inners) (name_of t) < height (node_at s) (map.len s.inners) name
     child_lower =
         let tall : height (node_at s) (map.len s.inners) name ≡ tree_height (inner n h (join l (child b t r))) =
         ap (height (node_at s) (map.len s.inners)) (sym full.0.named) ∙

@@ -75,7 +75,7 @@ same_inner p q e =
     ap (λ n. let r : InnerPtr = record { kind = n.kind; slot = n.slot } in r)
     (same_is (record { kind = p.kind; slot = p.slot }) (record { kind = q.kind; slot = q.slot }) (sym (is_eq_inner p q) ∙ e))
 
-pub same_apart : (n k : OpaqueNodePtr) → n ≢ k → same_name n k ≡ false
+same_apart : (n k : OpaqueNodePtr) → n ≢ k → same_name n k ≡ false
 same_apart n k off = elim (cases_Bool (same_name n k)) [ inl e ↦ absurd (off (same_is n k e)) | inr e ↦ e ]
 
 -- ---- the name met last

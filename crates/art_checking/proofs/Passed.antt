@@ -13,7 +13,6 @@ use Rattle.art_parts.specs.Names.{leaf_name, inner_name, inner_cmp}
 use Rattle.art_nodes.specs.Nodes.{Nodes}
 use Rattle.art_parts.specs.declared.names.NodeType.{NodeType}
 use Rattle.art_parts.specs.declared.names.NodeType.TheVariants.{Node4, Node16, Node48, Node256, Leaf}
-use Rattle.art_parts.specs.declared.leaf.LeafNode.{LeafNode}
 use Rattle.art_parts.specs.declared.names.LeafPtr.{LeafPtr}
 use Rattle.art_parts.specs.declared.names.InnerPtr.{InnerPtr}
 use Rattle.art_parts.specs.declared.names.OpaqueNodePtr.{OpaqueNodePtr}
@@ -21,7 +20,7 @@ use Rattle.art_model.specs.Keys.{IsFront}
 use Rattle.art_model.specs.Layouts.{leaf_node, inner_node, name_of, slots_of, names_of, names_below, leaf_names, leaf_names_below}
 use Rattle.art_model.specs.Layouts.{inner_names, inner_names_below, Holds, HoldsBelow, AreLinked, IsLayout}
 use Rattle.art_model.specs.Radix.{join, pairs_of, bytes_of, BytesRise, AreRadix}
-use Rattle.art_model.specs.Stores.{node_at, header_at, held_inner, held_leaf, Held, IsUsed, links_at}
+use Rattle.art_model.specs.Stores.{node_at, header_at, held_inner, Held, IsUsed, links_at}
 use Rattle.art_model.specs.Trees.{Tree, leaf, inner, Subtrees, child, no_child, NodeHeader, canonical_header, kind_of}
 use Rattle.art_model.proofs.stores.Canonical.{canonical_from}
 use Rattle.art_model.proofs.lists.Lists.{Each-append}
@@ -245,13 +244,6 @@ inner_is_there {K} {V} s p proper used = go (finite.get s.inners p) refl (λ e. 
     go None e f = absurd (f (ap (option_map held_inner) e))
     go (Some node) e f = (node, e)
 
-pub leaf_is_there : {K V : Type 0} (s : Nodes K V) (p : LeafPtr) → IsUsed s (leaf_name p) → IsSome (finite.get s.leaves p)
-leaf_is_there {K} {V} s p used = go (finite.get s.leaves p) used
-  where
-    go : (o : Option (LeafNode K V)) → (option_map {U = Held K V} held_leaf o ≡ None → ⊥) → IsSome o
-    go None f = absurd (f refl)
-    go (Some node) f = refl
-
 -- the bytes before the last one
 pub before_last : (items rest front : List ℕ) (b len : ℕ) → items ≡ front ++ b ∷ [] → length items ≡ len → rest ≡ take (len - 1) items → rest ≡ front
 before_last items rest front b len is count e =
@@ -295,7 +287,7 @@ module _ {K V : Type 0} (s : Nodes K V) where
     leaf_names_below_there (child b t cs) h =
         Each-append IsLeafName (leaf_names t) (leaf_names_below cs) (leaf_names_there t h.0) (leaf_names_below_there cs h.1)
 
-  pub leaves_there : (leaves : List LeafPtr) (t : Tree OpaqueNodePtr (K × V)) → names_of_leaves leaves ≡ leaf_names t →
+  leaves_there : (leaves : List LeafPtr) (t : Tree OpaqueNodePtr (K × V)) → names_of_leaves leaves ≡ leaf_names t →
       Holds (node_at s) t → Each (λ l. IsSome (finite.get s.leaves l)) leaves
   leaves_there leaves t same holds = go leaves (subst (Each IsLeafName) (sym same) (leaf_names_there t holds))
     where

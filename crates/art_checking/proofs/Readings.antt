@@ -60,7 +60,7 @@ module _ {K V : Type 0} (bytes : K × V → List ℕ) (P : ℕ) (s : Nodes K V) 
         Reaches bytes P s root place (inner_name p) → IsUnreadable bytes P s root place (inner_name p)
     unreadable root (ns, descent, bad) reach = (header_at p.kind node, node.children, (reach, inner_at s p node proper there), more, (ns, descent, bad root))
 
-    pub prefix_read : (part : Bor (List ℕ)) → IsReadFrom bytes P s (inner_name p) (length place) node.prefix.len (Some part) →
+    prefix_read : (part : Bor (List ℕ)) → IsReadFrom bytes P s (inner_name p) (length place) node.prefix.len (Some part) →
         IsPrefix (node_at s) bytes P (length place) (inner_name p) (header_at p.kind node) part.now
     prefix_read part (x, descends, is) = inr (more, (x, descends, is.1, is.2))
 

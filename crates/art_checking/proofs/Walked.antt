@@ -30,7 +30,7 @@ below_at : (a : ℕ) (xs : entries.Children) (b : ℕ) (n : OpaqueNodePtr) (ys :
 below_at a [] b n ys h = h.0
 below_at a (x ∷ xs) b n ys h = below_at a xs b n ys h.1
 
-pub child_there : (xs : entries.Children) (b : ℕ) (n : OpaqueNodePtr) (ys : entries.Children) → entries.IsRising (xs ++ (b, n) ∷ ys) →
+child_there : (xs : entries.Children) (b : ℕ) (n : OpaqueNodePtr) (ys : entries.Children) → entries.IsRising (xs ++ (b, n) ∷ ys) →
     child_at (xs ++ (b, n) ∷ ys) b ≡ Some n
 child_there [] b n ys h = rw (eq-eqb b b refl) refl
 child_there (x ∷ xs) b n ys h = rw (ne_eqb x.0 b (λ e. let l = below_at x.0 xs b n ys h.0 in omega arith)) (child_there xs b n ys h.1)
@@ -60,7 +60,7 @@ module _ {A : Type 0} (at : OpaqueNodePtr → Option (Node OpaqueNodePtr A)) whe
 
 module _ {K V : Type 0} (bytes : K × V → List ℕ) (P : ℕ) (s : Nodes K V) where
   -- a child of a node that is reached is reached after the node's prefix and the child's byte
-  pub reach_child : {root name : OpaqueNodePtr} {place : List ℕ} (part : List ℕ) (b : ℕ) (child : OpaqueNodePtr) → Reaches bytes P s root place name →
+  reach_child : {root name : OpaqueNodePtr} {place : List ℕ} (part : List ℕ) (b : ℕ) (child : OpaqueNodePtr) → Reaches bytes P s root place name →
       HasPrefix (node_at s) bytes P (length place) name part → HasChild (node_at s) name (b, child) →
       Reaches bytes P s root (place ++ part ++ b ∷ []) child
   reach_child {root} {name} {place} part b child reach prefix has = record {

@@ -135,12 +135,6 @@ module _ {K V : Type 0} (bytes : K × V → List ℕ) (P : ℕ) (s : Nodes K V) 
   IsTrueAt place name error =
       (root : OpaqueNodePtr) → Reaches bytes P s root place name → IsTrueOf bytes P s root (fault_of error)
 
-  -- the same where what was met before is reached too
-  abbrev pub IsTrueBehind : Places → List ℕ → OpaqueNodePtr → MalformedTreeError → Type 0
-  IsTrueBehind places place name error =
-      (root : OpaqueNodePtr) → AreReached root places → Reaches bytes P s root place name →
-      IsTrueOf bytes P s root (fault_of error)
-
   -- What was met since is below the place of the name, and on trails where the name and all before are.
   pub record IsWalked (old new : Places) (place : List ℕ) (name : OpaqueNodePtr) : Type 0 where
     pub below : (n : OpaqueNodePtr) (other : List ℕ) → new n ≡ Some other → (old n ≡ Some other) ⊎ IsFront place other

@@ -1,9 +1,9 @@
 -- What lists of children have under a byte, for callers.
-use Rattle.std.proofs.Common.{◌≡◌, ◌≢◌, ◌⊎◌, ℕ, zero, suc, ◌+◌, ◌-◌, ◌<◌, ◌≤◌, cond, [], ◌∷◌, ◌++◌, length, get_or, Some, None, IsSome, is_some, All, Contains, refl, sym, ap, ◌∙◌, inl, inr, arith, subst, eqb}
+use Rattle.std.proofs.Common.{◌≡◌, ◌≢◌, ◌⊎◌, ℕ, zero, suc, ◌+◌, ◌-◌, ◌<◌, ◌≤◌, cond, [], ◌∷◌, ◌++◌, length, get_or, Some, None, IsSome, is_some, All, refl, sym, ap, ◌∙◌, inl, inr, arith, subst, eqb}
 use Rattle.std.proofs.lemmas.Bool.{eq-eqb, ne_eqb, cases_eq}
 use Rattle.art_inner.specs.Inner.{Children, IsAbove, IsBelow, IsRising, child_at, put_child, remove_child}
 use Rattle.art_parts.specs.declared.names.OpaqueNodePtr.{OpaqueNodePtr}
-use Rattle.art_inner.proofs.TableLemmas.{Entry, before, front, here, later_above, none_is_not, IsRising-put_child}
+use Rattle.art_inner.proofs.TableLemmas.{Entry, before, front, here, later_above, none_is_not}
 use Rattle.art_parts.proofs.Comparisons.{by_order}
 
 pub at_here : (c : Entry) (cs : Children) (b : ℕ) → c.0 ≡ b → child_at (c ∷ cs) b ≡ Some c.1
@@ -66,27 +66,6 @@ length-put_child_old (c ∷ cs) b n rising there = elim (by_order c.0 b) [
   ]
 ]
 
--- what is under a byte is in the list, and what is in the list is under its byte
-pub member_of_child : (cs : Children) (b : ℕ) (n : OpaqueNodePtr) → child_at cs b ≡ Some n → Contains cs (b, n)
-member_of_child [] b n found = absurd (none_is_not (ap is_some found))
-member_of_child (c ∷ cs) b n found = elim (cases_eq c.0 b) [
-  | inl e ↦ (0, omega arith, pair e (some_is (sym (at_here c cs b e) ∙ found)))
-  | inr d ↦ let later = member_of_child cs b n (sym (at_later c cs b d) ∙ found) in (suc later.0, omega (arith, later.1), later.2)
-]
-  where
-    some_is : Some c.1 ≡ Some n → c.1 ≡ n
-    some_is e = cc
-
-    pair : c.0 ≡ b → c.1 ≡ n → c ≡ (b, n)
-    pair e f = λ i. (e i, f i)
-
-pub child_of_member : (cs : Children) (b : ℕ) (n : OpaqueNodePtr) → IsRising cs → Contains cs (b, n) → child_at cs b ≡ Some n
-child_of_member [] b n rising (k, within, is) = absurd (omega arith)
-child_of_member (c ∷ cs) b n rising (zero, within, is) = at_here c cs b (ap (λ (x : Entry). x.0) is) ∙ ap (λ (x : Entry). Some x.1) is
-child_of_member (c ∷ cs) b n rising (suc k, within, is) =
-    let later = child_of_member cs b n rising.1 (k, omega arith, is) in
-    at_later c cs b (λ e. omega (arith, e, later_above c.0 cs b rising.0 (ap is_some later))) ∙ later
-
 -- how `remove_child` proceeds at an entry
 pub remove_child-here : (c : Entry) (cs : Children) (b : ℕ) → c.0 ≡ b → remove_child (c ∷ cs) b ≡ remove_child cs b
 remove_child-here c cs b e = ap (λ t. cond t (remove_child cs b) (c ∷ remove_child cs b)) (eq-eqb c.0 b e)
@@ -117,16 +96,16 @@ remove_child-absent (c ∷ cs) b none = elim (cases_eq c.0 b) [
   | inr n ↦ first_kept c cs b n ∙ ap (λ (t : Children). c ∷ t) (remove_child-absent cs b (sym (at_later c cs b n) ∙ none))
 ]
 
-pub remove_child-below : (cs : Children) (b : ℕ) → IsBelow b cs → remove_child cs b ≡ cs
+remove_child-below : (cs : Children) (b : ℕ) → IsBelow b cs → remove_child cs b ≡ cs
 remove_child-below [] b below = refl
 remove_child-below (c ∷ cs) b below = first_kept c cs b (λ e. omega (arith, e, below.0)) ∙ ap (λ (t : Children). c ∷ t) (remove_child-below cs b below.1)
 
-pub remove_child-above : (cs : Children) (b : ℕ) → IsAbove b cs → remove_child cs b ≡ cs
+remove_child-above : (cs : Children) (b : ℕ) → IsAbove b cs → remove_child cs b ≡ cs
 remove_child-above [] b above = refl
 remove_child-above (c ∷ cs) b above = first_kept c cs b (λ e. omega (arith, e, above.0)) ∙ ap (λ (t : Children). c ∷ t) (remove_child-above cs b above.1)
 
 -- what is left is still sorted
-pub IsBelow-remove_child : (x : ℕ) (cs : Children) (b : ℕ) → IsBelow x cs → IsBelow x (remove_child cs b)
+IsBelow-remove_child : (x : ℕ) (cs : Children) (b : ℕ) → IsBelow x cs → IsBelow x (remove_child cs b)
 IsBelow-remove_child x [] b below = tt
 IsBelow-remove_child x (c ∷ cs) b below = elim (cases_eq c.0 b) [
   | inl e ↦ subst (IsBelow x) (sym (remove_child-here c cs b e)) (IsBelow-remove_child x cs b below.1)
@@ -149,7 +128,7 @@ length-remove_child (c ∷ cs) b rising there = elim (cases_eq c.0 b) [
 ]
 
 -- a removal acts on each part of the list, so a last child under another byte stays the last
-pub remove_child-append : (before after : Children) (b : ℕ) → remove_child (before ++ after) b ≡ remove_child before b ++ remove_child after b
+remove_child-append : (before after : Children) (b : ℕ) → remove_child (before ++ after) b ≡ remove_child before b ++ remove_child after b
 remove_child-append [] after b = refl
 remove_child-append (c ∷ before) after b = elim (cases_eq c.0 b) [
   | inl e ↦ remove_child-here c (before ++ after) b e ∙ remove_child-append before after b
@@ -157,9 +136,6 @@ remove_child-append (c ∷ before) after b = elim (cases_eq c.0 b) [
   | inr n ↦ first_kept c (before ++ after) b n ∙ ap (λ (t : Children). c ∷ t) (remove_child-append before after b)
       ∙ ap (λ (t : Children). t ++ remove_child after b) (sym (first_kept c before b n))
 ]
-
-pub last_kept : (cs : Children) (c : Entry) (b : ℕ) → c.0 ≢ b → remove_child (cs ++ c ∷ []) b ≡ remove_child cs b ++ c ∷ []
-last_kept cs c b n = remove_child-append cs (c ∷ []) b ∙ ap (λ (t : Children). remove_child cs b ++ t) (first_kept c [] b n)
 
 -- the children before one are below it, and those after it are above it
 IsBelow-middle : (x : ℕ) (before after : Children) (c : Entry) → IsBelow x (before ++ c ∷ after) → x < c.0
@@ -179,23 +155,13 @@ remove_child-between before after b n rising =
     ∙ ap (λ (t : Children). t ++ remove_child ((b, n) ∷ after) b) (remove_child-above before b around.0)
     ∙ ap (λ (t : Children). before ++ t) (remove_child-here (b, n) after b refl ∙ remove_child-below after b around.1)
 
--- the entries of the list were entries before, under other bytes
-pub member_kept : (cs : Children) (b x : ℕ) (n : OpaqueNodePtr) → IsRising cs → Contains cs (x, n) → x ≢ b → Contains (remove_child cs b) (x, n)
-member_kept cs b x n rising there differs = member_of_child (remove_child cs b) x n (child_kept cs b x differs ∙ child_of_member cs x n rising there)
-
-pub member_of_rest : (cs : Children) (b x : ℕ) (n : OpaqueNodePtr) → IsRising cs → Contains (remove_child cs b) (x, n) → Contains cs (x, n) × (x ≢ b)
-member_of_rest cs b x n rising there =
-    let found = child_of_member (remove_child cs b) x n (IsRising-remove_child cs b rising) there in
-    let differs : x ≢ b = λ e. none_is_not (ap is_some (sym (child_gone cs b) ∙ ap (child_at (remove_child cs b)) (sym e) ∙ found)) in
-    (member_of_child cs x n (sym (child_kept cs b x differs) ∙ found), differs)
-
 -- the first byte is the least, and the last one the greatest
 below_all : (x : ℕ) (cs : Children) (k : ℕ) (d : Entry) → IsBelow x cs → k < length cs → x < (get_or cs k d).0
 below_all x [] k d below within = absurd (omega arith)
 below_all x (c ∷ cs) zero d below within = below.0
 below_all x (c ∷ cs) (suc k) d below within = below_all x cs k d below.1 (omega arith)
 
-pub rises_by_place : (cs : Children) (j k : ℕ) (d e : Entry) → IsRising cs → j < k → k < length cs → (get_or cs j d).0 < (get_or cs k e).0
+rises_by_place : (cs : Children) (j k : ℕ) (d e : Entry) → IsRising cs → j < k → k < length cs → (get_or cs j d).0 < (get_or cs k e).0
 rises_by_place [] j k d e rising before within = absurd (omega arith)
 rises_by_place (c ∷ cs) j zero d e rising before within = absurd (omega arith)
 rises_by_place (c ∷ cs) zero (suc k) d e rising before within = below_all c.0 cs k e rising.0 (omega arith)
@@ -222,6 +188,3 @@ last_is_greatest whole cs d same rising =
     at : (k : ℕ) (e : Entry) → k < length whole → (k ≡ length whole - 1) ⊎ (k ≢ length whole - 1) → (get_or whole k e).0 ≤ (get_or whole (length whole - 1) d).0
     at k e within (inl last) = subst (λ j. (get_or whole k e).0 ≤ (get_or whole j d).0) last (same_place whole k e d within)
     at k e within (inr before) = omega (arith, rises_by_place whole k (length whole - 1) e d rising (omega (arith, before)) (omega arith))
-
-pub ruleset children_laws =
-    (child_here, child_elsewhere, put_child-above, IsRising-put_child, child_gone, child_kept, remove_child-absent, IsRising-remove_child)

@@ -14,12 +14,12 @@ IsBelow-take x zero cs below = tt
 IsBelow-take x (suc n) [] below = tt
 IsBelow-take x (suc n) (c ∷ cs) below = (below.0, IsBelow-take x n cs below.1)
 
-pub IsRising-take : (n : ℕ) (cs : Children) → IsRising cs → IsRising (take n cs)
+IsRising-take : (n : ℕ) (cs : Children) → IsRising cs → IsRising (take n cs)
 IsRising-take zero cs rising = tt
 IsRising-take (suc n) [] rising = tt
 IsRising-take (suc n) (c ∷ cs) rising = (IsBelow-take c.0 n cs rising.0, IsRising-take n cs rising.1)
 
-pub IsRising-drop : (n : ℕ) (cs : Children) → IsRising cs → IsRising (drop n cs)
+IsRising-drop : (n : ℕ) (cs : Children) → IsRising cs → IsRising (drop n cs)
 IsRising-drop zero cs rising = rising
 IsRising-drop (suc n) [] rising = tt
 IsRising-drop (suc n) (c ∷ cs) rising = IsRising-drop n cs rising.1

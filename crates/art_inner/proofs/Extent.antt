@@ -29,12 +29,12 @@ nothing_below x [] b below h = refl
 nothing_below x (c ∷ cs) b below h = at_later c cs b (λ e. omega (arith, e, below.0)) ∙ nothing_below x cs b below.1 h
 
 -- nothing is under a byte above all
-pub nothing_above : (x : ℕ) (cs : Children) (b : ℕ) → IsAbove x cs → x ≤ b → child_at cs b ≡ None
+nothing_above : (x : ℕ) (cs : Children) (b : ℕ) → IsAbove x cs → x ≤ b → child_at cs b ≡ None
 nothing_above x [] b above h = refl
 nothing_above x (c ∷ cs) b above h = at_later c cs b (λ e. omega (arith, e, above.0)) ∙ nothing_above x cs b above.1 h
 
 -- two sorted lists with the same under each byte are equal
-pub same_children : (cs ds : Children) → IsRising cs → IsRising ds → ((b : ℕ) → child_at cs b ≡ child_at ds b) → cs ≡ ds
+same_children : (cs ds : Children) → IsRising cs → IsRising ds → ((b : ℕ) → child_at cs b ≡ child_at ds b) → cs ≡ ds
 same_children [] [] r s same = refl
 same_children [] (d ∷ ds) r s same = absurd (some_is_not d.1 (sym (at_here d ds d.0 refl) ∙ sym (same d.0)))
 same_children (c ∷ cs) [] r s same = absurd (some_is_not c.1 (sym (at_here c cs c.0 refl) ∙ same c.0))
@@ -73,7 +73,7 @@ IsBelow-part_of x from to (c ∷ cs) below = elim (inside_or_not from to c.0) [
   | inr n ↦ subst (IsBelow x) (sym (part_not from to c cs n)) (IsBelow-part_of x from to cs below.1)
 ]
 
-pub IsRising-part_of : (from to : ℕ) (cs : Children) → IsRising cs → IsRising (part_of from to cs)
+IsRising-part_of : (from to : ℕ) (cs : Children) → IsRising cs → IsRising (part_of from to cs)
 IsRising-part_of from to [] rising = tt
 IsRising-part_of from to (c ∷ cs) rising = elim (inside_or_not from to c.0) [
   | inl h ↦ subst IsRising (sym (part_here from to c cs h.0 h.1)) (IsBelow-part_of c.0 from to cs rising.0, IsRising-part_of from to cs rising.1)
@@ -96,7 +96,7 @@ below_part x from to (c ∷ cs) h = elim (inside_or_not from to c.0) [
 ]
 
 -- what a part has under a byte
-pub at_inside : (from to : ℕ) (cs : Children) (b : ℕ) → from ≤ b → b < to → child_at (part_of from to cs) b ≡ child_at cs b
+at_inside : (from to : ℕ) (cs : Children) (b : ℕ) → from ≤ b → b < to → child_at (part_of from to cs) b ≡ child_at cs b
 at_inside from to [] b h k = refl
 at_inside from to (c ∷ cs) b h k = elim (inside_or_not from to c.0) [
   | inl w ↦ ap (λ (t : Children). child_at t b) (part_here from to c cs w.0 w.1) ∙ ap (λ t. cond (eqb c.0 b) (Some c.1) t) (at_inside from to cs b h k)
@@ -104,7 +104,7 @@ at_inside from to (c ∷ cs) b h k = elim (inside_or_not from to c.0) [
       ∙ sym (at_later c cs b (λ e. elim n [ inl l ↦ absurd (omega (arith, l, e, h)) | inr l ↦ absurd (omega (arith, l, e, k)) ]))
 ]
 
-pub at_outside : (from to : ℕ) (cs : Children) (b : ℕ) → (b < from) ⊎ (to ≤ b) → child_at (part_of from to cs) b ≡ None
+at_outside : (from to : ℕ) (cs : Children) (b : ℕ) → (b < from) ⊎ (to ≤ b) → child_at (part_of from to cs) b ≡ None
 at_outside from to [] b out = refl
 at_outside from to (c ∷ cs) b out = elim (inside_or_not from to c.0) [
   | inl w ↦ ap (λ (t : Children). child_at t b) (part_here from to c cs w.0 w.1)
@@ -118,7 +118,7 @@ at_outside from to (c ∷ cs) b out = elim (inside_or_not from to c.0) [
 
 module _ (cs : Children) (rising : IsRising cs) where
   -- a part is another list, if that has the same under each byte of the part and nothing else
-  pub part_is : (from to : ℕ) (ds : Children) → IsRising ds → ((b : ℕ) → from ≤ b → b < to → child_at cs b ≡ child_at ds b) →
+  part_is : (from to : ℕ) (ds : Children) → IsRising ds → ((b : ℕ) → from ≤ b → b < to → child_at cs b ≡ child_at ds b) →
       ((b : ℕ) → (b < from) ⊎ (to ≤ b) → child_at ds b ≡ None) →
       part_of from to cs ≡ ds
   part_is from to ds other inside outside =
@@ -143,7 +143,7 @@ module _ (cs : Children) (rising : IsRising cs) where
       ])
       (λ b n. at_outside (from + 1) to cs b (elim n [ inl l ↦ inl (omega (arith, l)) | inr l ↦ inr l ]))
 
-  pub skip_last : (from to : ℕ) → child_at cs to ≡ None → part_of from (to + 1) cs ≡ part_of from to cs
+  skip_last : (from to : ℕ) → child_at cs to ≡ None → part_of from (to + 1) cs ≡ part_of from to cs
   skip_last from to none = part_is from (to + 1) (part_of from to cs) (IsRising-part_of from to cs rising)
       (λ b l r. elim (by_order b to) [
         | inl k ↦ sym (at_inside from to cs b l k)
@@ -345,12 +345,6 @@ moved_over table rest next all written b n is step rising wrote =
     let whole : table ++ (b, n) ∷ next ≡ all = ap (λ (t : Children). table ++ t) (sym step) ∙ is in
     let above = (rises_around table next (b, n) (subst IsRising (sym whole) rising)).0 in
     ap (λ (t : Children). t ++ next) (wrote ∙ put_child-above table b n above) ∙ append_assoc table ((b, n) ∷ []) next ∙ whole
-
--- the first remaining child comes after the earlier ones
-pub pushed_over : (table rest next all written : Children) (b : ℕ) (n : OpaqueNodePtr) → table ++ rest ≡ all → rest ≡ (b, n) ∷ next →
-    written ≡ table ++ (b, n) ∷ [] → written ++ next ≡ all
-pushed_over table rest next all written b n is step wrote =
-    ap (λ (t : Children). t ++ next) wrote ∙ append_assoc table ((b, n) ∷ []) next ∙ ap (λ (t : Children). table ++ t) (sym step) ∙ is
 
 -- it is above them, and there is room for it
 pub next_above : (table rest next all : Children) (b : ℕ) (n : OpaqueNodePtr) → table ++ rest ≡ all → rest ≡ (b, n) ∷ next → IsRising all → IsAbove b table

@@ -89,10 +89,10 @@ IsIndex-added index len b within sound = (λ k. bound k (cases_eq k b), λ j k e
         (sym (get_or-set_other index b j (len + 1) 0 x) ∙ e ∙ get_or-set_other index b k (len + 1) 0 y)
         (λ z. n (get_or-set_other index b j (len + 1) 0 x ∙ z))
 
-pub moved_last : (last to number : ℕ) → number ≡ last → number_after_move last to number ≡ to
+moved_last : (last to number : ℕ) → number ≡ last → number_after_move last to number ≡ to
 moved_last last to number e = ap (λ b. cond b to number) (eq-eqb number last e)
 
-pub moved_other : (last to number : ℕ) → number ≢ last → number_after_move last to number ≡ number
+moved_other : (last to number : ℕ) → number ≢ last → number_after_move last to number ≡ number
 moved_other last to number n = ap (λ b. cond b to number) (ne_eqb number last n)
 
 -- the place of a byte is freed, and the last place moves there

@@ -59,16 +59,6 @@ next_taken (x ∷ front) (a ∷ b ∷ rest) zero d within later same = ap (λ y.
 next_taken (x ∷ front) (a ∷ rest) (suc p) d within later same =
     ap (λ xs. x ∷ xs) (next_taken front rest p d (omega (arith, within)) (omega (arith, later)) same)
 
--- before the first value moves
-pub not_moved : {X : Type 0} (old : List X) (at : ℕ) → old ≡ take (at + 1 - 1) (remove old at) ++ drop (at + 1 - 1) old
-not_moved old at = let back : at + 1 - 1 ≡ at = omega arith in rw back (parted old at)
-  where
-    parted : {X : Type 0} (xs : List X) (k : ℕ) → xs ≡ take k (remove xs k) ++ drop k xs
-    parted [] zero = refl
-    parted [] (suc k) = refl
-    parted (x ∷ xs) zero = refl
-    parted (x ∷ xs) (suc k) = ap (λ ys. x ∷ ys) (parted xs k)
-
 length_without : {X : Type 0} (old : List X) (at : ℕ) → at < length old → length (remove old at) ≡ length old - 1
 length_without old at within =
     omega (arith, length-append (take at old) (drop (suc at) old), length-take-le at old (omega (arith, within)), length-drop (suc at) old)

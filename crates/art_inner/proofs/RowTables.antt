@@ -1,5 +1,5 @@
 -- A change of a table's rows is the same change of its children.
-use Rattle.std.proofs.Common.{◌≡◌, ℕ, ◌+◌, ◌-◌, ◌<◌, ◌≤◌, suc, List, [], ◌∷◌, ◌++◌, length, get_or, set, slice_get, take, drop, remove, Some, None, IsSome, is_some, sym, ap, ◌∙◌, arith, add-one, subst}
+use Rattle.std.proofs.Common.{◌≡◌, ℕ, ◌+◌, ◌-◌, ◌<◌, ◌≤◌, ◌^◌, suc, List, [], ◌∷◌, ◌++◌, length, get_or, set, slice_get, take, drop, remove, Some, None, IsSome, is_some, sym, ap, ◌∙◌, arith, add-one, subst}
 use Rattle.std.proofs.lemmas.List.{get_or-take, length-append, length-drop, length-take-le}
 use Rattle.std.proofs.lemmas.Option.{slice_get-get_or, slice_get_past}
 use Rattle.std.specs.Option.{option_map}
@@ -22,11 +22,12 @@ pub record Shows {N : ℕ} (t : Inside N) (cs : Children) : Type 0 where
   pub fits : t.len ≤ N
   pub shows : take t.len (rows t.bytes t.kinds t.slots) ≡ cs
   pub rising : IsRising cs
+  pub small : N < 2 ^ 16
 
 pub shows_of : {N : ℕ} (t : Inside N) (cs : Children) → length t.slots ≡ N → length t.bytes ≡ N →
-    (t.len ≤ N) × (length t.kinds ≡ N) × IsRising (take t.len (rows t.bytes t.kinds t.slots)) → take t.len (rows t.bytes t.kinds t.slots) ≡ cs → Shows t cs
+    (t.len ≤ N) × (length t.kinds ≡ N) × IsRising (take t.len (rows t.bytes t.kinds t.slots)) × (N < 2 ^ 16) → take t.len (rows t.bytes t.kinds t.slots) ≡ cs → Shows t cs
 shows_of t cs slots bytes sound shows =
-    record { slots = slots; bytes = bytes; kinds = sound.1; fits = sound.0; shows = shows; rising = subst IsRising shows sound.2 }
+    record { slots = slots; bytes = bytes; kinds = sound.1; fits = sound.0; shows = shows; rising = subst IsRising shows sound.2; small = sound.3 }
 
 -- as many as there were, with another first part
 pub length_around : {X : Type 0} (es new : List X) (n len : ℕ) → len ≤ n → length es ≡ n → length new ≡ length (take len es) → length (new ++ drop len es) ≡ n

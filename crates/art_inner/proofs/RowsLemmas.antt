@@ -35,16 +35,6 @@ rows-drop (suc n) (b ∷ bs) [] ss e f = absurd (omega (arith, e))
 rows-drop (suc n) (b ∷ bs) (k ∷ ks) [] e f = absurd (omega (arith, f))
 rows-drop (suc n) (b ∷ bs) (k ∷ ks) (s ∷ ss) e f = rows-drop n bs ks ss (omega (arith, e)) (omega (arith, f))
 
-pub rows-append : (bs ds : List ℕ) (ks ls : List NodeType) (ss ts : List ℕ) → length ks ≡ length bs → length ss ≡ length bs →
-    rows (bs ++ ds) (ks ++ ls) (ss ++ ts) ≡ rows bs ks ss ++ rows ds ls ts
-rows-append [] ds [] ls [] ts e f = refl
-rows-append [] ds (k ∷ ks) ls ss ts e f = absurd (omega (arith, e))
-rows-append [] ds [] ls (s ∷ ss) ts e f = absurd (omega (arith, f))
-rows-append (b ∷ bs) ds [] ls ss ts e f = absurd (omega (arith, e))
-rows-append (b ∷ bs) ds (k ∷ ks) ls [] ts e f = absurd (omega (arith, f))
-rows-append (b ∷ bs) ds (k ∷ ks) ls (s ∷ ss) ts e f =
-    ap (λ (t : Children). (b, record { kind = k; slot = s }) ∷ t) (rows-append bs ds ks ls ss ts (omega (arith, e)) (omega (arith, f)))
-
 pub rows-set : (at : ℕ) (bs : List ℕ) (ks : List NodeType) (ss : List ℕ) (b : ℕ) (n : OpaqueNodePtr) → length ks ≡ length bs → length ss ≡ length bs →
     set (rows bs ks ss) at (b, n) ≡ rows (set bs at b) (set ks at n.kind) (set ss at n.slot)
 rows-set at [] ks ss b n e f = refl

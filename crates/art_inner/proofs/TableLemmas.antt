@@ -3,7 +3,7 @@ use Rattle.std.proofs.Common.{◌≡◌, ◌≢◌, ℕ, zero, suc, ◌+◌, ◌
 use Rattle.std.proofs.lemmas.Grind.{common_steps}
 use Rattle.std.proofs.lemmas.Bool.{ne_eqb, eq-eqb, lt-ltb, le-ltb}
 use Rattle.std.proofs.lemmas.List.{take_all, length-take-le, take-append-le}
-use Rattle.art_inner.specs.Inner.{Children, IsBelow, IsRising, child_at, put_child, count_below, HasPlace}
+use Rattle.art_inner.specs.Inner.{Children, IsBelow, IsRising, child_at, put_child, count_below}
 use Rattle.art_parts.specs.declared.names.NodeType.TheVariants.{Leaf}
 use Rattle.art_parts.specs.declared.names.OpaqueNodePtr.{OpaqueNodePtr}
 use Rattle.art_parts.proofs.Comparisons.{by_order}
@@ -111,12 +111,6 @@ place_of_child (c ∷ cs) b d rising there = elim (by_order c.0 b) [
         absurd (omega (arith, later_above c.0 cs b rising.0 rest))
   ]
 ]
-
--- where no entry has the byte there is room
-pub room_for_new : (capacity : ℕ) (cs : Children) (b : ℕ) (d : Entry) → IsRising cs → HasPlace capacity cs b →
-    (count_below cs b < length cs → (get_or cs (count_below cs b) d).0 ≢ b) → length cs < capacity
-room_for_new capacity cs b d rising (inl room) other = room
-room_for_new capacity cs b d rising (inr there) other = let found = place_of_child cs b d rising there in absurd (other found.0 found.1)
 
 -- what is read behind the free place
 read_front : {X : Type 0} (old rest : List X) (p : ℕ) (d : X) → suc p < length old → get_or (take (suc (suc p)) old ++ rest) p d ≡ get_or old p d

@@ -1,5 +1,5 @@
 //! Tables of the children of inner nodes.
-ghost use Rattle.std.specs.Prelude.{◌≡◌, ℕ, ◌<◌, ◌≤◌, [], length, None};
+ghost use Rattle.std.specs.Prelude.{◌≡◌, ℕ, ◌<◌, ◌≤◌, ◌^◌, [], length, None};
 ghost use Rattle.art_parts.specs.Headers.{Prefix};
 ghost use Rattle.art_inner.specs.Inner.{IsSize, Children, HasPlace, IsRising, child_at, put_child, remove_child};
 ghost use Rattle.art_inner.specs.Beside.{IsNextTo};
@@ -42,12 +42,14 @@ pub trait ChildTable: Drop {
 
     /// Returns a table without children.
     fn new() -> Self
+        requires { capacity < 2 ^ 16 }
         ensures { children_of result ≡ [] };
 
     /// Returns a table of these children.
     fn of(children: Children<'_>) -> Self
         requires rising { IsRising children }
         requires fit { length children ≤ capacity }
+        requires small { capacity < 2 ^ 16 }
         ensures { children_of result ≡ children.entry };
 
     /// Returns a table of the same children.
@@ -78,7 +80,7 @@ pub trait ChildTable: Drop {
         ensures rest { children_of self.new ≡ remove_child (children_of self.old) byte };
 
     /// Renames the leaves among the children by a table of slots.
-    fn rename_leaves(&mut self, table: &[usize])
+    fn rename_leaves(&mut self, table: &[u32])
         ensures { children_of self.new
             ≡ children_renamed (new_name table.now) (children_of self.old) };
 }

@@ -32,7 +32,7 @@ enum PlaceKind {
 /// A place for each byte, seen as the list of the names under rising bytes.
 #[derive(Drop)]
 pub struct Direct {
-    slots: [usize; 256],
+    slots: [u32; 256],
     places: [PlaceKind; 256],
     len: usize,
 }
@@ -112,7 +112,7 @@ impl ChildTable for Direct {
         Some(child)
     }
 
-    fn rename_leaves(&mut self, table: &[usize]) {
+    fn rename_leaves(&mut self, table: &[u32]) {
         rename_places(&self.places, &mut self.slots, table);
     }
 }
@@ -151,7 +151,7 @@ impl KindTable for Direct {
     }
 }
 
-fn vacant_slots() -> [usize; 256] {
+fn vacant_slots() -> [u32; 256] {
     [0; 256]
 }
 
@@ -162,7 +162,7 @@ fn vacant_places() -> [PlaceKind; 256]
 }
 
 #[inline(always)]
-fn name_in(place: PlaceKind, slot: usize) -> Option<OpaqueNodePtr>
+fn name_in(place: PlaceKind, slot: u32) -> Option<OpaqueNodePtr>
     ensures { result ≡ in_place place slot }
 {
     let kind = match place {
@@ -189,7 +189,7 @@ fn place_of(kind: NodeType) -> PlaceKind
 }
 
 // Writes for each leaf in a place the slot that a table has for it.
-fn rename_places(places: &[PlaceKind], slots: &mut [usize], table: &[usize])
+fn rename_places(places: &[PlaceKind], slots: &mut [u32], table: &[u32])
     requires { length places.now ≡ length slots.old }
     ensures count { length slots.new ≡ length slots.old }
     ensures names { (b : ℕ) → direct_at slots.new places.now b ≡

@@ -17,7 +17,7 @@ use std::marker::Model;
 /// the list of the names under rising bytes.
 #[derive(Drop)]
 pub struct Indexed {
-    slots: [usize; 48],
+    slots: [u32; 48],
     index: [u8; 256],
     kinds: [NodeType; 48],
     len: usize,
@@ -106,7 +106,7 @@ impl ChildTable for Indexed {
         Some(child)
     }
 
-    fn rename_leaves(&mut self, table: &[usize]) {
+    fn rename_leaves(&mut self, table: &[u32]) {
         rename_slots(&self.kinds, &mut self.slots, table);
     }
 }
@@ -152,7 +152,7 @@ impl KindTable for Indexed {
     }
 }
 
-fn no_slots() -> [usize; 48] {
+fn no_slots() -> [u32; 48] {
     [0; 48]
 }
 

@@ -59,7 +59,7 @@ pub trait InnerNode<const P: usize>: FromHeader<Header<P>> {
         ensures rest { view_of self.new ≡ without_child byte (view_of self.old) };
 
     /// Renames the children that are leaves by a table of slots. It costs a step for each place of the node.
-    fn rename_leaves(&mut self, table: &[usize])
+    fn rename_leaves(&mut self, table: &[u32])
         ensures { view_of self.new ≡ inner_renamed (new_name table.now) (view_of self.old) };
 
     fn into_any(self) -> AnyInner<P>
@@ -268,7 +268,7 @@ impl<T: KindTable, const P: usize> InnerNode<P> for InnerNodeOf<Header<P>, T> {
         self.table.remove(byte)
     }
 
-    fn rename_leaves(&mut self, table: &[usize]) {
+    fn rename_leaves(&mut self, table: &[u32]) {
         self.table.rename_leaves(table)
     }
 

@@ -7,17 +7,17 @@ use art_parts::names::{LeafPtr, NodeType};
 
 /// Returns the name that a table has for a leaf, or the same name if it has none. It costs one access.
 #[inline(always)]
-pub fn new_name(table: &[usize], leaf: LeafPtr) -> LeafPtr
+pub fn new_name(table: &[u32], leaf: LeafPtr) -> LeafPtr
     ensures { result ≡ new_name table.now leaf }
 {
-    match table.get(leaf.slot) {
+    match table.get(leaf.slot as usize) {
         Some(&slot) => LeafPtr { slot },
         None => leaf,
     }
 }
 
 // Writes for each leaf among so many names the slot that a table has for it.
-pub(crate) fn rename_slots(kinds: &[NodeType], slots: &mut [usize], table: &[usize])
+pub(crate) fn rename_slots(kinds: &[NodeType], slots: &mut [u32], table: &[u32])
     requires { length kinds.now ≡ length slots.old }
     ensures count { length slots.new ≡ length slots.old }
     ensures slots { (k : ℕ) → slice_index_or slots.new k 0 ≡

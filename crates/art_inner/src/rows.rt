@@ -11,7 +11,7 @@ use art_parts::names::{NodeType, OpaqueNodePtr};
 pub(crate) struct Rows<'a> {
     pub(crate) bytes: &'a [u8],
     pub(crate) kinds: &'a [NodeType],
-    pub(crate) slots: &'a [usize],
+    pub(crate) slots: &'a [u32],
 }
 
 impl<'a> Rows<'a> {

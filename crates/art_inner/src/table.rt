@@ -20,14 +20,14 @@ use std::marker::Model;
 /// Up to `N` names under rising bytes, seen as their list.
 #[derive(Drop)]
 pub struct Table<const N: usize> {
-    slots: [usize; N],
+    slots: [u32; N],
     bytes: [u8; N],
     kinds: [NodeType; N],
-    len: usize,
+    len: u16,
 }
 
 impl<const N: usize> Model for Table<N> {
-    ghost use Rattle.std.specs.Prelude.{◌≡◌, ◌≤◌, length, take};
+    ghost use Rattle.std.specs.Prelude.{◌≡◌, ◌<◌, ◌≤◌, ◌^◌, length, take};
     ghost use Rattle.art_inner.specs.Inner.{Children, IsRising};
     ghost use Rattle.art_inner.specs.Rows.{rows};
 
@@ -38,7 +38,8 @@ impl<const N: usize> Model for Table<N> {
     ghost invariant = { λ t.
         (t.len ≤ N)
         × (length t.kinds ≡ N)
-        × IsRising (take t.len (rows t.bytes t.kinds t.slots)) };
+        × IsRising (take t.len (rows t.bytes t.kinds t.slots))
+        × (N < 2 ^ 16) };
 }
 
 impl<const N: usize> Table<N> {
@@ -48,11 +49,11 @@ impl<const N: usize> Table<N> {
         requires rising { IsAbove byte self.old }
         ensures { self.new ≡ self.old ++ (byte, child) ∷ [] }
     {
-        let last = self.len;
+        let last = self.len as usize;
         self.bytes[last] = byte;
         self.kinds[last] = child.kind;
         self.slots[last] = child.slot;
-        self.len = last + 1;
+        self.len += 1;
     }
 
     // The names in use.
@@ -64,9 +65,9 @@ impl<const N: usize> Table<N> {
         ensures bound { length self.now ≤ N }
     {
         Rows {
-            bytes: &self.bytes[..self.len],
-            kinds: &self.kinds[..self.len],
-            slots: &self.slots[..self.len],
+            bytes: &self.bytes[..self.len as usize],
+            kinds: &self.kinds[..self.len as usize],
+            slots: &self.slots[..self.len as usize],
         }
     }
 
@@ -75,7 +76,7 @@ impl<const N: usize> Table<N> {
     fn name_at(&self, place: usize) -> Option<OpaqueNodePtr>
         ensures { result ≡ option_map (λ child. child.1) (slice_get self.now place) }
     {
-        if place >= self.len {
+        if place >= self.len as usize {
             return None;
         }
         Some(OpaqueNodePtr {
@@ -145,7 +146,7 @@ impl<const N: usize> ChildTable for Table<N> {
         }
     }
 
-    fn rename_leaves(&mut self, table: &[usize]) {
+    fn rename_leaves(&mut self, table: &[u32]) {
         rename_slots(&self.kinds, &mut self.slots, table);
     }
 }
@@ -158,7 +159,7 @@ impl<const N: usize> Table<N> {
         requires absent { child_at self.old byte ≡ None }
         ensures { self.new ≡ put_child self.old byte child }
     {
-        let len = self.len + 1;
+        let len = self.len as usize + 1;
         insert_into(
             &mut self.bytes[..len],
             &mut self.kinds[..len],
@@ -166,7 +167,7 @@ impl<const N: usize> Table<N> {
             at,
             (byte, child),
         );
-        self.len = len;
+        self.len += 1;
     }
 
     // Removes the name at its place.
@@ -181,11 +182,11 @@ impl<const N: usize> Table<N> {
             kind: self.kinds[at],
             slot: self.slots[at],
         };
-        let len = self.len;
+        let len = self.len as usize;
         remove_from(&mut self.bytes[..len], at);
         remove_from(&mut self.kinds[..len], at);
         remove_from(&mut self.slots[..len], at);
-        self.len = len - 1;
+        self.len -= 1;
         child
     }
 }
@@ -339,7 +340,7 @@ fn place_in_four(bytes: &[u8; 4], byte: u8) -> usize
 fn insert_into(
     bytes: &mut [u8],
     kinds: &mut [NodeType],
-    slots: &mut [usize],
+    slots: &mut [u32],
     at: usize,
     child: (u8, OpaqueNodePtr),
 )

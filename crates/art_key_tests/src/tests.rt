@@ -3,6 +3,7 @@ mod collected;
 mod drawn;
 mod entries;
 mod extracts;
+mod hinted;
 mod joined;
 mod keys;
 mod longest;

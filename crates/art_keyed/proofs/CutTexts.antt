@@ -62,11 +62,11 @@ module _ {A : Type 0} (bytes : A → List ℕ) (end : ℕ) (q : List ℕ) where
     marks = subst (AreEnded bytes end) split (Each-filter (λ x. IsEndedBy end (bytes x)) (λ x. is_front (text_of bytes x) q) xs ended)
 
     -- the last text is a prefix of the query
-    pub last_in_front : IsFront (text_of bytes last) q
+    last_in_front : IsFront (text_of bytes last) q
     last_in_front = front_from (text_of bytes last) q
         (Each-right (λ x. is_front (text_of bytes x) q ≡ true) (without_last (texts_in_front bytes q xs)) (last ∷ []) passes).0
 
-    pub last_ended : IsEndedBy end (bytes last)
+    last_ended : IsEndedBy end (bytes last)
     last_ended = (Each-right (λ x. IsEndedBy end (bytes x)) (without_last (texts_in_front bytes q xs)) (last ∷ []) marks).0
 
     -- the others are prefixes too, and shorter
@@ -186,12 +186,12 @@ module _ {A : Type 0} (bytes : A → List ℕ) (end : ℕ) (q : List ℕ) where
         get_longer (texts_in_front bytes q xs) (Pairwise-filter (λ x y. Precedes (bytes x) (bytes y))
         (λ x. is_front (text_of bytes x) q) xs rise) known_front
 
-    pub first_and_longer : (n : ℕ) (x : A) → first_of (texts_from bytes q n xs) ≡ Some x →
+    first_and_longer : (n : ℕ) (x : A) → first_of (texts_from bytes q n xs) ≡ Some x →
         texts_from bytes q n xs ≡ x ∷ texts_from bytes q (length (text_of bytes x) + 1) xs
     first_and_longer n x e = first_longer (texts_in_front bytes q xs) front_longer n x e
 
     -- the first key is a text and an end byte, so it has one byte more
-    pub first_len : (n : ℕ) (x : A) → first_of (texts_from bytes q n xs) ≡ Some x → length (bytes x) ≡ length (text_of bytes x) + 1
+    first_len : (n : ℕ) (x : A) → first_of (texts_from bytes q n xs) ≡ Some x → length (bytes x) ≡ length (text_of bytes x) + 1
     first_len n x e =
         let of_x : InFront x = first_has InFront (texts_from bytes q n xs) x (Each-filter InFront (long n) (texts_in_front bytes q xs) known_front) e in
         let l = ap length of_x.0.is in
@@ -200,7 +200,7 @@ module _ {A : Type 0} (bytes : A → List ℕ) (end : ℕ) (q : List ℕ) where
 
     module _ (last : A) (e : last_of (texts_in_front bytes q xs) ≡ Some last) where
       -- the longest text is too short, and so are all others
-      pub all_short : (n : ℕ) → length (text_of bytes last) < n → texts_from bytes q n xs ≡ []
+      all_short : (n : ℕ) → length (text_of bytes last) < n → texts_from bytes q n xs ≡ []
       all_short n short =
           ap (filter (long n)) (split xs rise ended last e)
           ∙ filter_append_none (without_last (texts_in_front bytes q xs)) last
@@ -217,10 +217,10 @@ module _ {A : Type 0} (bytes : A → List ℕ) (end : ℕ) (q : List ℕ) where
         here : filter (long n) (last ∷ []) ≡ last ∷ []
         here = rw (le-leb n (length (text_of bytes last)) enough) refl
 
-        pub only_from : length (text_of bytes last) ≡ 0 → texts_from bytes q n xs ≡ last ∷ []
+        only_from : length (text_of bytes last) ≡ 0 → texts_from bytes q n xs ≡ last ∷ []
         only_from none = ap (filter (long n)) (only xs rise ended last e none) ∙ here
 
-        pub cut_from : (m : ℕ) → length (text_of bytes last) ≡ m + 1 → texts_from bytes q n xs ≡ texts_from bytes (take m q) n xs ++ last ∷ []
+        cut_from : (m : ℕ) → length (text_of bytes last) ≡ m + 1 → texts_from bytes q n xs ≡ texts_from bytes (take m q) n xs ++ last ∷ []
         cut_from m is =
             ap (filter (long n)) (cut xs rise ended last e m is) ∙ filter-append (long n) (texts_in_front bytes (take m q) xs) (last ∷ [])
             ∙ ap (λ ys. filter (long n) (texts_in_front bytes (take m q) xs) ++ ys) here

@@ -20,7 +20,7 @@ use Rattle.art_keyed.proofs.Parted.{without_keeps}
 use denote.Ref.{Bor}
 
 -- two tests that agree on each pair remove the same pairs
-pub extracts_same : {A : Type 0} (bytes : A → List ℕ) (Known : A → Type 0) (test other : A → Bool) →
+extracts_same : {A : Type 0} (bytes : A → List ℕ) (Known : A → Type 0) (test other : A → Bool) →
     ((x : A) → Known x → test x ≡ other x) → {before after : List A} {taken : Option A} →
     Each Known before → Each Known after → ExtractsFirst bytes test before taken after → ExtractsFirst bytes other before taken after
 extracts_same {A} bytes Known test other same {before} {after} {taken} all left is =

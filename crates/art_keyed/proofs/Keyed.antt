@@ -67,18 +67,18 @@ module _ {K : Type 0} (V : Type 0) (is_key : K → Type 0) (bytes : K → List �
   refusal_told law key value pairs of_key' all (Memory k v) told refused back = ((ap (λ pair. pair.0) back ∙ told.0, ap (λ pair. pair.1) back ∙ told.1), told.2)
 
   -- and the key is not stored
-  pub refused_is_new : HasNoPrefixes is_key bytes → (key : K) (value : V) (pairs : List (K × V)) → is_key key → HaveKeys is_key pairs →
+  refused_is_new : HasNoPrefixes is_key bytes → (key : K) (value : V) (pairs : List (K × V)) → is_key key → HaveKeys is_key pairs →
       (error : MapInsertError K V) → IsRefusalOf bytes key value pairs error → has_key (of_key bytes) (bytes key) pairs ≡ false
   refused_is_new law key value pairs of_key' all (Conflict k v error) told = absurd (true≢false (sym told.3 ∙ never_in_conflict law key pairs of_key' all))
   refused_is_new law key value pairs of_key' all (Memory k v) told = told.2
 
   -- a value that is returned with no pair is the one that was passed, and its key is not stored
-  pub source_refused : HasNoPrefixes is_key bytes → (key : K) (value : V) (pairs : List (K × V)) → HaveKeys is_key pairs →
-      (error : MapSourceError K V) → IsSourceRefusal bytes key (is_key key) value pairs error →
+  pub source_refused : HasNoPrefixes is_key bytes → (key : K) (value : V) (pairs : List (K × V)) → HaveKeys is_key pairs → (AllocatesNothing : Type 0)
+      (error : MapSourceError K V) → IsSourceRefusal bytes key (is_key key) AllocatesNothing value pairs error →
       (refused_value error ≡ value) × (has_key (of_key bytes) (bytes key) pairs ≡ false)
-  source_refused law key value pairs all (NoKey given) told = (told.0, told.2)
-  source_refused law key value pairs all (NoMemory given) told = told
-  source_refused law key value pairs all (Insert error) told =
+  source_refused law key value pairs all free (NoKey given) told = (told.0, told.2)
+  source_refused law key value pairs all free (NoMemory given) told = (told.0, told.3)
+  source_refused law key value pairs all free (Insert error) told =
       let back = refusal_told law key value pairs told.0 all error told.1
       (record { key = (refused_pair error).0; value = (refused_pair error).1 }) refl in
       (back.0.1, back.1)

@@ -16,7 +16,7 @@ last_of_cons y (z ∷ zs) x e = inr e
 
 module _ {K V : Type 0} (bytes : K → List ℕ) where
   -- a pair that is the last one of a part is found by its own key
-  pub found_own : (test : K × V → Bool) (pairs : List (K × V)) → IsMap (of_key bytes) pairs → (x : K × V) →
+  found_own : (test : K × V → Bool) (pairs : List (K × V)) → IsMap (of_key bytes) pairs → (x : K × V) →
       last_of (filter test pairs) ≡ Some x → first_of (with_key (of_key bytes) (bytes x.0) pairs) ≡ Some x
   found_own test [] rise x e = absurd cc
   found_own test (y ∷ ys) rise x e = go (found_own test ys rise.1 x) (test y) refl e
@@ -42,7 +42,7 @@ module _ {K V : Type 0} (bytes : K → List ℕ) where
 
 module _ {V : Type 0} (bytes : List ℕ → List ℕ) (text : List ℕ) (pairs : List (List ℕ × V)) (x : List ℕ × V)
     (found : Some x ≡ last_of (strings_in_front (λ string. string) text pairs)) where
-  pub longest_front : IsFront x.0 text
+  longest_front : IsFront x.0 text
   longest_front =
       front_from x.0 text (last_each (λ y. is_front y.0 text ≡ true) (strings_in_front (λ string. string) text pairs) x
       (filter_passes (λ y. is_front y.0 text) pairs) (sym found))

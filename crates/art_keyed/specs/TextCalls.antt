@@ -9,10 +9,10 @@ use Rattle.art_keyed.specs.KeyedPairs.{strings_in_front}
 use Rattle.art_keyed.specs.declared.map.texts.TextRefused.{TextRefused}
 use Rattle.art_keyed.specs.declared.map.texts.TextRefused.TheVariants.{InnerZero, Memory}
 
--- the error returns the value: there is a zero in the text, or an allocation failed
+-- the error returns the value: there is a zero in the text, or there is none and an allocation failed
 abbrev pub IsTextRefusal : {V : Type 0} → List ℕ → V → TextRefused V → Type 0
 IsTextRefusal text value (InnerZero given) = (given ≡ value) × ¬ HasNoZero text
-IsTextRefusal text value (Memory given) = given ≡ value
+IsTextRefusal text value (Memory given) = (given ≡ value) × HasNoZero text
 
 -- the error of a map of bytes, as an error of texts
 abbrev pub text_refused : {K V : Type 0} → MapSourceError K V → TextRefused V

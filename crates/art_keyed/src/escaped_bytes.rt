@@ -139,6 +139,8 @@ impl ToKey<Escaped> for EscapedBytes<'_> {
 
     ghost is_key = { λ text. ⊤ };
 
+    ghost allocates_nothing = { λ text. length (escape text) ≤ 30 };
+
     fn to_key(&self, alloc: Global) -> Result<Option<Escaped>, AllocError> {
         let key = Escaped::encode(alloc, self.text)?;
         Ok(Some(key))

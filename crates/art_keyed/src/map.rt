@@ -29,6 +29,7 @@ mod extract;
 mod joined;
 mod joined_array;
 mod matches;
+mod near;
 mod ordered;
 mod parts;
 mod retain;
@@ -218,12 +219,7 @@ impl<K: NoPrefixesBytes + Drop, V: Drop, const P: usize> TreeMap<K, V, P> {
             (has_key (of_key K.bytes) (K.bytes key) self.old ≡ false) }
         ensures kept { OnErr result (self.new ≡ self.old) }
     {
-        key.as_key();
-        match self.map.insert(key, value) {
-            Ok(replaced) => Ok(replaced),
-            Err(MapInsertError::Conflict { .. }) => unreachable!(),
-            Err(MapInsertError::Memory { key, value }) => Err(PairRefused { key, value }),
-        }
+        self.insert_near(&mut None, key, value)
     }
 
     /// Returns a mutable reference to the value of a key. If no equal key is stored, the pair is inserted first; a key
@@ -238,11 +234,7 @@ impl<K: NoPrefixesBytes + Drop, V: Drop, const P: usize> TreeMap<K, V, P> {
         ensures refused { OnErr result
             (has_key (of_key K.bytes) (K.bytes key) self.old ≡ false) }
     {
-        key.as_key();
-        match self.map.get_or_insert(key, value) {
-            Ok(lent) => Ok(lent),
-            Err(error) => Err(error.into_pair()),
-        }
+        self.get_or_insert_near(None, key, value)
     }
 
     /// Does what `get_or_insert` does, with a value that the closure makes of the key. The closure is called only if no
@@ -344,6 +336,14 @@ impl<K: NoPrefixesBytes + Drop, V: Drop, const P: usize> TreeMap<K, V, P> {
         ensures same { self.new ≡ self.old }
     {
         self.map.compact()
+    }
+
+    /// Frees memory that the map has for later pairs, as `shrink_to_fit` of a `ByteMap` does. Fails only if an
+    /// allocation fails; the map is unchanged in any case.
+    pub fn shrink_to_fit(&mut self) -> Result<(), AllocError>
+        ensures same { self.new ≡ self.old }
+    {
+        self.map.shrink_to_fit()
     }
 }
 

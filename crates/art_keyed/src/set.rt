@@ -219,6 +219,14 @@ impl<K: NoPrefixesBytes + Drop, const P: usize> TreeSet<K, P> {
     {
         self.set.compact()
     }
+
+    /// Frees memory that the set has for later keys, as `shrink_to_fit` of a `ByteMap` does. Fails only if an allocation
+    /// fails; the set is unchanged in any case.
+    pub fn shrink_to_fit(&mut self) -> Result<(), AllocError>
+        ensures same { self.new ≡ self.old }
+    {
+        self.set.shrink_to_fit()
+    }
 }
 
 impl<'a, K: NoPrefixesBytes + Drop, const P: usize> IntoIterator for &'a TreeSet<K, P> {

@@ -1,5 +1,5 @@
 //! The bytes of the `Terminated` key of a text, which is made from it where it is new.
-ghost use Rattle.std.specs.Prelude.{◌≡◌, [], ◌∷◌, ◌++◌, refl};
+ghost use Rattle.std.specs.Prelude.{◌≡◌, ◌<◌, [], ◌∷◌, ◌++◌, length, refl};
 ghost use Rattle.art_keys.specs.Ended.{HasNoZero};
 
 use art_keys::terminated::Terminated;
@@ -46,6 +46,8 @@ impl ToKey<Terminated> for TerminatedText<'_> {
     ghost same_bytes = { λ source. refl };
 
     ghost is_key = { λ source. HasNoZero source.text.now };
+
+    ghost allocates_nothing = { λ source. length source.text.now < 30 };
 
     fn to_key(&self, alloc: Global) -> Result<Option<Terminated>, AllocError> {
         Terminated::encode(alloc, self.text)

@@ -1,4 +1,5 @@
 mod Backs
 mod Beginnings
 pub mod EndedTests
+mod Rooms
 mod Writes

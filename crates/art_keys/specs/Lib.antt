@@ -2,6 +2,7 @@ pub mod Prefixes
 pub mod Decoded
 pub mod Ended
 pub mod Escapes
+pub mod KeptBytes
 -- the proofs of the laws, which the impls of the types cite
 pub mod FixedLaws
 pub mod EndedLaws

@@ -1,5 +1,5 @@
 //! Strings of any bytes, escaped so that no key is a prefix of another one. The keys are in the order of the strings.
-ghost use Rattle.std.specs.Prelude.{◌≡◌, ℕ, List, ◌<◌, ◌≤◌, ◌++◌, [], ◌∷◌, length, IfOk, IfSome, MatchOption, OnOk, ⊤};
+ghost use Rattle.std.specs.Prelude.{◌≡◌, ℕ, List, ◌+◌, ◌<◌, ◌≤◌, ◌++◌, [], ◌∷◌, length, IfOk, IfSome, IsOk, MatchOption, OnOk, ⊤};
 ghost use Rattle.std.specs.Bool.{OnFalse, OnTrue};
 ghost use Rattle.std.specs.Cmp.Lexicographic.{slice_cmp};
 ghost use Rattle.std.specs.Ordering.{nat_cmp, eq_by_cmp, as_partial_cmp};
@@ -13,6 +13,7 @@ ghost use Rattle.std.specs.Hash as fed;
 ghost use Rattle.art_keys.specs.HashLaws.{strings_hash};
 
 use super::laws::{CloneBytes, DecodeBytes, NoPrefixesBytes, OrderedBytes, StringBytes, compare};
+use super::short_bytes::ShortBytes;
 use super::terminated::{write_text, zero_at};
 use art_nodes::node::AsBytes;
 use std::alloc::{AllocError, Global};
@@ -27,7 +28,7 @@ mod write;
 /// and then a zero. In contracts it is the string.
 #[derive(Drop)]
 pub struct Escaped {
-    bytes: Vec<u8>,
+    bytes: ShortBytes,
 }
 
 impl Model for Escaped {
@@ -36,21 +37,22 @@ impl Model for Escaped {
 
     ghost Value = { List ℕ };
 
-    ghost view = { λ e. unescape e.bytes.items };
+    ghost view = { λ e. unescape e.bytes };
 
-    ghost invariant = { λ e. IsEscape e.bytes.items };
+    ghost invariant = { λ e. IsEscape e.bytes };
 }
 
 impl Escaped {
     /// Returns the key of a string. It allocates once, for as many bytes as the key has, and fails only if that
-    /// allocation fails.
+    /// allocation fails. A key of at most 30 bytes needs none.
     pub fn encode(alloc: Global, text: &[u8]) -> Result<Self, AllocError>
-        ensures { IfOk result (λ key. key ≡ text.now) }
+        ensures key { IfOk result (λ key. key ≡ text.now) }
+        ensures succeeds { length (escape text.now) ≤ 30 → IsOk result }
     {
         if Escaped::is_plain(text) {
             return plain_key(alloc, text);
         }
-        let mut bytes = Vec::with_capacity(alloc, escape_len(text))?;
+        let mut bytes = ShortBytes::with_capacity(alloc, escape_len(text))?;
         for byte in text {
             push_escaped(&mut bytes, *byte)?;
         }
@@ -60,7 +62,8 @@ impl Escaped {
 
     /// Returns what `encode` does, for the bytes of a text.
     pub fn encode_str(alloc: Global, text: &str) -> Result<Self, AllocError>
-        ensures { IfOk result (λ key. key ≡ text.now) }
+        ensures key { IfOk result (λ key. key ≡ text.now) }
+        ensures succeeds { length (escape text.now) ≤ 30 → IsOk result }
     {
         Escaped::encode(alloc, text.as_bytes())
     }
@@ -92,14 +95,14 @@ impl Escaped {
     }
 }
 
-// Returns the key of a string that has no byte to escape. Fails only if an allocation fails.
+// Returns the key of a string that has no byte to escape. Fails only if an allocation fails, which fewer than 30 bytes
+// do not need.
 fn plain_key(alloc: Global, text: &[u8]) -> Result<Escaped, AllocError>
     requires { IsPlain text.now }
-    ensures { IfOk result (λ key. key ≡ text.now) }
+    ensures key { IfOk result (λ key. key ≡ text.now) }
+    ensures succeeds { length (escape text.now) ≤ 30 → IsOk result }
 {
-    let mut bytes = Vec::with_capacity(alloc, text.len().saturating_add(1))?;
-    bytes.extend_from_slice(text)?;
-    bytes.push(0)?;
+    let bytes = ShortBytes::from_both(alloc, text, &[0])?;
     Ok(Escaped { bytes })
 }
 
@@ -179,9 +182,10 @@ fn escape_byte_len(byte: u8) -> usize
     }
 }
 
-// Appends the escape of a byte. Fails only if an allocation fails.
-fn push_escaped(bytes: &mut Vec<u8>, byte: u8) -> Result<(), AllocError>
-    ensures { OnOk result (bytes.new.items ≡ bytes.old.items ++ escape_byte byte) }
+// Appends the escape of a byte. Fails only if an allocation fails, which up to 30 bytes do not need.
+fn push_escaped(bytes: &mut ShortBytes, byte: u8) -> Result<(), AllocError>
+    ensures ok { OnOk result (bytes.new ≡ bytes.old ++ escape_byte byte) }
+    ensures succeeds { length bytes.old + length (escape_byte byte) ≤ 30 → IsOk result }
 {
     match byte {
         0 => {
@@ -201,7 +205,7 @@ impl AsBytes for Escaped {
     ghost bytes = { escape };
 
     fn as_bytes(&self) -> &[u8] {
-        &self.bytes
+        self.bytes.as_slice()
     }
 }
 
@@ -231,7 +235,7 @@ impl StringBytes for Escaped {
     ghost keeps_fronts = { escape_keeps_fronts };
 
     fn beginning(&self) -> &[u8] {
-        match self.bytes.split_last() {
+        match self.bytes.as_slice().split_last() {
             Some((_, inside)) => inside,
             None => &[],
         }
@@ -253,13 +257,16 @@ impl DecodeBytes for Escaped {
 
     fn from_key_bytes(alloc: Global, bytes: &[u8]) -> Result<Self, AllocError> {
         Ok(Escaped {
-            bytes: bytes.to_vec(alloc)?,
+            bytes: ShortBytes::from_slice(alloc, bytes)?,
         })
     }
 }
 
+/// Returns the same key. It cannot fail for a key of at most 30 bytes.
 impl Clone for Escaped {
     ghost is_clone = { λ key copy. copy ≡ key };
+
+    ghost is_infallible = { λ key. length (escape key) ≤ 30 };
 
     fn clone(&self) -> Result<Self, AllocError> {
         Ok(Escaped {

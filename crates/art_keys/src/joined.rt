@@ -1,5 +1,5 @@
 //! Two keys joined into one.
-ghost use Rattle.std.specs.Prelude.{◌≡◌, IfOk, IsOk};
+ghost use Rattle.std.specs.Prelude.{◌≡◌, ◌≤◌, length, IfOk, IsOk};
 ghost use Rattle.art_keys.specs.Joins.{AreKeys, joined_bytes, pair_cmp, joined_length, parted};
 ghost use Rattle.art_keys.specs.JoinLaws.{joins_no_prefixes, joins_keep_order, joins_come_back};
 ghost use Rattle.art_keys.specs.InjectiveLaws.{joins_injective};
@@ -11,6 +11,7 @@ ghost use Rattle.std.specs.Hash as fed;
 ghost use Rattle.art_keys.specs.HashLaws.{bytes_hash};
 
 use super::laws::{CloneBytes, DecodeBytes, NoPrefixesBytes, OrderedBytes};
+use super::short_bytes::ShortBytes;
 use art_nodes::node::AsBytes;
 use std::alloc::{AllocError, Global};
 use std::cmp::Ordering;
@@ -21,7 +22,7 @@ use std::marker::{Model, PhantomData};
 /// Two keys as one: the bytes of the first key, and then those of the second one. In contracts it is the pair of them.
 #[derive(Drop)]
 pub struct Joined<A: DecodeBytes, B: DecodeBytes> {
-    bytes: Vec<u8>,
+    bytes: ShortBytes,
     of: PhantomData<(A, B)>,
 }
 
@@ -35,25 +36,22 @@ impl<A: DecodeBytes, B: DecodeBytes> Model for Joined<A, B> {
     ghost use Rattle.art_keys.specs.Decoded.{IsOfKey};
     ghost use Rattle.art_keys.specs.Joins.{AreKeys, joined_bytes, parted};
 
-    ghost view = { λ j. parted A.key_of A.length_of B.key_of j.bytes.items };
+    ghost view = { λ j. parted A.key_of A.length_of B.key_of j.bytes };
 
     ghost invariant = { λ j.
-        IsOfKey (AreKeys A.is_key B.is_key) (joined_bytes A.bytes B.bytes) j.bytes.items };
+        IsOfKey (AreKeys A.is_key B.is_key) (joined_bytes A.bytes B.bytes) j.bytes };
 }
 
 impl<A: DecodeBytes + Drop, B: DecodeBytes + Drop> Joined<A, B> {
-    /// Returns the key of two keys. It allocates once, and fails only if that allocation fails.
+    /// Returns the key of two keys. Fails only if an allocation fails, which a key of up to 30 bytes does not need.
     pub fn join(alloc: Global, first: &A, second: &B) -> Result<Self, AllocError>
-        ensures { IfOk result (λ key. key ≡ (first.now, second.now)) }
+        ensures key { IfOk result (λ key. key ≡ (first.now, second.now)) }
+        ensures succeeds { length (joined_bytes A.bytes B.bytes (first.now, second.now)) ≤ 30 → IsOk result }
     {
         first.as_key();
         second.as_key();
-        let (first, second) = (first.as_bytes(), second.as_bytes());
-        let mut bytes = Vec::with_capacity(alloc, first.len() + second.len())?;
-        bytes.extend_from_slice(first)?;
-        bytes.extend_from_slice(second)?;
         Ok(Joined {
-            bytes,
+            bytes: ShortBytes::from_both(alloc, first.as_bytes(), second.as_bytes())?,
             of: PhantomData,
         })
     }
@@ -63,8 +61,8 @@ impl<A: DecodeBytes + Drop, B: DecodeBytes + Drop> Joined<A, B> {
         ensures key { IfOk result (λ key. key ≡ self.now.0) }
         ensures succeeds { A.allocates_nothing → IsOk result }
     {
-        let middle = A::key_len(&self.bytes);
-        A::from_key_bytes(alloc, &self.bytes[..middle])
+        let middle = A::key_len(self.bytes.as_slice());
+        A::from_key_bytes(alloc, &self.bytes.as_slice()[..middle])
     }
 
     /// Returns the second key. Fails only if an allocation fails; numbers and arrays allocate nothing.
@@ -72,8 +70,8 @@ impl<A: DecodeBytes + Drop, B: DecodeBytes + Drop> Joined<A, B> {
         ensures key { IfOk result (λ key. key ≡ self.now.1) }
         ensures succeeds { B.allocates_nothing → IsOk result }
     {
-        let middle = A::key_len(&self.bytes);
-        B::from_key_bytes(alloc, &self.bytes[middle..])
+        let middle = A::key_len(self.bytes.as_slice());
+        B::from_key_bytes(alloc, &self.bytes.as_slice()[middle..])
     }
 
     /// Returns the two keys. Fails only if an allocation fails; numbers and arrays allocate nothing.
@@ -81,9 +79,9 @@ impl<A: DecodeBytes + Drop, B: DecodeBytes + Drop> Joined<A, B> {
         ensures keys { IfOk result (λ keys. keys ≡ self.now) }
         ensures succeeds { A.allocates_nothing → B.allocates_nothing → IsOk result }
     {
-        let middle = A::key_len(&self.bytes);
-        let first = A::from_key_bytes(alloc, &self.bytes[..middle])?;
-        let second = B::from_key_bytes(alloc, &self.bytes[middle..])?;
+        let middle = A::key_len(self.bytes.as_slice());
+        let first = A::from_key_bytes(alloc, &self.bytes.as_slice()[..middle])?;
+        let second = B::from_key_bytes(alloc, &self.bytes.as_slice()[middle..])?;
         Ok((first, second))
     }
 }
@@ -91,7 +89,7 @@ impl<A: DecodeBytes + Drop, B: DecodeBytes + Drop> Joined<A, B> {
 /// Writes the bytes in quotes, escaped as by `escape_ascii`.
 impl<A: DecodeBytes, B: DecodeBytes> fmt::Debug for Joined<A, B> {
     fn fmt<W: fmt::Write>(&self, f: &mut fmt::Formatter<W>) -> fmt::Result {
-        let bytes = self.bytes.escape_ascii();
+        let bytes = self.as_bytes().escape_ascii();
         write!(f, "\"{bytes}\"")
     }
 }
@@ -100,7 +98,7 @@ impl<A: DecodeBytes, B: DecodeBytes> AsBytes for Joined<A, B> {
     ghost bytes = { joined_bytes A.bytes B.bytes };
 
     fn as_bytes(&self) -> &[u8] {
-        &self.bytes
+        self.bytes.as_slice()
     }
 }
 
@@ -142,14 +140,17 @@ impl<A: DecodeBytes, B: DecodeBytes> DecodeBytes for Joined<A, B> {
 
     fn from_key_bytes(alloc: Global, bytes: &[u8]) -> Result<Self, AllocError> {
         Ok(Joined {
-            bytes: bytes.to_vec(alloc)?,
+            bytes: ShortBytes::from_slice(alloc, bytes)?,
             of: PhantomData,
         })
     }
 }
 
+/// Returns the same key. It cannot fail for a key of at most 30 bytes.
 impl<A: DecodeBytes, B: DecodeBytes> Clone for Joined<A, B> {
     ghost is_clone = { λ key copy. copy ≡ key };
+
+    ghost is_infallible = { λ key. length (joined_bytes A.bytes B.bytes key) ≤ 30 };
 
     fn clone(&self) -> Result<Self, AllocError> {
         Ok(Joined {

@@ -7,6 +7,7 @@ pub mod fixed;
 pub mod joined;
 pub mod joined_array;
 pub mod laws;
+pub mod short_bytes;
 pub mod signed;
 pub mod terminated;
 pub mod unsigned;

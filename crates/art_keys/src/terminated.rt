@@ -1,5 +1,5 @@
 //! Strings of bytes without a zero, each ended by a zero.
-ghost use Rattle.std.specs.Prelude.{◌≡◌, ◌≤◌, ◌↔◌, length, IfOk, IfErr, IfSome, IsSome, OnOk, string_bytes, Some};
+ghost use Rattle.std.specs.Prelude.{◌≡◌, ◌<◌, ◌≤◌, ◌↔◌, length, IfOk, IfErr, IfSome, IsOk, IsSome, OnErr, OnOk, string_bytes, vec_capacity, Some};
 ghost use Rattle.std.specs.Bool.{OnFalse, OnTrue};
 ghost use Rattle.std.specs.Fmt.{WritesOnOk};
 ghost use Rattle.std.specs.Str.Lossy.{utf8_lossy};
@@ -14,8 +14,9 @@ ghost use Rattle.std.specs.Hash as fed;
 ghost use Rattle.art_keys.specs.HashLaws.{strings_hash};
 
 use super::laws::{CloneBytes, DecodeBytes, NoPrefixesBytes, OrderedBytes, StringBytes, compare};
+use super::short_bytes::ShortBytes;
 use art_nodes::node::AsBytes;
-use std::alloc::{AllocError, Global};
+use std::alloc::{AllocError, AllocFailed, Global};
 use std::cmp::Ordering;
 use std::fmt;
 use std::hash::{Hash, Hasher};
@@ -37,7 +38,7 @@ pub enum EndError {
 /// before the end.
 #[derive(Drop)]
 pub struct Terminated {
-    bytes: Vec<u8>,
+    bytes: ShortBytes,
 }
 
 impl Model for Terminated {
@@ -46,27 +47,30 @@ impl Model for Terminated {
 
     ghost Value = { List ℕ };
 
-    ghost view = { λ t. without_end t.bytes.items };
+    ghost view = { λ t. without_end t.bytes };
 
-    ghost invariant = { λ t. IsEnded t.bytes.items };
+    ghost invariant = { λ t. IsEnded t.bytes };
 }
 
 impl Terminated {
-    /// Returns the key of these bytes. It reuses the vector, and allocates only if that has no room for one more byte.
+    /// Returns the key of these bytes. It keeps the vector of 30 or more, and allocates only if that has no room for one
+    /// more byte. It frees the vector of fewer, which need no allocation.
     ///
     /// Fails with `InnerZero` if there is a zero among the bytes, and with `Memory` if the allocation fails. Both
     /// return the bytes.
-    pub fn new(mut text: Vec<u8>) -> Result<Self, EndError>
+    pub fn new(text: Vec<u8>) -> Result<Self, EndError>
         ensures key { IfOk result (λ key. key ≡ text.items) }
         ensures accepted { OnOk result (HasNoZero text.items) }
         ensures refused { IfErr result (IsEndRefusal text.items) }
+        ensures succeeds { length text.items < 30 → HasNoZero text.items → IsOk result }
+        ensures has_room { length text.items < vec_capacity text → HasNoZero text.items → IsOk result }
     {
         if has_zero(&text) {
             return Err(EndError::InnerZero { text });
         }
-        match text.push(0) {
-            Ok(()) => Ok(Terminated { bytes: text }),
-            Err(_) => Err(EndError::Memory { text }),
+        match ShortBytes::from_vec_and(text, 0) {
+            Ok(bytes) => Ok(Terminated { bytes }),
+            Err(failed) => Err(EndError::Memory { text: failed.value }),
         }
     }
 
@@ -75,22 +79,23 @@ impl Terminated {
         ensures key { IfOk result (λ key. key ≡ string_bytes text) }
         ensures accepted { OnOk result (HasNoZero (string_bytes text)) }
         ensures refused { IfErr result (IsEndRefusal (string_bytes text)) }
+        ensures succeeds { length (string_bytes text) < 30 → HasNoZero (string_bytes text) → IsOk result }
     {
         Terminated::new(text.into_bytes())
     }
 
-    /// Returns the key of a copy of these bytes, or `None` if there is a zero among them. Fails only if an allocation
-    /// fails.
+    /// Returns the key of a copy of these bytes, or `None` if there is a zero among them. Fails only if there is none
+    /// and an allocation fails, which fewer than 30 bytes do not need.
     pub fn encode(alloc: Global, text: &[u8]) -> Result<Option<Self>, AllocError>
         ensures key { IfOk result (λ made. IfSome made (λ key. key ≡ text.now)) }
         ensures made { IfOk result (λ made. IsSome made ↔ HasNoZero text.now) }
+        ensures succeeds { length text.now < 30 → IsOk result }
+        ensures refused { OnErr result (HasNoZero text.now) }
     {
         if has_zero(text) {
             return Ok(None);
         }
-        let mut bytes = Vec::with_capacity(alloc, text.len() + 1)?;
-        bytes.extend_from_slice(text)?;
-        bytes.push(0)?;
+        let bytes = ShortBytes::from_both(alloc, text, &[0])?;
         Ok(Some(Terminated { bytes }))
     }
 
@@ -98,6 +103,8 @@ impl Terminated {
     pub fn encode_str(alloc: Global, text: &str) -> Result<Option<Self>, AllocError>
         ensures key { IfOk result (λ made. IfSome made (λ key. key ≡ text.now)) }
         ensures made { IfOk result (λ made. IsSome made ↔ HasNoZero text.now) }
+        ensures succeeds { length text.now < 30 → IsOk result }
+        ensures refused { OnErr result (HasNoZero text.now) }
     {
         Terminated::encode(alloc, text.as_bytes())
     }
@@ -107,16 +114,28 @@ impl Terminated {
         ensures text { result.now ≡ self.now }
         ensures no_zero { HasNoZero self.now }
     {
-        &self.bytes[..self.bytes.len() - 1]
+        let bytes = self.bytes.as_slice();
+        &bytes[..bytes.len() - 1]
     }
 
-    /// Returns the bytes before the end. It reuses the vector of the key, and allocates nothing.
-    pub fn into_bytes_without_end(self) -> Vec<u8>
-        ensures { result.items ≡ self }
+    /// Returns the bytes before the end. Of 30 or more it returns the vector of the key, and copies fewer. Fails only if
+    /// an allocation fails, and returns the key.
+    pub fn into_bytes_without_end(self) -> Result<Vec<u8>, AllocFailed<Self>>
+        ensures bytes { IfOk result (λ bytes. bytes.items ≡ self) }
+        ensures value_returned { IfErr result (λ failed. failed.value ≡ self) }
+        ensures succeeds { 30 ≤ length self → IsOk result }
     {
-        let mut bytes = self.bytes;
-        bytes.pop();
-        bytes
+        match self.bytes.into_vec() {
+            Ok(mut bytes) => {
+                bytes.pop();
+                Ok(bytes)
+            }
+            Err(failed) => Err(AllocFailed {
+                value: Terminated {
+                    bytes: failed.value,
+                },
+            }),
+        }
     }
 }
 
@@ -226,13 +245,16 @@ impl DecodeBytes for Terminated {
 
     fn from_key_bytes(alloc: Global, bytes: &[u8]) -> Result<Self, AllocError> {
         Ok(Terminated {
-            bytes: bytes.to_vec(alloc)?,
+            bytes: ShortBytes::from_slice(alloc, bytes)?,
         })
     }
 }
 
+/// Returns the same key. It cannot fail for fewer than 30 bytes before the end.
 impl Clone for Terminated {
     ghost is_clone = { λ key copy. copy ≡ key };
+
+    ghost is_infallible = { λ key. length (ended key) ≤ 30 };
 
     fn clone(&self) -> Result<Self, AllocError> {
         Ok(Terminated {

@@ -84,7 +84,7 @@ module _ {K V : Type 0} (bytes : K → List ℕ) (P : ℕ) where
       ∙ append_assoc l ((x.0, w) ∷ []) r
 
 -- what holds of each holds of one in the middle
-pub Each-here : {A : Type 0} (P : A → Type 0) (l r : List A) (x : A) → Each P (l ++ x ∷ r) → P x
+Each-here : {A : Type 0} (P : A → Type 0) (l r : List A) (x : A) → Each P (l ++ x ∷ r) → P x
 Each-here P [] r x h = h.0
 Each-here P (y ∷ l) r x h = Each-here P l r x h.1
 
@@ -102,7 +102,7 @@ module _ {K V : Type 0} (bytes : K → List ℕ) (key : List ℕ) (w : V) where
     abbrev those : List (K × V) → List (K × V)
     those xs = filter (λ x. test (bytes x.0)) xs
 
-    abbrev others : List (K × V) → List (K × V)
+    abbrev pub others : List (K × V) → List (K × V)
     others xs = filter (λ x. not (test (bytes x.0))) xs
 
     -- so the same pairs pass a test of their keys
@@ -289,7 +289,7 @@ module _ {K V F : Type 0} (bytes : K → List ℕ) (P : ℕ) (calls : F → K ×
 
 -- ---- after the last step
 
-pub filter_every : {A : Type 0} (xs : List A) → filter (λ _. true) xs ≡ xs
+filter_every : {A : Type 0} (xs : List A) → filter (λ _. true) xs ≡ xs
 filter_every [] = refl
 filter_every (x ∷ xs) = ap (λ ys. x ∷ ys) (filter_every xs)
 

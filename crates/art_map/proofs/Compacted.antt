@@ -31,7 +31,7 @@ module _ {K V : Type 0} {bytes : K × V → List ℕ} {P : ℕ} {s : Nodes K V} 
     first_is = first_named leaf_row.row leaf_row.names_are is_first.name_is
 
     -- which can be sorted
-    pub has_row : (row : List LeafPtr) × IsRow s.leaves None row × (first_of row ≡ Some first)
+    has_row : (row : List LeafPtr) × IsRow s.leaves None row × (first_of row ≡ Some first)
     has_row = (leaf_row.row, leaf_row.is_row, first_is)
 
     module _ (inner : root.kind ≢ Leaf) {t : Nodes K V} where

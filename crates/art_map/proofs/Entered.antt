@@ -1,5 +1,5 @@
 -- The leaf of a key that is stored, or is inserted.
-use Rattle.std.proofs.Common.{◌≡◌, ℕ, List, Option, Some, None, [], ◌∷◌, Result, Ok, Err, refl, ap, sym, ◌∙◌, subst, true, false, is_some}
+use Rattle.std.proofs.Common.{◌≡◌, ℕ, List, Option, Some, None, Result, Ok, Err, refl, ap, sym, ◌∙◌, subst, false, is_some}
 use Rattle.std.proofs.lemmas.Bool.{false≢true}
 use Rattle.std.specs.Option.{UnwrapsOrElse, unwrap_or}
 use Rattle.art_parts.specs.declared.names.LeafPtr.{LeafPtr}
@@ -68,16 +68,6 @@ position_new bytes P key is (positions.Point point) (root_is, point_in, exact, f
 position_new bytes P {s} key is positions.Bare at off = ap (has_key (of_key bytes) key) (no_pairs (of_key bytes) P s at is)
 position_new bytes P {s} {root} key is (positions.Refused error) (any, related) off =
     conflict_new (of_key bytes) key (pairs_at s root) (map_held (of_key bytes) P s is) related
-
--- there are no pairs with a key that is not stored
-pub no_pair : {K V : Type 0} (bytes : K → List ℕ) (key : List ℕ) (pairs : List (K × V)) → has_key (of_key bytes) key pairs ≡ false →
-    with_key (of_key bytes) key pairs ≡ []
-no_pair bytes key pairs none = go (with_key (of_key bytes) key pairs) refl
-  where
-    go : (xs : List _) → with_key (of_key bytes) key pairs ≡ xs → xs ≡ []
-    go [] e = refl
-    go (x ∷ xs) e =
-        absurd (false≢true (sym none ∙ any_is_first (λ x. are_same key (bytes x.0)) pairs ∙ ap (λ ys. is_some (first_of ys)) e))
 
 -- a key without a value is not stored
 pub none_stored : {K V : Type 0} (bytes : K → List ℕ) (key : List ℕ) (pairs : List (K × V)) → value_at bytes key pairs ≡ None →
@@ -148,11 +138,11 @@ module _ {K V : Type 0} (bytes : K → List ℕ) (P : ℕ) (pairs : List (K × V
   enters_holds (Err error) h = holds (of_key bytes) P t h.0
 
   -- the same if the key was made from a source
-  pub entered_from_holds : (IsKey : Type 0) (result : Result LeafPtr (MapSourceError K V)) →
-      HasEnteredFrom bytes P pairs key IsKey value result t root len →
+  pub entered_from_holds : (IsKey AllocatesNothing : Type 0) (result : Result LeafPtr (MapSourceError K V)) →
+      HasEnteredFrom bytes P pairs key IsKey AllocatesNothing value result t root len →
       HoldsPairs (of_key bytes) P t root len (pairs_at t root)
-  entered_from_holds IsKey (Ok leaf) h = holds (of_key bytes) P t h.0.0
-  entered_from_holds IsKey (Err error) h = holds (of_key bytes) P t h.0
+  entered_from_holds IsKey free (Ok leaf) h = holds (of_key bytes) P t h.0.0
+  entered_from_holds IsKey free (Err error) h = holds (of_key bytes) P t h.0
 
 -- the same if the value was made
 pub made_holds : {K V : Type 0} (bytes : K → List ℕ) (P : ℕ) (pairs : List (K × V)) (t : Nodes K V) (root : Option OpaqueNodePtr) (len : ℕ)

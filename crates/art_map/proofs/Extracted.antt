@@ -54,7 +54,7 @@ module _ {A : Type 0} (bytes : A → List ℕ) (test : A → Bool) where
       go ih false = omega arith
 
   -- there are fewer pairs after it
-  pub fewer_left : (before after : List A) (x : A) → ExtractsFirst bytes test before (Some x) after → length after < length before
+  fewer_left : (before after : List A) (x : A) → ExtractsFirst bytes test before (Some x) after → length after < length before
   fewer_left before after x is =
       let all = counted before in
       let left = counted after in

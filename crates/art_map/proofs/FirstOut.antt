@@ -51,13 +51,13 @@ module _ {A : Type 0} (bytes : A → List ℕ) (test : List ℕ → Bool) where
           record { reply = rw off out.reply; passes = rw (off, is) out.passes; fails = rw (off, is) (ap (λ zs. y ∷ zs) out.fails) }
 
   -- if none passes, all stay
-  pub none_out : (pairs : List A) → passing pairs ≡ [] → failing pairs ≡ pairs
+  none_out : (pairs : List A) → passing pairs ≡ [] → failing pairs ≡ pairs
   none_out pairs none =
       filter_all (λ x. not (test (bytes x))) pairs
       (Each-weaker (λ x. test (bytes x) ≡ false) (λ x. not (test (bytes x)) ≡ true) (λ x e. ap not e) pairs (none_passes (λ x. test (bytes x)) pairs none))
 
   -- each pair passes or does not
-  pub both_counted : (pairs : List A) → length (failing pairs) + length (passing pairs) ≡ length pairs
+  both_counted : (pairs : List A) → length (failing pairs) + length (passing pairs) ≡ length pairs
   both_counted [] = refl
   both_counted (y ∷ ys) = go (both_counted ys) (test (bytes y))
     where

@@ -1,5 +1,5 @@
 -- The pairs that an iterator over leaves has left.
-use Rattle.std.proofs.Common.{◌≡◌, ℕ, suc, ◌+◌, ◌-◌, ◌≤◌, List, [], ◌∷◌, ◌++◌, length, refl, ap, ap₂, sym, ◌∙◌, subst, arith, length-append, append_assoc, Option, Some, None}
+use Rattle.std.proofs.Common.{◌≡◌, ℕ, suc, ◌+◌, ◌-◌, List, [], ◌∷◌, ◌++◌, length, refl, ap, ap₂, sym, ◌∙◌, subst, arith, length-append, append_assoc, Option, Some, None}
 use Rattle.std.specs.Option.{option_map}
 use Rattle.std.specs.FinMap as map
 use Rattle.art_parts.specs.Names.{leaf_name}
@@ -189,19 +189,7 @@ module _ {K V : Type 0} {s : Nodes K V} {walk left : Option (LeafPtr × LeafPtr)
         (pairs_left s walk len ≡ []) × (pairs_left s left len ≡ [])
     last_ended e = ended without_last refl (after w.names w.is) (none_last w.names (e w.names w.is))
 
-    -- and the iterator is over no more leaves
-    pub last_over : ((names : List OpaqueNodePtr) → IsIteratorOf s walk names → None ≡ last_of names) → IsWalk s left len
-    last_over e =
-        let none = none_last w.names (e w.names w.is) in
-        record { names = without_last w.names; is = after w.names w.is; len_is = w.len_is ∙ ap length (none ∙ sym (ap without_last none)) }
-
     module _ {p : LeafPtr} (e : (names : List OpaqueNodePtr) → IsIteratorOf s walk names → Some (leaf_name p) ≡ last_of names) where
-      pub last_counts : 1 ≤ len
-      last_counts =
-          let less = less_last w.names (leaf_name p) (e w.names w.is) in
-          let counted = w.len_is in
-          omega arith
-
       unfoldable pub last_walk : IsWalk s left (len - 1)
       last_walk =
           let less = less_last w.names (leaf_name p) (e w.names w.is) in

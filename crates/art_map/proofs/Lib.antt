@@ -21,6 +21,7 @@ pub mod SetOrders
 pub mod Extended
 pub mod FirstOut
 pub mod Moved
+pub mod Near
 pub mod Retained
 pub mod RetainLaws
 pub mod Refusing

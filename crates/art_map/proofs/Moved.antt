@@ -24,7 +24,7 @@ module _ {K V : Type 0} (bytes : K → List ℕ) where
       (rw off none, rw off (ap (λ zs. y ∷ zs) all))
 
   -- a pair that is greater than all others is put at the end
-  pub put_end : (x : K × V) (l : List (K × V)) → Each (λ y. Precedes (bytes y.0) (bytes x.0)) l → put (of_key bytes) x l ≡ l ++ x ∷ []
+  put_end : (x : K × V) (l : List (K × V)) → Each (λ y. Precedes (bytes y.0) (bytes x.0)) l → put (of_key bytes) x l ≡ l ++ x ∷ []
   put_end x l h =
       let (none, all) = none_same x l h in
       put-new (of_key bytes) x l (ap first_of none) ∙ ap (add_in_order (of_key bytes) x) (all ∙ sym (append-nil l)) ∙ add_in_order-after (of_key bytes) x l [] h
@@ -45,7 +45,7 @@ module _ {K V : Type 0} (bytes : K → List ℕ) where
       left = without (of_key bytes) (Some x) now
 
       -- the next pair is removed
-      pub next_out : (passing (of_key bytes) test before ≡ moved ++ x ∷ passing (of_key bytes) test left) ×
+      next_out : (passing (of_key bytes) test before ≡ moved ++ x ∷ passing (of_key bytes) test left) ×
           (failing (of_key bytes) test left ≡ failing (of_key bytes) test before)
       next_out =
           let out = first_out (of_key bytes) test now x rising (sym first) in
@@ -79,10 +79,10 @@ module _ {A : Type 0} (bytes : A → List ℕ) (key : List ℕ) (pairs : List A)
   not_not false = refl
 
   -- the pairs from a key on are those between it and no bound
-  pub from_key : passing bytes (is_between (Included key) Unbounded) pairs ≡ keys_from bytes key pairs
+  from_key : passing bytes (is_between (Included key) Unbounded) pairs ≡ keys_from bytes key pairs
   from_key = λ i. filter (λ x. and_true (not (is_before (bytes x) key)) i) pairs
 
-  pub before_key : failing bytes (is_between (Included key) Unbounded) pairs ≡ keys_before bytes key pairs
+  before_key : failing bytes (is_between (Included key) Unbounded) pairs ≡ keys_before bytes key pairs
   before_key = λ i. filter (λ x. not_not (is_before (bytes x) key) i) pairs
 
 -- what a split reports

@@ -69,14 +69,14 @@ module _ {A : Type 0} (bytes : A → List ℕ) (prefix : List ℕ) where
       go ih false is f = ap (λ zs. y ∷ zs) (ih f)
 
   -- if no key starts with the prefix, all stay
-  pub none_below : (pairs : List A) → below bytes prefix pairs ≡ [] → not_below bytes prefix pairs ≡ pairs
+  none_below : (pairs : List A) → below bytes prefix pairs ≡ [] → not_below bytes prefix pairs ≡ pairs
   none_below pairs none =
       filter_all (λ x. not (is_front prefix (bytes x))) pairs
       (Each-weaker (λ x. is_front prefix (bytes x) ≡ false) (λ x. not (is_front prefix (bytes x)) ≡ true) (λ x e. ap not e) pairs
       (none_passes (λ x. is_front prefix (bytes x)) pairs none))
 
   -- each key starts with the prefix or does not
-  pub both_counted : (pairs : List A) → length (not_below bytes prefix pairs) + length (below bytes prefix pairs) ≡ length pairs
+  both_counted : (pairs : List A) → length (not_below bytes prefix pairs) + length (below bytes prefix pairs) ≡ length pairs
   both_counted [] = refl
   both_counted (y ∷ ys) = go (both_counted ys) (is_front prefix (bytes y))
     where

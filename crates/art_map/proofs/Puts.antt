@@ -136,11 +136,11 @@ module _ {K V : Type 0} (bytes : K → List ℕ) (new : K × V) (pairs : List (K
   Related = related_to (of_key bytes) (bytes new.0) pairs
 
   -- one pair is inserted, and those with related keys are removed
-  pub over_counts : length (overwrite (of_key bytes) new pairs) + length Related ≡ length pairs + 1
+  over_counts : length (overwrite (of_key bytes) new pairs) + length Related ≡ length pairs + 1
   over_counts = overwrite_counts bytes new pairs rising
 
   -- and these are at most all
-  pub fewer_related : length Related ≤ length pairs
+  fewer_related : length Related ≤ length pairs
   fewer_related =
       let whole = length-filter_both (λ x. not (are_related (bytes new.0) (bytes x.0))) (λ x. are_related (bytes new.0) (bytes x.0))
       (λ x. double (are_related (bytes new.0) (bytes x.0))) pairs in
@@ -151,7 +151,7 @@ module _ {K V : Type 0} (bytes : K → List ℕ) (new : K × V) (pairs : List (K
       double false = refl
 
   -- the number that an overwrite returns is that of the pairs with related keys
-  pub told_gone : (done : PrefixInsertResult K V) → done.insert_result.existing_leaf ≡ option_map unlinked_leaf (overwrite_reply (of_key bytes) new pairs).0 →
+  told_gone : (done : PrefixInsertResult K V) → done.insert_result.existing_leaf ≡ option_map unlinked_leaf (overwrite_reply (of_key bytes) new pairs).0 →
       done.leafs_removed ≡ (overwrite_reply (of_key bytes) new pairs).1 → gone_count done ≡ length Related
   told_gone done existing removed = go (has_key (of_key bytes) (bytes new.0) pairs) refl
     where
@@ -188,11 +188,11 @@ module _ {K V : Type 0} (bytes : K → List ℕ) (new : K × V) (pairs : List (K
       go true e = told ∙ ap count (overwrite_of_key_is_put bytes new pairs e).1 ∙ stored (put_reply (of_key bytes) new pairs) refl e
 
 -- the pair of a leaf alone
-pub none_back : {K V : Type 0} (reply : Option (K × V)) → option_map unlinked_leaf reply ≡ None → reply ≡ None
+none_back : {K V : Type 0} (reply : Option (K × V)) → option_map unlinked_leaf reply ≡ None → reply ≡ None
 none_back None e = refl
 none_back (Some x) e = absurd cc
 
-pub some_back : {K V : Type 0} (reply : Option (K × V)) (node : LeafNode K V) → option_map unlinked_leaf reply ≡ Some node → reply ≡ Some (pair_of node)
+some_back : {K V : Type 0} (reply : Option (K × V)) (node : LeafNode K V) → option_map unlinked_leaf reply ≡ Some node → reply ≡ Some (pair_of node)
 some_back None node e = absurd cc
 some_back (Some x) node e = let same : unlinked_leaf x ≡ node = cc in ap (λ l. Some (pair_of l)) same
 

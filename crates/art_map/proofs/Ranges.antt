@@ -93,29 +93,12 @@ module _ {K V : Type 0} {s : Nodes K V} {walk left : Option (LeafPtr × LeafPtr)
         between_are s left [] n (subst (IsIteratorOf s left) gone after) (omega arith),
       )
 
-  stays_empty : (without : List OpaqueNodePtr → List OpaqueNodePtr) → without [] ≡ [] → IsIteratorOf s left (without w.names) → w.names ≡ [] → IsRange s left n
-  stays_empty without nothing after none =
-      let gone : without w.names ≡ [] = ap without none ∙ nothing in
-      record { names = []; is = subst (IsIteratorOf s left) gone after; few = omega arith }
-
   module _ (after : (names : List OpaqueNodePtr) → IsIteratorOf s walk names → IsIteratorOf s left (without_first names)) where
     pub no_first : ((names : List OpaqueNodePtr) → IsIteratorOf s walk names → None ≡ first_of names) →
         (pairs_between s walk n ≡ []) × (pairs_between s left n ≡ [])
     no_first e = none_taken without_first refl (after w.names w.is) (none_first w.names (e w.names w.is))
 
-    pub no_first_left : ((names : List OpaqueNodePtr) → IsIteratorOf s walk names → None ≡ first_of names) → IsRange s left n
-    no_first_left e = stays_empty without_first refl (after w.names w.is) (none_first w.names (e w.names w.is))
-
     module _ {p : LeafPtr} (e : (names : List OpaqueNodePtr) → IsIteratorOf s walk names → Some (leaf_name p) ≡ first_of names) where
-      pub some_first : 1 ≤ n
-      some_first = let less = less_first w.names (leaf_name p) (e w.names w.is) in let few = w.few in omega arith
-
-      pub first_left_over : IsRange s left (n - 1)
-      first_left_over =
-          let less = less_first w.names (leaf_name p) (e w.names w.is) in
-          let few = w.few in
-          record { names = without_first w.names; is = after w.names w.is; few = omega arith }
-
       pub first_taken : {pair : K × V} → option_map pair_of (map.get s.leaves p) ≡ Some pair → pairs_between s walk n ≡ pair ∷ pairs_between s left (n - 1)
       first_taken {pair} read =
           let less = less_first w.names (leaf_name p) (e w.names w.is) in
@@ -128,13 +111,7 @@ module _ {K V : Type 0} {s : Nodes K V} {walk left : Option (LeafPtr × LeafPtr)
         (pairs_between s walk n ≡ []) × (pairs_between s left n ≡ [])
     no_last e = none_taken without_last refl (after w.names w.is) (none_last w.names (e w.names w.is))
 
-    pub no_last_left : ((names : List OpaqueNodePtr) → IsIteratorOf s walk names → None ≡ last_of names) → IsRange s left n
-    no_last_left e = stays_empty without_last refl (after w.names w.is) (none_last w.names (e w.names w.is))
-
     module _ {p : LeafPtr} (e : (names : List OpaqueNodePtr) → IsIteratorOf s walk names → Some (leaf_name p) ≡ last_of names) where
-      pub some_last : 1 ≤ n
-      some_last = let less = less_last w.names (leaf_name p) (e w.names w.is) in let few = w.few in omega arith
-
       pub last_left_over : IsRange s left (n - 1)
       last_left_over =
           let less = less_last w.names (leaf_name p) (e w.names w.is) in

@@ -13,10 +13,6 @@ use Rattle.art_map.specs.declared.map.MapInsertError.{MapInsertError}
 use Rattle.art_map.proofs.CallerLaws.{value_elsewhere, value_gone, value_here, value_left}
 use Rattle.art_map.proofs.Views.{holds, view_of, view_sorted}
 
--- what is ensured for `Ok` holds after a call that succeeded
-pub ok_told : {A E Q : Type 0} {r : Result A E} {x : A} → r ≡ Ok x → OnOk r Q → Q
-ok_told e h = rw e at h
-
 module _ {K V : Type 0} (bytes : K → List ℕ) where
   -- What a caller knows after a pair is put.
   pub record TellsPut (key : K) (value : V) (before after : List (K × V)) (result : Result (Option (K × V)) (MapInsertError K V)) : Type 0 where

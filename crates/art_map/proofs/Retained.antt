@@ -44,7 +44,7 @@ module _ {A : Type 0} (bytes : A → List ℕ) where
   stored_once (z ∷ l) r x map = rw (other_key (bytes z) (bytes x) (precedes_last l r z x map)) (stored_once l r x map.1)
 
   -- it is removed with the key
-  pub removed_between : (l r : List A) (x : A) → IsMap bytes (l ++ x ∷ r) → remove_key bytes (bytes x) (l ++ x ∷ r) ≡ l ++ r
+  removed_between : (l r : List A) (x : A) → IsMap bytes (l ++ x ∷ r) → remove_key bytes (bytes x) (l ++ x ∷ r) ≡ l ++ r
   removed_between [] r x map = first_is_removed_by_key bytes x r map
   removed_between (z ∷ l) r x map = rw (other_key (bytes z) (bytes x) (precedes_last l r z x map)) (ap (λ zs. z ∷ zs) (removed_between l r x map.1))
 

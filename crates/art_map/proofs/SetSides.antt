@@ -20,7 +20,7 @@ not-not false = refl
 
 module _ {K : Type 0} (test : K → Bool) where
   -- a key is returned of those that pass a test exactly if one passes
-  pub some_passes : (keys : List K) (r : Option (Bor K)) (left : List K) → ShowsFirst (filter test keys) r left → is_some r ≡ list_any test keys
+  some_passes : (keys : List K) (r : Option (Bor K)) (left : List K) → ShowsFirst (filter test keys) r left → is_some r ≡ list_any test keys
   some_passes [] None left h = refl
   some_passes [] (Some x) left h = absurd cc
   some_passes (k ∷ ks) r left h = go (test k) (some_passes ks r left) h
@@ -91,7 +91,7 @@ module _ {K : Type 0} (order : K → K → Ordering) (both : Bool) where
       by Greater first few second = omega arith
 
   -- the merged list has at most the keys of both lists
-  pub few_merged : (xs ys : List K) → length (sorted_merge order both xs ys) ≤ length xs + length ys
+  few_merged : (xs ys : List K) → length (sorted_merge order both xs ys) ≤ length xs + length ys
   few_merged [] ys = omega arith
   few_merged (x ∷ xs) ys = fewer_step x xs (sorted_merge order both xs) (few_merged xs) ys
 

@@ -26,7 +26,6 @@ use Rattle.art_model.proofs.pairs.MapLaws.{keys_are_once, removal_counts, first_
 use Rattle.art_model.proofs.places.Paths.{pairs_of-plug}
 use Rattle.art_model.proofs.pairs.Puts.{any_is_first}
 use Rattle.art_model.proofs.stores.StoreLaws.{has_one_map}
-use Rattle.art_model.proofs.stores.StoreLaws.{has_one_map}
 use Rattle.art_writing.specs.Deleted.{LeadsTo}
 use Rattle.art_writing.specs.Inserted.{unlinked_leaf}
 use Rattle.art_writing.specs.declared.delete.DeletePoint.{DeletePoint}
@@ -144,11 +143,6 @@ module _ {K V : Type 0} (bytes : K → List ℕ) (P : ℕ) {s : Nodes K V} {name
     pub found_in : (wanted : List (K × V) → Option (K × V)) {found : Option (K × V)} → ForTree (of_key bytes) P s name (λ pairs _. found ≡ wanted pairs) →
         {before : List (K × V)} → pairs_at s root ≡ before → found ≡ wanted before
     found_in wanted read view = let has = at_some e is in read (pairs_at s root) has.layout has.by ∙ ap wanted view
-
-    pub found_pair : (sought : List (K × V) → List (K × V)) {found : Option (K × V)} →
-        ForTree (of_key bytes) P s name (λ pairs _. found ≡ first_of (sought pairs)) →
-        {before : List (K × V)} → pairs_at s root ≡ before → found ≡ first_of (sought before)
-    found_pair sought = found_in (λ xs. first_of (sought xs))
 
 -- a value is found exactly if the key is stored
 pub value_stored : {K V : Type 0} (bytes : K → List ℕ) (key : List ℕ) (pairs : List (K × V)) →

@@ -95,7 +95,7 @@ module _ {K V : Type 0} (bytes : K → List ℕ) (P : ℕ) {s : Nodes K V} {p : 
   is_there = ap is_some there
 
   -- these are the pairs
-  pub pairs_are : pairs_at s root ≡ n.pairs
+  pairs_are : pairs_at s root ≡ n.pairs
   pairs_are = ap (pairs_at s) n.root_is ∙ view_is (of_key bytes) P s (Some n.name) (Some n.layout) n.by
 
   -- this leaf alone has the key

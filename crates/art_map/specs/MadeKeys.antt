@@ -15,11 +15,11 @@ refused_value (NoKey value) = value
 refused_value (Memory value) = value
 refused_value (Insert error) = (refused_pair error).1
 
--- The key is not stored, and the value is returned: there is no such key, or it was not made. Or it was, and the pair
--- is returned.
-abbrev pub IsSourceRefusal : {K V : Type 0} → (K → List ℕ) → K → Type 0 → V → List (K × V) → MapSourceError K V → Type 0
-IsSourceRefusal bytes key IsKey value pairs (NoKey given) =
+-- The key is not stored, and the value is returned: there is no such key, or there is and an allocation for it failed.
+-- Or the key was made, and the pair is returned.
+abbrev pub IsSourceRefusal : {K V : Type 0} → (K → List ℕ) → K → Type 0 → Type 0 → V → List (K × V) → MapSourceError K V → Type 0
+IsSourceRefusal bytes key IsKey AllocatesNothing value pairs (NoKey given) =
     (given ≡ value) × (¬ IsKey) × (has_key (of_key bytes) (bytes key) pairs ≡ false)
-IsSourceRefusal bytes key IsKey value pairs (Memory given) =
-    (given ≡ value) × (has_key (of_key bytes) (bytes key) pairs ≡ false)
-IsSourceRefusal bytes key IsKey value pairs (Insert error) = IsKey × IsRefusalOf bytes key value pairs error
+IsSourceRefusal bytes key IsKey AllocatesNothing value pairs (Memory given) =
+    (given ≡ value) × IsKey × (¬ AllocatesNothing) × (has_key (of_key bytes) (bytes key) pairs ≡ false)
+IsSourceRefusal bytes key IsKey AllocatesNothing value pairs (Insert error) = IsKey × IsRefusalOf bytes key value pairs error

@@ -123,11 +123,11 @@ module _ {K V : Type 0} (bytes : K → List ℕ) (P : ℕ) (pairs : List (K × V
       HoldsPairs (of_key bytes) P t root len pairs × IsMakeRefusal bytes key IsMade pairs error
 
   -- the same with a key that is made if it is not stored; if it is not made or not inserted, the pairs are unchanged
-  abbrev pub HasEnteredFrom : K → Type 0 → V → Result LeafPtr (MapSourceError K V) → Nodes K V → Option OpaqueNodePtr → ℕ → Type 0
-  HasEnteredFrom key IsKey value (Ok leaf) t root len =
+  abbrev pub HasEnteredFrom : K → Type 0 → Type 0 → V → Result LeafPtr (MapSourceError K V) → Nodes K V → Option OpaqueNodePtr → ℕ → Type 0
+  HasEnteredFrom key IsKey AllocatesNothing value (Ok leaf) t root len =
       HasEntered key value (Ok leaf) t root len × (has_key (of_key bytes) (bytes key) pairs ≡ false → IsKey)
-  HasEnteredFrom key IsKey value (Err error) t root len =
-      HoldsPairs (of_key bytes) P t root len pairs × IsSourceRefusal bytes key IsKey value pairs error
+  HasEnteredFrom key IsKey AllocatesNothing value (Err error) t root len =
+      HoldsPairs (of_key bytes) P t root len pairs × IsSourceRefusal bytes key IsKey AllocatesNothing value pairs error
 
   -- the pair replaced those with related keys; or it is returned, the pairs are unchanged, and not just one is related
   abbrev pub HasPutOver : K → V → Result ℕ (PairRefused K V) → Nodes K V → Option OpaqueNodePtr → ℕ → Type 0

@@ -10,13 +10,14 @@ ghost use Rattle.art_model.specs.Pairs.{IsMap, first_of, has_key, is_conflict, l
 ghost use Rattle.art_model.specs.Parts.{below, between, not_below, without_below};
 ghost use Rattle.art_model.specs.Roots.{ForTree, IsCanonicalRoot};
 ghost use Rattle.art_model.specs.Stores.{pair_of};
+ghost use Rattle.art_reading.specs.Descents.{asked_of};
 ghost use Rattle.art_writing.specs.Deleted.{IsDeletePoint, IsDeletePointIn, LeadsTo};
 ghost use Rattle.art_map.specs.declared.map.MapInsertError.TheVariants as errors;
 ghost use Rattle.art_map.specs.MapChanges.{HasPlanted, HasPut, HasPutOver, HasTaken, HoldsClones, gone_count};
 ghost use Rattle.art_map.specs.MapItems.{deref_pair, keys_of, values_of};
 ghost use Rattle.art_map.specs.MapPairs.{HoldsPairs, pairs_at};
 
-use art_nodes::node::{AsBytes, LeafPtr, OpaqueNodePtr};
+use art_nodes::node::{AsBytes, LeafNode, LeafPtr, OpaqueNodePtr};
 use art_nodes::store::NodeStore;
 use art_reading::iterator::RawIterator;
 use art_reading::lookup::{Asked, KeyBytes, KeyQuery, find_unchecked, search_unchecked};
@@ -46,6 +47,7 @@ mod extend;
 mod extract;
 mod iter;
 mod lend;
+mod near;
 mod owned;
 mod parts;
 mod position;
@@ -190,7 +192,7 @@ impl<K: AsBytes + Drop, V: Drop, const P: usize> ByteMap<K, V, P> {
         ensures value { option_copied result ≡ value_at K.bytes key_bytes.now self.now }
         ensures sorted { IsMap (of_key K.bytes) self.now }
     {
-        let leaf = find_unchecked(&self.store, self.root?, key_bytes, Asked::Same)?;
+        let leaf = self.find(key_bytes, Asked::Same)?;
         Some(&leaf.value)
     }
 
@@ -199,8 +201,18 @@ impl<K: AsBytes + Drop, V: Drop, const P: usize> ByteMap<K, V, P> {
         ensures { option_map deref_pair result ≡
             first_of (with_key (of_key K.bytes) key_bytes.now self.now) }
     {
-        let leaf = find_unchecked(&self.store, self.root?, key_bytes, Asked::Same)?;
+        let leaf = self.find(key_bytes, Asked::Same)?;
         Some((&leaf.key, &leaf.value))
+    }
+
+    // The leaf of the key that is asked for.
+    #[inline(always)]
+    fn find<Q: KeyQuery>(&self, query: Q, asked: Asked) -> Option<&LeafNode<K, V>>
+        ensures pair { option_map (λ leaf. pair_of leaf.now) result ≡
+            first_of (asked_of asked (of_key K.bytes) (Q.key query) self.now) }
+        ensures sorted { IsMap (of_key K.bytes) self.now }
+    {
+        find_unchecked(&self.store, self.root?, query, asked)
     }
 
     /// Returns the value of the key with these bytes as `&mut V`, or `None` if it is not stored. It costs what `get`
@@ -221,7 +233,7 @@ impl<K: AsBytes + Drop, V: Drop, const P: usize> ByteMap<K, V, P> {
             first_of (match_of (of_key K.bytes) query.now self.now) }
         ensures sorted { IsMap (of_key K.bytes) self.now }
     {
-        let leaf = find_unchecked(&self.store, self.root?, query, Asked::Front)?;
+        let leaf = self.find(query, Asked::Front)?;
         Some((&leaf.key, &leaf.value))
     }
 
@@ -350,7 +362,14 @@ impl<K: AsBytes + Drop, V: Drop, const P: usize> ByteMap<K, V, P> {
         ensures refused { IfErr result (IsRefusalOf K.bytes key value self.old) }
         ensures kept { OnErr result (self.new ≡ self.old) }
     {
-        put_in(&mut self.store, &mut self.root, &mut self.len, key, value)
+        put_in(
+            &mut self.store,
+            &mut self.root,
+            &mut self.len,
+            &mut None,
+            key,
+            value,
+        )
     }
 
     /// Returns the value of a key as `&mut V`. If no equal key is stored, the pair is inserted first; a stored key
@@ -366,7 +385,7 @@ impl<K: AsBytes + Drop, V: Drop, const P: usize> ByteMap<K, V, P> {
             (is_conflict (of_key K.bytes) (K.bytes key) self.old ≡ false) }
         ensures refused { IfErr result (IsRefusalOf K.bytes key value self.old) }
     {
-        self.value_or_insert(key, None, value)
+        self.get_or_insert_near(None, key, value)
     }
 
     /// Returns an entry: the map with a key, which reads or changes the key's value, or inserts the key.
@@ -575,11 +594,13 @@ fn pair_at<K: AsBytes + Drop, V: Drop, const P: usize>(
     (&leaf.key, &leaf.value)
 }
 
-// Inserts a pair into the tree. An equal stored key gets the value.
+// Inserts a pair into the tree. An equal stored key gets the value. The name is then that of the key's leaf, except of a
+// tree's first.
 fn put_in<K: AsBytes + Drop, V: Drop, const P: usize>(
     store: &mut NodeStore<K, V, P>,
     root: &mut Option<OpaqueNodePtr>,
     len: &mut usize,
+    near: &mut Option<LeafPtr>,
     key: K,
     value: V,
 ) -> Result<Option<(K, V)>, MapInsertError<K, V>>
@@ -604,6 +625,7 @@ fn put_in<K: AsBytes + Drop, V: Drop, const P: usize>(
     match point.apply(store, key, value) {
         Ok(done) => {
             *root = Some(done.new_root);
+            *near = Some(done.leaf_node_ptr);
             let Some(leaf) = done.existing_leaf else {
                 *len = one_more(store, *len);
                 return Ok(None);

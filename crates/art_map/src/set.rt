@@ -220,6 +220,14 @@ impl<K: AsBytes + Drop, const P: usize> ByteSet<K, P> {
     {
         self.map.compact()
     }
+
+    /// Frees memory that the set has for later keys, as `shrink_to_fit` of a `ByteMap` does. Fails only if an allocation
+    /// fails; the set is unchanged in any case.
+    pub fn shrink_to_fit(&mut self) -> Result<(), AllocError>
+        ensures same { self.new ≡ self.old }
+    {
+        self.map.shrink_to_fit()
+    }
 }
 
 impl<'a, K: AsBytes + Drop, const P: usize> IntoIterator for &'a ByteSet<K, P> {

@@ -8,7 +8,7 @@ use std::alloc::AllocError;
 pub type Key = Vec<u8>;
 
 // No test looks at a node in a later slot.
-const LAST_SLOT: usize = 499;
+const LAST_SLOT: u32 = 499;
 
 const KINDS: [NodeType; 5] = [
     NodeType::Leaf,

@@ -5,7 +5,7 @@ use art_nodes::store::NodeStore;
 /// Returns how many leaves and inner nodes a store has in slots up to this one.
 pub fn count_nodes<K: AsBytes + Drop, V: Drop, const P: usize>(
     store: &NodeStore<K, V, P>,
-    last_slot: usize,
+    last_slot: u32,
 ) -> (usize, usize) {
     let kinds = [
         NodeType::Node4,

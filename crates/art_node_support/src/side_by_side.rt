@@ -6,7 +6,7 @@ use art_nodes::store::NodeStore;
 use std::alloc::{AllocError, Global};
 
 // No tree of these tests has more nodes, and no node a later slot.
-const MOST_NODES: usize = 700;
+const MOST_NODES: u32 = 700;
 
 // What is met in two trees of one form.
 #[derive(Drop)]

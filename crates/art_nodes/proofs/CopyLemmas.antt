@@ -1,11 +1,8 @@
 -- Slots with clones of other slots' values, and the maps that they stand for.
-use Rattle.std.proofs.Common.{◌≡◌, ℕ, zero, suc, List, [], ◌∷◌, get_or, Option, Some, None, is_some, refl, ap}
-use Rattle.std.proofs.lemmas.List.Elements.{same_from_all_zip}
+use Rattle.std.proofs.Common.{◌≡◌, ℕ, zero, suc, List, [], ◌∷◌, get_or, Option, Some, None, refl}
 use Rattle.std.specs.FinMap.{FinMap}
 use Rattle.std.specs.List.{AllZip}
-use Rattle.std.specs.Prelude.{count_by}
-use Rattle.slab.specs.Slab.{Slab, IsSlotClone, slab_len}
-use Rattle.art_inner.specs.Inner.{Inner}
+use Rattle.slab.specs.Slab.{IsSlotClone}
 use Rattle.art_parts.specs.LeafClones.{IsLeafCopy}
 use Rattle.art_parts.specs.Names.{leaf_cmp}
 use Rattle.art_parts.specs.declared.leaf.LeafNode.{LeafNode}
@@ -32,15 +29,3 @@ module _ {K V : Type 0} (is_key_clone : K → K → Type 0) (is_value_clone : V 
   pub leaves_copied : (slots copies : List (Option (LeafNode K V))) (leaves : FinMap leaf_cmp (LeafNode K V)) → leaves_of slots ≡ leaves →
       AllZip (IsSlotClone (IsLeafCopy is_key_clone is_value_clone)) slots copies → AreLeafCopies is_key_clone is_value_clone leaves (leaves_of copies)
   leaves_copied slots copies leaves is are name = rw (leaf_under slots leaves name is, get_leaves_of copies name) (slot_copied slots copies are name.slot)
-
-same_slot : (slot copy : Option Inner) → IsSlotClone (λ node other. other ≡ node) slot copy → copy ≡ slot
-same_slot None copy is = is
-same_slot (Some node) None is = absurd is
-same_slot (Some node) (Some other) is = ap Some is
-
--- slots of nodes that equal their clones are the same
-pub slots_kept : (slots copies : List (Option Inner)) → AllZip (IsSlotClone (λ node other. other ≡ node)) slots copies → copies ≡ slots
-slots_kept slots copies are = same_from_all_zip (IsSlotClone (λ node other. other ≡ node)) slots copies are same_slot
-
-pub len_kept : (old copy : Slab Inner) → AllZip (IsSlotClone (λ node other. other ≡ node)) old.slots copy.slots → slab_len copy ≡ slab_len old
-len_kept old copy are = ap (count_by is_some) (slots_kept old.slots copy.slots are)

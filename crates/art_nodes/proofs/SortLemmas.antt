@@ -125,15 +125,6 @@ none_moved start to table row next is first empty = record {
     none_is : {X : Type 0} {x : X} → None ≡ Some x → ⊥
     none_is e = cc
 
--- all have moved
-pub all_moved : {K V : Type 0} (start from to : Slab (LeafNode K V)) (table : List ℕ) (row : List LeafPtr) →
-    AreMoving start from to table row None → AreMoved table row [] start to
-all_moved start from to table row moving = subst (λ rest. AreMoved table row rest start to) (no_rest moving.rest moving.first) moving.moved
-  where
-    no_rest : (rest : List LeafPtr) → first_of rest ≡ None → rest ≡ []
-    no_rest [] e = refl
-    no_rest (name ∷ rest) e = absurd cc
-
 -- the next leaf moves
 module _ {K V : Type 0} (start from left to more : Slab (LeafNode K V)) (table : List ℕ) (row : List LeafPtr) (name : LeafPtr) (key : ℕ) (node : LeafNode K V)
     (is_row : IsRow (leaves_of start.slots) None row) (node_is : get from name.slot ≡ Some node) (gone : Updates from left name.slot None)

@@ -3,6 +3,10 @@ use Rattle.std.specs.Prelude.{◌≡◌, ℕ, ◌+◌, ◌≤◌, Some, None}
 use Rattle.slab.specs.Slab.{Slab, Updates, get, slab_len}
 use Rattle.art_inner.specs.Inner.{Inner}
 
+-- clones equal what they are clones of
+abbrev pub AreSame : {N : Type 0} → (N → N → Type 0) → Type 0
+AreSame {N} is_clone = (node copy : N) → is_clone node copy → copy ≡ node
+
 -- a slot that was vacant has a node that is seen as this one
 pub record IsMadeOf {N : Type 0} (view : N → Inner) (old new : Slab N) (slot : ℕ) (is : Inner) : Type 0 where
   pub vacant : get old slot ≡ None

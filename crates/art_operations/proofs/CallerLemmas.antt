@@ -53,7 +53,7 @@ pub pairs_counted : {K V : Type 0} (pairs : List (K × V)) (count : ℕ) →
 pairs_counted pairs count ran = count_from_yields_List pairs count ran (YieldsList-from_first deref_pair (λ pairs. pairs) pairs refl)
 
 -- strings are the same or not
-pub same_or_other : (a b : List ℕ) → (a ≡ b) ⊎ (a ≢ b)
+same_or_other : (a b : List ℕ) → (a ≡ b) ⊎ (a ≢ b)
 same_or_other = same_or_not (slice_cmp-IsAntisymmetric nat_cmp-IsAntisymmetric) nat_list_cmp_total
 
 -- of two joined keys, the lesser one has no greater first number
@@ -67,7 +67,7 @@ firsts_rise by_second x y less = go (cases_order x.0 y.0)
 
 module _ {K V : Type 0} (bytes : K → List ℕ) (is_key : K → Type 0) (law : AreInjective is_key bytes) where
   -- what is known of each key is known of one that is found
-  pub known_of_found : (key : K) (value : V) → is_key key → (Known : K → Type 0) (pairs : List (K × V)) →
+  known_of_found : (key : K) (value : V) → is_key key → (Known : K → Type 0) (pairs : List (K × V)) →
       HaveKeys is_key pairs → HaveKeys Known pairs → value_of bytes key pairs ≡ Some value → Known key
   known_of_found key value of_key' Known [] keys all is = absurd cc
   known_of_found key value of_key' Known (x ∷ xs) keys all is =

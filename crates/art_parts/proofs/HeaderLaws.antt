@@ -1,5 +1,5 @@
 -- What the calls of a header do to the header of a whole prefix, for callers.
-use Rattle.std.proofs.Common.{◌≡◌, ℕ, ◌+◌, ◌-◌, ◌≤◌, min, List, [], ◌++◌, length, take, drop, inl, inr, sym, ap, ◌∙◌, arith}
+use Rattle.std.proofs.Common.{◌≡◌, ℕ, ◌+◌, ◌-◌, ◌≤◌, min, List, ◌++◌, length, take, drop, inl, inr, sym, ap, ◌∙◌, arith}
 use Rattle.std.proofs.lemmas.List.{drop-take, drop-drop, length-append, length-drop, length-take, take-append-le, take-take, take_all, take_min, append-nil}
 use Rattle.art_parts.specs.Headers.{Prefix, header_of}
 use Rattle.art_parts.proofs.Comparisons.{by_order}
@@ -24,11 +24,6 @@ pub new_header : (P : ℕ) (whole bytes : List ℕ) (header : Prefix) → take (
     header ≡ record { len = length whole; stored = take (min (length whole) P) bytes } → header ≡ header_of P whole
 new_header P whole bytes header begins is =
     header_by_parts P whole header (ap (λ (h : Prefix). h.len) is) (ap (λ (h : Prefix). h.stored) is ∙ begins ∙ stored_part P whole)
-
--- a trim of a prefix that is stored whole, and of one whose bytes a key has
-take-drop_back : (P n : ℕ) (whole : List ℕ) → take (min (length whole - n) P) (drop n whole) ≡ take P (drop n whole)
-take-drop_back P n whole = let count : length whole - n ≡ length (drop n whole) =
-    sym (length-drop n whole) in ap (λ (k : ℕ). take (min k P) (drop n whole)) count ∙ stored_part P (drop n whole)
 
 pub trimmed_header : (P n : ℕ) (whole : List ℕ) (old new : Prefix) → old ≡ header_of P whole → old.len ≤ P → new.len ≡ old.len - n →
     new.stored ≡ drop n old.stored → new ≡ header_of P (drop n whole)
@@ -91,28 +86,3 @@ extended_header P whole more bytes old new was begins len stored =
     ∙ ap (λ (t : List ℕ). take P whole ++ t) (same_part (P - length whole) P more bytes (omega arith) begins)
     ∙ sym (take-append P whole more)
     )
-
--- an emptied header, and the bytes that it returns, which start as its prefix does
-pub cleared_header : (P : ℕ) (header : Prefix) → header ≡ record { len = 0; stored = [] } → header ≡ header_of P []
-cleared_header P header is = header_by_parts P [] header (ap (λ (h : Prefix). h.len) is) (ap (λ (h : Prefix). h.stored) is ∙ sym (take_all P [] (omega arith)))
-
-pub cleared_bytes : (P : ℕ) (whole bytes zeros : List ℕ) (old : Prefix) → old ≡ header_of P whole → bytes ≡ old.stored ++ zeros →
-    take (min (length whole) P) bytes ≡ take (min (length whole) P) whole
-cleared_bytes P whole bytes zeros old was is =
-    let stored : old.stored ≡ take P whole = stored_of_header P whole old was in
-    ap (take (min (length whole) P)) (is ∙ ap (λ (t : List ℕ). t ++ zeros) stored)
-    ∙ take-append-le (min (length whole) P) (take P whole) zeros (omega (arith, length-take P whole))
-    ∙ take-take (min (length whole) P) P whole (omega arith)
-
--- what the header of a whole prefix becomes by each call
-pub ruleset header_laws = (
-  header_by_parts,
-  len_of_header,
-  stored_of_header,
-  new_header,
-  trimmed_header,
-  trimmed_by_leaf,
-  extended_header,
-  cleared_header,
-  cleared_bytes,
-)

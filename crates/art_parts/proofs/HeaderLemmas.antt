@@ -1,5 +1,5 @@
 -- What is left of an array of stored bytes once a prefix is trimmed or extended.
-use Rattle.std.proofs.Common.{◌≡◌, ℕ, ◌+◌, ◌-◌, ◌≤◌, min, List, ◌++◌, length, take, drop, replicate, inl, inr, sym, ap, ◌∙◌, arith}
+use Rattle.std.proofs.Common.{◌≡◌, ℕ, ◌+◌, ◌-◌, ◌≤◌, min, List, ◌++◌, length, take, drop, replicate, inl, inr, sym, ap, ◌∙◌, arith, subst}
 use Rattle.std.proofs.lemmas.List.{drop-take, drop-drop, drop-replicate, length-take, length-take-le, take-take, take_all, take_rest}
 use Rattle.std.proofs.lemmas.Slice.{take-put_mid, drop-put_mid}
 use Rattle.std.proofs.Math.Seq.{take-append-add}
@@ -37,6 +37,14 @@ fewer : (P : ℕ) (bytes : List ℕ) (k from to : ℕ) → from + k ≡ to → d
 fewer P bytes k from to e zeros =
     let left : P - from - k ≡ P - to = omega arith in
     ap (λ (n : ℕ). drop n bytes) (sym e) ∙ sym (drop-drop k from bytes) ∙ ap (drop k) zeros ∙ drop-replicate k (P - from) 0 ∙ ap (λ (n : ℕ). replicate n 0) left
+
+-- the bytes after a prefix of one of two equal lengths are zeros
+pub same_zeros : (P a b : ℕ) (bytes : List ℕ) → a ≡ b → drop (min a P) bytes ≡ replicate (P - min a P) 0 → drop (min b P) bytes ≡ replicate (P - min b P) 0
+same_zeros P a b bytes e = subst (λ n. drop (min n P) bytes ≡ replicate (P - min n P) 0) e
+
+-- what is stored of a prefix of one of two equal lengths
+pub same_front : (P a b : ℕ) (bytes : List ℕ) → a ≡ b → take (min a P) bytes ≡ take (min b P) bytes
+same_front P a b bytes e = ap (λ n. take (min n P) bytes) e
 
 -- the first bytes after as many more as fit are written behind those that are stored
 module _ (P len n start end : ℕ) (bytes more new : List ℕ) (from : start ≡ min len P) (to : end ≡ min (len + n) P) (long : length bytes ≡ P)

@@ -91,7 +91,7 @@ impl fmt::Display for NodeType {
 /// The name of a leaf: the number of its slot. It may be the name of no leaf.
 #[derive(Clone, Copy, PartialEq, Eq, PartialOrd, Ord, Hash, Debug)]
 pub struct LeafPtr {
-    pub slot: usize,
+    pub slot: u32,
 }
 
 /// The name of a leaf, where there is one.
@@ -101,14 +101,14 @@ pub type OptionalLeafPtr = Option<LeafPtr>;
 #[derive(Clone, Copy, PartialEq, Eq, PartialOrd, Ord, Hash, Debug)]
 pub struct InnerPtr {
     pub kind: NodeType,
-    pub slot: usize,
+    pub slot: u32,
 }
 
 /// The name of a node of any kind.
 #[derive(Clone, Copy, PartialEq, Eq, PartialOrd, Ord, Hash, Debug)]
 pub struct OpaqueNodePtr {
     pub kind: NodeType,
-    pub slot: usize,
+    pub slot: u32,
 }
 
 /// The name of a node, by whether it is a leaf's.
@@ -120,7 +120,7 @@ pub enum NodePtr {
 
 impl LeafPtr {
     /// Returns the name of the leaf in this slot, whether there is one or not.
-    pub fn from_slot(slot: usize) -> Self
+    pub fn from_slot(slot: u32) -> Self
         ensures { result.slot ≡ slot }
     {
         LeafPtr { slot }
@@ -140,7 +140,7 @@ impl LeafPtr {
 
 impl InnerPtr {
     /// Returns the name of the inner node of this kind in this slot, or `None` for the kind of leaves.
-    pub fn from_parts(kind: NodeType, slot: usize) -> Option<Self>
+    pub fn from_parts(kind: NodeType, slot: u32) -> Option<Self>
         ensures inner { IsSome result ↔ (kind ≢ Leaf) }
         ensures parts { IfSome result (λ name. name ≡ record { kind = kind; slot = slot }) }
     {
@@ -164,7 +164,7 @@ impl InnerPtr {
 
 impl OpaqueNodePtr {
     /// Returns the name of the node of this kind in this slot, whether there is one or not.
-    pub fn from_parts(kind: NodeType, slot: usize) -> Self
+    pub fn from_parts(kind: NodeType, slot: u32) -> Self
         ensures { result ≡ record { kind = kind; slot = slot } }
     {
         OpaqueNodePtr { kind, slot }
@@ -180,7 +180,7 @@ impl OpaqueNodePtr {
 
     /// Returns the slot of the node, among those of its kind.
     #[inline(always)]
-    pub fn slot(self) -> usize
+    pub fn slot(self) -> u32
         ensures { result ≡ self.slot }
     {
         self.slot

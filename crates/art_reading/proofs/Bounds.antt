@@ -33,10 +33,6 @@ use Rattle.art_reading.specs.Iterators.{IsIteratorOf}
 use Rattle.art_reading.proofs.Iterators.{empty_iterator, there_in}
 use Rattle.art_reading.proofs.Spans.{not_not, not_true, pairwise_unmap, pairwise_weaker, span_in, span_last, span_none, span_off, span_on}
 
--- ---- bounds and the order of keys
-before_after : (a b c : List ℕ) → is_before a b ≡ true → is_before c b ≡ false → is_before c a ≡ false
-before_after a b c h off = not_true (is_before c a) (λ on. true≢false (sym (order_is_transitive c a b on h) ∙ off))
-
 from_rises : (from : Bound (List ℕ)) (a b : List ℕ) → Precedes a b → is_from from a ≡ true → is_from from b ≡ true
 from_rises (Included k) a b h on =
     let off : is_before a k ≡ false = sym (not_not (is_before a k)) ∙ ap not on in
@@ -63,7 +59,7 @@ module _ {N A : Type 0} (test : A → Bool) (t : Tree N A) where
       go ih true (inr j) = inr (ih j)
       go ih false j = inr (ih j)
 
-  pub where_in : (n : N) → IsIn n (leaves_where test t) → IsIn n (leaf_names t)
+  where_in : (n : N) → IsIn n (leaves_where test t) → IsIn n (leaf_names t)
   where_in n i =
       let (e, j, is) = out_map (λ (e : A × N). e.1) n (filter (λ e. test e.0) (entries_of t)) i in
       subst (IsIn n) (leaf_names-leaves t) (subst (λ z. IsIn z (each (λ e. e.1) (entries_of t))) is
@@ -132,7 +128,7 @@ module _ {K V : Type 0} {s : Nodes K V} {bytes : K × V → List ℕ} {P : ℕ} 
         (λ a b h. up_to_falls to (bytes a.0) (bytes b.0) h) (entries_of layout) rises
 
     -- they are linked
-    pub span_segment : IsSegment (links_at s) (leaves_where (λ x. is_between from to (bytes x)) layout)
+    span_segment : IsSegment (links_at s) (leaves_where (λ x. is_between from to (bytes x)) layout)
     span_segment =
         let whole = span_in (λ (e : Entry). is_from from (bytes e.0)) (λ e. is_up_to to (bytes e.0)) (entries_of layout) rise fall in
         let before = filter (λ (e : Entry). not (is_from from (bytes e.0))) (entries_of layout) in

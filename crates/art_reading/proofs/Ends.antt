@@ -57,7 +57,7 @@ module _ {leaf query : List ℕ} {n : ℕ} (s : IsShared leaf query n) where
 
 module _ {A : Type 0} (bytes : A → List ℕ) (key : List ℕ) where
   -- an equal key matches
-  pub with_key-match_of : (xs : List A) → with_key bytes key (match_of bytes key xs) ≡ with_key bytes key xs
+  with_key-match_of : (xs : List A) → with_key bytes key (match_of bytes key xs) ≡ with_key bytes key xs
   with_key-match_of [] = refl
   with_key-match_of (x ∷ xs) = go (with_key-match_of xs) (is_front (bytes x) key) (is_front key (bytes x)) refl refl
     where

@@ -55,7 +55,7 @@ module _ {N A : Type 0} (bytes : A → List ℕ) (P : ℕ) (key y : List ℕ) wh
       (joined cs ds d (Each-right (GoesToo key y) (places bytes d t) (places_below bytes d cs) h) k)
 
   -- no node below the other children is on the key's path
-  pub aside : (front : List ℕ) (d : ℕ) (cs : Subtrees N A) → d ≡ length front + 1 → AreRadix bytes P front cs → AreAside front key cs →
+  aside : (front : List ℕ) (d : ℕ) (cs : Subtrees N A) → d ≡ length front + 1 → AreRadix bytes P front cs → AreAside front key cs →
       Each (GoesToo key y) (places_below bytes d cs)
   aside front d cs deep h off =
       Each-weaker (IsOff (λ (p : List ℕ × N). p.0) key) (GoesToo key y) (λ p o g. absurd (o g)) (places_below bytes d cs)
@@ -153,7 +153,7 @@ module _ {A : Type 0} {bytes : A → List ℕ} {P : ℕ} {key : List ℕ} {tree 
       abbrev here : Tree OpaqueNodePtr A
       here = inner (inner_name p) (header_at p.kind shown) at.children
 
-      radix : IsRadix bytes P d.place here
+      pub radix : IsRadix bytes P d.place here
       radix = subst (IsRadix bytes P d.place) at.is d.radix
 
       abbrev front : List ℕ

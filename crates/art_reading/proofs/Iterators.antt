@@ -41,10 +41,10 @@ named None n e = absurd cc
 named (Some p) n e = (p, refl, cc)
 
 -- names with one slot are one
-pub same_slot : (p q : LeafPtr) → eqb p.slot q.slot ≡ true → p ≡ q
+same_slot : (p q : LeafPtr) → eqb p.slot q.slot ≡ true → p ≡ q
 same_slot p q e = ap (λ n. let r : LeafPtr = record { slot = n } in r) (eqb-true p.slot q.slot e)
 
-pub other_slot : (p q : LeafPtr) → eqb p.slot q.slot ≡ false → p ≢ q
+other_slot : (p q : LeafPtr) → eqb p.slot q.slot ≡ false → p ≢ q
 other_slot p q e same = true≢false (sym (eq-eqb p.slot q.slot (ap (λ z. z.slot) same)) ∙ e)
 
 module _ {N : Type 0} where
@@ -58,10 +58,6 @@ module _ {N : Type 0} where
   last_of-or (y ∷ ys) x = last_of-or ys y
 
 module _ {K V : Type 0} {s : Nodes K V} where
-  -- no leaf is left
-  pub none_left : {names : List OpaqueNodePtr} → IsIteratorOf s None names → names ≡ []
-  none_left is = is.ends
-
   pub empty_iterator : IsIteratorOf s None []
   empty_iterator = record { ends = refl; segment = empty_segment }
 
@@ -107,7 +103,7 @@ module _ {K V : Type 0} (s : Nodes K V) where
 
 module _ {K V : Type 0} (s : Nodes K V) (a b : LeafPtr) where
   -- the first and the last leaf are one
-  pub one_left : (names : List OpaqueNodePtr) → a ≡ b → IsIteratorOf s (Some (a, b)) names → names ≡ leaf_name a ∷ []
+  one_left : (names : List OpaqueNodePtr) → a ≡ b → IsIteratorOf s (Some (a, b)) names → names ≡ leaf_name a ∷ []
   one_left [] same is = absurd (let e = is.ends.0 in cc)
   one_left (x ∷ []) same is = let e = is.ends.0 in ap (λ z. z ∷ []) cc
   one_left (x ∷ y ∷ ys) same is =
@@ -117,7 +113,7 @@ module _ {K V : Type 0} (s : Nodes K V) (a b : LeafPtr) where
       absurd (each_in (λ k. x ≢ k) (leaf_name b) (y ∷ ys) is.segment.distinct.0 (last_of_in (y ∷ ys) (leaf_name b) f) first)
 
   -- the leaf at an end, and the one next to it
-  pub record HasNext (end : End) (names : List OpaqueNodePtr) : Type 0 where
+  record HasNext (end : End) (names : List OpaqueNodePtr) : Type 0 where
     pub leaf : LeafNode K V
     pub there : map.get s.leaves (of_two end (a, b)) ≡ Some leaf
     pub next : LeafPtr

@@ -75,7 +75,7 @@ module _ {A : Type 0} {bytes : A → List ℕ} {P : ℕ} {Lower Upper : A → Ty
         (places_below bytes (depth + shown.prefix.len + 1) at.children))
 
     -- where the path continues below no child
-    pub aside_left : AreAside (front_of d at) key at.children → left_on_way bytes key depth d.at.node ≤ 1
+    aside_left : AreAside (front_of d at) key at.children → left_on_way bytes key depth d.at.node ≤ 1
     aside_left aside =
         let none = ap length (none_match (λ node. node.0) key (places_below bytes (depth + shown.prefix.len + 1) at.children)
         (aside_places bytes P (front_of d at) key (depth + shown.prefix.len + 1) at.children part_deep (shown_radix d at).4 aside)) in

@@ -83,7 +83,7 @@ module _ {K V : Type 0} {s : Nodes K V} {bytes : K × V → List ℕ} {P : ℕ} 
         omega arith
 
 -- each prefix of a part of a tree is stored whole if each of the tree's is
-pub whole_part : {N A : Type 0} (P : ℕ) (fs : List (Frame N A)) (t : Tree N A) → IsWholeStored P (plug fs t) → IsWholeStored P t
+whole_part : {N A : Type 0} (P : ℕ) (fs : List (Frame N A)) (t : Tree N A) → IsWholeStored P (plug fs t) → IsWholeStored P t
 whole_part P [] t whole = whole
 whole_part P (f ∷ fs) t whole = whole_child P f.left f.byte t f.right (whole_part P fs (fill f t) whole).1
 

@@ -5,6 +5,7 @@ pub mod Rests
 pub mod Outcomes
 pub mod OnWay
 pub mod Steps
+pub mod Found
 pub mod Ends
 pub mod Along
 pub mod Descents

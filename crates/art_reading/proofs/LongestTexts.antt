@@ -1,8 +1,7 @@
 -- The last of the texts that are prefixes of a query.
-use Rattle.std.proofs.Common.{◌≡◌, ℕ, ◌≤◌, List, [], ◌∷◌, ◌++◌, length, take, filter, refl, ap, ap₂, sym, ◌∙◌, subst, arith, append-nil, append_assoc, Option, Some, None, Bool, true, false, IfSome, IsSome}
+use Rattle.std.proofs.Common.{◌≡◌, ℕ, ◌≤◌, List, [], ◌∷◌, ◌++◌, length, take, filter, refl, ap, ap₂, sym, ◌∙◌, subst, arith, append-nil, append_assoc, Option, Some, None, Bool, true, false}
 use Rattle.std.specs.List.{AllByRecursion as Each}
 use Rattle.std.specs.FinMap as map
-use Rattle.std.specs.Option.{option_map}
 use Rattle.std.proofs.lemmas.Bool.{true≢false}
 use Rattle.std.proofs.lemmas.List.{take_at}
 use Rattle.std.proofs.lemmas.List.Elements.{filter-append}
@@ -14,7 +13,7 @@ use Rattle.art_parts.specs.declared.names.OpaqueNodePtr.{OpaqueNodePtr}
 use Rattle.art_model.specs.Canonical.{IsCanonicalTree}
 use Rattle.art_model.specs.Keys.{IsFront, Precedes, common_front, is_front}
 use Rattle.art_model.specs.Layouts.{Holds}
-use Rattle.art_model.specs.Lookups.{HasLeaf, pair_under}
+use Rattle.art_model.specs.Lookups.{HasLeaf}
 use Rattle.art_model.specs.Pairs.{IsMap, last_of, without_last}
 use Rattle.art_model.specs.Paths.{pairs_before, pairs_after}
 use Rattle.art_model.specs.Radix.{pairs_of}
@@ -87,7 +86,7 @@ module _ {K V : Type 0} {s : Nodes K V} {bytes : K × V → List ℕ} {P : ℕ} 
 
   module _ (end : ℕ) (ended : AreEnded bytes end pairs) (query : List ℕ) where
     -- no text is a prefix of the query
-    pub none_found : EndsWalk bytes query pairs layout None → texts_in_front bytes query pairs ≡ []
+    none_found : EndsWalk bytes query pairs layout None → texts_in_front bytes query pairs ≡ []
     none_found off = filter_none (λ x. is_front (text_of bytes x) query) pairs
         (Each-weaker (λ x. IsFront (text_of bytes x) query → ⊥) (λ x. is_front (text_of bytes x) query ≡ false)
         (λ x o. not_front (text_of bytes x) query o) pairs off)
@@ -143,7 +142,7 @@ module _ {K V : Type 0} {s : Nodes K V} {bytes : K × V → List ℕ} {P : ℕ} 
 
     -- the leaf's text differs from the query: what they share serves as well
     module _ {name : LeafPtr} (c : IsCovering bytes query pairs layout name) where
-      pub shared_is : take (length (common_front (text_of bytes c.pair) query)) query ≡ common_front (text_of bytes c.pair) query
+      shared_is : take (length (common_front (text_of bytes c.pair) query)) query ≡ common_front (text_of bytes c.pair) query
       shared_is =
           let (r, e) = common_front_right (text_of bytes c.pair) query in
           ap (take (length (common_front (text_of bytes c.pair) query))) e
@@ -175,26 +174,6 @@ module _ {K V : Type 0} {s : Nodes K V} {bytes : K × V → List ℕ} {P : ℕ} 
       (subst (Holds (node_at s)) (sym has.whole) by.stands.0.holds)).1 in
       let is : node ≡ other = cc in
       ap pair_of is ∙ same
-
-  -- what is found has the pair
-  module _ (found : List (K × V)) where
-    pub shown : {name : LeafPtr} {x : K × V} → HasLeaf layout (leaf_name name) x → option_map pair_of (map.get s.leaves name) ≡ Some x
-    shown {name} {x} has =
-        let (node, there, same) = views.leaf_there s name x
-        (path_holds (node_at s) has.path (leaf (leaf_name name) x) (subst (Holds (node_at s)) (sym has.whole) by.stands.0.holds)).1 in
-        ap (option_map pair_of) there ∙ ap Some same
-
-    pub last_pair : (result : Option LeafPtr) → FindsLast layout found result → pair_under s result ≡ last_of found
-    last_pair None none = ap last_of (sym none)
-    last_pair (Some name) (x, last, has) = shown has ∙ sym last
-
-    pub last_there : (result : Option LeafPtr) → FindsLast layout found result → IfSome result (λ leaf. IsSome (map.get s.leaves leaf))
-    last_there None none = tt
-    last_there (Some name) (x, last, has) = some (map.get s.leaves name) (shown has)
-      where
-        some : (o : Option _) → option_map pair_of o ≡ Some x → IsSome o
-        some None e = absurd cc
-        some (Some node) e = refl
 
   module _ (end : ℕ) (ended : AreEnded bytes end pairs) (query : List ℕ) where
     pub found_none : (result : Option LeafPtr) → result ≡ None → EndsWalk bytes query pairs layout None →

@@ -39,7 +39,7 @@ module _ (prefix : Prefix) (rest : List ℕ) where
   Parts = (shared_len prefix.stored rest < length prefix.stored) ⊎ (length prefix.stored ≤ shared_len prefix.stored rest)
 
   -- the prefix's length is matched, and the rest is as long
-  pub ok_len : (behavior : PrefixMatchBehavior) (m : AttemptOptimisticPrefixMatch) → prefix_match behavior prefix rest ≡ Ok m → Matches prefix.len rest m
+  ok_len : (behavior : PrefixMatchBehavior) (m : AttemptOptimisticPrefixMatch) → prefix_match behavior prefix rest ≡ Ok m → Matches prefix.len rest m
   ok_len Optimistic m e = by_length_ok prefix.len rest true m e
   ok_len Pessimistic m e = go (cases_lt (shared_len prefix.stored rest) (length prefix.stored))
     where
@@ -63,7 +63,7 @@ module _ (prefix : Prefix) (rest : List ℕ) where
           inr (by_length_err prefix.len rest (ltb (length prefix.stored) prefix.len) m k)
 
   -- a behavior that is pessimistic after a match was so before, and all bytes of the prefix are stored and the same
-  abbrev pub AllCompared : PrefixMatchBehavior → Type 0
+  abbrev AllCompared : PrefixMatchBehavior → Type 0
   AllCompared behavior = (behavior ≡ Pessimistic) × (length prefix.stored ≤ shared_len prefix.stored rest) × (prefix.len ≤ length prefix.stored)
 
   pub ok_compared : (behavior : PrefixMatchBehavior) (m : AttemptOptimisticPrefixMatch) → prefix_match behavior prefix rest ≡ Ok m →

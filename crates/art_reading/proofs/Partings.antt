@@ -30,21 +30,21 @@ all_shared a b n e h =
     let l = ap length f in
     (omega (arith, simp length-append at l), shared_whole a b (omega arith))
 
-pub whole_same : (a b : List ℕ) → IsFront a b → length a ≡ length b → b ≡ a
+whole_same : (a b : List ℕ) → IsFront a b → length a ≡ length b → b ≡ a
 whole_same a b ([], e) same = e ∙ append-nil a
 whole_same a b (x ∷ r, e) same = absurd (let l = ap length e in omega (arith, simp length-append at l))
 
-pub some_related : (a b : List ℕ) → (length a ≤ shared_len a b) ⊎ (length b ≤ shared_len a b) → are_related a b ≡ true
+some_related : (a b : List ℕ) → (length a ≤ shared_len a b) ⊎ (length b ≤ shared_len a b) → are_related a b ≡ true
 some_related a b (inl h) = front_related a b (shared_whole a b h)
 some_related a b (inr h) = related_sym a b ∙ front_related b a (front_right a b h)
 
 -- equal keys share all bytes
-pub some_equal : (a b : List ℕ) → (length a ≤ shared_len a b) ⊎ (length b ≤ shared_len a b) → length a ≡ length b → b ≡ a
+some_equal : (a b : List ℕ) → (length a ≤ shared_len a b) ⊎ (length b ≤ shared_len a b) → length a ≡ length b → b ≡ a
 some_equal a b (inl h) same = whole_same a b (shared_whole a b h) same
 some_equal a b (inr h) same = whole_same a b (shared_whole a b (omega arith)) same
 
 -- two keys share as much in either order
-pub shared_flip : (a b : List ℕ) → shared_len a b ≡ shared_len b a
+shared_flip : (a b : List ℕ) → shared_len a b ≡ shared_len b a
 shared_flip [] [] = refl
 shared_flip [] (y ∷ b) = refl
 shared_flip (x ∷ a) [] = refl

@@ -11,7 +11,7 @@ none_with (x ∷ a) = refl
 
 module _ (end : ℕ) where
   -- the byte after a list is shared where the whole list is and the byte stands there
-  abbrev pub IsEndShared : List ℕ → List ℕ → Type 0
+  abbrev IsEndShared : List ℕ → List ℕ → Type 0
   IsEndShared bytes rest = (shared_len bytes rest ≡ length rest) × (length rest < length bytes) × (get_or bytes (length rest) 0 ≡ end)
 
   pub end_shared : (bytes rest : List ℕ) → IsEndShared bytes rest → shared_len bytes (rest ++ end ∷ []) ≡ suc (length rest)

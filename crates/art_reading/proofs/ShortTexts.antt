@@ -2,9 +2,7 @@
 use Rattle.std.proofs.Common.{◌≡◌, ℕ, ◌+◌, ◌<◌, ◌≤◌, ◌⊎◌, List, [], ◌∷◌, ◌++◌, length, length-append, filter, leb, get_or, refl, ap, sym, ◌∙◌, subst, arith, append-nil, append_assoc, is_some, Option, Some, None, Bool, true, false, inl, inr}
 use Rattle.std.specs.List.{AllByRecursion as Each}
 use Rattle.std.specs.Bool.{⊤}
-use Rattle.std.specs.Prelude.{IfSome, IsSome}
-use Rattle.std.specs.FinMap as map
-use Rattle.std.specs.Option.{option_map}
+use Rattle.std.specs.Prelude.{IsSome}
 use Rattle.std.proofs.lemmas.Bool.{cases_lt, le-leb, leb-true}
 use Rattle.std.proofs.lemmas.List.Elements.{filter-append}
 use Rattle.art_inner.specs.Inner.{Inner, child_at}
@@ -16,11 +14,11 @@ use Rattle.art_parts.specs.declared.names.OpaqueNodePtr.{OpaqueNodePtr}
 use Rattle.art_model.specs.Canonical.{IsCanonicalTree}
 use Rattle.art_model.specs.Footprints.{IsIn}
 use Rattle.art_model.specs.Keys.{IsFront, Precedes, is_front}
-use Rattle.art_model.specs.Lookups.{HasLeaf, pair_under}
+use Rattle.art_model.specs.Lookups.{HasLeaf}
 use Rattle.art_model.specs.Pairs.{IsMap, first_of, without_last}
 use Rattle.art_model.specs.Paths.{plug, pairs_before, pairs_after}
 use Rattle.art_model.specs.Radix.{IsRadix, AreRadix, bytes_of, pairs_of}
-use Rattle.art_model.specs.Stores.{header_at, pair_of}
+use Rattle.art_model.specs.Stores.{header_at}
 use Rattle.art_model.specs.Texts.{AreEnded, IsEndedBy, text_of}
 use Rattle.art_model.specs.Trees.{Tree, leaf, inner, child}
 use Rattle.art_model.proofs.keys.Keys.{front_from}
@@ -37,7 +35,7 @@ use Rattle.art_reading.specs.PartEnds.{StandsBetween}
 use Rattle.art_reading.specs.ShortTexts.{EndsAtFirst, FindsFirst, IsBeforeAll, IsSought, texts_from}
 use Rattle.art_reading.specs.TextWays.{IsLeafOr}
 use Rattle.art_reading.proofs.Descents.{IsDescent, start, shown_radix, front, child_there, each_under, down}
-use Rattle.art_reading.proofs.LongestTexts.{around, at_leaf, shown}
+use Rattle.art_reading.proofs.LongestTexts.{around, at_leaf}
 use Rattle.art_reading.proofs.TextWays.{each_top, ended_at, marked, not_inner}
 
 pub none_is : {A : Type 0} (o : Option A) → is_some o ≡ false → o ≡ None
@@ -46,11 +44,11 @@ none_is (Some x) e = absurd cc
 
 module _ {A : Type 0} (bytes : A → List ℕ) (end : ℕ) (query : List ℕ) (at_least : ℕ) where
   -- the text of the pair is not searched for
-  abbrev pub IsPassed : A → Type 0
+  abbrev IsPassed : A → Type 0
   IsPassed x = (t : List ℕ) → bytes x ≡ t ++ end ∷ [] → IsFront t query → at_least ≤ length t → ⊥
 
   -- if the text of the pair is searched for, this text is a prefix of it, and has at least so many bytes
-  abbrev pub IsLed : List ℕ → A → Type 0
+  abbrev IsLed : List ℕ → A → Type 0
   IsLed f x = (t : List ℕ) → bytes x ≡ t ++ end ∷ [] → IsFront t query → at_least ≤ length t → IsFront f t × (at_least ≤ length f)
 
   own_text : (x : A) (e : IsEndedBy end (bytes x)) → text_of bytes x ≡ e.text
@@ -161,7 +159,7 @@ module _ {K V : Type 0} {s : Nodes K V} {bytes : K × V → List ℕ} {P : ℕ} 
       module _ (result : Option LeafPtr) (short : length (front way at) < at_least → result ≡ None)
           (long : at_least ≤ length (front way at) → IsLeafOr (child_at shown.children end) None result) where
         -- a text that ends here is found
-        pub short_found : (n : LeafPtr) → result ≡ Some n → at_least ≤ length (front way at) →
+        short_found : (n : LeafPtr) → result ≡ Some n → at_least ≤ length (front way at) →
             EndsAtFirst bytes query at_least (pairs_of layout) layout (Some n)
         short_found n is enough = go (child_at shown.children end) refl (subst (λ r. IsLeafOr (child_at shown.children end) None r) is (long enough))
           where
@@ -311,17 +309,3 @@ module _ {K V : Type 0} {s : Nodes K V} {bytes : K × V → List ℕ} {P : ℕ} 
           IsFront (text_of bytes c.pair) (text_of bytes y) × (at_least ≤ length (text_of bytes c.pair)))
           (λ y. IsSought bytes query at_least y → ⊥)
           (λ y led sought. off (front_trans (text_of bytes c.pair) (text_of bytes y) query (led sought).0 sought.0, (led sought).1)) pairs c.leads)
-
-  -- what is found has the pair
-  module _ (found : List (K × V)) where
-    pub first_pair : (result : Option LeafPtr) → FindsFirst layout found result → pair_under s result ≡ first_of found
-    first_pair None none = ap first_of (sym none)
-    first_pair (Some name) (x, first, has) = shown by found has ∙ sym first
-
-    pub first_there : (result : Option LeafPtr) → FindsFirst layout found result → IfSome result (λ leaf. IsSome (map.get s.leaves leaf))
-    first_there None none = tt
-    first_there (Some name) (x, first, has) = some (map.get s.leaves name) (shown by found has)
-      where
-        some : (o : Option _) → option_map pair_of o ≡ Some x → IsSome o
-        some None e = absurd cc
-        some (Some node) e = refl

@@ -66,7 +66,7 @@ module _ {E : Type 0} (p : E → Bool) where
 
 module _ {E : Type 0} (p q : E → Bool) where
   -- both tests are the second one after the first
-  pub filter_both : (xs : List E) → filter (λ e. p e && q e) xs ≡ filter q (filter p xs)
+  filter_both : (xs : List E) → filter (λ e. p e && q e) xs ≡ filter q (filter p xs)
   filter_both [] = refl
   filter_both (x ∷ xs) = go (filter_both xs) (p x)
     where

@@ -50,12 +50,12 @@ same_parts {A = A} {B = B} {a = a} {b = b} e =
     (ap (λ (both : A × B). both.0) both, ap (λ (both : A × B). both.1) both)
 
 -- a text was found that continues with this one
-abbrev pub Covered : Option (List ℕ) → List ℕ → Type 0
+abbrev Covered : Option (List ℕ) → List ℕ → Type 0
 Covered None t = ⊥
 Covered (Some f) t = IsFront t f
 
 -- the text that was found is a prefix of the query
-abbrev pub IsOnTrack : Option (List ℕ) → List ℕ → Type 0
+abbrev IsOnTrack : Option (List ℕ) → List ℕ → Type 0
 IsOnTrack None query = ⊤
 IsOnTrack (Some f) query = IsFront f query
 
@@ -65,7 +65,7 @@ module _ {A : Type 0} (bytes : A → List ℕ) (end : ℕ) (query : List ℕ) wh
   IsCovered found x = (t : List ℕ) → bytes x ≡ t ++ end ∷ [] → IsFront t query → Covered found t
 
   -- if the query is a prefix of the key of the pair, what was found is a prefix of the query
-  abbrev pub IsAlong : Option (List ℕ) → A → Type 0
+  abbrev IsAlong : Option (List ℕ) → A → Type 0
   IsAlong found x = IsFront query (bytes x) → IsOnTrack found query
 
   -- A pair outside the path.
@@ -83,7 +83,7 @@ module _ {A : Type 0} (bytes : A → List ℕ) (end : ℕ) (query : List ℕ) wh
       pub leads : IsFront f place
       pub short : length f ≤ length query
 
-    abbrev pub IsFound : Option LeafPtr → Option (List ℕ) → Type 0
+    abbrev IsFound : Option LeafPtr → Option (List ℕ) → Type 0
     IsFound None None = ⊤
     IsFound None (Some f) = ⊥
     IsFound (Some best) None = ⊥
@@ -91,7 +91,7 @@ module _ {A : Type 0} (bytes : A → List ℕ) (end : ℕ) (query : List ℕ) wh
 
 module _ {A : Type 0} (bytes : A → List ℕ) (end : ℕ) (query : List ℕ) (tree : Tree OpaqueNodePtr A) where
   -- what leads to a place leads further
-  pub leads_on : (place further : List ℕ) → IsFront place further → (best : Option LeafPtr) (found : Option (List ℕ)) →
+  leads_on : (place further : List ℕ) → IsFront place further → (best : Option LeafPtr) (found : Option (List ℕ)) →
       IsFound bytes end query tree place best found → IsFound bytes end query tree further best found
   leads_on place further on None None is = tt
   leads_on place further on None (Some f) is = is
@@ -106,7 +106,7 @@ module _ {A : Type 0} (bytes : A → List ℕ) (end : ℕ) (query : List ℕ) (t
   }
 
   -- a key that starts with the place, and with the query
-  pub along_place : (place : List ℕ) (best : Option LeafPtr) (found : Option (List ℕ)) → IsFound bytes end query tree place best found →
+  along_place : (place : List ℕ) (best : Option LeafPtr) (found : Option (List ℕ)) → IsFound bytes end query tree place best found →
       (x : A) → IsFront place (bytes x) → IsAlong bytes end query found x
   along_place place None None is x at begins = tt
   along_place place None (Some f) is x at begins = absurd is
@@ -297,7 +297,7 @@ module _ {K V : Type 0} {s : Nodes K V} {bytes : K × V → List ℕ} {P : ℕ} 
             ∙ subst (λ n. prefix_of bytes n (inner (inner_name p) (header_at p.kind shown) there.children) ≡ (shown_radix d there).0) d.depth_is
             (prefix_is bytes P (inner_name p) (header_at p.kind shown) there.children d.place (shown_radix d there))))
 
-        pub whole_len : length whole ≡ depth + shown.prefix.len
+        whole_len : length whole ≡ depth + shown.prefix.len
         whole_len = ap length (sym (front_whole way.descent at)) ∙ front_len way.descent at
 
         place_whole : IsFront way.descent.place whole
@@ -324,7 +324,7 @@ module _ {K V : Type 0} {s : Nodes K V} {bytes : K × V → List ℕ} {P : ℕ} 
             )
 
         -- what is under the mark is found
-        pub better : length whole ≤ length query → (to : Option OpaqueNodePtr) → child_at shown.children end ≡ to →
+        better : length whole ≤ length query → (to : Option OpaqueNodePtr) → child_at shown.children end ≡ to →
             {after : Option LeafPtr} → IsLeafOr to best after →
             IsBetter bytes end query layout whole (bytes_of at.children) way.found after
         better short None none is = record {
@@ -374,7 +374,7 @@ module _ {K V : Type 0} {s : Nodes K V} {bytes : K × V → List ℕ} {P : ℕ} 
                   (Each-weaker (IsAside bytes end query way.found) Q aside (pairs_after here.path) here.after))
 
         -- the query ends before the prefix does
-        pub ends_short : length query < length whole → EndsWalk bytes query (pairs_of layout) layout best
+        ends_short : length query < length whole → EndsWalk bytes query (pairs_of layout) layout best
         ends_short less =
             ends best way.found (leads_on bytes end query layout way.descent.place whole place_whole best way.found way.is_found) (λ t c. c)
             (λ c i x leads t e f. absurd (go t f (goes_within whole c leads.0 t end (sym e ∙ leads.1))))
@@ -394,7 +394,7 @@ module _ {K V : Type 0} {s : Nodes K V} {bytes : K × V → List ℕ} {P : ℕ} 
               go (inr g) = absurd (off (front_trans (whole ++ c ∷ []) t query g f))
 
           -- no text continues with the query
-          pub ends_here : ((c : ℕ) → IsIn c (bytes_of at.children) → IsFront (whole ++ c ∷ []) query → ⊥) → EndsWalk bytes query (pairs_of layout) layout after
+          ends_here : ((c : ℕ) → IsIn c (bytes_of at.children) → IsFront (whole ++ c ∷ []) query → ⊥) → EndsWalk bytes query (pairs_of layout) layout after
           ends_here off = ends after b.found b.is_found b.outer (λ c i x leads. covered_off c i (off c i) x leads)
 
           -- the query ends with the prefix
@@ -406,7 +406,7 @@ module _ {K V : Type 0} {s : Nodes K V} {bytes : K × V → List ℕ} {P : ℕ} 
             next_byte c f = sym (byte_after whole query c f)
 
             -- there is no child for the query's next byte
-            pub ends_gap : child_at shown.children (get_or query (length whole) 0) ≡ None → EndsWalk bytes query (pairs_of layout) layout after
+            ends_gap : child_at shown.children (get_or query (length whole) 0) ≡ None → EndsWalk bytes query (pairs_of layout) layout after
             ends_gap none = ends_here (λ c i f. child_there way.descent at c i (ap (child_at shown.children) (next_byte c f) ∙ none))
 
             -- the path continues below that child

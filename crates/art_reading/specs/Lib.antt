@@ -14,3 +14,4 @@ pub mod Iterators
 pub mod PartEnds
 pub mod TextWays
 pub mod ShortTexts
+pub mod Found

@@ -1,12 +1,11 @@
 //! Searches for a key, and for the key that is a prefix of a query.
-ghost use Rattle.std.specs.Prelude.{◌≡◌, ◌+◌, ◌<◌, ◌^◌, length, IfSome, IsSome};
-ghost use Rattle.std.specs.FinMap as map;
+ghost use Rattle.std.specs.Prelude.{◌≡◌, ◌+◌, ◌<◌, ◌^◌, length, IsSome};
 ghost use Rattle.std.specs.Option.{option_map};
-ghost use Rattle.art_model.specs.Lookups.{FindsLeaf, pair_under};
 ghost use Rattle.art_model.specs.Pairs.{first_of, match_of, of_key, with_key};
 ghost use Rattle.art_model.specs.Roots.{ForTree, IsCanonicalRoot};
 ghost use Rattle.art_model.specs.Stores.{pair_of};
 ghost use Rattle.art_reading.specs.Descents.{CountsVisits, asked_of};
+ghost use Rattle.art_reading.specs.Found.{HasFound};
 
 mod shortest;
 mod texts;
@@ -31,11 +30,8 @@ pub fn search_unchecked<K: AsBytes + Drop, V: Drop, const P: usize>(
     key_bytes: &[u8],
 ) -> OptionalLeafPtr
     requires { IsCanonicalRoot (of_key K.bytes) P store.now root }
-    ensures leaf { ForTree (of_key K.bytes) P store.now root (λ pairs layout.
-        FindsLeaf layout (with_key (of_key K.bytes) key_bytes.now pairs) result) }
-    ensures there { IfSome result (λ leaf. IsSome (map.get store.now.leaves leaf)) }
-    ensures pair { ForTree (of_key K.bytes) P store.now root (λ pairs _.
-        pair_under store.now result ≡ first_of (with_key (of_key K.bytes) key_bytes.now pairs)) }
+    ensures { HasFound (of_key K.bytes) P store.now root
+        (with_key (of_key K.bytes) key_bytes.now) result }
 {
     search_visiting(store, root, key_bytes, &mut Visits::new())
 }
@@ -51,11 +47,8 @@ pub fn search_visiting<K: AsBytes + Drop, V: Drop, const P: usize>(
 ) -> OptionalLeafPtr
     requires root { IsCanonicalRoot (of_key K.bytes) P store.now root }
     requires room { visits.old + length key_bytes.now + 1 < 2 ^ 64 }
-    ensures leaf { ForTree (of_key K.bytes) P store.now root (λ pairs layout.
-        FindsLeaf layout (with_key (of_key K.bytes) key_bytes.now pairs) result) }
-    ensures there { IfSome result (λ leaf. IsSome (map.get store.now.leaves leaf)) }
-    ensures pair { ForTree (of_key K.bytes) P store.now root (λ pairs _.
-        pair_under store.now result ≡ first_of (with_key (of_key K.bytes) key_bytes.now pairs)) }
+    ensures found { HasFound (of_key K.bytes) P store.now root
+        (with_key (of_key K.bytes) key_bytes.now) result }
     ensures visits { CountsVisits (of_key K.bytes) P store.now root key_bytes.now
         visits.old visits.new (IsSome result) }
 {
@@ -72,11 +65,8 @@ pub fn prefix_search_unchecked<K: AsBytes + Drop, V: Drop, const P: usize>(
     key_bytes: &[u8],
 ) -> OptionalLeafPtr
     requires { IsCanonicalRoot (of_key K.bytes) P store.now root }
-    ensures leaf { ForTree (of_key K.bytes) P store.now root (λ pairs layout.
-        FindsLeaf layout (match_of (of_key K.bytes) key_bytes.now pairs) result) }
-    ensures there { IfSome result (λ leaf. IsSome (map.get store.now.leaves leaf)) }
-    ensures pair { ForTree (of_key K.bytes) P store.now root (λ pairs _.
-        pair_under store.now result ≡ first_of (match_of (of_key K.bytes) key_bytes.now pairs)) }
+    ensures { HasFound (of_key K.bytes) P store.now root
+        (match_of (of_key K.bytes) key_bytes.now) result }
 {
     prefix_search_visiting(store, root, key_bytes, &mut Visits::new())
 }
@@ -91,11 +81,8 @@ pub fn prefix_search_visiting<K: AsBytes + Drop, V: Drop, const P: usize>(
 ) -> OptionalLeafPtr
     requires root { IsCanonicalRoot (of_key K.bytes) P store.now root }
     requires room { visits.old + length key_bytes.now + 1 < 2 ^ 64 }
-    ensures leaf { ForTree (of_key K.bytes) P store.now root (λ pairs layout.
-        FindsLeaf layout (match_of (of_key K.bytes) key_bytes.now pairs) result) }
-    ensures there { IfSome result (λ leaf. IsSome (map.get store.now.leaves leaf)) }
-    ensures pair { ForTree (of_key K.bytes) P store.now root (λ pairs _.
-        pair_under store.now result ≡ first_of (match_of (of_key K.bytes) key_bytes.now pairs)) }
+    ensures found { HasFound (of_key K.bytes) P store.now root
+        (match_of (of_key K.bytes) key_bytes.now) result }
     ensures visits { CountsVisits (of_key K.bytes) P store.now root key_bytes.now
         visits.old visits.new (IsSome result) }
 {
@@ -131,11 +118,8 @@ pub fn search_for<Q: KeyQuery, K: AsBytes + Drop, V: Drop, const P: usize>(
     query: Q,
 ) -> OptionalLeafPtr
     requires { IsCanonicalRoot (of_key K.bytes) P store.now root }
-    ensures leaf { ForTree (of_key K.bytes) P store.now root (λ pairs layout.
-        FindsLeaf layout (with_key (of_key K.bytes) (Q.key query) pairs) result) }
-    ensures there { IfSome result (λ leaf. IsSome (map.get store.now.leaves leaf)) }
-    ensures pair { ForTree (of_key K.bytes) P store.now root (λ pairs _.
-        pair_under store.now result ≡ first_of (with_key (of_key K.bytes) (Q.key query) pairs)) }
+    ensures { HasFound (of_key K.bytes) P store.now root
+        (with_key (of_key K.bytes) (Q.key query)) result }
 {
     query.fits();
     find_leaf(store, root, query, Asked::Same, &mut Visits::new())
@@ -152,12 +136,8 @@ fn find_leaf<Q: KeyQuery, K: AsBytes + Drop, V: Drop, const P: usize>(
 ) -> OptionalLeafPtr
     requires root { IsCanonicalRoot (of_key K.bytes) P store.now root }
     requires room { visits.old + length (Q.key query) + 1 < 2 ^ 64 }
-    ensures leaf { ForTree (of_key K.bytes) P store.now root (λ pairs layout.
-        FindsLeaf layout (asked_of asked (of_key K.bytes) (Q.key query) pairs) result) }
-    ensures there { IfSome result (λ leaf. IsSome (map.get store.now.leaves leaf)) }
-    ensures pair { ForTree (of_key K.bytes) P store.now root (λ pairs _.
-        pair_under store.now result ≡
-        first_of (asked_of asked (of_key K.bytes) (Q.key query) pairs)) }
+    ensures found { HasFound (of_key K.bytes) P store.now root
+        (asked_of asked (of_key K.bytes) (Q.key query)) result }
     ensures visits { CountsVisits (of_key K.bytes) P store.now root (Q.key query)
         visits.old visits.new (IsSome result) }
 {

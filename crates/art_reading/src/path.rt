@@ -91,10 +91,10 @@ impl TreePath {
 #[derive(Clone, Copy)]
 pub(crate) struct LastSteps {
     parent_kind: NodeType,
-    parent_slot: usize,
+    parent_slot: u32,
     child_key_byte: u8,
     grandparent_kind: NodeType,
-    grandparent_slot: usize,
+    grandparent_slot: u32,
     parent_key_byte: u8,
 }
 

@@ -7,7 +7,7 @@ use Rattle.art_running.specs.declared.run.Command.{Command}
 use Rattle.art_running.specs.declared.run.Reply.{Reply}
 
 module _ {S C R : Type 0} (Step : S → C → R → S → Type 0) where
-  pub chain_more : (old mid new : S) (cs : List C) (rs : List R) (c : C) (r : R) → Chain Step old cs rs mid → Step mid c r new →
+  chain_more : (old mid new : S) (cs : List C) (rs : List R) (c : C) (r : R) → Chain Step old cs rs mid → Step mid c r new →
       Chain Step old (cs ++ c ∷ []) (rs ++ r ∷ []) new
   chain_more old mid new [] [] c r e s = (new, subst (λ x. Step x c r new) e s, refl)
   chain_more old mid new [] (r' ∷ rs) c r e s = absurd e

@@ -17,7 +17,7 @@ use Rattle.art_writing.proofs.KeysFound.{point_some, removed_key}
 
 module _ {K V : Type 0} (bytes : K → List ℕ) where
   -- the command removes the pair that is found so, if any, whatever a clone is
-  abbrev pub TakesOut : Command K V → (List (K × V) → Option (K × V)) → Type 0
+  abbrev TakesOut : Command K V → (List (K × V) → Option (K × V)) → Type 0
   TakesOut c found = (pairs : List (K × V)) (x : K × V) → IsMap (of_key bytes) pairs → found pairs ≡ Some x →
       Answers bytes (λ _ _. Unit {0}) pairs c (Deleted (Some x)) (remove_key (of_key bytes) (bytes x.0) pairs)
 

@@ -60,7 +60,7 @@ module _ {K V : Type 0} (bytes : K → List ℕ) (P : ℕ) where
   canonical_root {s} is (pairs, canonical) = let (layout, by) = subst (λ r. IsCanonical (of_key bytes) P s r pairs) is canonical in (pairs, layout, by)
 
   -- a root is canonical for the pairs of a state that shows it
-  pub sound_canonical : (old : State K V) (side : Side) (s z : Nodes K V) (root : Option OpaqueNodePtr) → shown_state old ≡ from_side side s z root →
+  sound_canonical : (old : State K V) (side : Side) (s z : Nodes K V) (root : Option OpaqueNodePtr) → shown_state old ≡ from_side side s z root →
       IsSound bytes P old → (pairs : List (K × V)) × IsCanonical (of_key bytes) P s root pairs
   sound_canonical old side s z root is sound =
       let (same, named) = state_is old side s z root is in
@@ -83,12 +83,6 @@ module _ {K V : Type 0} (bytes : K → List ℕ) (P : ℕ) where
   canonical_sound side s z None pairs h = (in_store side s z None, refl, refl)
   canonical_sound side s z (Some name) pairs (layout, by) =
       (in_store side s z (Some layout), ap (λ n. from_side side s z (Some n)) by.stands.0.named, own_pairs by)
-
-  -- the same of both stores as they stand
-  pub on_sound : (side : Side) (s z : Nodes K V) (root : Option OpaqueNodePtr) (pairs : List (K × V)) →
-      IsCanonical (of_key bytes) P (of_side side s z) root pairs → (old : State K V) × (shown_state old ≡ on side s z root) × IsSound bytes P old
-  on_sound First s z root pairs h = canonical_sound First s z root pairs h
-  on_sound Second s z root pairs h = canonical_sound Second z s root pairs h
 
   -- a canonical root with its tree
   pub record HasTree (s : Nodes K V) (root : Option OpaqueNodePtr) (pairs : List (K × V)) : Type 0 where
@@ -113,7 +107,7 @@ module _ {K V : Type 0} (bytes : K → List ℕ) (P : ℕ) (IsClone : K × V →
 module _ {K V : Type 0} {IsClone : K × V → K × V → Type 0} (bytes : K → List ℕ) (P : ℕ) where
   -- a step to any state
   module _ (side : Side) {s z : Nodes K V} {c : Command K V} {r : Reply K V} (to : Shown K V) where
-    pub makes_any : {root : Option OpaqueNodePtr} → ((tree : Option (Layout K V)) → option_map name_of tree ≡ root →
+    makes_any : {root : Option OpaqueNodePtr} → ((tree : Option (Layout K V)) → option_map name_of tree ≡ root →
         IsSound bytes P (in_store side s z tree) → (new : State K V) × (shown_state new ≡ to) × Step bytes P IsClone (in_store side s z tree) c r new) →
         MakesStep bytes P IsClone (from_side side s z root) c r to
     makes_any {root} step old is sound =
@@ -135,7 +129,7 @@ module _ {K V : Type 0} {IsClone : K × V → K × V → Type 0} (bytes : K → 
             step layout (subst (λ m. IsCanonicalTree (of_key bytes) P s m (pairs_of layout) layout) n h)
 
   module _ (side : Side) {s t : Nodes K V} {c : Command K V} {r : Reply K V} (z : Nodes K V) where
-    pub makes_step : {root after : Option OpaqueNodePtr} →
+    makes_step : {root after : Option OpaqueNodePtr} →
         ((tree : Option (Layout K V)) → option_map name_of tree ≡ root → IsSound bytes P (in_store side s z tree) →
         StepFrom bytes P IsClone side s t z tree c r after) → MakesStep bytes P IsClone (from_side side s z root) c r (from_side side t z after)
     makes_step {root} {after} step old is sound =

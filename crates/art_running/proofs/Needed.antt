@@ -117,14 +117,14 @@ module _ {K V : Type 0} (bytes : K → List ℕ) (P : ℕ) (k : K) (v : V) {fs :
       leaves_needed n e = sym (ap (λ z. cond (has_key (of_key bytes) z (pairs_of (plug fs t))) 0 1) (sym alike)
           ∙ key_by_length (of_key bytes) x (pairs_of (plug fs t)) n (longer_whole n e))
 
-      pub needs_some : (n : ℕ) (a : NodeType) (goes : NodeType → ℕ) → length (pairs_of u) ≡ length (pairs_of t) + n → a ≢ Leaf → goes a ≡ 0 →
+      needs_some : (n : ℕ) (a : NodeType) (goes : NodeType → ℕ) → length (pairs_of u) ≡ length (pairs_of t) + n → a ≢ Leaf → goes a ≡ 0 →
           ((kind : NodeType) → count_of kind u + goes kind ≡ count_of kind t + one kind a) →
           ◌≡◌ {A = Promise} (record { leaves = n; inner = Some a }) (needs bytes P (Insert k v) (pairs_of (plug fs t)))
       needs_some n a goes longer proper off h = ap₂ (λ x y. record { leaves = x; inner = y }) (leaves_needed n longer)
           (sym (ap (λ ps. more_of (inner_count bytes P (pairs_of (plug fs t))) (inner_count bytes P ps)) (sym all.1)
           ∙ gains bytes P (plug fs t) (plug fs u) was all.0 a goes proper off (λ kind. more_in_hole fs t u kind (goes kind) (one kind a) (h kind))))
 
-      pub needs_none : (n : ℕ) → length (pairs_of u) ≡ length (pairs_of t) + n →
+      needs_none : (n : ℕ) → length (pairs_of u) ≡ length (pairs_of t) + n →
           ((kind : NodeType) → count_of kind u ≤ count_of kind t) →
           ◌≡◌ {A = Promise} (record { leaves = n; inner = None }) (needs bytes P (Insert k v) (pairs_of (plug fs t)))
       needs_none n longer h = ap₂ (λ x y. record { leaves = x; inner = y }) (leaves_needed n longer)
@@ -137,12 +137,12 @@ module _ {K V : Type 0} (bytes : K → List ℕ) (P : ℕ) (k : K) (v : V) {fs :
     is_new : put (of_key bytes) (k, v) (pairs_of (plug fs t)) ≡ replace_key (of_key bytes) (k, v) (pairs_of (plug fs t))
     is_new = put-new (of_key bytes) (k, v) (pairs_of (plug fs t)) (comes_new (k, v) refl u radix its longer)
 
-    pub new_needs_some : (a : NodeType) (goes : NodeType → ℕ) → a ≢ Leaf → goes a ≡ 0 →
+    new_needs_some : (a : NodeType) (goes : NodeType → ℕ) → a ≢ Leaf → goes a ≡ 0 →
         ((kind : NodeType) → count_of kind u + goes kind ≡ count_of kind t + one kind a) →
         ◌≡◌ {A = Promise} (record { leaves = 1; inner = Some a }) (needs bytes P (Insert k v) (pairs_of (plug fs t)))
     new_needs_some a goes proper off h = needs_some (k, v) refl u radix its is_new 1 a goes longer proper off h
 
-    pub new_needs_none : ((kind : NodeType) → count_of kind u ≤ count_of kind t) →
+    new_needs_none : ((kind : NodeType) → count_of kind u ≤ count_of kind t) →
         ◌≡◌ {A = Promise} (record { leaves = 1; inner = None }) (needs bytes P (Insert k v) (pairs_of (plug fs t)))
     new_needs_none h = needs_none (k, v) refl u radix its is_new 1 longer h
 
@@ -330,7 +330,7 @@ module _ {K V : Type 0} (bytes : K → List ℕ) (P : ℕ) (k : K) (v : V) {fs :
             child_needs b (subst (λ z. child_at (slots_of cs) z ≡ None) byte none) (r, whole ∙ sym (append_assoc (place ++ radix_here.0) (b ∷ []) r))
 
   -- at the end node of the key
-  pub kind_needs : (s : Nodes K V) (used : ℕ) (kind : InsertKind) → Holds (node_at s) t →
+  kind_needs : (s : Nodes K V) (used : ℕ) (kind : InsertKind) → Holds (node_at s) t →
       IsKindOf (of_key bytes) P (bytes k) t (length place) used kind → placed_for s kind ≡ needs bytes P (Insert k v) (pairs_of (plug fs t))
   kind_needs s used (Exact p) holds (at, (pair, is, same)) = same_needs pair (is ∙ ap (λ n. leaf n pair) (sym (ap name_of is))) same
   kind_needs s used (SplitLeaf p new) holds (at, (pair, is, (off, shared))) = leaf_needs pair (is ∙ ap (λ n. leaf n pair) (sym (ap name_of is))) off

@@ -92,7 +92,7 @@ module _ {K V : Type 0} (bytes : K → List ℕ) (P : ℕ) {s : Nodes K V} {root
     pub one : IsOne kind (length (related_to (of_key bytes) (bytes k) (pairs_of layout)))
     pub none : more_of (inner_count bytes P (pairs_of layout)) (inner_count bytes P (overwrite (of_key bytes) (k, v) (pairs_of layout))) ≡ None
 
-  pub overwrites : (k : K) (v : V) (point : OverwritePoint) → AnswersToOverwrite (of_key bytes) layout (bytes k) point →
+  overwrites : (k : K) (v : V) (point : OverwritePoint) → AnswersToOverwrite (of_key bytes) layout (bytes k) point →
       Overwrites k v point.overwrite_point.kind
   overwrites k v point at =
       let here = at_root bytes P by at.root_is in
@@ -112,7 +112,7 @@ module _ {K V : Type 0} (bytes : K → List ℕ) (P : ℕ) {s : Nodes K V} {root
       ]
 
   -- what is placed is what the command needs
-  pub needs_overwritten : (k : K) (v : V) (point : OverwritePoint) → AnswersToOverwrite (of_key bytes) layout (bytes k) point →
+  needs_overwritten : (k : K) (v : V) (point : OverwritePoint) → AnswersToOverwrite (of_key bytes) layout (bytes k) point →
       placed_for_overwrite point.overwrite_point.kind ≡ needs bytes P (InsertPrefix k v) (pairs_of layout)
   needs_overwritten k v point at =
       let o = overwrites k v point at in
@@ -123,7 +123,7 @@ module _ {K V : Type 0} (bytes : K → List ℕ) (P : ℕ) {s : Nodes K V} {root
       } in y) (sym o.none)
 
   -- and what is touched is what it may touch
-  pub touches_overwritten : (k : K) (v : V) (point : OverwritePoint) → AnswersToOverwrite (of_key bytes) layout (bytes k) point → (t : Nodes K V) →
+  touches_overwritten : (k : K) (v : V) (point : OverwritePoint) → AnswersToOverwrite (of_key bytes) layout (bytes k) point → (t : Nodes K V) →
       TouchesForNode point.overwrite_point.kind (of_key bytes) (bytes k) s t layout → TouchesBy bytes (Some layout) (InsertPrefix k v) s t
   touches_overwritten k v point at t touches = go point.overwrite_point.kind (overwrites k v point at).one touches
     where
@@ -178,7 +178,7 @@ module _ {K V : Type 0} (bytes : K → List ℕ) (P : ℕ) {s : Nodes K V} {root
     few_related : leb (length (related_to (of_key bytes) (bytes k) (pairs_of layout))) 1 ≡ true
     few_related = ap (λ xs. leb (length xs) 1) same_parts.1 ∙ one_at_most (with_key (of_key bytes) (bytes k) (pairs_of layout)) one_has
 
-  pub needs_prefix : (k : K) (v : V) (point : PrefixInsertPoint) → IsPointFor (of_key bytes) P (bytes k) (pairs_of layout) layout point →
+  needs_prefix : (k : K) (v : V) (point : PrefixInsertPoint) → IsPointFor (of_key bytes) P (bytes k) (pairs_of layout) layout point →
       placed_for_prefix s point ≡ needs bytes P (InsertPrefix k v) (pairs_of layout)
   needs_prefix k v (points.InsertPoint point) (free, at) = needs_inserted bytes P by k v point at ∙ needs_same k v free
   needs_prefix k v (points.OverwritePoint point) (related, at) = needs_overwritten bytes P by k v point at

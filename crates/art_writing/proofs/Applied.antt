@@ -1,5 +1,5 @@
 -- What is stated of an applied point, from what holds for each layout of the root.
-use Rattle.std.proofs.Common.{rules, ◌≡◌, ℕ, List, Some, Ok, Err, false, true, IsTrue, refl, ap, sym, ◌∙◌, subst}
+use Rattle.std.proofs.Common.{◌≡◌, ℕ, List, Some, Ok, Err, false, true, IsTrue, refl, ap, sym, ◌∙◌, subst}
 use Rattle.std.specs.Option.{option_map}
 use Rattle.art_nodes.specs.Nodes.{Nodes, Promise, no_promise}
 use Rattle.art_model.specs.Canonical.{IsCanonical}
@@ -18,8 +18,8 @@ use Rattle.art_writing.specs.declared.insert.PrefixInsertPoint.TheVariants as po
 use Rattle.art_writing.specs.declared.insert.PrefixInsertResult.{PrefixInsertResult}
 use Rattle.art_writing.specs.declared.insert.PairRefused.{PairRefused}
 use Rattle.art_writing.specs.Applied.{IsApplied, IsPrefixApplied, TakesMemory}
-use Rattle.art_writing.specs.Inserted.{HasInserted, IsPointIn, unlinked_leaf, placed_for}
-use Rattle.art_writing.specs.Overwritten.{HasOverwritten, IsOverwritePointIn, placed_for_overwrite}
+use Rattle.art_writing.specs.Inserted.{HasInserted, IsPointIn, unlinked_leaf}
+use Rattle.art_writing.specs.Overwritten.{HasOverwritten, IsOverwritePointIn}
 use Rattle.art_writing.proofs.Left.{IsInserted, IsOverwritten}
 
 -- ---- allocations
@@ -30,12 +30,12 @@ module _ {K V : Type 0} {s t : Nodes K V} {placed : Promise} {pair : K × V} whe
   granted after = record { promise = after; succeeds = λ covered. refl; handed_back = tt; leaves = tt; inners = tt; void = tt }
 
   -- where it was not covered the call fails, and nothing is promised then
-  handed_back : {X : Type 0} → (IsTrue (is_covered placed s.promise) → false ≡ true) → t.leaves ≡ s.leaves → t.inners ≡ s.inners → t.promise ≡ no_promise →
+  pub handed_back : {X : Type 0} → (IsTrue (is_covered placed s.promise) → false ≡ true) → t.leaves ≡ s.leaves → t.inners ≡ s.inners → t.promise ≡ no_promise →
       TakesMemory {X = X} s t placed pair (Err (record { key = pair.0; value = pair.1 }))
   handed_back gone leaves inners void = record { promise = tt; succeeds = gone; handed_back = (refl, refl); leaves = leaves; inners = inners; void = void }
 
   -- a failed allocation is a failure of each call
-  refused_too : {X Y : Type 0} {refused : PairRefused K V} → TakesMemory {X = X} s t placed pair (Err refused) → TakesMemory {X = Y} s t placed pair (Err refused)
+  pub refused_too : {X Y : Type 0} {refused : PairRefused K V} → TakesMemory {X = X} s t placed pair (Err refused) → TakesMemory {X = Y} s t placed pair (Err refused)
   refused_too is = record { promise = tt; succeeds = is.succeeds; handed_back = is.handed_back; leaves = is.leaves; inners = is.inners; void = is.void }
 
 -- ---- points that are applied
@@ -43,8 +43,8 @@ module _ {K V : Type 0} {s t : Nodes K V} {placed : Promise} {pair : K × V} whe
 module _ {K V : Type 0} (bytes : K → List ℕ) {P : ℕ} {s t : Nodes K V} {pair : K × V} where
   pub applied : {key : List ℕ} {point : InsertPoint} {done : InsertResult K V} → IsPointIn (of_key bytes) P s key point →
       ForTree (of_key bytes) P s point.root (λ pairs layout. IsInserted (of_key bytes) P s t point pair pairs layout done) →
-      t.promise ≡ promise_after (placed_for s point.insert_kind) s.promise → IsApplied (of_key bytes) P s t point pair (Ok done)
-  applied {point = point} {done} (pairs, layout, by, answers) all promise =
+      IsApplied (of_key bytes) P s t point pair done
+  applied {point = point} {done} (pairs, layout, by, answers) all =
       let own = all pairs layout by in
       record {
         canonical = λ ps l b. ((all ps l b).tree, (all ps l b).canonical);
@@ -61,46 +61,11 @@ module _ {K V : Type 0} (bytes : K → List ℕ) {P : ℕ} {s t : Nodes K V} {pa
         apart = tree_apart (of_key bytes) P s t (Some point.root) (Some done.new_root) pairs (put (of_key bytes) pair pairs) (Some layout)
             (Some own.tree) by own.canonical own.kept.others;
         touches = own.touches;
-        memory = granted promise;
-      }
-
-  -- an allocation fails, and the pair is returned
-  pub refused : {point : InsertPoint} → (IsTrue (is_covered (placed_for s point.insert_kind) s.promise) → false ≡ true) →
-      t.leaves ≡ s.leaves → t.inners ≡ s.inners →
-      t.promise ≡ no_promise → IsApplied (of_key bytes) P s t point pair (Err (record { key = pair.0; value = pair.1 }))
-  refused gone leaves inners void =
-      record {
-        canonical = λ ps l b. tt;
-        root = tt;
-        leaf = tt;
-        replaced = λ ps l b. tt;
-        kept = λ ps l b. tt;
-        apart = tt;
-        touches = tt;
-        memory = handed_back gone leaves inners void;
-      }
-
-  -- the same where the pair would have replaced others
-  pub refused_overwrite : {point : OverwritePoint} →
-      (IsTrue (is_covered (placed_for_overwrite point.overwrite_point.kind) s.promise) → false ≡ true) → t.leaves ≡ s.leaves →
-      t.inners ≡ s.inners → t.promise ≡ no_promise →
-      IsPrefixApplied (of_key bytes) P s t (points.OverwritePoint point) pair (Err (record { key = pair.0; value = pair.1 }))
-  refused_overwrite gone leaves inners void =
-      record {
-        canonical = λ ps l b. tt;
-        root = tt;
-        leaf = tt;
-        replaced = λ ps l b. tt;
-        removed = λ ps l b. tt;
-        kept = λ ps l b. tt;
-        apart = tt;
-        touches = λ ps l b. tt;
-        memory = handed_back gone leaves inners void;
       }
 
   -- an insertion is an overwrite, where only an equal key is stored
-  pub applied_prefix : {point : InsertPoint} {done : InsertResult K V} → IsApplied (of_key bytes) P s t point pair (Ok done) →
-      IsPrefixApplied (of_key bytes) P s t (points.InsertPoint point) pair (Ok (record { insert_result = done; leafs_removed = 0 }))
+  pub applied_prefix : {point : InsertPoint} {done : InsertResult K V} → IsApplied (of_key bytes) P s t point pair done →
+      IsPrefixApplied (of_key bytes) P s t (points.InsertPoint point) pair (record { insert_result = done; leafs_removed = 0 })
   applied_prefix {done = done} is =
       record {
         canonical = λ pairs layout by.
@@ -118,19 +83,13 @@ module _ {K V : Type 0} (bytes : K → List ℕ) {P : ℕ} {s t : Nodes K V} {pa
         kept = is.kept;
         apart = is.apart;
         touches = λ pairs layout by. is.touches;
-        memory = granted is.memory.promise;
       }
-
-  pub refused_prefix : {point : InsertPoint} {refused : PairRefused K V} → IsApplied (of_key bytes) P s t point pair (Err refused) →
-      IsPrefixApplied (of_key bytes) P s t (points.InsertPoint point) pair (Err refused)
-  refused_prefix is = search (rules, refused_too {Y = PrefixInsertResult K V} is.memory)
 
 pub overwritten : {K V : Type 0} {bytes : K × V → List ℕ} {P : ℕ} {s t : Nodes K V} {point : OverwritePoint} {pair : K × V} {key : List ℕ}
     {done : PrefixInsertResult K V} →
     IsOverwritePointIn bytes P s key point → ForTree bytes P s point.root (λ pairs layout. IsOverwritten bytes P s t point pair pairs layout done) →
-    t.promise ≡ promise_after (placed_for_overwrite point.overwrite_point.kind) s.promise →
-    IsPrefixApplied bytes P s t (points.OverwritePoint point) pair (Ok done)
-overwritten {bytes = bytes} {P} {s} {t} {point} {pair} {done = done} (pairs, layout, by, answers) all promise =
+    IsPrefixApplied bytes P s t (points.OverwritePoint point) pair done
+overwritten {bytes = bytes} {P} {s} {t} {point} {pair} {done = done} (pairs, layout, by, answers) all =
     let own = all pairs layout by in
     record {
       canonical = λ ps l b. ((all ps l b).tree, (all ps l b).canonical);
@@ -147,5 +106,4 @@ overwritten {bytes = bytes} {P} {s} {t} {point} {pair} {done = done} (pairs, lay
       apart = tree_apart bytes P s t (Some point.root) (Some done.insert_result.new_root) pairs (overwrite bytes pair pairs) (Some layout)
           (Some own.tree) by own.canonical own.kept.others;
       touches = λ ps l b. (all ps l b).touches;
-      memory = granted promise;
     }

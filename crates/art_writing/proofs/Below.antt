@@ -57,7 +57,7 @@ neither true a b c off non e = off e
 neither false a b c off non e = non e
 
 -- a parent that keeps its kind has more children than the kind's minimum
-pub keeps_spare : (kind : NodeType) (count : ℕ) → change_of kind count ≡ keeps → kind_least kind < count
+keeps_spare : (kind : NodeType) (count : ℕ) → change_of kind count ≡ keeps → kind_least kind < count
 keeps_spare Node4 count e = leb-false count 2 (refused (leb count 2) is_compressed keeps (λ f. absurd cc) e)
 keeps_spare Node16 count e = leb-false count 5 (refused (leb count 5) (shrinks Node4) keeps (λ f. absurd cc) e)
 keeps_spare Node48 count e = leb-false count 17 (refused (leb count 17) (shrinks Node16) keeps (λ f. absurd cc) e)
@@ -65,7 +65,7 @@ keeps_spare Node256 count e = leb-false count 49 (refused (leb count 49) (shrink
 keeps_spare Leaf count e = leb-false count 0 (refused (leb count 0) (shrinks Leaf) keeps (λ f. absurd cc) e)
 
 -- one that shrinks has the minimum, and is no Node4
-pub shrinks_least : (kind to : NodeType) (count : ℕ) → change_of kind count ≡ shrinks to → (kind ≢ Node4) × (count ≤ kind_least kind)
+shrinks_least : (kind to : NodeType) (count : ℕ) → change_of kind count ≡ shrinks to → (kind ≢ Node4) × (count ≤ kind_least kind)
 shrinks_least Node4 to count e = let t = passed (leb count 2) is_compressed keeps (shrinks to) (λ f. absurd cc) e in absurd (cc (e, t))
 shrinks_least Node16 to count e = ((λ f. absurd cc), leb-true count 5 (passed (leb count 5) (shrinks Node4) keeps (shrinks to) (λ f. absurd cc) e))
 shrinks_least Node48 to count e = ((λ f. absurd cc), leb-true count 17 (passed (leb count 17) (shrinks Node16) keeps (shrinks to) (λ f. absurd cc) e))
@@ -192,7 +192,7 @@ module _ {K V : Type 0} {bytes : K × V → List ℕ} {P : ℕ} {s : Nodes K V} 
         record { leaf = ready.0; beside = ready.1; taken = taken }
 
     -- the parent as the store has it
-    pub parent_there : (node : Inner) × (get s.inners parent ≡ Some node) × (parent.kind ≢ Leaf) ×
+    parent_there : (node : Inner) × (get s.inners parent ≡ Some node) × (parent.kind ≢ Leaf) ×
         (length node.children ≡ suc (length (bytes_of (join at.frame.left at.frame.right))))
     parent_there =
         let (off, node, got, head, kids) = parent_is at.below in (

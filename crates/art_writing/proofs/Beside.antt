@@ -29,7 +29,7 @@ module _ {K V : Type 0} (s : Nodes K V) (xs zs : List OpaqueNodePtr) (linked : A
       (ap (λ z. z.previous) same, ap (λ z. z.next) same)
 
   -- the predecessor of the first leaf after a place is the last one before the place
-  pub before_first : (p : LeafPtr) (rest : List OpaqueNodePtr) (previous : Option LeafPtr) → zs ≡ leaf_name p ∷ rest →
+  before_first : (p : LeafPtr) (rest : List OpaqueNodePtr) (previous : Option LeafPtr) → zs ≡ leaf_name p ∷ rest →
       IsSomeAnd (map.get s.leaves p) (λ leaf. previous ≡ leaf.previous) → option_map leaf_name previous ≡ last_or xs None
   before_first p rest previous e is = go (map.get s.leaves p) refl is
     where
@@ -41,7 +41,7 @@ module _ {K V : Type 0} (s : Nodes K V) (xs zs : List OpaqueNodePtr) (linked : A
           (link_of (links_at s) xs rest (leaf_name p) None None (subst (λ z. AreLinked (links_at s) None (xs ++ z) None) e linked))).0
 
   -- the successor of the last leaf before a place is the first one after the place
-  pub after_last : (p : LeafPtr) (others : List OpaqueNodePtr) (next : Option LeafPtr) → xs ≡ others ++ leaf_name p ∷ [] →
+  after_last : (p : LeafPtr) (others : List OpaqueNodePtr) (next : Option LeafPtr) → xs ≡ others ++ leaf_name p ∷ [] →
       IsSomeAnd (map.get s.leaves p) (λ leaf. next ≡ leaf.next) → option_map leaf_name next ≡ first_or zs None
   after_last p others next e is = go (map.get s.leaves p) refl is
     where

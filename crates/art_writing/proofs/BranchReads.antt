@@ -108,10 +108,10 @@ module _ (place part : List ℕ) (x : ℕ) (r key : List ℕ) (is : key ≡ plac
   regrouped : key ≡ (place ++ part) ++ x ∷ r
   regrouped = is ∙ sym (append_assoc place part (x ∷ r))
 
-  pub way_of : IsFront ((place ++ part) ++ x ∷ []) key
+  way_of : IsFront ((place ++ part) ++ x ∷ []) key
   way_of = (r, regrouped ∙ sym (append_assoc (place ++ part) (x ∷ []) r))
 
-  pub byte_of : (n : ℕ) → n ≡ length place + length part → get_or key n 0 ≡ x
+  byte_of : (n : ℕ) → n ≡ length place + length part → get_or key n 0 ≡ x
   byte_of n e = ap (λ k. get_or k n 0) regrouped ∙ get_or_at (place ++ part) x r 0 n (length-append place part ∙ sym e)
 
   pub part_of : (d n : ℕ) → d ≡ length place → n ≡ length place + length part → take (n - d) (drop d key) ≡ part
@@ -119,11 +119,11 @@ module _ (place part : List ℕ) (x : ℕ) (r key : List ℕ) (is : key ≡ plac
       ap (λ z. take (n - d) (drop z key)) e ∙ ap (take (n - d)) (after_front place key (part ++ x ∷ r) is)
       ∙ take_at part (x ∷ r) (n - d) (omega arith)
 
-  pub long_of : (n : ℕ) → n ≡ length place + length part → n < length key
+  long_of : (n : ℕ) → n ≡ length place + length part → n < length key
   long_of n e = let l = ap length regrouped in omega (arith, simp length-append at l)
 
 -- both keys have different bytes after the place and the shared part
-pub record AreWays (place key other : List ℕ) (used : ℕ) : Type 0 where
+record AreWays (place key other : List ℕ) (used : ℕ) : Type 0 where
   pub part : List ℕ
   pub x : ℕ
   pub y : ℕ
@@ -135,7 +135,7 @@ pub record AreWays (place key other : List ℕ) (used : ℕ) : Type 0 where
   pub used_is : used ≡ length place + length part
 
 -- keys that are not related differ after what they share
-pub unrelated_ways : (place key other : List ℕ) (used : ℕ) → IsFront place key → IsFront place other → are_related key other ≡ false →
+unrelated_ways : (place key other : List ℕ) (used : ℕ) → IsFront place key → IsFront place other → are_related key other ≡ false →
     used ≡ shared_len key other → AreWays place key other used
 unrelated_ways place key other used front fronts apart shared =
     let f = unrelated_part key other apart in
@@ -154,7 +154,7 @@ unrelated_ways place key other used front fronts apart shared =
     }
 
 -- a key that differs from a prefix after a place differs from what continues the prefix
-pub prefix_ways : (place prefix key other : List ℕ) (depth matched : ℕ) → depth ≡ length place → key ≡ place ++ drop depth key →
+prefix_ways : (place prefix key other : List ℕ) (depth matched : ℕ) → depth ≡ length place → key ≡ place ++ drop depth key →
     IsFront (place ++ prefix) other → matched ≡ shared_len prefix (drop depth key) → matched < length prefix → depth + matched < length key →
     (ways : AreWays place key other (depth + matched)) × (ways.y ≡ get_or prefix matched 0)
 prefix_ways place prefix key other depth matched deep is (rest, whole) shared inside long =
@@ -195,7 +195,7 @@ module _ {K V : Type 0} {bytes : K × V → List ℕ} {P : ℕ} {s : Nodes K V} 
   )
 
   -- what is read for a branch
-  pub branch_is : {used : ℕ} {part : List ℕ} {branch : Branch P} {old_byte new_byte : ℕ} (w : AreWays place key (least_key bytes at.node) used) →
+  branch_is : {used : ℕ} {part : List ℕ} {branch : Branch P} {old_byte new_byte : ℕ} (w : AreWays place key (least_key bytes at.node) used) →
       point.key_bytes_used ≡ depth_of at.path → part ≡ take (used - point.key_bytes_used) (drop point.key_bytes_used key) → branch.header ≡ header_of P part →
       branch.old_byte ≡ old_byte → branch.new_byte ≡ new_byte → old_byte ≡ w.y → new_byte ≡ get_or key used 0 →
       IsBeside s at.node (side_of new_byte old_byte) branch.previous branch.next → IsBranch bytes key at.path at.node branch

@@ -130,7 +130,7 @@ module _ {K V : Type 0} {bytes : K × V → List ℕ} {P : ℕ} {s : Nodes K V} 
     {layout : Tree OpaqueNodePtr (K × V)} {pair : K × V} (by : IsCanonicalTree bytes P s point.root pairs layout)
     (at : AnswersTo bytes P layout (bytes pair) point) {branch : Branch P} (is : IsBranch bytes (bytes pair) at.path at.node branch)
     {mid t : Nodes K V} {old : OpaqueNodePtr} {done : InsertResult K V} (placed : IsBranchPlaced mid t point old branch pair done) where
-  abbrev pub new_leaf : LeafNode K V
+  abbrev new_leaf : LeafNode K V
   new_leaf = record { key = pair.0; value = pair.1; previous = branch.previous; next = branch.next }
 
   -- the store's equations, where the leaves were the same before, and the inner nodes except for those that were touched

@@ -1,5 +1,5 @@
 -- The copying of a tree's children, one after the other, below a node that was placed for them.
-use Rattle.std.proofs.Common.{◌≡◌, ◌≢◌, ℕ, ◌<◌, ◌≤◌, ◌++◌, List, [], ◌∷◌, length, map, Option, Some, None, IsSome, IsSomeAnd, true, refl, ap, sym, ◌∙◌, subst, arith, append-nil, ◌⊎◌, inl, inr}
+use Rattle.std.proofs.Common.{◌≡◌, ◌≢◌, ℕ, ◌<◌, ◌≤◌, ◌++◌, List, [], ◌∷◌, length, map, Option, Some, None, IsSome, IsSomeAnd, refl, ap, sym, ◌∙◌, subst, arith, append-nil, ◌⊎◌, inl, inr}
 use Rattle.std.specs.List.{AllByRecursion as Each}
 use Rattle.std.specs.Option.{option_map, option_or}
 use Rattle.std.specs.FinMap.{get, insert}
@@ -18,8 +18,7 @@ use Rattle.art_parts.specs.declared.names.OpaqueNodePtr.{OpaqueNodePtr}
 use Rattle.art_model.specs.Trees.{Tree, leaf, inner, Subtrees, child, no_child, NodeHeader}
 use Rattle.art_model.specs.Radix.{BytesRise, bytes_of, join, HaveChildren, HaveChildrenBelow}
 use Rattle.art_model.specs.Heights.{tree_height, height_below}
-use Rattle.art_model.specs.Layouts.{leaf_node, name_of, shape_of, slots_of, names_of, names_below, leaf_names, leaf_names_below, inner_names, HoldsBelow, AreDistinct, IsLayout, first_or, last_or}
-use Rattle.art_model.specs.Kept.{Frees, SameNodes}
+use Rattle.art_model.specs.Layouts.{leaf_node, name_of, slots_of, names_of, names_below, leaf_names, leaf_names_below, inner_names, HoldsBelow, AreDistinct, IsLayout, first_or, last_or}
 use Rattle.art_model.specs.Roots.{IsFullTree}
 use Rattle.art_model.specs.Stores.{node_at, pair_of, header_at}
 use Rattle.art_model.specs.Writes.{as_inner, with_links_around, IsThere}
@@ -28,7 +27,7 @@ use Rattle.art_model.specs.Promises.{tree_taken, children_taken}
 use Rattle.art_model.specs.Gains.{as_leaf, without, Loses, Gains}
 use Rattle.art_model.proofs.leaves.Chains.{are_there}
 use Rattle.art_model.proofs.radix.Copies.{copied_bytes, copies_joined}
-use Rattle.art_model.proofs.stores.Gains.{GainsChild, frees_lost, gained_child, gained_leaf, gained_inner, child_seen}
+use Rattle.art_model.proofs.stores.Gains.{GainsChild, gained_child, gained_leaf, gained_inner, child_seen}
 use Rattle.art_model.proofs.leaves.Links.{first_or-append, last_or-append, last_in, first_in}
 use Rattle.art_model.proofs.lists.Lists.{each_in, each_from}
 use Rattle.art_model.proofs.stores.Names.{IsTaken, all_taken, taken_in, takes_leaves}
@@ -44,8 +43,6 @@ use Rattle.art_model.proofs.stores.Writes.{inner_at, node_at-leaf, same_inner}
 use Rattle.art_writing.specs.declared.clone.CloneResult.{CloneResult}
 use Rattle.art_writing.specs.declared.clone.LeafEnds.{LeafEnds}
 use Rattle.art_writing.specs.Cloned.{IsCopied}
-use Rattle.art_writing.specs.Freed.{CanGo, names_to_free}
-use Rattle.art_writing.proofs.FreedTrees.{all_can, all_go}
 
 module _ {A : Type 0} where
   -- the bytes of a node's children are in order
@@ -329,18 +326,6 @@ module _ {K V : Type 0} {IsClone : K × V → K × V → Type 0} where
     refused : IsRefused old next name
     refused = cloning_refused (so_far source.0 source.1) leaves inners named
 
-    -- it can be freed
-    pub refused_can_go : (shape : Tree OpaqueNodePtr (Unit {0})) × CanGo next true name shape
-    refused_can_go = (shape_of refused.tree, all_can refused.is_layout)
-
-    pub refused_undone : {freed : Nodes K V} →
-        ((shape : Tree OpaqueNodePtr (Unit {0})) → CanGo next true name shape → Frees (names_to_free true shape) next freed) →
-        ((q : InnerPtr) → q.kind ≡ Leaf → get freed.inners q ≡ get next.inners q) → SameNodes old freed
-    unfolding refused refused_can_go
-    refused_undone {freed} went improper =
-        let lost = frees_lost refused.is_layout.holds (all_go refused.tree (went refused_can_go.0 refused_can_go.1)) improper in
-        (refused.leaves freed lost, refused.inners freed lost)
-
   -- all children are copied
   cloning_end : (s : Nodes K V) (tree : Tree OpaqueNodePtr (K × V)) (old now : Nodes K V) (parent : InnerPtr) (min max : Option LeafPtr) →
       IsCloning IsClone s tree old now parent [] min max → (p : LeafPtr) × (q : LeafPtr) × (min ≡ Some p) × (max ≡ Some q) ×
@@ -398,7 +383,7 @@ module _ {K V : Type 0} {IsClone : K × V → K × V → Type 0} where
         }
 
     -- there is a first leaf then
-    pub has_first : IsSome min
+    has_first : IsSome min
     has_first =
         let (p, q, e, g, copied) = all in
         subst IsSome (sym e) refl

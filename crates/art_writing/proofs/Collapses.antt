@@ -361,7 +361,7 @@ module _ {K V : Type 0} {bytes : K × V → List ℕ} {P : ℕ} {s : Nodes K V} 
             | inr i ↦ in_old k (inr (inr i))
           ]
 
-      pub now_others : KeepsOthers s t (names_of (plug fs node)) (names_of (plug fs (leaf (leaf_name n) x)))
+      now_others : KeepsOthers s t (names_of (plug fs node)) (names_of (plug fs (leaf (leaf_name n) x)))
       now_others = record {
         beside = λ k not_old not_new. freed.beside k (λ i. not_old (in_old k (inr (inl (rest_in k i))))) (λ z. z) ∙
             other_held k (λ i. not_old (in_old k (inr (inl i)))) (λ up. not_old (in_old k (inl (parent_before fs k up))))

@@ -40,7 +40,7 @@ module _ {K V : Type 0} (IsClone : K × V → K × V → Type 0) (s : Nodes K V)
     pub turn : (cloning_next refl cloning).below ≡ tree
 
   -- The nodes above a tree, the innermost first, up to the root of the whole: of each the child below it is being copied.
-  abbrev pub AreAbove : Nodes K V → Tree OpaqueNodePtr (K × V) → List Above → Nodes K V → Tree OpaqueNodePtr (K × V) → Type 0
+  abbrev AreAbove : Nodes K V → Tree OpaqueNodePtr (K × V) → List Above → Nodes K V → Tree OpaqueNodePtr (K × V) → Type 0
   AreAbove start whole [] now tree = (now ≡ start) × (tree ≡ whole)
   AreAbove start whole (f ∷ fs) now tree = IsAboveCopy (AreAbove start whole fs) f now tree
 
@@ -83,7 +83,7 @@ module _ {K V : Type 0} (s : Nodes K V) where
   left_above-more [] f = omega arith
   left_above-more (g ∷ gs) f = let h = left_above-more gs f in omega arith
 
-  pub size_at_is : (name : OpaqueNodePtr) (t : Tree OpaqueNodePtr (K × V)) → IsLayout (node_at s) name t → size_at name ≡ length (names_of t)
+  size_at_is : (name : OpaqueNodePtr) (t : Tree OpaqueNodePtr (K × V)) → IsLayout (node_at s) name t → size_at name ≡ length (names_of t)
   size_at_is name t is = ap (λ z. length (names_of z)) (read_at_is s (shape_of t) name (has_shape s name t is).0) ∙ ap length (names_of-shape t)
 
   sizes_are : (cs : Subtrees OpaqueNodePtr (K × V)) → HoldsBelow (node_at s) cs → AreDistinct (names_below cs) →
@@ -138,7 +138,7 @@ module _ {K V : Type 0} {IsClone : K × V → K × V → Type 0} {s : Nodes K V}
       {byte : ℕ} {name : OpaqueNodePtr} (ends : Option LeafEnds)
       (is : IsCopying IsClone s start whole above now copy rest (first_leaf ends) (last_leaf ends)) (steps : rest ≡ (byte, name) ∷ left) where
     -- the next child
-    abbrev pub with_next : IsCloning IsClone s is.tree is.old now copy ((byte, name) ∷ left) (first_leaf ends) (last_leaf ends)
+    abbrev with_next : IsCloning IsClone s is.tree is.old now copy ((byte, name) ∷ left) (first_leaf ends) (last_leaf ends)
     with_next = subst (λ l. IsCloning IsClone s is.tree is.old now copy l (first_leaf ends) (last_leaf ends)) steps is.cloning
 
     abbrev pub next_of : NextCloned IsClone s is.tree is.old now copy byte name left (first_leaf ends) (last_leaf ends)
@@ -216,7 +216,7 @@ module _ {K V : Type 0} {IsClone : K × V → K × V → Type 0} {s : Nodes K V}
         subst (λ o. IsCopied IsClone whole o now done) same (subst (λ t. IsCopied IsClone t is.old now done) all node_copied)
 
     module _ (f : Above) (fs : List Above) (e : above ≡ f ∷ fs) where
-      abbrev pub outer_of : IsAboveCopy IsClone s (AreAbove IsClone s start whole fs) f is.old is.tree
+      abbrev outer_of : IsAboveCopy IsClone s (AreAbove IsClone s start whole fs) f is.old is.tree
       outer_of = subst (λ l. AreAbove IsClone s start whole l is.old is.tree) e is.outer
 
       -- the copying of the node above continues

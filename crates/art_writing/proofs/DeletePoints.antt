@@ -1,25 +1,25 @@
 -- points at which leaves are removed
-use Rattle.std.proofs.Common.{◌≡◌, ℕ, List, [], false, true, not, ap, sym, ◌∙◌, subst, Option, Some}
+use Rattle.std.proofs.Common.{◌≡◌, ℕ, List, ap, sym, ◌∙◌, subst, Option, Some, None}
+use Rattle.std.specs.Prelude.{IfNone}
 use Rattle.std.specs.Option.{option_map}
 use Rattle.art_nodes.specs.Nodes.{Nodes}
 use Rattle.art_parts.specs.Names.{leaf_name}
 use Rattle.art_parts.specs.declared.names.OpaqueNodePtr.{OpaqueNodePtr}
-use Rattle.art_model.specs.Canonical.{IsCanonicalTree}
-use Rattle.art_model.specs.Keys.{are_same}
+use Rattle.art_model.specs.Canonical.{IsCanonical, IsCanonicalTree}
 use Rattle.art_model.specs.Lookups.{HasLeaf}
-use Rattle.art_model.specs.Pairs.{first_of, last_of, remove_key, with_key}
+use Rattle.art_model.specs.Pairs.{first_of, last_of, remove_key, remove_reply}
 use Rattle.art_model.specs.Radix.{pairs_of}
+use Rattle.art_model.specs.Roots.{ForTree, IsCanonicalRoot}
 use Rattle.art_model.specs.Stores.{pair_of}
 use Rattle.art_model.specs.Trees.{Tree}
-use Rattle.art_model.proofs.lists.Filters.{filter_all, none_passes}
 use Rattle.art_model.proofs.leaves.LeavesFound.{leaf_found}
-use Rattle.art_model.proofs.lists.Lists.{Each-weaker}
 use Rattle.art_reading.specs.declared.descent.End.{End}
 use Rattle.art_reading.specs.declared.descent.End.TheVariants.{First, Last}
 use Rattle.art_reading.specs.PathSteps.{path_of}
 use Rattle.art_reading.specs.Descents.{LeadsToEnd, of_two}
 use Rattle.art_writing.specs.declared.delete.DeletePoint.{DeletePoint}
-use Rattle.art_writing.specs.Deleted.{IsDeletePoint, LeadsTo, pair_at}
+use Rattle.art_writing.specs.Deleted.{HasDeletePoint, HasKeyPoint, IsDeletePoint, LeadsTo, pair_at}
+use Rattle.art_writing.proofs.KeysFound.{point_none, point_some, removes_none}
 
 -- the path to a leaf that a point names makes the point that leaf's
 pub leads_to : {A : Type 0} {tree : Tree OpaqueNodePtr A} {x : A} {point : DeletePoint} (is : HasLeaf tree (leaf_name point.leaf_node_ptr) x) →
@@ -46,9 +46,32 @@ pub point_at_end : {A : Type 0} {tree : Tree OpaqueNodePtr A} {pairs : List A} {
 point_at_end First same (is, path_is) = (_, ap first_of same ∙ is.pair_is, leads_to is.has path_is)
 point_at_end Last same (is, path_is) = (_, ap last_of same ∙ is.pair_is, leads_to is.has path_is)
 
--- where no key is equal nothing is removed
-pub nothing_goes : {A : Type 0} (bytes : A → List ℕ) (key : List ℕ) (pairs : List A) → with_key bytes key pairs ≡ [] → remove_key bytes key pairs ≡ pairs
-nothing_goes bytes key pairs e =
-    filter_all (λ y. not (are_same key (bytes y))) pairs
-    (Each-weaker (λ y. are_same key (bytes y) ≡ false) (λ y. not (are_same key (bytes y)) ≡ true) (λ y f. ap not f) pairs
-    (none_passes (λ y. are_same key (bytes y)) pairs e))
+module _ {K V : Type 0} (bytes : K × V → List ℕ) (P : ℕ) {s : Nodes K V} {name : OpaqueNodePtr} (is : IsCanonicalRoot bytes P s name) where
+  -- a point of the pair that is sought
+  pub has_delete_point : {sought : List (K × V) → Option (K × V)} {result : Option DeletePoint} →
+      ForTree bytes P s name (λ pairs layout. IsDeletePoint layout (sought pairs) result) → HasDeletePoint bytes P s name sought result
+  has_delete_point {sought} {result = None} at =
+      record { point = at; pair = λ pairs layout by. sym (point_none layout (sought pairs) (at pairs layout by)); applies = tt }
+  has_delete_point {sought} {result = Some point} at =
+      let (pairs, layout, by) = is in
+      let (x, e, leads) = point_some layout point (sought pairs) (at pairs layout by) in
+      record {
+        point = at;
+        pair = λ ps l b. let (y, is, to) = point_some l point (sought ps) (at ps l b) in pair_named bytes P b to ∙ sym is;
+        applies = (pairs, layout, x, by, leads);
+      }
+
+  -- a point of a key's pair
+  pub has_key_point : {key : List ℕ} {result : Option DeletePoint} →
+      ForTree bytes P s name (λ pairs layout. IsDeletePoint layout (remove_reply bytes key pairs) result) → HasKeyPoint bytes P s name key result
+  has_key_point {key} {result} at =
+      let has = has_delete_point at in
+      record { point = has.point; pair = has.pair; absent = λ pairs layout by. absent result (at pairs layout by) by; applies = has.applies }
+    where
+      absent : {pairs : List (K × V)} {layout : Tree OpaqueNodePtr (K × V)} (result : Option DeletePoint) →
+          IsDeletePoint layout (remove_reply bytes key pairs) result → IsCanonicalTree bytes P s name pairs layout →
+          IfNone result (IsCanonical bytes P s (Some name) (remove_key bytes key pairs))
+      absent {pairs} {layout} None at by =
+          let none = removes_none bytes key pairs (point_none layout (remove_reply bytes key pairs) at) in
+          (layout, subst (λ ps. IsCanonicalTree bytes P s name ps layout) (sym none) by)
+      absent (Some point) at by = tt

@@ -124,13 +124,13 @@ module _ {K V : Type 0} (bytes : K × V → List ℕ) (P : ℕ) (t : Nodes K V) 
 
 module _ {A : Type 0} (bytes : A → List ℕ) where
   -- the pair that a removal returns has the key
-  pub reply_key : (key : List ℕ) (pairs : List A) (x : A) → remove_reply bytes key pairs ≡ Some x → bytes x ≡ key
+  reply_key : (key : List ℕ) (pairs : List A) (x : A) → remove_reply bytes key pairs ≡ Some x → bytes x ≡ key
   reply_key key pairs x e =
       same_equal key (bytes x) (first_has (λ y. are_same key (bytes y) ≡ true) (with_key bytes key pairs) x
       (filter_passes (λ y. are_same key (bytes y)) pairs) e)
 
   -- the first pair of a map is removed by its key
-  pub first_goes : (pairs : List A) (x : A) → IsMap bytes pairs → first_of pairs ≡ Some x → remove_key bytes (bytes x) pairs ≡ without_first pairs
+  first_goes : (pairs : List A) (x : A) → IsMap bytes pairs → first_of pairs ≡ Some x → remove_key bytes (bytes x) pairs ≡ without_first pairs
   first_goes [] x is e = absurd cc
   first_goes (y ∷ ys) x is e = subst (λ z. remove_key bytes (bytes z) (y ∷ ys) ≡ ys) (some_same e) (first_is_removed_by_key bytes y ys is)
 

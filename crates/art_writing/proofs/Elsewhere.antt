@@ -15,7 +15,7 @@ use Rattle.art_model.proofs.stores.Apart.{name_used, tree_kept}
 use Rattle.art_model.proofs.stores.Views.{held_in_inner, leaf_or}
 
 -- placing a leaf leaves the nodes in use
-pub leaf_elsewhere : {K V : Type 0} (s t : Nodes K V) (n : LeafPtr) (x : LeafNode K V) → get s.leaves n ≡ None → t.leaves ≡ insert s.leaves n x →
+leaf_elsewhere : {K V : Type 0} (s t : Nodes K V) (n : LeafPtr) (x : LeafNode K V) → get s.leaves n ≡ None → t.leaves ≡ insert s.leaves n x →
     t.inners ≡ s.inners → (k : OpaqueNodePtr) → content_at s k ≢ None → content_at t k ≡ content_at s k
 leaf_elsewhere s t n x free leaves inners k used = elim (leaf_or k) [
   | inl (p, e) ↦ subst (λ (z : OpaqueNodePtr). content_at t z ≡ content_at s z) (sym e)

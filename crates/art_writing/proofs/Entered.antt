@@ -210,7 +210,7 @@ module _ {K V : Type 0} {bytes : K × V → List ℕ} {P : ℕ} {s : Nodes K V} 
       (unequal cs h.1 off.1)
 
   -- so nothing is replaced
-  pub entry_reply : first_of (with_key bytes key pairs) ≡ None
+  entry_reply : first_of (with_key bytes key pairs) ≡ None
   entry_reply =
       let others = subst (Each (λ c. c ≢ b)) (sym (bytes_of-join e.left e.right)) (Each-append (λ c. c ≢ b) (bytes_of e.left) (bytes_of e.right)
       (Each-weaker (λ c. c < b) (λ c. c ≢ b) (λ c l same. omega arith) (bytes_of e.left) e.gap.low)

@@ -16,9 +16,9 @@ use Rattle.art_model.proofs.keys.Texts.{front_short, not_front, true_front}
 use Rattle.art_model.proofs.leaves.LeavesFound.{leaf_found}
 use Rattle.art_reading.specs.Matching.{shared_len}
 use Rattle.art_reading.proofs.LongestTexts.{own_pair}
-use Rattle.art_writing.specs.Deleted.{IsDeletePoint, LeadsTo, pair_at}
+use Rattle.art_writing.specs.Deleted.{IsDeletePoint, LeadsTo}
 use Rattle.art_writing.specs.declared.delete.DeletePoint.{DeletePoint}
-use Rattle.art_writing.proofs.DeletePoints.{pair_named, point_there}
+use Rattle.art_writing.proofs.DeletePoints.{point_there}
 use Rattle.art_writing.proofs.KeysFound.{first_below, none_below, point_none, point_some}
 
 module _ {K V : Type 0} {bytes : K × V → List ℕ} {P : ℕ} {s : Nodes K V} {root : OpaqueNodePtr} {pairs : List (K × V)}
@@ -56,8 +56,8 @@ module _ {K V : Type 0} {bytes : K × V → List ℕ} {P : ℕ} {s : Nodes K V} 
           absurd (omega arith)))
 
       -- it is the key itself
-      pub no_longer : length own ≤ n → IsDeletePoint layout (remove_reply bytes key pairs) (Some point) × (pair_at s (Some point) ≡ remove_reply bytes key pairs)
+      pub no_longer : length own ≤ n → IsDeletePoint layout (remove_reply bytes key pairs) (Some point)
       no_longer all =
           let (x, is, leads) = its_pair in
           let found = is ∙ ap (λ b. if b then Some x else None) (true_front own key (shared_whole own key (omega arith))) in
-          (point_there found leads, pair_named bytes P by leads ∙ sym found)
+          point_there found leads

@@ -1,9 +1,8 @@
 -- What is freed, one name after another.
-use Rattle.std.proofs.Common.{◌≡◌, ◌≢◌, ℕ, ◌-◌, suc, List, [], ◌∷◌, ◌++◌, Option, Some, None, IsSome, refl, ap, sym, ◌∙◌, subst, append-nil, append_assoc, arith, cond, is_some, true, inl, inr}
+use Rattle.std.proofs.Common.{◌≡◌, ◌≢◌, ◌-◌, suc, List, [], ◌∷◌, ◌++◌, Option, Some, None, IsSome, refl, ap, sym, ◌∙◌, subst, append-nil, append_assoc, arith, cond, is_some, true, inl, inr}
 use Rattle.std.specs.Option.{option_map, option_and_then}
 use Rattle.std.specs.FinMap as map
-use Rattle.std.proofs.lemmas.Bool.{false≢true, ne_eqb}
-use Rattle.art_inner.specs.Inner.{IsBelow, remove_child}
+use Rattle.std.proofs.lemmas.Bool.{false≢true}
 use Rattle.art_parts.specs.Names.{leaf_name, leaf_cmp}
 use Rattle.art_nodes.specs.Nodes.{Nodes}
 use Rattle.art_parts.specs.declared.names.LeafPtr.{LeafPtr}
@@ -28,7 +27,7 @@ module _ {K V : Type 0} where
   frees_none s = record { beside = λ k off none. refl; gone = λ k i none. absurd i; taken = λ k i none. absurd i }
 
   -- some names, and then others
-  pub frees_both : {s t u : Nodes K V} (xs ys : List OpaqueNodePtr) → ((k : OpaqueNodePtr) → IsIn k xs → IsIn k ys → ⊥) → Frees xs s t →
+  frees_both : {s t u : Nodes K V} (xs ys : List OpaqueNodePtr) → ((k : OpaqueNodePtr) → IsIn k xs → IsIn k ys → ⊥) → Frees xs s t →
       Frees ys t u → Frees (xs ++ ys) s u
   frees_both xs ys apart first second = record {
     beside = λ k off none. second.beside k (λ i. off (in_right k xs ys i)) none ∙ first.beside k (λ i. off (in_left k xs ys i)) none;
@@ -128,8 +127,3 @@ leaf_less m p some =
     go (Some x) h = refl
 
 -- ---- the bytes of children are in order
-
--- no other child has its byte
-pub below_kept : (b : ℕ) (cs : List (ℕ × OpaqueNodePtr)) → IsBelow b cs → remove_child cs b ≡ cs
-below_kept b [] h = refl
-below_kept b (c ∷ cs) h = rw (ne_eqb c.0 b (λ e. let l = h.0 in omega arith)) (ap (λ z. c ∷ z) (below_kept b cs h.1))

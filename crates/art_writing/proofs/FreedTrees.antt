@@ -28,7 +28,7 @@ use Rattle.art_model.proofs.stores.Names.{IsTaken as IsInUse, all_taken, among, 
 use Rattle.art_model.proofs.radix.Shapes.{has_shape, leaf_names-shape, names_of-shape}
 use Rattle.art_model.proofs.stores.Views.{held_in_inner, leaf_or, same_inner_held}
 use Rattle.art_writing.specs.Freed.{CanGo, IsEnd, names_to_free, names_to_free_below, leaves_to_free}
-use Rattle.art_writing.proofs.Freed.{leaf_freed, frees_none}
+use Rattle.art_writing.proofs.Freed.{leaf_freed}
 
 abbrev pub Shape : Type 0
 Shape = Tree OpaqueNodePtr (Unit {0})
@@ -39,11 +39,11 @@ Shapes = Subtrees OpaqueNodePtr (Unit {0})
 -- ---- a tree that is read off a store, where the inner nodes on a descent are bounded
 
 module _ {N : Type 0} where
-  abbrev pub read_children : (N → Tree N (Unit {0})) → List (ℕ × N) → Subtrees N (Unit {0})
+  abbrev read_children : (N → Tree N (Unit {0})) → List (ℕ × N) → Subtrees N (Unit {0})
   read_children f [] = no_child
   read_children f (slot ∷ slots) = child slot.0 (f slot.1) (read_children f slots)
 
-  abbrev pub read_node : (N → Tree N (Unit {0})) → N → Option (Node N (Unit {0})) → Tree N (Unit {0})
+  abbrev read_node : (N → Tree N (Unit {0})) → N → Option (Node N (Unit {0})) → Tree N (Unit {0})
   read_node f name None = leaf name tt
   read_node f name (Some (leaf_node x)) = leaf name x
   read_node f name (Some (inner_node h slots)) = inner name h (read_children f slots)
@@ -56,7 +56,7 @@ module _ {N : Type 0} where
     mutual
       unfolding read
 
-      pub read_is : (t : Tree N (Unit {0})) (steps : ℕ) → Holds at t → tree_height t ≤ steps → read at steps (name_of t) ≡ t
+      read_is : (t : Tree N (Unit {0})) (steps : ℕ) → Holds at t → tree_height t ≤ steps → read at steps (name_of t) ≡ t
       read_is (leaf n x) zero h enough = refl
       read_is (leaf n x) (suc steps) h enough = rw h refl
       read_is (inner n h cs) zero holds enough = absurd (omega arith)
@@ -158,7 +158,7 @@ module _ {N A : Type 0} (too : Bool) where
     going_in (inner n h cs) k (inl e) = inl e
     going_in (inner n h cs) k (inr i) = inr (going_in_below cs k i)
 
-    pub going_in_below : (cs : Subtrees N A) (k : N) → IsIn k (names_to_free_below too cs) → IsIn k (names_below cs)
+    going_in_below : (cs : Subtrees N A) (k : N) → IsIn k (names_to_free_below too cs) → IsIn k (names_below cs)
     going_in_below no_child k i = i
     going_in_below (child b t cs) k i = elim (in_either k (names_to_free too t) (names_to_free_below too cs) i) [
       | inl j ↦ in_left k (names_of t) (names_below cs) (going_in t k j)
@@ -223,11 +223,6 @@ module _ {K V : Type 0} {s : Nodes K V} {too : Bool} {root : OpaqueNodePtr} {p :
       let shape : shape_at s (leaf_name p) ≡ Some (inner_node h (slots_of cs)) =
       subst (λ z. shape_at s z ≡ Some (inner_node h (slots_of cs))) (can.layout.named ∙ sym named) can.layout.holds.0 in
       absurd cc
-
-  pub leaf_stays : too ≡ false → (shape : Shape) → CanGo s too root shape → Frees (names_to_free too shape) s s × (0 ≡ leaves_to_free too shape)
-  leaf_stays off shape can =
-      let (x, is) = at_leaf shape can in
-      rw (is, off) (frees_none s, refl)
 
   pub leaf_is_there : too ≡ true → (shape : Shape) → CanGo s too root shape → IsSome (map.get s.leaves p)
   leaf_is_there on shape can =

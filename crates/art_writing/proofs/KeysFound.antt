@@ -15,7 +15,6 @@ use Rattle.art_model.specs.Layouts.{Holds}
 use Rattle.art_model.specs.Lookups.{FindsLeaf}
 use Rattle.art_model.specs.Pairs.{first_of, IsMap, with_key, has_key, is_conflict, of_key, remove_key, remove_reply}
 use Rattle.art_model.specs.Parts.{below}
-use Rattle.art_model.specs.Roots.{IsRootOf}
 use Rattle.art_model.specs.Stores.{node_at, pair_of}
 use Rattle.art_model.specs.Trees.{Tree, leaf}
 use Rattle.art_model.proofs.lists.Filters.{none_passes, filter_all, filter_passes}
@@ -48,7 +47,7 @@ module _ {A : Type 0} (bytes : A → List ℕ) (key : List ℕ) where
       (none_passes (λ x. are_same key (bytes x)) pairs (first_none (with_key bytes key pairs) none)))
 
   -- nothing is removed under a key that is not stored
-  pub new_removes_none : (pairs : List A) → has_key bytes key pairs ≡ false → remove_reply bytes key pairs ≡ None
+  new_removes_none : (pairs : List A) → has_key bytes key pairs ≡ false → remove_reply bytes key pairs ≡ None
   new_removes_none pairs new = go (remove_reply bytes key pairs) refl
     where
       go : (reply : Option A) → remove_reply bytes key pairs ≡ reply → reply ≡ None
@@ -142,17 +141,6 @@ point_some tree point None h = absurd h
 point_some tree point (Some x) h = (x, refl, h)
 
 module _ {K V : Type 0} (bytes : K → List ℕ) where
-  -- the tree of a root that is there
-  pub root_tree : (P : ℕ) {s : Nodes K V} {root : Option OpaqueNodePtr} {name : OpaqueNodePtr} (pairs : List (K × V))
-      (tree : Option (Tree OpaqueNodePtr (K × V))) → root ≡ Some name → IsRootOf (of_key bytes) P s root pairs tree →
-      (layout : Tree OpaqueNodePtr (K × V)) × IsCanonicalTree (of_key bytes) P s name pairs layout
-  root_tree P {s} {root} {name} pairs tree e is = go tree (subst (λ r. IsRootOf (of_key bytes) P s r pairs tree) e is)
-    where
-      go : (tree : Option (Tree OpaqueNodePtr (K × V))) → IsRootOf (of_key bytes) P s (Some name) pairs tree →
-          (layout : Tree OpaqueNodePtr (K × V)) × IsCanonicalTree (of_key bytes) P s name pairs layout
-      go None h = absurd h
-      go (Some layout) h = (layout, h)
-
   -- the length of a match that is found is that of the leaf's key
   pub match_found : (P : ℕ) {s : Nodes K V} {name : OpaqueNodePtr} {pairs : List (K × V)} {layout : Tree OpaqueNodePtr (K × V)} {p : LeafPtr}
       {node : LeafNode K V} (matches : List (K × V)) → IsCanonicalTree (of_key bytes) P s name pairs layout →

@@ -33,7 +33,7 @@ use Rattle.art_writing.proofs.FreedTrees.{Shape, Shapes, both_counts, count_at, 
 
 module _ {N : Type 0} where
   -- the one list has the names of the other, and has none twice if the other has none
-  pub record SameNames (xs ys : List N) : Type 0 where
+  record SameNames (xs ys : List N) : Type 0 where
     pub forth : (k : N) → IsIn k xs → IsIn k ys
     pub back : (k : N) → IsIn k ys → IsIn k xs
     pub distinct : AreDistinct xs → AreDistinct ys
@@ -97,7 +97,7 @@ is_in_or (n ∷ ns) k = elim (same_or_not inner_cmp-IsAntisymmetric inner_cmp_to
 ]
 
 -- what is kept from one store to the next, and from that to a third one
-pub keeps_on : {K V : Type 0} {s t u : Nodes K V} (xs ys zs : List OpaqueNodePtr) → KeepsOthers s t xs ys → KeepsOthers t u ys zs → KeepsOthers s u xs zs
+keeps_on : {K V : Type 0} {s t u : Nodes K V} (xs ys zs : List OpaqueNodePtr) → KeepsOthers s t xs ys → KeepsOthers t u ys zs → KeepsOthers s u xs zs
 keeps_on xs ys zs first second = record {
   beside = λ k off out. elim (is_in_or ys k) [
     | inl i ↦ second.gone k i out ∙ sym (first.taken k i off)
@@ -110,7 +110,7 @@ keeps_on xs ys zs first second = record {
 -- ---- trees that are seen, with their leaves where these are to be freed too
 
 module _ {K V : Type 0} (s : Nodes K V) (too : Bool) where
-  pub record IsSeen (t : Shape) : Type 0 where
+  record IsSeen (t : Shape) : Type 0 where
     pub holds : Holds (shape_at s) t
     pub leaves : too ≡ true → Each (IsUsed s) (leaf_names t)
 
@@ -192,12 +192,12 @@ module _ {K V : Type 0} {s : Nodes K V} {too : Bool} (cs ds : Shapes) (seen : Ar
 
 -- ---- what the first and the last child show
 
-abbrev pub slots_under : Shape → Children
+abbrev slots_under : Shape → Children
 slots_under (leaf n x) = []
 slots_under (inner n h cs) = slots_of cs
 
 module _ {K V : Type 0} (s : Nodes K V) where
-  pub slots_are : {root : OpaqueNodePtr} (t : Shape) → IsLayout (shape_at s) root t → children_seen (shape_at s root) ≡ slots_under t
+  slots_are : {root : OpaqueNodePtr} (t : Shape) → IsLayout (shape_at s) root t → children_seen (shape_at s root) ≡ slots_under t
   slots_are (leaf n x) is = ap (λ z. children_seen (shape_at s z)) (sym is.named) ∙ ap children_seen is.holds
   slots_are (inner n h cs) is = ap (λ z. children_seen (shape_at s z)) (sym is.named) ∙ ap children_seen is.holds.0
 
@@ -211,7 +211,7 @@ module _ {K V : Type 0} (s : Nodes K V) where
       go (inner n h (child b a cs)) e = absurd cc
 
 -- a tree with a last child
-pub record HasLast (t : Shape) (byte : ℕ) (name : OpaqueNodePtr) : Type 0 where
+record HasLast (t : Shape) (byte : ℕ) (name : OpaqueNodePtr) : Type 0 where
   pub mark : OpaqueNodePtr
   pub head : NodeHeader
   pub others : Shapes
@@ -220,7 +220,7 @@ pub record HasLast (t : Shape) (byte : ℕ) (name : OpaqueNodePtr) : Type 0 wher
   pub named : name_of last ≡ name
 
 -- a tree with a child
-pub record HasFirst (t : Shape) (byte : ℕ) (name : OpaqueNodePtr) : Type 0 where
+record HasFirst (t : Shape) (byte : ℕ) (name : OpaqueNodePtr) : Type 0 where
   pub mark : OpaqueNodePtr
   pub head : NodeHeader
   pub first : Shape

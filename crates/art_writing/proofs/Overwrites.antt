@@ -31,7 +31,7 @@ use Rattle.art_model.proofs.stores.Canonical.{IsLaidOut, laid_out, canonical_fro
 use Rattle.art_model.proofs.leaves.Chains.{AreThere, are_there, previous_there, next_there}
 use Rattle.art_model.proofs.changes.IntoHole.{IntoHole, hole_kept, hole_overwritten, hole_related, hole_reply, hole_touches}
 use Rattle.art_model.proofs.changes.IntoLeaf.{IntoLeaf, leaf_overwritten, leaf_overwrite_kept, leaf_overwrite_reply, leaf_touches}
-use Rattle.art_model.proofs.places.Paths.{IsHole, leaf_names-plug, length-leaf_names, radix_plug}
+use Rattle.art_model.proofs.places.Paths.{IsHole, leaf_names-plug, length-leaf_names}
 use Rattle.art_model.proofs.places.Paths as paths
 use Rattle.art_model.proofs.keys.Keys.{front_related}
 use Rattle.art_model.proofs.leaves.Leaves.{with_leaf_pair}
@@ -262,13 +262,13 @@ module _ {K V : Type 0} {bytes : K × V → List ℕ} {P : ℕ} {s : Nodes K V} 
   old_laid : IsLaidOut bytes P (node_at s) (links_at s) point.root pairs (plug at.path at.node)
   old_laid = subst (IsLaidOut bytes P (node_at s) (links_at s) point.root pairs) (sym at.whole) (laid_out by)
 
-  pub links_previous : (previous next : Option LeafPtr) → IsBeside s at.node Before previous next →
+  links_previous : (previous next : Option LeafPtr) → IsBeside s at.node Before previous next →
       option_map leaf_name previous ≡ last_or (leaves_before at.path) None
   links_previous previous next comes =
       (beside_is s at.path at.node old_laid.linked false previous next comes).0
       ∙ ap (λ ks. last_or ks None) (append-nil (leaves_before at.path))
 
-  pub links_next : (previous next : Option LeafPtr) → IsBeside s at.node After previous next → option_map leaf_name next ≡ first_or (leaves_after at.path) None
+  links_next : (previous next : Option LeafPtr) → IsBeside s at.node After previous next → option_map leaf_name next ≡ first_or (leaves_after at.path) None
   links_next previous next comes = (beside_is s at.path at.node old_laid.linked true previous next comes).1
 
   subtree_others : AreThere s (leaves_before at.path ++ leaves_after at.path)
@@ -277,14 +277,14 @@ module _ {K V : Type 0} {bytes : K × V → List ℕ} {P : ℕ} {s : Nodes K V} 
       (in_around (leaf_name p) (leaves_before at.path) (leaf_names at.node) (leaves_after at.path) i))
 
   -- the neighbours of the subtree are in the store
-  pub subtree_previous : {previous : Option LeafPtr} → option_map leaf_name previous ≡ last_or (leaves_before at.path) None → IsThere s.leaves previous
+  subtree_previous : {previous : Option LeafPtr} → option_map leaf_name previous ≡ last_or (leaves_before at.path) None → IsThere s.leaves previous
   subtree_previous {previous} e = previous_there s (leaves_before at.path) (leaves_after at.path) previous subtree_others e
 
-  pub subtree_next : {next : Option LeafPtr} → option_map leaf_name next ≡ first_or (leaves_after at.path) None → IsThere s.leaves next
+  subtree_next : {next : Option LeafPtr} → option_map leaf_name next ≡ first_or (leaves_after at.path) None → IsThere s.leaves next
   subtree_next {next} e = next_there s (leaves_before at.path) (leaves_after at.path) next subtree_others e
 
   -- and so is the parent, with a child under its byte
-  pub subtree_parent : HasChild s.inners (last_step point.path)
+  subtree_parent : HasChild s.inners (last_step point.path)
   subtree_parent =
       subst (HasChild s.inners) (sym (ap last_step at.path_is ∙ last_step-path_of at.path))
       (has (parent_of at.path) (parent_ready bytes P s at.path at.place (name_of at.node) at.hole.path

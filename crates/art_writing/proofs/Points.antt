@@ -4,22 +4,23 @@ use Rattle.art_nodes.specs.Nodes.{Nodes}
 use Rattle.art_parts.specs.declared.names.OpaqueNodePtr.{OpaqueNodePtr}
 use Rattle.art_model.specs.Canonical.{IsCanonicalTree}
 use Rattle.art_model.specs.Places.{depth_of}
+use Rattle.art_model.specs.Roots.{ForTree, IsCanonicalRoot}
 use Rattle.art_model.specs.Trees.{Tree}
 use Rattle.art_reading.specs.EndNodes.{ComesTo, IsEndFor}
 use Rattle.art_reading.specs.declared.end_node.EndNode.{EndNode}
 use Rattle.art_reading.specs.declared.end_node.InsertKind.{InsertKind}
-use Rattle.art_writing.specs.Overwritten.{IsPrefixPointIn}
+use Rattle.art_writing.specs.Overwritten.{HasPrefixPoint, root_of}
 use Rattle.art_writing.specs.Points.{IsPointFor}
 use Rattle.art_writing.specs.declared.insert.PrefixInsertPoint.{PrefixInsertPoint}
 use Rattle.art_writing.specs.declared.insert.PrefixInsertPoint.TheVariants.{InsertPoint, OverwritePoint}
 use Rattle.art_writing.proofs.Standing.{prefix_point_in}
 
 -- the points of either kind at an end node
-abbrev pub inserting : OpaqueNodePtr → EndNode → InsertKind → PrefixInsertPoint
+abbrev inserting : OpaqueNodePtr → EndNode → InsertKind → PrefixInsertPoint
 inserting root end kind =
     InsertPoint (record { path = end.path; insert_kind = kind; key_bytes_used = end.key_bytes_used; root = root })
 
-abbrev pub overwriting : OpaqueNodePtr → EndNode → PrefixInsertPoint
+abbrev overwriting : OpaqueNodePtr → EndNode → PrefixInsertPoint
 overwriting root end =
     OverwritePoint (record { path = end.path; overwrite_point = end.name; key_bytes_used = end.key_bytes_used; root = root })
 
@@ -40,10 +41,6 @@ module _ {K V : Type 0} {s : Nodes K V} {bytes : K × V → List ℕ} {P : ℕ} 
     },
   )
 
-  pub insert_point_in : {kind : InsertKind} → end.insert_kind ≡ Some kind → IsEndFor bytes P key pairs layout end →
-      IsPrefixPointIn bytes P s key (inserting root end kind)
-  insert_point_in {kind} is at = prefix_point_in key by (inserting root end kind) (insert_point is at)
-
   -- and where there is none it is one to overwrite
   pub overwrite_point : end.insert_kind ≡ None → IsEndFor bytes P key pairs layout end → IsPointFor bytes P key pairs layout (overwriting root end)
   overwrite_point is (conflict, has) = (
@@ -59,5 +56,9 @@ module _ {K V : Type 0} {s : Nodes K V} {bytes : K × V → List ℕ} {P : ℕ} 
     },
   )
 
-  pub overwrite_point_in : end.insert_kind ≡ None → IsEndFor bytes P key pairs layout end → IsPrefixPointIn bytes P s key (overwriting root end)
-  overwrite_point_in is at = prefix_point_in key by (overwriting root end) (overwrite_point is at)
+-- a point of a key in the tree can be applied
+pub has_prefix_point : {K V : Type 0} {s : Nodes K V} {bytes : K × V → List ℕ} {P : ℕ} {root : OpaqueNodePtr} {key : List ℕ} {point : PrefixInsertPoint} →
+    IsCanonicalRoot bytes P s root → root_of point ≡ root → ForTree bytes P s root (λ pairs layout. IsPointFor bytes P key pairs layout point) →
+    HasPrefixPoint bytes P s root key point
+has_prefix_point {key = key} {point} (pairs, layout, by) same at =
+    record { point = at; root = same; applies = prefix_point_in key by point (at pairs layout by) }

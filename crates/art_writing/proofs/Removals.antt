@@ -164,13 +164,13 @@ module _ {K V : Type 0} {bytes : K × V → List ℕ} {P : ℕ} {s : Nodes K V} 
     at = two.at
 
     -- the child that is left is a radix tree
-    pub left_radix : IsRadix bytes P ((two.place ++ two.hole.radix.0) ++ two.c ∷ []) two.v
+    left_radix : IsRadix bytes P ((two.place ++ two.hole.radix.0) ++ two.c ∷ []) two.v
     left_radix =
         (child_left bytes P two.place two.hole.radix.0 at.frame.left at.frame.right at.frame.byte two.c (leaf_name point.leaf_node_ptr)
         (pair_of at.node) two.v two.hole.radix.3 two.hole.radix.4 two.one).0
 
     -- its own whole prefix
-    pub left_prefix : List ℕ
+    left_prefix : List ℕ
     left_prefix = prefix_at bytes P ((two.place ++ two.hole.radix.0) ++ two.c ∷ []) two.v left_radix
 
     -- the inner nodes when the node is removed and the child has its prefix
@@ -264,7 +264,7 @@ module _ {K V : Type 0} {bytes : K × V → List ℕ} {P : ℕ} {s : Nodes K V} 
     -- ---- a leaf below the child that is left
 
     -- The name is that of such a leaf, whose key is long enough for both prefixes.
-    pub record IsBelowOther (p : LeafPtr) : Type 0 where
+    record IsBelowOther (p : LeafPtr) : Type 0 where
       pub leaf : LeafNode K V
       pub here : get s.leaves p ≡ Some leaf
       pub long : length two.hole.radix.0 + 1 + length left_prefix ≤ length (bytes (pair_of leaf))
@@ -282,7 +282,7 @@ module _ {K V : Type 0} {bytes : K × V → List ℕ} {P : ℕ} {s : Nodes K V} 
         record { leaf = y; here = got; long = omega arith }
 
     -- The successor of the removed leaf, or its predecessor, is such a leaf.
-    pub beside_other : (p : LeafPtr) × (cond (nat_lt byte two.c) at.node.next at.node.previous ≡ Some p) × IsBelowOther p
+    beside_other : (p : LeafPtr) × (cond (nat_lt byte two.c) at.node.next at.node.previous ≡ Some p) × IsBelowOther p
     beside_other = elim (sides at.frame.left at.frame.right two.c two.v two.one) [
       | inl e ↦
           let less : byte < two.c = subst (λ z. z < two.c) at.byte_is (subst (λ cs. Each (λ d. at.frame.byte < d) (bytes_of cs)) e (high at.below)).0 in

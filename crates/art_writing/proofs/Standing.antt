@@ -38,7 +38,7 @@ module _ {K V : Type 0} {bytes : K × V → List ℕ} {P : ℕ} {s : Nodes K V} 
       subst (λ l. AnswersToOverwrite bytes l key point) (has_one_map bytes P s point.root pairs others layout other mine by).1 at
 
   -- a point that was found for a root is a point of the store
-  pub point_in : {root : OpaqueNodePtr} {text key : List ℕ} {point : InsertPoint} {pairs : List (K × V)} {layout : Tree OpaqueNodePtr (K × V)} →
+  point_in : {root : OpaqueNodePtr} {text key : List ℕ} {point : InsertPoint} {pairs : List (K × V)} {layout : Tree OpaqueNodePtr (K × V)} →
       IsCanonicalTree bytes P s root pairs layout → text ≡ key → AnswersTo bytes P layout text point → IsPointIn bytes P s key point
   point_in {key = key} {point} {pairs} {layout} by same at = (
     pairs,
@@ -50,7 +50,7 @@ module _ {K V : Type 0} {bytes : K × V → List ℕ} {P : ℕ} {s : Nodes K V} 
   module _ {root : OpaqueNodePtr} {pairs : List (K × V)} {layout : Tree OpaqueNodePtr (K × V)} (key : List ℕ)
       (by : IsCanonicalTree bytes P s root pairs layout) where
     -- a point of either kind names the root that it was found for
-    pub prefix_root : (point : PrefixInsertPoint) → IsPointFor bytes P key pairs layout point → root_of point ≡ root
+    prefix_root : (point : PrefixInsertPoint) → IsPointFor bytes P key pairs layout point → root_of point ≡ root
     prefix_root (points.InsertPoint point) (free, at) = at.root_is ∙ by.stands.0.named
     prefix_root (points.OverwritePoint point) (related, at) = at.root_is ∙ by.stands.0.named
 

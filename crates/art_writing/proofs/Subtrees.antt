@@ -193,7 +193,7 @@ module _ {K V : Type 0} {bytes : K × V → List ℕ} (P : ℕ) {s u v : Nodes K
   module _ (fewer : (name : OpaqueNodePtr) → IsIn name (names_of (plug fs (leaf n x))) → IsIn name (names_of (plug fs node)))
       (stays_or_goes : (name : OpaqueNodePtr) → IsIn name (names_of (plug fs node)) →
       IsIn name (names_of (plug fs (leaf n x))) ⊎ (IsIn name (names_of (plug fs (leaf n x))) → ⊥)) where
-    pub both_in_place : ChangesInPlace bytes s v (Some (plug fs node)) new
+    both_in_place : ChangesInPlace bytes s v (Some (plug fs node)) new
     both_in_place = record {
       leaves = keeps_leaves;
       inners = keeps_inners;
@@ -209,7 +209,7 @@ module _ {K V : Type 0} {bytes : K × V → List ℕ} (P : ℕ) {s u v : Nodes K
 
 -- ---- what becomes of the parent is determined by its number of children
 
-pub same_change : {K V : Type 0} (s t : Nodes K V) (fs : List (Frame OpaqueNodePtr (K × V))) (hole other : OpaqueNodePtr) →
+same_change : {K V : Type 0} (s t : Nodes K V) (fs : List (Frame OpaqueNodePtr (K × V))) (hole other : OpaqueNodePtr) →
     HoldsPath (node_at s) hole fs → HoldsPath (node_at t) other fs →
     parent_change t (path_of fs) ≡ parent_change s (path_of fs)
 same_change s t [] hole other was is = refl
@@ -226,13 +226,13 @@ same_change s t (f ∷ fs) hole other was is =
 
 module _ {K V : Type 0} {bytes : K × V → List ℕ} {P : ℕ} {s : Nodes K V} {root : OpaqueNodePtr} {pairs : List (K × V)} {layout : Tree OpaqueNodePtr (K × V)}
     (by : IsCanonicalTree bytes P s root pairs layout) {point : SubtreeDeletePoint} (at : LeadsToNode layout point) where
-  pub laid : IsLaidOut bytes P (node_at s) (links_at s) root pairs (plug at.path at.node)
+  laid : IsLaidOut bytes P (node_at s) (links_at s) root pairs (plug at.path at.node)
   laid = subst (IsLaidOut bytes P (node_at s) (links_at s) root pairs) (sym at.whole) (laid_out by)
 
-  pub hole : (place : List ℕ) × IsPath bytes P place at.path × IsRadix bytes P place at.node
+  hole : (place : List ℕ) × IsPath bytes P place at.path × IsRadix bytes P place at.node
   hole = radix_plug bytes P at.path at.node laid.radix
 
-  above : HoldsPath (node_at s) (name_of at.node) at.path
+  pub above : HoldsPath (node_at s) (name_of at.node) at.path
   above = (path_holds (node_at s) at.path at.node laid.holds).0
 
   -- it stands for a full tree
@@ -346,7 +346,7 @@ module _ {K V : Type 0} {bytes : K × V → List ℕ} {P : ℕ} {s : Nodes K V} 
       (own_leaf x (subst (λ z. plug at.path z ≡ layout) (sym is) at.whole) (subst (IsRadix bytes P (hole by at).0) (sym is) (hole by at).2))
 
   module _ {parent : InnerPtr} {byte : ℕ} (first : HasFirstBelow s at.node n parent byte) where
-    abbrev pub own_node : Tree OpaqueNodePtr (K × V)
+    abbrev own_node : Tree OpaqueNodePtr (K × V)
     own_node = plug (first.frame ∷ first.above) (leaf (leaf_name n) (pair_of first.y))
 
     pub old : IsLaidOut bytes P (node_at s) (links_at s) root pairs (plug at.path own_node)
@@ -427,7 +427,7 @@ first_among (y ∷ ys) x e = inl cc
 module _ {K V : Type 0} {bytes : K × V → List ℕ} {P : ℕ} {s u : Nodes K V} {root : OpaqueNodePtr} {pairs : List (K × V)} {layout : Tree OpaqueNodePtr (K × V)}
     (by : IsCanonicalTree bytes P s root pairs layout) {point : SubtreeDeletePoint} (at : LeadsToNode layout point) {left : Collapsed}
     (c : IsCollapsed bytes P s u root at.path at.node left) where
-  abbrev pub one_point : DeletePoint
+  abbrev one_point : DeletePoint
   one_point = record { path = point.path; leaf_node_ptr = left.leaf }
 
   pub leads_to_one : LeadsTo (plug at.path (leaf (leaf_name left.leaf) c.first)) c.first one_point
@@ -457,7 +457,7 @@ module _ {K V : Type 0} {bytes : K × V → List ℕ} {P : ℕ} {s u : Nodes K V
       (told : IfSome (map.get u.leaves left.leaf) (λ leaf. gone ≡ unlinked_leaf (pair_of leaf)))
       (canonical : ForTree bytes P u left.root (λ pairs layout. IsCanonical bytes P v new_root (remove_key bytes (bytes (pair_of gone)) pairs))) where
     -- the pairs outside the node are left
-    pub others_left : IsCanonical bytes P v new_root (pairs_beside at)
+    others_left : IsCanonical bytes P v new_root (pairs_beside at)
     others_left =
         let (node, here, pair) = leaf_at c.canonical leads_to_one in
         let same : gone ≡ unlinked_leaf (pair_of node) = subst (λ o. IfSome o (λ leaf. gone ≡ unlinked_leaf (pair_of leaf))) here told in
@@ -466,7 +466,7 @@ module _ {K V : Type 0} {bytes : K × V → List ℕ} {P : ℕ} {s u : Nodes K V
         (λ z. remove_key bytes (bytes z) (pairs_before at.path ++ (c.first ∷ []) ++ pairs_after at.path)) own ∙ first_goes)
         (canonical _ _ c.canonical)
 
-    pub others_kept : ForTree bytes P u left.root (λ pairs old. ForRoot bytes P v new_root (λ after new. ChangesInPlace bytes u v (Some old) new)) →
+    others_kept : ForTree bytes P u left.root (λ pairs old. ForRoot bytes P v new_root (λ after new. ChangesInPlace bytes u v (Some old) new)) →
         (after : List (K × V)) (new : Option (Tree OpaqueNodePtr (K × V))) → IsRootOf bytes P v new_root after new → ChangesInPlace bytes s v (Some layout) new
     others_kept kept after new is =
         let (place, path, radix) = hole by at in

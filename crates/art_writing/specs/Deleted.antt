@@ -1,5 +1,5 @@
 -- The points at which leaves are removed, what an applied delete point places and touches, and the root that it leaves.
-use Rattle.std.specs.Prelude.{◌≡◌, ℕ, if◌then◌else◌, nat_le, List, length, Option, Some, None, ⊤}
+use Rattle.std.specs.Prelude.{◌≡◌, ℕ, if◌then◌else◌, nat_le, List, length, Option, Some, None, IfNone, IfSome, ⊤}
 use Rattle.std.specs.FinMap as map
 use Rattle.std.specs.Option.{option_map}
 use Rattle.art_parts.specs.Kinds.{kind_least, smaller_kind}
@@ -8,10 +8,12 @@ use Rattle.art_nodes.specs.Nodes.{Nodes, Promise}
 use Rattle.art_parts.specs.declared.names.NodeType.{NodeType}
 use Rattle.art_parts.specs.declared.names.NodeType.TheVariants.{Node4}
 use Rattle.art_parts.specs.declared.names.OpaqueNodePtr.{OpaqueNodePtr}
-use Rattle.art_model.specs.Canonical.{IsCanonicalTree}
+use Rattle.art_model.specs.Canonical.{IsCanonical, IsCanonicalTree}
 use Rattle.art_model.specs.Footprints.{TouchesAtMost}
 use Rattle.art_model.specs.Lookups.{pair_under}
+use Rattle.art_model.specs.Pairs.{remove_key, remove_reply}
 use Rattle.art_model.specs.Paths.{Frame, plug}
+use Rattle.art_model.specs.Roots.{ForTree}
 use Rattle.art_model.specs.Trees.{Tree, leaf}
 use Rattle.art_writing.specs.declared.delete.DeletePoint.{DeletePoint}
 use Rattle.art_reading.specs.declared.path.TreePath.{TreePath}
@@ -39,6 +41,21 @@ abbrev pub IsDeletePointIn : {K V : Type 0} → (K × V → List ℕ) → ℕ �
 IsDeletePointIn {K} {V} bytes P s root point =
     (pairs : List (K × V)) × (layout : Tree OpaqueNodePtr (K × V)) × (x : K × V) ×
     IsCanonicalTree bytes P s root pairs layout × LeadsTo layout x point
+
+module _ {K V : Type 0} (bytes : K × V → List ℕ) (P : ℕ) (s : Nodes K V) (name : OpaqueNodePtr) where
+  -- The point of the pair that is sought, or none if there is no such pair; it names the leaf that has the pair, and can be applied.
+  pub record HasDeletePoint (sought : List (K × V) → Option (K × V)) (result : Option DeletePoint) : Type 0 where
+    pub point : ForTree bytes P s name (λ pairs layout. IsDeletePoint layout (sought pairs) result)
+    pub pair : ForTree bytes P s name (λ pairs _. pair_at s result ≡ sought pairs)
+    pub applies : IfSome result (IsDeletePointIn bytes P s name)
+
+  -- The same of the pair of a key. Without a point, the tree is already that of the pairs without the key.
+  pub record HasKeyPoint (key : List ℕ) (result : Option DeletePoint) : Type 0 where
+    pub point : ForTree bytes P s name (λ pairs layout. IsDeletePoint layout (remove_reply bytes key pairs) result)
+    pub pair : ForTree bytes P s name (λ pairs _. pair_at s result ≡ remove_reply bytes key pairs)
+    pub absent : ForTree bytes P s name (λ pairs _.
+        IfNone result (IsCanonical bytes P s (Some name) (remove_key bytes key pairs)))
+    pub applies : IfSome result (IsDeletePointIn bytes P s name)
 
 -- what becomes of a leaf's parent when the leaf is removed: there is none; it keeps its kind; a node of the next smaller kind replaces it; its other child does
 pub data ParentChange : Type 0 where

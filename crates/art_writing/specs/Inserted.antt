@@ -1,5 +1,5 @@
 -- What an applied insert point places and touches, and what it leaves.
-use Rattle.std.specs.Prelude.{◌≡◌, ℕ, Bool, false, MatchBool, if◌then◌else◌, nat_le, List, length, Option, Some, None}
+use Rattle.std.specs.Prelude.{◌≡◌, ◌↔◌, ℕ, Bool, false, MatchBool, if◌then◌else◌, nat_le, List, length, Option, Some, None, Result, IsOk, IfOk, IfErr}
 use Rattle.std.specs.FinMap as map
 use Rattle.art_parts.specs.Kinds.{kind_capacity, next_larger}
 use Rattle.art_parts.specs.Names.{leaf_name, inner_name}
@@ -10,7 +10,9 @@ use Rattle.art_parts.specs.declared.leaf.LeafNode.{LeafNode}
 use Rattle.art_parts.specs.declared.names.OpaqueNodePtr.{OpaqueNodePtr}
 use Rattle.art_model.specs.Canonical.{IsCanonicalTree}
 use Rattle.art_model.specs.Footprints.{TouchesAtMost}
+use Rattle.art_model.specs.Pairs.{is_conflict}
 use Rattle.art_model.specs.Paths.{Frame, plug}
+use Rattle.art_model.specs.Roots.{ForTree}
 use Rattle.art_model.specs.Trees.{Tree, leaf}
 use Rattle.art_model.specs.Writes.{parent_of}
 use Rattle.art_reading.specs.declared.end_node.InsertKind.{InsertKind}
@@ -19,14 +21,24 @@ use Rattle.art_writing.specs.declared.insert.InsertParentNodeChange.{InsertParen
 use Rattle.art_writing.specs.declared.insert.InsertParentNodeChange.TheVariants.{NewParent, NoChange}
 use Rattle.art_writing.specs.declared.insert.InsertPoint.{InsertPoint}
 use Rattle.art_writing.specs.declared.insert.InsertResult.{InsertResult}
+use Rattle.art_writing.specs.declared.insert.InsertSearchError.{InsertSearchError}
 use Rattle.art_reading.specs.declared.path.TreePath.TheVariants.{Root}
-use Rattle.art_writing.specs.Points.{AnswersTo}
+use Rattle.art_writing.specs.Points.{AnswersTo, IsRefusedFor}
 
 -- the point is an insert point of the store, its root and the key
 abbrev pub IsPointIn : {K V : Type 0} → (K × V → List ℕ) → ℕ → Nodes K V → List ℕ → InsertPoint → Type 0
 IsPointIn {K} {V} bytes P s key point =
     (pairs : List (K × V)) × (layout : Tree OpaqueNodePtr (K × V)) ×
     IsCanonicalTree bytes P s point.root pairs layout × AnswersTo bytes P layout key point
+
+module _ {K V : Type 0} (bytes : K × V → List ℕ) (P : ℕ) (s : Nodes K V) (name : OpaqueNodePtr) (key : List ℕ) where
+  -- The insert point of a key in the tree of a name, or an error exactly if a stored key conflicts with it. The point can be applied.
+  pub record HasInsertPoint (result : Result InsertPoint InsertSearchError) : Type 0 where
+    pub accepted : ForTree bytes P s name (λ pairs layout. IsOk result ↔ (is_conflict bytes key pairs ≡ false))
+    pub point : ForTree bytes P s name (λ pairs layout. IfOk result (AnswersTo bytes P layout key))
+    pub root : IfOk result (λ point. point.root ≡ name)
+    pub applies : IfOk result (IsPointIn bytes P s key)
+    pub refused : IfErr result (IsRefusedFor key)
 
 -- a leaf with no neighbours
 abbrev pub unlinked_leaf : {K V : Type 0} → K × V → LeafNode K V

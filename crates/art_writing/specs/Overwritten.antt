@@ -9,6 +9,7 @@ use Rattle.art_model.specs.Canonical.{IsCanonicalTree}
 use Rattle.art_model.specs.Footprints.{TouchesAtMost, TouchesRelated}
 use Rattle.art_model.specs.Lookups.{HasLeaf}
 use Rattle.art_model.specs.Pairs.{stored_for}
+use Rattle.art_model.specs.Roots.{ForTree}
 use Rattle.art_model.specs.Trees.{Tree}
 use Rattle.art_writing.specs.declared.insert.InsertParentNodeChange.TheVariants.{NoChange}
 use Rattle.art_writing.specs.declared.insert.InsertResult.{InsertResult}
@@ -16,7 +17,7 @@ use Rattle.art_writing.specs.declared.insert.OverwritePoint.{OverwritePoint}
 use Rattle.art_writing.specs.declared.insert.PrefixInsertPoint.{PrefixInsertPoint}
 use Rattle.art_writing.specs.declared.insert.PrefixInsertPoint.TheVariants as points
 use Rattle.art_writing.specs.Inserted.{HasInserted, IsPointIn, Touches, placed_for}
-use Rattle.art_writing.specs.Points.{AnswersToOverwrite}
+use Rattle.art_writing.specs.Points.{AnswersToOverwrite, IsPointFor}
 
 module _ {K V : Type 0} where
   -- the point is an overwrite point of the store, its root and the key
@@ -74,3 +75,10 @@ module _ {K V : Type 0} where
 abbrev pub root_of : PrefixInsertPoint → OpaqueNodePtr
 root_of (points.InsertPoint point) = point.root
 root_of (points.OverwritePoint point) = point.root
+
+-- The point of a key in the tree of a name, of either kind. It can be applied.
+pub record HasPrefixPoint {K V : Type 0} (bytes : K × V → List ℕ) (P : ℕ) (s : Nodes K V) (name : OpaqueNodePtr) (key : List ℕ)
+    (result : PrefixInsertPoint) : Type 0 where
+  pub point : ForTree bytes P s name (λ pairs layout. IsPointFor bytes P key pairs layout result)
+  pub root : root_of result ≡ name
+  pub applies : IsPrefixPointIn bytes P s key result

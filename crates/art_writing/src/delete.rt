@@ -1,10 +1,9 @@
 //! Deletion: the point at which a leaf is removed from a tree.
-ghost use Rattle.std.specs.Prelude.{◌≡◌, ◌+◌, ◌<◌, ◌^◌, length, IsSome, IfSome, IfNone, Some};
-ghost use Rattle.art_model.specs.Canonical.{IsCanonical};
-ghost use Rattle.art_model.specs.Pairs.{first_of, last_of, of_key, remove_key, remove_reply};
-ghost use Rattle.art_model.specs.Roots.{ForTree, IsCanonicalRoot};
+ghost use Rattle.std.specs.Prelude.{◌+◌, ◌<◌, ◌^◌, length, IsSome, Some};
+ghost use Rattle.art_model.specs.Pairs.{first_of, last_of, of_key};
+ghost use Rattle.art_model.specs.Roots.{IsCanonicalRoot};
 ghost use Rattle.art_reading.specs.Descents.{CountsVisits, CountsVisitsFrom, of_two};
-ghost use Rattle.art_writing.specs.Deleted.{IsDeletePoint, IsDeletePointIn, pair_at};
+ghost use Rattle.art_writing.specs.Deleted.{HasDeletePoint, HasKeyPoint};
 
 use art_nodes::node::{AsBytes, LeafNode, LeafPtr, OpaqueNodePtr};
 use art_nodes::store::NodeStore;
@@ -55,14 +54,7 @@ pub fn search_for_delete_point<K: AsBytes + Drop, V: Drop, const P: usize>(
     key_bytes: &[u8],
 ) -> Option<DeletePoint>
     requires { IsCanonicalRoot (of_key K.bytes) P store.now root }
-    ensures point { ForTree (of_key K.bytes) P store.now root (λ pairs layout.
-        IsDeletePoint layout (remove_reply (of_key K.bytes) key_bytes.now pairs) result) }
-    ensures pair { ForTree (of_key K.bytes) P store.now root (λ pairs _.
-        pair_at store.now result ≡ remove_reply (of_key K.bytes) key_bytes.now pairs) }
-    ensures absent { ForTree (of_key K.bytes) P store.now root (λ pairs _.
-        IfNone result (IsCanonical (of_key K.bytes) P store.now (Some root)
-        (remove_key (of_key K.bytes) key_bytes.now pairs))) }
-    ensures applies { IfSome result (IsDeletePointIn (of_key K.bytes) P store.now root) }
+    ensures { HasKeyPoint (of_key K.bytes) P store.now root key_bytes.now result }
 {
     search_for_delete_point_visiting(store, root, key_bytes, &mut Visits::new())
 }
@@ -77,14 +69,7 @@ pub fn search_for_delete_point_visiting<K: AsBytes + Drop, V: Drop, const P: usi
 ) -> Option<DeletePoint>
     requires root { IsCanonicalRoot (of_key K.bytes) P store.now root }
     requires room { visits.old + length key_bytes.now + 1 < 2 ^ 64 }
-    ensures point { ForTree (of_key K.bytes) P store.now root (λ pairs layout.
-        IsDeletePoint layout (remove_reply (of_key K.bytes) key_bytes.now pairs) result) }
-    ensures pair { ForTree (of_key K.bytes) P store.now root (λ pairs _.
-        pair_at store.now result ≡ remove_reply (of_key K.bytes) key_bytes.now pairs) }
-    ensures absent { ForTree (of_key K.bytes) P store.now root (λ pairs _.
-        IfNone result (IsCanonical (of_key K.bytes) P store.now (Some root)
-        (remove_key (of_key K.bytes) key_bytes.now pairs))) }
-    ensures applies { IfSome result (IsDeletePointIn (of_key K.bytes) P store.now root) }
+    ensures point { HasKeyPoint (of_key K.bytes) P store.now root key_bytes.now result }
     ensures visits { CountsVisits (of_key K.bytes) P store.now root key_bytes.now
         visits.old visits.new (IsSome result) }
 {
@@ -109,14 +94,7 @@ pub fn search_for_delete_point_by_lengths<Q: KeyQuery, K: AsBytes + Drop, V: Dro
     query: Q,
 ) -> Option<DeletePoint>
     requires { IsCanonicalRoot (of_key K.bytes) P store.now root }
-    ensures point { ForTree (of_key K.bytes) P store.now root (λ pairs layout.
-        IsDeletePoint layout (remove_reply (of_key K.bytes) (Q.key query) pairs) result) }
-    ensures pair { ForTree (of_key K.bytes) P store.now root (λ pairs _.
-        pair_at store.now result ≡ remove_reply (of_key K.bytes) (Q.key query) pairs) }
-    ensures absent { ForTree (of_key K.bytes) P store.now root (λ pairs _.
-        IfNone result (IsCanonical (of_key K.bytes) P store.now (Some root)
-        (remove_key (of_key K.bytes) (Q.key query) pairs))) }
-    ensures applies { IfSome result (IsDeletePointIn (of_key K.bytes) P store.now root) }
+    ensures { HasKeyPoint (of_key K.bytes) P store.now root (Q.key query) result }
 {
     query.fits();
     let start = PrefixMatchBehavior::Optimistic;
@@ -134,14 +112,7 @@ fn search_from<Q: KeyQuery, K: AsBytes + Drop, V: Drop, const P: usize>(
 ) -> Option<DeletePoint>
     requires root { IsCanonicalRoot (of_key K.bytes) P store.now root }
     requires room { visits.old + length (Q.key query) + 1 < 2 ^ 64 }
-    ensures point { ForTree (of_key K.bytes) P store.now root (λ pairs layout.
-        IsDeletePoint layout (remove_reply (of_key K.bytes) (Q.key query) pairs) result) }
-    ensures pair { ForTree (of_key K.bytes) P store.now root (λ pairs _.
-        pair_at store.now result ≡ remove_reply (of_key K.bytes) (Q.key query) pairs) }
-    ensures absent { ForTree (of_key K.bytes) P store.now root (λ pairs _.
-        IfNone result (IsCanonical (of_key K.bytes) P store.now (Some root)
-        (remove_key (of_key K.bytes) (Q.key query) pairs))) }
-    ensures applies { IfSome result (IsDeletePointIn (of_key K.bytes) P store.now root) }
+    ensures point { HasKeyPoint (of_key K.bytes) P store.now root (Q.key query) result }
     ensures visits { CountsVisitsFrom start (of_key K.bytes) P store.now root (Q.key query)
         visits.old visits.new (IsSome result) }
 {
@@ -158,11 +129,7 @@ pub fn find_minimum_to_delete<K: AsBytes + Drop, V: Drop, const P: usize>(
     root: OpaqueNodePtr,
 ) -> DeletePoint
     requires { IsCanonicalRoot (of_key K.bytes) P store.now root }
-    ensures point { ForTree (of_key K.bytes) P store.now root (λ pairs layout.
-        IsDeletePoint layout (first_of pairs) (Some result)) }
-    ensures pair { ForTree (of_key K.bytes) P store.now root (λ pairs _.
-        pair_at store.now (Some result) ≡ first_of pairs) }
-    ensures applies { IsDeletePointIn (of_key K.bytes) P store.now root result }
+    ensures { HasDeletePoint (of_key K.bytes) P store.now root first_of (Some result) }
 {
     find_end_to_delete(store, root, End::First)
 }
@@ -173,11 +140,7 @@ pub fn find_maximum_to_delete<K: AsBytes + Drop, V: Drop, const P: usize>(
     root: OpaqueNodePtr,
 ) -> DeletePoint
     requires { IsCanonicalRoot (of_key K.bytes) P store.now root }
-    ensures point { ForTree (of_key K.bytes) P store.now root (λ pairs layout.
-        IsDeletePoint layout (last_of pairs) (Some result)) }
-    ensures pair { ForTree (of_key K.bytes) P store.now root (λ pairs _.
-        pair_at store.now (Some result) ≡ last_of pairs) }
-    ensures applies { IsDeletePointIn (of_key K.bytes) P store.now root result }
+    ensures { HasDeletePoint (of_key K.bytes) P store.now root last_of (Some result) }
 {
     find_end_to_delete(store, root, End::Last)
 }
@@ -190,11 +153,8 @@ fn find_end_to_delete<K: AsBytes + Drop, V: Drop, const P: usize>(
     end: End,
 ) -> DeletePoint
     requires { IsCanonicalRoot (of_key K.bytes) P store.now root }
-    ensures point { ForTree (of_key K.bytes) P store.now root (λ pairs layout.
-        IsDeletePoint layout (of_two end (first_of pairs, last_of pairs)) (Some result)) }
-    ensures pair { ForTree (of_key K.bytes) P store.now root (λ pairs _.
-        pair_at store.now (Some result) ≡ of_two end (first_of pairs, last_of pairs)) }
-    ensures applies { IsDeletePointIn (of_key K.bytes) P store.now root result }
+    ensures { HasDeletePoint (of_key K.bytes) P store.now root
+        (λ pairs. of_two end (first_of pairs, last_of pairs)) (Some result) }
 {
     let (path, leaf_node_ptr) = walk_to_end(store, root, end);
     DeletePoint {

@@ -1,11 +1,11 @@
 //! Insertion: the point at which a key is inserted into a tree.
-ghost use Rattle.std.specs.Prelude.{◌≡◌, ◌↔◌, false, IsOk, IfOk, IfErr, IfSome, IsSome, Some};
+ghost use Rattle.std.specs.Prelude.{◌≡◌, ◌↔◌, false, IfSome, IsSome, Some};
 ghost use Rattle.art_model.specs.Pairs.{is_conflict, of_key};
 ghost use Rattle.art_model.specs.Roots.{ForTree, IsCanonicalRoot};
 ghost use Rattle.art_reading.specs.Readings.{CountsToEnd};
-ghost use Rattle.art_writing.specs.Inserted.{IsPointIn};
-ghost use Rattle.art_writing.specs.Overwritten.{IsPrefixPointIn, root_of};
-ghost use Rattle.art_writing.specs.Points.{AnswersTo, IsPointFor, IsRefusedFor};
+ghost use Rattle.art_writing.specs.Inserted.{HasInsertPoint, IsPointIn};
+ghost use Rattle.art_writing.specs.Overwritten.{HasPrefixPoint};
+ghost use Rattle.art_writing.specs.Points.{AnswersTo, IsRefusedFor};
 ghost use Rattle.std.specs.Box.{boxed_slice_items};
 ghost use Rattle.art_writing.specs.Conflicts.{conflict_text, bytes_text};
 
@@ -203,13 +203,7 @@ pub fn search_for_insert_point<K: AsBytes + Drop, V: Drop, const P: usize>(
     key_bytes: &[u8],
 ) -> Result<InsertPoint, InsertSearchError>
     requires { IsCanonicalRoot (of_key K.bytes) P store.now root }
-    ensures accepted { ForTree (of_key K.bytes) P store.now root (λ pairs layout.
-        IsOk result ↔ (is_conflict (of_key K.bytes) key_bytes.now pairs ≡ false)) }
-    ensures point { ForTree (of_key K.bytes) P store.now root (λ pairs layout.
-        IfOk result (λ point. AnswersTo (of_key K.bytes) P layout key_bytes.now point)) }
-    ensures root { IfOk result (λ point. point.root ≡ root) }
-    ensures applies { IfOk result (IsPointIn (of_key K.bytes) P store.now key_bytes.now) }
-    ensures refused { IfErr result (λ error. IsRefusedFor key_bytes.now error) }
+    ensures { HasInsertPoint (of_key K.bytes) P store.now root key_bytes.now result }
 {
     search_for_insert_point_visiting(store, root, key_bytes, &mut Visits::new())
 }
@@ -225,13 +219,7 @@ pub fn search_for_insert_point_visiting<K: AsBytes + Drop, V: Drop, const P: usi
     visits: &mut Visits,
 ) -> Result<InsertPoint, InsertSearchError>
     requires { IsCanonicalRoot (of_key K.bytes) P store.now root }
-    ensures accepted { ForTree (of_key K.bytes) P store.now root (λ pairs layout.
-        IsOk result ↔ (is_conflict (of_key K.bytes) key_bytes.now pairs ≡ false)) }
-    ensures point { ForTree (of_key K.bytes) P store.now root (λ pairs layout.
-        IfOk result (λ point. AnswersTo (of_key K.bytes) P layout key_bytes.now point)) }
-    ensures root { IfOk result (λ point. point.root ≡ root) }
-    ensures applies { IfOk result (IsPointIn (of_key K.bytes) P store.now key_bytes.now) }
-    ensures refused { IfErr result (λ error. IsRefusedFor key_bytes.now error) }
+    ensures point { HasInsertPoint (of_key K.bytes) P store.now root key_bytes.now result }
     ensures visits { CountsToEnd (of_key K.bytes) P store.now root key_bytes.now
         visits.old visits.new }
 {
@@ -251,10 +239,7 @@ pub fn search_for_prefix_insert_point<K: AsBytes + Drop, V: Drop, const P: usize
     key_bytes: &[u8],
 ) -> PrefixInsertPoint
     requires { IsCanonicalRoot (of_key K.bytes) P store.now root }
-    ensures point { ForTree (of_key K.bytes) P store.now root (λ pairs layout.
-        IsPointFor (of_key K.bytes) P key_bytes.now pairs layout result) }
-    ensures root { root_of result ≡ root }
-    ensures applies { IsPrefixPointIn (of_key K.bytes) P store.now key_bytes.now result }
+    ensures { HasPrefixPoint (of_key K.bytes) P store.now root key_bytes.now result }
 {
     search_for_prefix_insert_point_visiting(store, root, key_bytes, &mut Visits::new())
 }
@@ -268,10 +253,7 @@ pub fn search_for_prefix_insert_point_visiting<K: AsBytes + Drop, V: Drop, const
     visits: &mut Visits,
 ) -> PrefixInsertPoint
     requires { IsCanonicalRoot (of_key K.bytes) P store.now root }
-    ensures point { ForTree (of_key K.bytes) P store.now root (λ pairs layout.
-        IsPointFor (of_key K.bytes) P key_bytes.now pairs layout result) }
-    ensures root { root_of result ≡ root }
-    ensures applies { IsPrefixPointIn (of_key K.bytes) P store.now key_bytes.now result }
+    ensures point { HasPrefixPoint (of_key K.bytes) P store.now root key_bytes.now result }
     ensures visits { CountsToEnd (of_key K.bytes) P store.now root key_bytes.now
         visits.old visits.new }
 {

@@ -5,4 +5,5 @@ pub mod clone;
 pub mod deallocate;
 pub mod delete;
 pub mod insert;
+pub mod laws;
 mod writes;

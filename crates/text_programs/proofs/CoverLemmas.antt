@@ -1,5 +1,5 @@
 -- The routes that cover an address are those whose strings are prefixes of the address's.
-use Rattle.std.proofs.Common.{◌≡◌, ℕ, ◌+◌, ◌-◌, ◌*◌, ◌/◌, ◌^◌, ◌<◌, ◌≤◌, Bool, true, false, ◌&&◌, eqb, eq-eqb, eqb-true, List, [], ◌∷◌, ◌++◌, length, Some, None, refl, ap, ap₂, sym, ◌∙◌, subst, arith}
+use Rattle.std.proofs.Common.{◌≡◌, ℕ, ◌+◌, ◌-◌, ◌*◌, ◌/◌, ◌^◌, ◌<◌, ◌≤◌, Bool, true, false, eqb, eq-eqb, eqb-true, List, [], ◌∷◌, ◌++◌, length, Some, None, refl, ap, ap₂, sym, ◌∙◌, subst, arith}
 use Rattle.std.specs.List.{AllByRecursion as Each}
 use Rattle.std.specs.Ordering.{is_lt, nat_cmp}
 use Rattle.std.specs.Cmp.Lexicographic.{slice_cmp}
@@ -53,7 +53,7 @@ module _ (length more a b : ℕ) (small : a < 2 ^ length) (fits : b < 2 ^ (lengt
       ap₂ is_front (ap (bits length) e) is ∙ front_is (bits length (b / 2 ^ more)) tail
 
 -- the string of an address
-abbrev pub query_of : IpAddr → List ℕ
+abbrev query_of : IpAddr → List ℕ
 query_of address = version_of address ∷ bits (width (version_of address)) (number_of address)
 
 module _ (n : Network) (a : IpAddr) (is : IsNetwork n) (fits : number_of a < 2 ^ width (version_of a)) where
@@ -88,7 +88,7 @@ module _ (n : Network) (a : IpAddr) (is : IsNetwork n) (fits : number_of a < 2 ^
       (ap (λ m. m / 2 ^ host_bits n) number ∙ shl-shr (number_of a / 2 ^ host_bits n) (host_bits n)))
 
 -- a string is a prefix of that of an address where its network covers it
-pub front_covers : (string : List ℕ) (a : IpAddr) → IsString string → number_of a < 2 ^ width (version_of a) →
+front_covers : (string : List ℕ) (a : IpAddr) → IsString string → number_of a < 2 ^ width (version_of a) →
     is_front string (query_of a) ≡ covers (network_of string) a
 front_covers string a s fits =
     same_tests _ _ (λ h. begins (network_of string) a s.network_is fits (ap (λ t. is_front t (query_of a)) (sym s.is) ∙ h))
@@ -123,7 +123,7 @@ module _ (pairs : List (List ℕ × Source)) (a : IpAddr) (strings : HaveStrings
   as_length : (x y : List ℕ × Source) → IsString x.0 → IsString y.0 → length x.0 ≤ length y.0 → (network_of x.0).length ≤ (network_of y.0).length
   as_length x y s t h = let i = string_length x.0 s in let j = string_length y.0 t in omega arith
 
-  pub none_covers : last_of Found ≡ None → IsAnswer (routes_of pairs) a None
+  none_covers : last_of Found ≡ None → IsAnswer (routes_of pairs) a None
   none_covers none =
       each_map route_of (λ route. covers route.network a ≡ false) pairs
       (each_from _ pairs (λ x there. sym (front_covers x.0 a (each_in (λ y. IsString y.0) x pairs strings there) fits)
@@ -136,7 +136,7 @@ module _ (pairs : List (List ℕ × Source)) (a : IpAddr) (strings : HaveStrings
   last_in : (xs : List (List ℕ × Source)) (x : List ℕ × Source) → last_of xs ≡ Some x → IsIn x xs
   last_in xs x last = last_each (λ y. IsIn y xs) xs x (each_from (λ y. IsIn y xs) xs (λ y i. i)) last
 
-  pub last_answers : (x : List ℕ × Source) → last_of Found ≡ Some x → Each (λ y. length y.0 ≤ length x.0) Found →
+  last_answers : (x : List ℕ × Source) → last_of Found ≡ Some x → Each (λ y. length y.0 ≤ length x.0) Found →
       IsAnswer (routes_of pairs) a (Some x.1.line.items)
   last_answers x last longest =
       let found = last_in Found x last in

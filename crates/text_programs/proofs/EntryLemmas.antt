@@ -34,7 +34,7 @@ digits_spaceless (b ∷ bs) h =
     let both = and_parts (is_ascii_digit b) (list_all is_ascii_digit bs) h in
     All-cons (λ z. z ≢ 32) b bs (λ e. false≢true (sym (ap is_ascii_digit e) ∙ both.0)) (digits_spaceless bs both.1)
 
-pub code_spaceless : (code : List ℕ) → is_code code ≡ true → HasNoSpace code
+code_spaceless : (code : List ℕ) → is_code code ≡ true → HasNoSpace code
 code_spaceless code h = digits_spaceless code (and_parts (not (eqb (length code) 0)) (list_all is_ascii_digit code) h).1
 
 -- a line whose first word is no code is none of an entry

@@ -56,14 +56,14 @@ module _ (key : List ℕ) (pairs : List (List ℕ × Source)) where
   a_pair (Some x) source e = (x, refl, cc)
 
   -- where none is stored each other string is another one
-  pub others_differ : None ≡ value_at ended (ended key) pairs → Each (λ x. x.0 ≢ key) pairs
+  others_differ : None ≡ value_at ended (ended key) pairs → Each (λ x. x.0 ≢ key) pairs
   others_differ none =
       Each-weaker (λ x. are_same (ended key) (ended x.0) ≡ false) (λ x. x.0 ≢ key)
       (λ x off same. false≢true (sym off ∙ ap (λ t. are_same (ended key) (ended t)) same ∙ front_same (ended key))) pairs
       (none_passes HasKey pairs (first_none (with_key (of_key ended) (ended key) pairs) (no_pair Stored none)))
 
   -- and the pair is added to the others
-  pub pair_comes : (source : Source) → None ≡ value_at ended (ended key) pairs →
+  pair_comes : (source : Source) → None ≡ value_at ended (ended key) pairs →
       put (of_key ended) (key, source) pairs ≡ add_in_order (of_key ended) (key, source) pairs
   pair_comes source none =
       put-new (of_key ended) (key, source) pairs (no_pair Stored none)
@@ -72,7 +72,7 @@ module _ (key : List ℕ) (pairs : List (List ℕ × Source)) where
       (none_passes HasKey pairs (first_none (with_key (of_key ended) (ended key) pairs) (no_pair Stored none)))))
 
   -- where one is stored it has the string
-  pub stored_pair : (source : Source) → Some source ≡ value_at ended (ended key) pairs → (x : List ℕ × Source) × IsIn x pairs × (x.0 ≡ key) × (x.1 ≡ source)
+  stored_pair : (source : Source) → Some source ≡ value_at ended (ended key) pairs → (x : List ℕ × Source) × IsIn x pairs × (x.0 ≡ key) × (x.1 ≡ source)
   stored_pair source some =
       let (x, first, is) = a_pair Stored source some in
       let found = first_in x (with_key (of_key ended) (ended key) pairs) first in

@@ -18,12 +18,12 @@ module _ (byte : ℕ) where
   abbrev Lacks : List ℕ → Type 0
   Lacks = All (λ c. c ≢ byte)
 
-  pub has_it : (a b : List ℕ) → Lacks (a ++ byte ∷ b) → ⊥
+  has_it : (a b : List ℕ) → Lacks (a ++ byte ∷ b) → ⊥
   has_it [] b lacks = All-head (λ c. c ≢ byte) byte b lacks refl
   has_it (x ∷ a) b lacks = has_it a b (All-tail (λ c. c ≢ byte) x (a ++ byte ∷ b) lacks)
 
   -- what is before the first such byte, and after it
-  pub same_parts : (a b c d : List ℕ) → Lacks a → Lacks c → a ++ byte ∷ b ≡ c ++ byte ∷ d → (a ≡ c) × (b ≡ d)
+  same_parts : (a b c d : List ℕ) → Lacks a → Lacks c → a ++ byte ∷ b ≡ c ++ byte ∷ d → (a ≡ c) × (b ≡ d)
   same_parts [] b [] d ha hc e = (refl, cc)
   same_parts [] b (x ∷ c) d ha hc e = absurd (All-head (λ z. z ≢ byte) x c hc (cc))
   same_parts (x ∷ a) b [] d ha hc e = absurd (All-head (λ z. z ≢ byte) x a ha (cc))
@@ -40,14 +40,14 @@ pub record IsOther (byte : ℕ) : Type 0 where
   pub no_dot : 46 ≢ byte
   pub no_colon : 58 ≢ byte
 
-pub space_is_other : IsOther 32
+space_is_other : IsOther 32
 space_is_other = record { no_digit = λ h. omega (arith, h); no_dot = λ e. omega (arith, e); no_colon = λ e. omega (arith, e) }
 
-pub slash_is_other : IsOther 47
+slash_is_other : IsOther 47
 slash_is_other = record { no_digit = λ h. omega (arith, h); no_dot = λ e. omega (arith, e); no_colon = λ e. omega (arith, e) }
 
 module _ (byte : ℕ) (other : IsOther byte) where
-  pub digits_lack : (radix : ℕ) (ds : List ℕ) → radix ≤ 16 → AllDigits radix ds → Lacks byte ds
+  digits_lack : (radix : ℕ) (ds : List ℕ) → radix ≤ 16 → AllDigits radix ds → Lacks byte ds
   digits_lack radix [] low h = All-nil (λ c. c ≢ byte)
   digits_lack radix (d ∷ ds) low h =
       All-cons (λ c. c ≢ byte) d ds (λ e. other.no_digit (subst (λ c. digit_value c < 16) e (omega (arith, h.0)))) (digits_lack radix ds low h.1)
@@ -78,7 +78,7 @@ module _ (byte : ℕ) (other : IsOther byte) where
   groups_lack ipv4 lead text (s ∷ segments) l (inr (last, octets, can, is, dotted, value)) =
       subst (Lacks byte) (sym is) (both _ _ l (dotted_lacks last octets dotted))
 
-  pub address_lacks : (text : List ℕ) (a : IpAddr) → IsIpText text a → Lacks byte text
+  address_lacks : (text : List ℕ) (a : IpAddr) → IsIpText text a → Lacks byte text
   address_lacks text (V4 ip) h = dotted_lacks text _ h
   address_lacks text (V6 ip) (inl h) = groups_lack true [] text _ (All-nil (λ c. c ≢ byte)) h.0
   address_lacks text (V6 ip) (inr h) =
@@ -107,7 +107,7 @@ module _ (line : List ℕ) (a : IpAddr) (n : ℕ) (w : IsWrittenAt line a n) whe
   has_space lacks = has_it 32 (w.text ++ 47 ∷ w.digits) w.name (subst (Lacks 32) line_parts lacks)
 
   -- what is before the first space
-  pub route_is : (route name : List ℕ) → line ≡ route ++ 32 ∷ name → Lacks 32 route → route ≡ w.text ++ 47 ∷ w.digits
+  route_is : (route name : List ℕ) → line ≡ route ++ 32 ∷ name → Lacks 32 route → route ≡ w.text ++ 47 ∷ w.digits
   route_is route name is lacks = (same_parts 32 route name (w.text ++ 47 ∷ w.digits) w.name lacks route_lacks (sym is ∙ line_parts)).0
 
   pub has_slash : (route name : List ℕ) → line ≡ route ++ 32 ∷ name → Lacks 32 route → Lacks 47 route → ⊥

@@ -10,10 +10,10 @@ use std::alloc::{AllocError, Global};
 use std::cmp::Ordering;
 
 /// The kind and the slot of a name.
-pub type Named = (NodeType, usize);
+pub type Named = (NodeType, u32);
 
 /// The slots of a leaf's links.
-pub type Links = (Option<usize>, Option<usize>);
+pub type Links = (Option<u32>, Option<u32>);
 
 /// What a check reports, with the bytes of its prefixes and keys.
 #[derive(Clone, Copy, PartialEq, Eq)]
@@ -144,7 +144,7 @@ fn name_of((kind, slot): Named) -> OpaqueNodePtr {
 }
 
 // The link to the leaf in this slot.
-fn link_to(slot: Option<usize>) -> OptionalLeafPtr {
+fn link_to(slot: Option<u32>) -> OptionalLeafPtr {
     slot.map(LeafPtr::from_slot)
 }
 
@@ -282,11 +282,16 @@ pub fn listed<'a>(told: Told<'a>, names: &[OpaqueNodePtr]) -> Told<'a> {
 // A name with its place in a list as its slot.
 fn place_of(name: Named, names: &[OpaqueNodePtr]) -> Named {
     let place = names.iter().position(|other| named(*other) == name);
-    (name.0, place.unwrap_or(usize::MAX))
+    (
+        name.0,
+        place
+            .and_then(|at| u32::try_from(at).ok())
+            .unwrap_or(u32::MAX),
+    )
 }
 
 // The same of links.
 fn links_listed((previous, next): Links, names: &[OpaqueNodePtr]) -> Links {
-    let place = |slot: usize| place_of((NodeType::Leaf, slot), names).1;
+    let place = |slot: u32| place_of((NodeType::Leaf, slot), names).1;
     (previous.map(place), next.map(place))
 }

@@ -116,10 +116,10 @@ impl Numbers {
 
 // The number in a slot of a row, or zero past its end.
 #[inline(always)]
-fn number_in(row: &[usize], slot: usize) -> usize
+fn number_in(row: &[usize], slot: u32) -> usize
     ensures { result ≡ number_at row.now slot }
 {
-    match row.get(slot) {
+    match row.get(slot as usize) {
         Some(number) => *number,
         None => 0,
     }
@@ -127,14 +127,14 @@ fn number_in(row: &[usize], slot: usize) -> usize
 
 // Writes a number into a slot of a row, which is extended by zeros if it ends before.
 #[inline(always)]
-fn set_in(row: &mut Vec<usize>, slot: usize, number: usize) -> Result<(), AllocError>
+fn set_in(row: &mut Vec<usize>, slot: u32, number: usize) -> Result<(), AllocError>
     ensures here { OnOk result (number_at row.new.items slot ≡ number) }
     ensures elsewhere { OnOk result
         ((i : ℕ) → i ≢ slot → number_at row.new.items i ≡ number_at row.old.items i) }
 {
-    'longer: while row.len() <= slot {
+    'longer: while row.len() <= slot as usize {
         row.push(0)?;
     }
-    row[slot] = number;
+    row[slot as usize] = number;
     Ok(())
 }

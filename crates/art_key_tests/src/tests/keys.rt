@@ -131,7 +131,7 @@ fn escaped(alloc: Global) -> Option<([bool; 2], [bool; 3])> {
 fn ended(alloc: Global) -> Option<[bool; 2]> {
     let key = Terminated::from_string("car".to_string(alloc).ok()?).ok()?;
     let is_ended = key.as_bytes() == b"car\0".as_slice();
-    let string = key.into_bytes_without_end();
+    let string = key.into_bytes_without_end().ok()?;
     Some([is_ended, string.as_slice() == b"car".as_slice()])
 }
 

@@ -7,6 +7,7 @@ use art_keys::terminated::{EndError, Terminated};
 use art_keys::unsigned::Unsigned;
 use art_node_support::expected::same;
 use art_node_support::memory::{all_memory, begin_refusals, end_refusals};
+use art_nodes::node::AsBytes;
 use std::alloc::Global;
 use std::test::Fail;
 
@@ -19,18 +20,48 @@ fn left(full: Vec<u8>) -> Option<usize> {
     }
 }
 
-// While every allocation fails: whether a string is not escaped, how many bytes without room for an end are returned,
-// and whether bytes with room are ended.
+// While every allocation fails: whether a long string is not escaped, how many bytes without room for an end are
+// returned, and whether bytes with room are ended.
 fn starve_keys(
     alloc: Global,
     full: Vec<u8>,
     roomy: Vec<u8>,
 ) -> Option<(bool, Option<usize>, bool)> {
     let held = all_memory(alloc).ok()?;
-    let is_refused = Escaped::encode(alloc, b"").is_err();
+    let is_refused = Escaped::encode(alloc, &[7; 30]).is_err();
     let answers = (is_refused, left(full), Terminated::new(roomy).is_ok());
     drop(held);
     Some(answers)
+}
+
+// While every allocation fails: the lengths of short keys, and whether the bytes of one are refused as a vector, which
+// takes an allocation.
+fn starve_short_keys(alloc: Global, short: Vec<u8>) -> Option<([usize; 3], bool)> {
+    let held = all_memory(alloc).ok()?;
+    let key = Terminated::new(short).ok()?;
+    let copy = key.clone().ok()?;
+    let escaped = Escaped::encode(alloc, b"\0\x01").ok()?;
+    let full = Terminated::encode(alloc, &[7; 29]).ok()??;
+    let lens = [
+        copy.as_bytes().len(),
+        escaped.as_bytes().len(),
+        full.as_bytes().len(),
+    ];
+    let is_refused = match full.into_bytes_without_end() {
+        Ok(_) => false,
+        Err(failed) => failed.value.as_bytes().len() == 30,
+    };
+    drop(held);
+    Some((lens, is_refused))
+}
+
+#[test]
+fn without_memory_short_strings_are_keys(rt: HostRuntime) -> Result<(), Fail> {
+    let short = b"car".to_vec(rt.alloc())?;
+    same(
+        starve_short_keys(rt.alloc(), short),
+        Some(([4, 5, 30], true)),
+    )
 }
 
 // A vector of this size has no spare room for the end.
@@ -38,8 +69,8 @@ fn starve_keys(
 fn without_memory_bytes_are_ended_where_there_is_room(rt: HostRuntime) -> Result<(), Fail> {
     let alloc = rt.alloc();
     let full = vec![in alloc; 7u8; 4096]?;
-    let mut roomy = Vec::with_capacity(alloc, 4)?;
-    roomy.extend_from_slice(b"car")?;
+    let mut roomy = Vec::with_capacity(alloc, 41)?;
+    roomy.extend_from_slice(&[7; 40])?;
     same(
         starve_keys(alloc, full, roomy),
         Some((true, Some(4096), true)),

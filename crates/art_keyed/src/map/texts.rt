@@ -18,7 +18,7 @@ use crate::terminated_text::TerminatedText;
 use art_keys::escaped::Escaped;
 use art_keys::terminated::{Terminated, has_zero};
 use art_map::map::{MapSourceError, Range};
-use art_nodes::node::AsBytes;
+use art_nodes::node::{AsBytes, LeafPtr};
 use art_reading::lookup::EndedQuery;
 use std::alloc::{AllocFailed, Global};
 use std::ops::Bound;
@@ -118,8 +118,29 @@ impl<V: Drop, const P: usize> TreeMap<Terminated, V, P> {
         ensures returned { IfErr result (IsTextRefusal text.now value) }
         ensures refused { OnErr result (has_key (of_key ended) (ended text.now) self.old ≡ false) }
     {
+        self.get_text_or_insert_near(None, alloc, text, value)
+    }
+
+    /// Returns what `get_text_or_insert` does. The leaf of this name, if there is one, is read first: if it has the text,
+    /// there is no descent.
+    pub fn get_text_or_insert_near(
+        &mut self,
+        near: Option<LeafPtr>,
+        alloc: Global,
+        text: &[u8],
+        value: V,
+    ) -> Result<&mut V, TextRefused<V>>
+        ensures* writes_back { sem 𝓛 (lends_text_put V.row P.row self.entry text.now result) }
+        ensures value { IfOk result (λ lent.
+            lent.now ≡ unwrap_or (value_at ended (ended text.now) self.old) value) }
+        ensures returned { IfErr result (IsTextRefusal text.now value) }
+        ensures refused { OnErr result (has_key (of_key ended) (ended text.now) self.old ≡ false) }
+    {
         let source = TerminatedText { text };
-        Ok(self.map.get_or_insert_from(alloc, &source, value)?)
+        Ok(
+            self.map
+                .get_or_insert_from_near(near, alloc, &source, value)?,
+        )
     }
 
     /// Returns a mutable reference to the value of the longest string that is a prefix of a text, or equal to it, or
@@ -256,8 +277,30 @@ impl<V: Drop, const P: usize> TreeMap<Escaped, V, P> {
         ensures refused { OnErr result
             (has_key (of_key escape) (escape text.now) self.old ≡ false) }
     {
+        self.get_text_or_insert_near(None, alloc, text, value)
+    }
+
+    /// Returns what `get_text_or_insert` does. The leaf of this name, if there is one, is read first: if it has the text,
+    /// there is no descent.
+    pub fn get_text_or_insert_near(
+        &mut self,
+        near: Option<LeafPtr>,
+        alloc: Global,
+        text: &[u8],
+        value: V,
+    ) -> Result<&mut V, AllocFailed<V>>
+        ensures* writes_back { sem 𝓛 (lends_escaped_put V.row P.row self.entry text.now result) }
+        ensures value { IfOk result (λ lent.
+            lent.now ≡ unwrap_or (value_at escape (escape text.now) self.old) value) }
+        ensures returned { IfErr result (λ refused. refused.value ≡ value) }
+        ensures refused { OnErr result
+            (has_key (of_key escape) (escape text.now) self.old ≡ false) }
+    {
         let source = EscapedBytes::new(text);
-        Ok(self.map.get_or_insert_from(alloc, &source, value)?)
+        Ok(
+            self.map
+                .get_or_insert_from_near(near, alloc, &source, value)?,
+        )
     }
 
     /// Removes the pair of a text's key, and returns it, or `None` if it is not stored.

@@ -1,4 +1,4 @@
-//! Moving the leaves of a map into the order of its keys.
+//! Moving the leaves of a map into the order of its keys, and freeing room for later ones.
 ghost use Rattle.std.specs.Prelude.{◌≡◌};
 
 use super::ByteMap;
@@ -27,5 +27,14 @@ impl<K: AsBytes + Drop, V: Drop, const P: usize> ByteMap<K, V, P> {
                 self.store.sort_leaves(first)
             }
         }
+    }
+
+    /// Frees memory that the map has for later pairs, but for the slots that removals need; the map is unchanged. A
+    /// free slot before a used one stays: `compact` frees those of leaves. It copies the inner nodes, one kind at a
+    /// time, and fails only if an allocation for that fails. This pays off once a map is loaded.
+    pub fn shrink_to_fit(&mut self) -> Result<(), AllocError>
+        ensures same { self.new ≡ self.old }
+    {
+        self.store.shrink_to_fit()
     }
 }

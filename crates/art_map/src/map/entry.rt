@@ -81,7 +81,7 @@ impl<'a, K: AsBytes + Drop, V: Drop, const P: usize> EntryOf<'a, K, ByteMap<K, V
             (IsRefusalOf K.bytes self.entry.key value self.entry.map.now) }
     {
         let EntryOf { map, key, leaf } = self;
-        map.value_or_insert(key, leaf, value)
+        map.get_or_insert_near(leaf, key, value)
     }
 
     /// Returns what `or_insert` does, with a value that is made from the key. The closure is called only if no equal

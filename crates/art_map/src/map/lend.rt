@@ -48,11 +48,12 @@ impl<K: AsBytes + Drop, V: Drop, const P: usize> ByteMap<K, V, P> {
         Some(leaf)
     }
 
-    // What `get_or_insert` returns. The leaf is one that had the key, if one is known.
-    pub(super) fn value_or_insert(
+    /// Returns what `get_or_insert` does. The leaf of this name, if there is one, is read first: if it has the key, there
+    /// is no descent.
+    pub fn get_or_insert_near(
         &mut self,
+        near: Option<LeafPtr>,
         key: K,
-        leaf: Option<LeafPtr>,
         value: V,
     ) -> Result<&mut V, MapInsertError<K, V>>
         ensures* writes_back { sem 𝓛
@@ -63,7 +64,7 @@ impl<K: AsBytes + Drop, V: Drop, const P: usize> ByteMap<K, V, P> {
             (is_conflict (of_key K.bytes) (K.bytes key) self.old ≡ false) }
         ensures refused { IfErr result (IsRefusalOf K.bytes key value self.old) }
     {
-        let position = position_near(&self.store, self.root, leaf, key.as_bytes());
+        let position = position_near(&self.store, self.root, near, key.as_bytes());
         let leaf = match enter(
             &mut self.store,
             &mut self.root,
@@ -78,7 +79,7 @@ impl<K: AsBytes + Drop, V: Drop, const P: usize> ByteMap<K, V, P> {
         Ok(self.store.value_mut(leaf).unwrap())
     }
 
-    // The same, with a value that is made if no equal key is stored.
+    // The same, with a value that is made if no equal key is stored. The leaf is one that had the key, if one is known.
     pub(super) fn value_or_make<F: FnOnce(&K) -> V>(
         &mut self,
         key: K,

@@ -9,7 +9,7 @@ ghost use Rattle.art_map.specs.MapPairs.{HoldsPairs, pairs_at};
 use super::{MapInsertError, MapMakeError, MapSourceError, ToKey, one_more, without_memory};
 use art_nodes::node::{AsBytes, LeafPtr, OpaqueNodePtr, OptionalLeafPtr};
 use art_nodes::store::NodeStore;
-use art_reading::lookup::KeyBytes;
+use art_reading::lookup::{Asked, KeyBytes, KeyQuery, PrefixMatchBehavior, search_for};
 use art_writing::delete::search_for_delete_point_by;
 use art_writing::insert::{
     InsertKind, InsertPoint, InsertSearchError, plant, search_for_insert_point,
@@ -71,18 +71,43 @@ pub(super) fn position_near<K: AsBytes + Drop, V: Drop, const P: usize>(
     position_of(store, root, key_bytes)
 }
 
-// Returns whether this leaf exists and has the key with these bytes.
-fn has_key_at<K: AsBytes + Drop, V: Drop, const P: usize>(
+// Returns whether this leaf exists and has the key that is asked for.
+#[inline(always)]
+pub(super) fn has_key_at<Q: KeyQuery, K: AsBytes + Drop, V: Drop, const P: usize>(
     store: &NodeStore<K, V, P>,
     leaf: LeafPtr,
-    key_bytes: &[u8],
+    query: Q,
 ) -> bool
-    ensures { IsTrue result → HasKeyAt K.bytes store.now leaf key_bytes.now }
+    ensures { IsTrue result → HasKeyAt K.bytes store.now leaf (Q.key query) }
 {
     let Some(node) = store.leaf(leaf) else {
         return false;
     };
-    node.key.as_bytes() == key_bytes
+    query.finds(PrefixMatchBehavior::Optimistic, Asked::Same, node, 0)
+}
+
+// Returns whether this leaf exists and has the key with these bytes, which need not stand in a slice.
+fn has_bytes_at<B: KeyBytes, K: AsBytes + Drop, V: Drop, const P: usize>(
+    store: &NodeStore<K, V, P>,
+    leaf: LeafPtr,
+    bytes: &mut B,
+) -> bool
+    ensures key { IsTrue result → HasKeyAt K.bytes store.now leaf (B.key bytes.old) }
+    ensures same { B.key bytes.new ≡ B.key bytes.old }
+{
+    let Some(node) = store.leaf(leaf) else {
+        return false;
+    };
+    is_same(node.key.as_bytes(), bytes)
+}
+
+// Returns whether both are the same bytes.
+fn is_same<B: KeyBytes>(slice: &[u8], bytes: &mut B) -> bool
+    ensures is_same { IsTrue result → slice.now ≡ B.key bytes.old }
+    ensures same { B.key bytes.new ≡ B.key bytes.old }
+{
+    let shared = bytes.shared_after(0, slice);
+    shared == slice.len() && bytes.byte_after(shared, 0).is_none()
 }
 
 // The leaf of a key whose bytes need not stand in a slice. If it is not stored, where it is inserted, or `None` if it
@@ -128,11 +153,33 @@ pub(super) fn leaf_by<B: KeyBytes + Drop, K: AsBytes + Drop, V: Drop, const P: u
     Some(point.leaf_node_ptr)
 }
 
-// The leaf of a key: the one that it has, or a new one with the value at its place. The key is made if it is new.
+// The leaf of the key that is asked for, or `None` if it is not stored. A leaf that had the key is read first.
+#[inline(always)]
+pub(super) fn leaf_near<Q: KeyQuery, K: AsBytes + Drop, V: Drop, const P: usize>(
+    store: &NodeStore<K, V, P>,
+    root: OpaqueNodePtr,
+    leaf: Option<LeafPtr>,
+    query: Q,
+) -> OptionalLeafPtr
+    requires { (len : ℕ) × HoldsPairs (of_key K.bytes) P store.now (Some root) len
+        (pairs_at store.now (Some root)) }
+    ensures { IsLeafOfKey K.bytes P store.now root (Q.key query) result }
+{
+    if let Some(leaf) = leaf {
+        if has_key_at(store, leaf, query) {
+            return Some(leaf);
+        }
+    }
+    search_for(store, root, query)
+}
+
+// The leaf of a key: the one that it has, or a new one with the value at its place. The key is made if it is new. A leaf
+// that had the key is read first.
 pub(super) fn leaf_from<S: ToKey<K> + Drop, K: AsBytes + Drop, V: Drop, const P: usize>(
     store: &mut NodeStore<K, V, P>,
     root: &mut Option<OpaqueNodePtr>,
     len: &mut usize,
+    leaf: Option<LeafPtr>,
     alloc: Global,
     source: &S,
     value: V,
@@ -140,8 +187,14 @@ pub(super) fn leaf_from<S: ToKey<K> + Drop, K: AsBytes + Drop, V: Drop, const P:
     requires { HoldsPairs (of_key K.bytes) P store.old root.old len.old
         (pairs_at store.old root.old) }
     ensures { HasEnteredFrom K.bytes P (pairs_at store.old root.old) (S.made source.now)
-        (S.is_key source.now) value result store.new root.new len.new }
+        (S.is_key source.now) (S.allocates_nothing source.now) value result
+        store.new root.new len.new }
 {
+    if let Some(leaf) = leaf {
+        if has_bytes_at(store, leaf, &mut source.again()) {
+            return Ok(leaf);
+        }
+    }
     let position = match position_by(store, *root, &mut source.again()) {
         Ok(leaf) => return Ok(leaf),
         Err(position) => position,

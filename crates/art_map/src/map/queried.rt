@@ -14,7 +14,7 @@ use super::remove::take_all_below;
 use super::{ByteMap, Range, RangeOf, pair_at, take_bytes, take_key};
 use art_nodes::node::AsBytes;
 use art_reading::iterator::RawIterator;
-use art_reading::lookup::{Asked, KeyBytes, KeyQuery, find_unchecked, search_for};
+use art_reading::lookup::{Asked, KeyBytes, KeyQuery, search_for};
 use art_reading::range::{prefix_unchecked, range_unchecked};
 use std::ops::Bound;
 
@@ -24,7 +24,7 @@ impl<K: AsBytes + Drop, V: Drop, const P: usize> ByteMap<K, V, P> {
         ensures value { option_copied result ≡ value_at K.bytes (Q.key query) self.now }
         ensures sorted { IsMap (of_key K.bytes) self.now }
     {
-        let leaf = find_unchecked(&self.store, self.root?, query, Asked::Same)?;
+        let leaf = self.find(query, Asked::Same)?;
         Some(&leaf.value)
     }
 
@@ -33,7 +33,7 @@ impl<K: AsBytes + Drop, V: Drop, const P: usize> ByteMap<K, V, P> {
         ensures { option_map deref_pair result ≡
             first_of (with_key (of_key K.bytes) (Q.key query) self.now) }
     {
-        let leaf = find_unchecked(&self.store, self.root?, query, Asked::Same)?;
+        let leaf = self.find(query, Asked::Same)?;
         Some((&leaf.key, &leaf.value))
     }
 

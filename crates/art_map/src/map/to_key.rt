@@ -1,5 +1,5 @@
 //! Values of keys that are made only where they are new.
-ghost use Rattle.std.specs.Prelude.{◌≡◌, ◌↔◌, IfErr, IfOk, IfSome, IsSome, OnOk, false};
+ghost use Rattle.std.specs.Prelude.{◌≡◌, ◌↔◌, IfErr, IfOk, IfSome, IsOk, IsSome, OnErr, OnOk, false};
 ghost use Rattle.std.specs.Borrow.{sem};
 ghost use Rattle.std.specs.Option.{unwrap_or};
 ghost use Rattle.art_model.specs.Pairs.{has_key, is_conflict, of_key};
@@ -9,7 +9,7 @@ ghost use Rattle.art_map.specs.MapLends.{lends_put};
 
 use super::position::leaf_from;
 use super::{ByteMap, MapInsertError};
-use art_nodes::node::AsBytes;
+use art_nodes::node::{AsBytes, LeafPtr};
 use art_reading::lookup::KeyBytes;
 use std::alloc::{AllocError, AllocFailed, Global};
 use thiserror::Error;
@@ -22,10 +22,16 @@ pub trait ToKey<K: AsBytes>: KeyBytes {
     /// Whether the type has such a key.
     ghost is_key: { Self → Type 0 };
 
-    /// Makes the key. Returns `None` if the type has none with these bytes, and fails only if an allocation fails.
+    /// Whether the key is made without an allocation.
+    ghost allocates_nothing: { Self → Type 0 };
+
+    /// Makes the key. Returns `None` if the type has none with these bytes, and fails only if it has one and an
+    /// allocation fails.
     fn to_key(&self, alloc: Global) -> Result<Option<K>, AllocError>
         ensures key { IfOk result (λ some. IfSome some (λ key. key ≡ made self.now)) }
-        ensures made { IfOk result (λ some. IsSome some ↔ is_key self.now) };
+        ensures made { IfOk result (λ some. IsSome some ↔ is_key self.now) }
+        ensures succeeds { allocates_nothing self.now → IsOk result }
+        ensures refused { OnErr result (is_key self.now) };
 
     /// The bytes of the source are those of the key.
     ghost same_bytes: { HasSameBytes K.AsBytes.bytes Self.KeyBytes.key made };
@@ -94,12 +100,39 @@ impl<K: AsBytes + Drop, V: Drop, const P: usize> ByteMap<K, V, P> {
             (has_key (of_key K.bytes) (K.bytes (S.made source.now)) self.old ≡ false →
             S.is_key source.now) }
         ensures refused { IfErr result
-            (IsSourceRefusal K.bytes (S.made source.now) (S.is_key source.now) value self.old) }
+            (IsSourceRefusal K.bytes (S.made source.now) (S.is_key source.now)
+            (S.allocates_nothing source.now) value self.old) }
+    {
+        self.get_or_insert_from_near(None, alloc, source, value)
+    }
+
+    /// Returns what `get_or_insert_from` does. The leaf of this name, if there is one, is read first: if it has the key,
+    /// there is no descent.
+    pub fn get_or_insert_from_near<S: ToKey<K> + Drop>(
+        &mut self,
+        near: Option<LeafPtr>,
+        alloc: Global,
+        source: &S,
+        value: V,
+    ) -> Result<&mut V, MapSourceError<K, V>>
+        ensures* writes_back { sem 𝓛
+            (lends_put K.row V.row P.row K.AsBytes self.entry (S.made source.now) result) }
+        ensures value { IfOk result (λ lent.
+            lent.now ≡ unwrap_or (value_at K.bytes (K.bytes (S.made source.now)) self.old) value) }
+        ensures accepted { OnOk result
+            (is_conflict (of_key K.bytes) (K.bytes (S.made source.now)) self.old ≡ false) }
+        ensures is_key { OnOk result
+            (has_key (of_key K.bytes) (K.bytes (S.made source.now)) self.old ≡ false →
+            S.is_key source.now) }
+        ensures refused { IfErr result
+            (IsSourceRefusal K.bytes (S.made source.now) (S.is_key source.now)
+            (S.allocates_nothing source.now) value self.old) }
     {
         let leaf = match leaf_from(
             &mut self.store,
             &mut self.root,
             &mut self.len,
+            near,
             alloc,
             source,
             value,

@@ -40,6 +40,20 @@ fn a_compact_map_has_the_same_pairs(rt: HostRuntime) -> Result<(), Fail> {
     same(seen, (true, [124_679, 976_421], [Some(4), None]))
 }
 
+// Whether a map frees its spare room, its digits then, and whether a pair is inserted after that.
+fn shrunk(map: &mut Map) -> (bool, [u32; 2], bool) {
+    fill_unsorted(map);
+    let is_shrunk = map.shrink_to_fit().is_ok();
+    let digits = digits(map);
+    (is_shrunk, digits, map.insert([5], 5).is_ok())
+}
+
+#[test]
+fn a_map_that_shrank_has_the_same_pairs(rt: HostRuntime) -> Result<(), Fail> {
+    let seen = shrunk(&mut ByteMap::new(rt.alloc()));
+    same(seen, (true, [124_679, 976_421], true))
+}
+
 // Whether `compact` fails while all memory is held, and the digits then.
 fn starve(alloc: Global, map: &mut Map) -> Option<(bool, [u32; 2])> {
     fill_unsorted(map);

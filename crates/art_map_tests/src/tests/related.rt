@@ -50,6 +50,52 @@ fn related_keys_are_refused(rt: HostRuntime) -> Result<(), Fail> {
     )
 }
 
+// The only byte of a pair's key, and its value.
+fn plain(pair: &Option<(Vec<u8>, u32)>) -> Option<(u8, u32)> {
+    let (key, value) = pair.as_ref()?;
+    match key.as_slice() {
+        [byte] => Some((*byte, *value)),
+        _ => None,
+    }
+}
+
+// The pair that an insertion returns. None if it fails.
+fn returned(map: &mut Map, alloc: Global, key: &[u8], value: u32) -> Option<Option<(u8, u32)>> {
+    let replaced = map.insert(key.to_vec(alloc).ok()?, value).ok()?;
+    Some(plain(&replaced))
+}
+
+// The first pair, the last pair and then the first pair, each removed.
+fn removed_in_turn(map: &mut Map) -> [Option<(u8, u32)>; 3] {
+    let first = plain(&map.pop_first().unwrap());
+    let last = plain(&map.pop_last().unwrap());
+    [first, last, plain(&map.pop_first().unwrap())]
+}
+
+#[test]
+fn a_map_goes_on_after_a_conflict(rt: HostRuntime) -> Result<(), Fail> {
+    let (mut map, alloc) = (ByteMap::new(rt.alloc()), rt.alloc());
+    let are_put = [
+        is_put(&mut map, alloc, &[2], 1),
+        is_put(&mut map, alloc, &[1], 2),
+        is_put(&mut map, alloc, &[1, 1], 3),
+    ];
+    let kept = (map.len(), digits(&map));
+    let replaced = returned(&mut map, alloc, &[2], 5);
+    let then = (map.len(), map.get(&[2]).copied());
+    let removed = (removed_in_turn(&mut map), map.len());
+    same(
+        (are_put, kept, replaced, then, removed),
+        (
+            [Some(true), Some(true), Some(false)],
+            (2, 21),
+            Some(Some((2, 1))),
+            (2, Some(5)),
+            ([Some((1, 2)), Some((2, 5)), None], 0),
+        ),
+    )
+}
+
 // How many keys each of six replaces.
 fn put_six_over(map: &mut Map, alloc: Global) -> [Option<usize>; 6] {
     [

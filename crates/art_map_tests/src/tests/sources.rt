@@ -1,5 +1,5 @@
 //! Calls of a map by bytes that need not stand in a slice, and keys that are made where they are new.
-ghost use Rattle.std.specs.Prelude.{◌≡◌, ◌≢◌, [], ◌∷◌, refl};
+ghost use Rattle.std.specs.Prelude.{◌≡◌, ◌≢◌, [], ◌∷◌, refl, ⊤};
 
 use super::calls::{Map, fill};
 use art_map::map::{ByteMap, MapSourceError, ToKey};
@@ -39,6 +39,8 @@ impl ToKey<[u8; 1]> for Source {
     ghost same_bytes = { λ source. refl };
 
     ghost is_key = { λ source. source.byte ≢ 0 };
+
+    ghost allocates_nothing = { λ source. ⊤ };
 
     fn to_key(&self, alloc: Global) -> Result<Option<[u8; 1]>, AllocError> {
         if self.byte == 0 {

@@ -87,7 +87,7 @@ module _ {K V : Type 0} {bytes : K × V → List ℕ} {P : ℕ} {s t : Nodes K V
       (λ i. parent_apart (node_at s) (node_at t) fs tree old.holds old.distinct k up (is.in_tree (as_inner k) i))
 
   -- all nodes but the parent and those that were touched are the same
-  pub branch_same : SameBut (node_at s) (node_at t) fs (map inner_name touched)
+  branch_same : SameBut (node_at s) (node_at t) fs (map inner_name touched)
   branch_same = same_but s t fs (map inner_name touched) (λ p i used. placed_pairs old.holds old.distinct is.placed p used) (λ k kind up other used.
       ap (λ z. get z (as_inner k)) is.inners ∙ with_child_at-elsewhere fs (inner_name m) (insert mid m node) k up
       ∙ inner_elsewhere mid m (as_inner k) node (λ e. used (ap (node_at s) (inner_name_one k (inner_name m) e) ∙ node_was_free))
@@ -98,7 +98,7 @@ module _ {K V : Type 0} {bytes : K × V → List ℕ} {P : ℕ} {s t : Nodes K V
       (λ up. parent_used (inner_name m) up is.fresh) ∙ inner_here mid m node
 
   -- the new node, with the tree as it is now
-  pub branch_placed : (u : Tree OpaqueNodePtr (K × V)) → name_of u ≡ name_of tree →
+  branch_placed : (u : Tree OpaqueNodePtr (K × V)) → name_of u ≡ name_of tree →
       BranchPlaced bytes P (node_at s) (node_at t) (links_at s) (links_at t) fs place tree u (inner_name m) (leaf_name n) part b c (pair_of x)
   branch_placed u named = record {
     front = is.front;
@@ -132,12 +132,12 @@ module _ {K V : Type 0} {bytes : K × V → List ℕ} {P : ℕ} {s t : Nodes K V
   are_inners = parents_inner bytes P s fs (name_of tree) (path_holds (node_at s) fs tree old.holds).0 touched is.are_inner
 
   -- what is placed, and what is changed
-  pub branch_print : Footprint s t (both_names (n ∷ []) (m ∷ [])) (both_names [] [])
+  branch_print : Footprint s t (both_names (n ∷ []) (m ∷ [])) (both_names [] [])
       (both_names (listed x.next ++ (listed x.previous ++ [])) (parents fs ++ touched))
   branch_print = footprint_of s t touched_leaves touched_inners (off, tt) tt are_inners
 
   -- a node of the tree that was touched is what it became then
-  pub touched_is : (k : OpaqueNodePtr) → k.kind ≢ Leaf → IsIn (as_inner k) touched → get t.inners (as_inner k) ≡ get mid (as_inner k)
+  touched_is : (k : OpaqueNodePtr) → k.kind ≢ Leaf → IsIn (as_inner k) touched → get t.inners (as_inner k) ≡ get mid (as_inner k)
   touched_is k kind i =
       ap (λ z. get z (as_inner k)) is.inners ∙ with_child_at-elsewhere fs (inner_name m) (insert mid m node) k
       (λ up. parent_apart (node_at s) (node_at t) fs tree old.holds old.distinct k up (is.in_tree (as_inner k) i))

@@ -55,7 +55,7 @@ module _ {A : Type 0} (P : ℕ) (prefix : List ℕ) where
   prefix_written (inner k head cs) inners = change inners (as_inner k) (with_header (headers.header_of P prefix))
 
 -- the node whose prefix is written
-abbrev pub rewritten : {A : Type 0} → Tree OpaqueNodePtr A → List OpaqueNodePtr
+abbrev rewritten : {A : Type 0} → Tree OpaqueNodePtr A → List OpaqueNodePtr
 rewritten (leaf k y) = []
 rewritten (inner k head cs) = k ∷ []
 

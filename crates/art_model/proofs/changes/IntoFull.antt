@@ -94,7 +94,7 @@ module _ {K V : Type 0} {bytes : K × V → List ℕ} {P : ℕ} {s t : Nodes K V
   k_was_free = node_at-inner s k into.is_inner None into.was_free
 
   -- the larger node has the place and one more child
-  pub full_inserted : ChildInserted bytes P (node_at s) (node_at t) (links_at s) (links_at t) fs place m k (leaf_name n) h l r b (pair_of x)
+  full_inserted : ChildInserted bytes P (node_at s) (node_at t) (links_at s) (links_at t) fs place m k (leaf_name n) h l r b (pair_of x)
   full_inserted =
       let held = path_holds (node_at s) fs (inner m h (join l r)) old.holds in
       let count = length (bytes_of (join l r)) in

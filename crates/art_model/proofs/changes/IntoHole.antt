@@ -80,7 +80,7 @@ module _ {N A : Type 0} where
 -- ---- what was freed after a footprint
 
 module _ {K V : Type 0} {s u t : Nodes K V} {placed changed : List OpaqueNodePtr} where
-  pub then_freed : (freed : List OpaqueNodePtr) → Footprint s u placed [] changed → Frees freed u t → Each (IsUsed s) freed →
+  then_freed : (freed : List OpaqueNodePtr) → Footprint s u placed [] changed → Frees freed u t → Each (IsUsed s) freed →
       ((k : OpaqueNodePtr) → IsIn k freed → IsIn k changed → ⊥) → Footprint s t placed freed changed
   then_freed freed print frees used apart = record {
     are_placed = each_from (λ k. (content_at s k ≡ None) × IsUsed t k) placed (λ k i.
@@ -118,10 +118,10 @@ module _ {K V : Type 0} {bytes : K × V → List ℕ} {P : ℕ} {s u t : Nodes K
       (subst (IsIn (leaf_name p)) (sym (leaf_names-plug fs node)) (in_around (leaf_name p) before (leaf_names node) after i))
 
   -- the neighbours of the hole are in the store
-  pub hole_previous : IsThere s.leaves x.previous
+  hole_previous : IsThere s.leaves x.previous
   hole_previous = previous_there s before after x.previous others_there into.last
 
-  pub hole_next : IsThere s.leaves x.next
+  hole_next : IsThere s.leaves x.next
   hole_next = next_there s before after x.next others_there into.first
 
   was_free : node_at s (leaf_name n) ≡ None
@@ -269,7 +269,7 @@ module _ {K V : Type 0} {bytes : K × V → List ℕ} {P : ℕ} {s u t : Nodes K
       (all_taken (node_at s) node hole_held)
 
   -- the leaf is placed, the names of the hole are freed
-  pub hole_print : Footprint s t (leaf_name n ∷ []) (names_of node) (both_names beside (parents fs ++ []))
+  hole_print : Footprint s t (leaf_name n ∷ []) (names_of node) (both_names beside (parents fs ++ []))
   hole_print = then_freed (names_of node) placed_print into.freed hole_used changed_apart
 
   -- and at most three others are changed

@@ -49,7 +49,7 @@ module _ {K V : Type 0} {bytes : K × V → List ℕ} {P : ℕ} {s t : Nodes K V
       ∙ inner_changed_elsewhere s.inners (as_inner m) (as_inner k) (with_child b (leaf_name n)) (λ e. off (inner_name_one k m e))
 
   -- the node has one more child
-  pub room_inserted : ChildInserted bytes P (node_at s) (node_at t) (links_at s) (links_at t) fs place m m (leaf_name n) h l r b (pair_of x)
+  room_inserted : ChildInserted bytes P (node_at s) (node_at t) (links_at s) (links_at t) fs place m m (leaf_name n) h l r b (pair_of x)
   room_inserted =
       let held = path_holds (node_at s) fs (inner m h (join l r)) old.holds in
       let (off, node, got, head, kids) = inner_at s m h (slots_of (join l r)) held.1.0 in

@@ -51,7 +51,7 @@ module _ {A : Type 0} where
   remove_child-above (child c t cs) b h = rw (ne_eqb c b (λ e. let l = h.0 in omega arith)) (ap (λ z. (c, name_of t) ∷ z) (remove_child-above cs b h.1))
 
   -- the others stay
-  pub remove_child-there : (l r : Subtrees OpaqueNodePtr A) (b : ℕ) (t : Tree OpaqueNodePtr A) → Each (λ c. c < b) (bytes_of l) →
+  remove_child-there : (l r : Subtrees OpaqueNodePtr A) (b : ℕ) (t : Tree OpaqueNodePtr A) → Each (λ c. c < b) (bytes_of l) →
       Each (λ c. b < c) (bytes_of r) → remove_child (slots_of (join l (child b t r))) b ≡ slots_of (join l r)
   remove_child-there no_child r b t low high = rw (eq-eqb b b refl) (remove_child-above r b high)
   remove_child-there (child c u l) r b t low high =
@@ -109,7 +109,7 @@ resized_inner Node48 proper = ((λ e. absurd cc), (λ e. absurd cc))
 resized_inner Node256 proper = ((λ e. absurd cc), (λ e. absurd cc))
 resized_inner Leaf proper = (proper, proper)
 
-pub smaller_inner : (kind : NodeType) → kind ≢ Leaf → smaller_kind kind ≢ Leaf
+smaller_inner : (kind : NodeType) → kind ≢ Leaf → smaller_kind kind ≢ Leaf
 smaller_inner kind proper = (resized_inner kind proper).0
 
 pub larger_inner : (kind : NodeType) → kind ≢ Leaf → larger_kind kind ≢ Leaf
@@ -248,7 +248,7 @@ module _ {K V : Type 0} {bytes : K × V → List ℕ} {P : ℕ} {s : Nodes K V} 
         (rest_stays k (λ e. parent_apart (node_at s) (node_at t) fs (with_leaf_in f n x) old.laid.holds old.laid.distinct k is (inl (sym e))))
 
     -- the node has one child fewer
-    pub child_out : ChildRemoved bytes P (node_at s) (node_at t) (links_at s) (links_at t) fs hole.0 f.mark f.mark
+    child_out : ChildRemoved bytes P (node_at s) (node_at t) (links_at s) (links_at t) fs hole.0 f.mark f.mark
         (leaf_name n) f.header f.left f.right f.byte (pair_of x)
     child_out =
         let (off, node, got, head, kids) = parent_is in
@@ -352,7 +352,7 @@ module _ {K V : Type 0} {bytes : K × V → List ℕ} {P : ℕ} {s : Nodes K V} 
         ∙ placed_elsewhere k other (λ e. used (node_at-inner s k kind None e))
 
     -- another node has one child fewer, in the old one's place
-    pub child_out_of_smaller : ChildRemoved bytes P (node_at s) (node_at t) (links_at s) (links_at t) fs hole.0 f.mark (inner_name q)
+    child_out_of_smaller : ChildRemoved bytes P (node_at s) (node_at t) (links_at s) (links_at t) fs hole.0 f.mark (inner_name q)
         (leaf_name n) f.header f.left f.right f.byte (pair_of x)
     child_out_of_smaller =
         let (proper, own, is, head, kids) = parent_is in

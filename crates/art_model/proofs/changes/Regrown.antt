@@ -112,12 +112,12 @@ module _ {N A : Type 0} (at to : N → Option (Node N A)) (fs : List (Frame N A)
   in_right_part k i = in_right k (names_below l) (names_below old ++ names_below r) (in_right k (names_below old) (names_below r) i)
 
   -- names on the left and on the right are neither the node's nor in the middle
-  pub left_apart : (k : N) → IsIn k (names_below l) → IsIn k (m ∷ names_below old) → ⊥
+  left_apart : (k : N) → IsIn k (names_below l) → IsIn k (m ∷ names_below old) → ⊥
   left_apart k i (inl e) = each_in (λ z. m ≢ z) k (names_below l ++ (names_below old ++ names_below r)) own_distinct.0 (in_left_part k i) e
   left_apart k i (inr j) = apart_in (names_below l) (names_below old ++ names_below r) k own_distinct.1 i (in_left k (names_below old) (names_below r) j)
 
   -- nor are those on the right
-  pub right_apart : (k : N) → IsIn k (names_below r) → IsIn k (m ∷ names_below old) → ⊥
+  right_apart : (k : N) → IsIn k (names_below r) → IsIn k (m ∷ names_below old) → ⊥
   right_apart k i (inl e) = each_in (λ z. m ≢ z) k (names_below l ++ (names_below old ++ names_below r)) own_distinct.0 (in_right_part k i) e
   right_apart k i (inr j) =
       apart_in (names_below old) (names_below r) k
@@ -128,15 +128,15 @@ module _ {N A : Type 0} (at to : N → Option (Node N A)) (fs : List (Frame N A)
     still k i off = stays at to fs (inner m h (join l (join old r))) holds distinct (m ∷ names_below old) same k (in_hole k i) off
 
     -- the children on the left and on the right are held as before
-    pub left_holds : HoldsBelow to l
+    left_holds : HoldsBelow to l
     left_holds = frame_below at to l (each_from (λ k. to k ≡ at k) (names_below l) (λ k i. still k (in_left_part k i) (left_apart k i))) own_held.0
 
     -- and those on the right
-    pub right_holds : HoldsBelow to r
+    right_holds : HoldsBelow to r
     right_holds = frame_below at to r (each_from (λ k. to k ≡ at k) (names_below r) (λ k i. still k (in_right_part k i) (right_apart k i))) own_held.2
 
   -- their names are distinct
-  pub beside_distinct : AreDistinct (names_below l ++ names_below r)
+  beside_distinct : AreDistinct (names_below l ++ names_below r)
   beside_distinct =
       subst AreDistinct (ap (λ z. z ++ names_below r) (append-nil (names_below l)))
       (distinct_replaced at (names_below l) (names_below old) [] (names_below r)
@@ -209,7 +209,7 @@ module _ {N A : Type 0} (at to : N → Option (Node N A)) (fs : List (Frame N A)
     left_child_held = (subst (HoldsBelow at) one (HoldsBelow-join at l r own_held.0 own_held.2)).0
 
     -- under distinct names
-    pub left_child_distinct : AreDistinct (names_of v)
+    left_child_distinct : AreDistinct (names_of v)
     left_child_distinct = subst AreDistinct left_names beside_distinct
 
     -- its names are among those of the hole
@@ -221,7 +221,7 @@ module _ {N A : Type 0} (at to : N → Option (Node N A)) (fs : List (Frame N A)
     ]
 
     -- they have the same nodes as before
-    pub left_child_still : (touched : List N) → SameBut at to fs (touched ++ m ∷ names_below old) → (k : N) → IsIn k (names_of v) →
+    left_child_still : (touched : List N) → SameBut at to fs (touched ++ m ∷ names_below old) → (k : N) → IsIn k (names_of v) →
         (IsIn k touched → ⊥) → to k ≡ at k
     left_child_still touched same k i off = go (in_either k (names_below l) (names_below r) (subst (IsIn k) (sym left_names) i))
       where

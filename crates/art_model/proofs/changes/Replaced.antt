@@ -47,7 +47,7 @@ module _ {N A : Type 0} {bytes : A → List ℕ} {P : ℕ} {at to : N → Option
 
 module _ {N A : Type 0} (fs : List (Frame N A)) where
   -- the leaves before, in the middle and after, where the middle is in the hole
-  pub leaf_names-parts : (t : Tree N A) (xs ms zs : List N) → leaf_names t ≡ xs ++ ms ++ zs →
+  leaf_names-parts : (t : Tree N A) (xs ms zs : List N) → leaf_names t ≡ xs ++ ms ++ zs →
       leaf_names (plug fs t) ≡ (leaves_before fs ++ xs) ++ ms ++ (zs ++ leaves_after fs)
   leaf_names-parts t xs ms zs e = leaf_names-plug fs t ∙ ap (λ z. leaves_before fs ++ z ++ leaves_after fs) e ∙ simp append_assoc
 

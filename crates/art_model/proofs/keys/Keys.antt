@@ -16,10 +16,10 @@ is_front-append : (p a b : List ℕ) → is_front (p ++ a) (p ++ b) ≡ is_front
 is_front-append [] a b = refl
 is_front-append (x ∷ p) a b = rw (eq-eqb x x refl) (is_front-append p a b)
 
-pub precedes-append : (p a b : List ℕ) → Precedes a b → Precedes (p ++ a) (p ++ b)
+precedes-append : (p a b : List ℕ) → Precedes a b → Precedes (p ++ a) (p ++ b)
 precedes-append p a b h = (rw (cmp-append p a b) h.0, rw (is_front-append p a b, is_front-append p b a) h.1)
 
-pub precedes_rest : (p a b : List ℕ) → Precedes (p ++ a) (p ++ b) → Precedes a b
+precedes_rest : (p a b : List ℕ) → Precedes (p ++ a) (p ++ b) → Precedes a b
 precedes_rest p a b h = (rw (cmp-append p a b) at h.0, rw (is_front-append p a b, is_front-append p b a) at h.1)
 
 -- keys that differ at a byte

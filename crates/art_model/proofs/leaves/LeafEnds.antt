@@ -34,7 +34,7 @@ module _ {X : Type 0} where
 
 module _ {N A : Type 0} where
   -- a leaf of the whole tree, which is first or last among these
-  pub record EndLeaf (names : List N → Option N) (pairs : List A → Option A) (ns : List N) (xs : List A) (whole : Tree N A) : Type 0 where
+  record EndLeaf (names : List N → Option N) (pairs : List A → Option A) (ns : List N) (xs : List A) (whole : Tree N A) : Type 0 where
     pub name : N
     pub pair : A
     pub name_is : names ns ≡ Some name

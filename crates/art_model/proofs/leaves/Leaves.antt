@@ -85,7 +85,7 @@ module _ {K V : Type 0} where
         ∙ change_some_elsewhere m before (with_next next) q off
 
     -- what a name holds afterwards depends on what it held
-    pub with_links_around-cong : (other : Leaves K V) (q : LeafPtr) → get other q ≡ get m q →
+    with_links_around-cong : (other : Leaves K V) (q : LeafPtr) → get other q ≡ get m q →
         get (with_links_around other before after next previous) q ≡ get (with_links_around m before after next previous) q
     with_links_around-cong other q e =
         change_some-cong (change_some other before (with_next next)) (change_some m before (with_next next)) after
@@ -157,7 +157,7 @@ module _ {K V : Type 0} where
   there_changed m (Some n) q f h = λ p e. still_changed leaf_cmp_total leaf_cmp-IsAntisymmetric m n p f (h p e)
 
   -- the neighbours of a place change
-  pub then_joined : {old new : Leaves K V} {placed freed changed : List LeafPtr} → Touched old new placed freed changed →
+  then_joined : {old new : Leaves K V} {placed freed changed : List LeafPtr} → Touched old new placed freed changed →
       (before after next previous : Option LeafPtr) → IsThere old before → IsThere old after → IsThere new before → IsThere new after →
       Touched old (with_links_around new before after next previous) placed freed (listed after ++ (listed before ++ changed))
   then_joined {new = new} so_far before after next previous was_b was_a is_b is_a =

@@ -20,14 +20,14 @@ module _ {N : Type 0} where
     linked-frame (x ∷ xs) p q same h = (same.0 ∙ h.0, linked-frame xs (Some x) q same.1 h.1)
 
     -- the last leaf gets another next one
-    pub relink_end : (xs : List N) (l : N) (p q r : Option N) → Each (λ n. to n ≡ links n) xs → AreLinked links p (xs ++ l ∷ []) q →
+    relink_end : (xs : List N) (l : N) (p q r : Option N) → Each (λ n. to n ≡ links n) xs → AreLinked links p (xs ++ l ∷ []) q →
         to l ≡ Some (record { previous = last_or xs p; next = r }) → AreLinked to p (xs ++ l ∷ []) r
     relink_end [] l p q r same h e = (e, tt)
     relink_end (x ∷ []) l p q r same h e = (same.0 ∙ h.0, (e, tt))
     relink_end (x ∷ y ∷ xs) l p q r same h e = (same.0 ∙ h.0, relink_end (y ∷ xs) l (Some x) q r same.1 h.1 e)
 
     -- the first leaf gets another previous one
-    pub relink_start : (x : N) (xs : List N) (p q r : Option N) → Each (λ n. to n ≡ links n) xs → AreLinked links p (x ∷ xs) q →
+    relink_start : (x : N) (xs : List N) (p q r : Option N) → Each (λ n. to n ≡ links n) xs → AreLinked links p (x ∷ xs) q →
         to x ≡ Some (record { previous = r; next = first_or xs q }) → AreLinked to r (x ∷ xs) q
     relink_start x xs p q r same h e = (e, linked-frame xs (Some x) q same h.1)
 
@@ -43,7 +43,7 @@ module _ {N : Type 0} where
     linked_rest (x ∷ xs) ys p q h = linked_rest xs ys (Some x) q h.1
 
     -- two chains that meet
-    pub linked-append : (xs ys : List N) (p q : Option N) → AreLinked links p xs (first_or ys q) → AreLinked links (last_or xs p) ys q →
+    linked-append : (xs ys : List N) (p q : Option N) → AreLinked links p xs (first_or ys q) → AreLinked links (last_or xs p) ys q →
         AreLinked links p (xs ++ ys) q
     linked-append [] ys p q h k = k
     linked-append (x ∷ xs) ys p q h k =

@@ -10,7 +10,7 @@ use Rattle.art_model.proofs.lists.Lists.{Each-left, Each-right, each_in, each_fr
 
 module _ {N : Type 0} (rename : N → N) where
   -- the children under the same bytes, by their new names
-  abbrev pub slots_renamed : List (ℕ × N) → List (ℕ × N)
+  abbrev slots_renamed : List (ℕ × N) → List (ℕ × N)
   slots_renamed slots = map (λ slot. (slot.0, rename slot.1)) slots
 
   -- the same neighbours, by their new names
@@ -24,7 +24,7 @@ module _ {N A : Type 0} (rename : N → N) where
     renamed (leaf n x) = leaf (rename n) x
     renamed (inner n h cs) = inner (rename n) h (below_renamed cs)
 
-    pub below_renamed : Subtrees N A → Subtrees N A
+    below_renamed : Subtrees N A → Subtrees N A
     below_renamed no_child = no_child
     below_renamed (child b t cs) = child b (renamed t) (below_renamed cs)
 
@@ -33,7 +33,7 @@ module _ {N A : Type 0} (rename : N → N) where
   name_of-renamed (leaf n x) = refl
   name_of-renamed (inner n h cs) = refl
 
-  pub slots_of-renamed : (cs : Subtrees N A) → slots_of (below_renamed cs) ≡ slots_renamed rename (slots_of cs)
+  slots_of-renamed : (cs : Subtrees N A) → slots_of (below_renamed cs) ≡ slots_renamed rename (slots_of cs)
   slots_of-renamed no_child = refl
   slots_of-renamed (child b t cs) = ap₂ (λ (n : N) slots. (b, n) ∷ slots) (name_of-renamed t) (slots_of-renamed cs)
 

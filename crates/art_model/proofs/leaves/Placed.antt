@@ -43,10 +43,10 @@ module _ {K V : Type 0} {s t : Nodes K V} {layout : Tree OpaqueNodePtr (K × V)}
     others_there = subst (AreThere s) is.list (are_there s layout holds)
 
     -- its neighbours were in the store
-    pub placed_after : IsThere s.leaves x.previous
+    placed_after : IsThere s.leaves x.previous
     placed_after = previous_there s xs zs x.previous others_there is.last
 
-    pub placed_before : IsThere s.leaves x.next
+    placed_before : IsThere s.leaves x.next
     placed_before = next_there s xs zs x.next others_there is.first
 
     -- its name was free, and it has its pair

@@ -7,7 +7,7 @@ use Rattle.art_model.proofs.lists.Lists.{each_in, in_left, in_right, in_either}
 -- the bytes by which an entry is identified, its name, and which entries are of one sort
 module _ {E N : Type 0} (told : E → List ℕ) (name : E → N) (Alike : E → E → Type 0) where
   -- the entries are identified by other bytes
-  abbrev pub ToldApart : E → E → Type 0
+  abbrev ToldApart : E → E → Type 0
   ToldApart e f = told e ≢ told f
 
   -- an entry of the second list that is identified by the same bytes as one of the first, and is of its sort, has its name

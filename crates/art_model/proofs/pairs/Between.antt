@@ -24,7 +24,7 @@ module _ {A : Type 0} (bytes : A → List ℕ) where
   add_in_order-after new (x ∷ xs) ys h = rw (precedes_apart (bytes x) (bytes new) h.0) (ap (λ l. x ∷ l) (add_in_order-after new xs ys h.1))
 
   -- all after the place stay after
-  pub add_in_order-before : (new : A) (ys zs : List A) → Each (λ x. Precedes (bytes new) (bytes x)) zs →
+  add_in_order-before : (new : A) (ys zs : List A) → Each (λ x. Precedes (bytes new) (bytes x)) zs →
       add_in_order bytes new (ys ++ zs) ≡ add_in_order bytes new ys ++ zs
   add_in_order-before new [] zs h = add_in_order_first new zs h
   add_in_order-before new (y ∷ ys) zs h = go (add_in_order-before new ys zs h) (is_before (bytes new) (bytes y))

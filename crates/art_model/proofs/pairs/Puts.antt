@@ -45,7 +45,7 @@ module _ {K V : Type 0} (bytes : K × V → List ℕ) (new : K × V) (pairs : Li
     pub put_reply-new : put_reply bytes new pairs ≡ None
     put_reply-new = ap (option_map (λ old. (new.0, old.1))) none
 
-    pub has_key-new : has_key bytes (bytes new) pairs ≡ false
+    has_key-new : has_key bytes (bytes new) pairs ≡ false
     has_key-new = has_is_stored ∙ ap is_some none
 
     pub overwrite-new : overwrite bytes new pairs ≡ replace_related bytes new pairs

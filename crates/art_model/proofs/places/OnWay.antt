@@ -34,7 +34,7 @@ module _ {A : Type 0} (bytes : A → List ℕ) (key : List ℕ) where
       (λ x o. is_false (is_front (bytes x) key) (λ e. o (front_from (bytes x) key e))) xs off)
 
   -- nothing outside the middle matches
-  pub match_between : (xs ys zs : List A) → Each IsOff xs → Each IsOff zs → match_of bytes key (xs ++ ys ++ zs) ≡ match_of bytes key ys
+  match_between : (xs ys zs : List A) → Each IsOff xs → Each IsOff zs → match_of bytes key (xs ++ ys ++ zs) ≡ match_of bytes key ys
   match_between xs ys zs low high = simp (filter-append, none_match xs low, none_match zs high, append-nil)
 
   -- a prefix of something else is not a prefix of a key without it
@@ -103,10 +103,10 @@ places_below-join bytes d (child b t cs) ds =
 -- all that is on the key's path is below the child between
 module _ {N A : Type 0} (bytes : A → List ℕ) (P : ℕ) (front key : List ℕ) (l : Subtrees N A) (b : ℕ) (t : Tree N A) (r : Subtrees N A)
     (radix : AreRadix bytes P front (join l (child b t r))) (low : AreAside front key l) (high : AreAside front key r) where
-  left : AreRadix bytes P front l
+  pub left : AreRadix bytes P front l
   left = AreRadix-left bytes P front l (child b t r) radix
 
-  right : AreRadix bytes P front r
+  pub right : AreRadix bytes P front r
   right = (AreRadix-right bytes P front l (child b t r) radix).1
 
   pub pairs_between : match_of bytes key (pairs_below (join l (child b t r))) ≡ match_of bytes key (pairs_of t)

@@ -51,7 +51,7 @@ NoLonger key n p = IsFront p.0 key → length p.0 ≤ n
 module _ {N A : Type 0} (bytes : A → List ℕ) (P : ℕ) where
   mutual
     -- a place is a prefix of the least key below it
-    pub least_way : (t : Tree N A) (place : List ℕ) → IsRadix bytes P place t → IsFront place (least_key bytes t)
+    least_way : (t : Tree N A) (place : List ℕ) → IsRadix bytes P place t → IsFront place (least_key bytes t)
     least_way (leaf n x) place h = h
     least_way (inner n h cs) place (part, e, two, up, below) = front_cut place part (least_below bytes cs) (least_way_below cs (place ++ part) two below)
 

@@ -7,7 +7,7 @@ use Rattle.art_model.specs.Trails.{way_of, bottom_of, IsDescent, IsPrefix, HasPr
 
 module _ {A : Type 0} (at : OpaqueNodePtr → Option (Node OpaqueNodePtr A)) where
   -- descents from a name end at one leaf
-  pub same_leaf : (name : OpaqueNodePtr) (ns ms : List OpaqueNodePtr) (x y : A) → IsDescent at name ns → at (bottom_of name ns) ≡ Some (leaf_node x) →
+  same_leaf : (name : OpaqueNodePtr) (ns ms : List OpaqueNodePtr) (x y : A) → IsDescent at name ns → at (bottom_of name ns) ≡ Some (leaf_node x) →
       IsDescent at name ms → at (bottom_of name ms) ≡ Some (leaf_node y) → x ≡ y
   same_leaf name [] [] x y d e f g = cc
   same_leaf name [] (m ∷ ms) x y d e f g = let h = f.0.3 in absurd cc
@@ -21,7 +21,7 @@ module _ {A : Type 0} (at : OpaqueNodePtr → Option (Node OpaqueNodePtr A)) whe
 
   module _ (bytes : A → List ℕ) (P : ℕ) where
     -- a node has one prefix
-    pub same_prefix : (d : ℕ) (name : OpaqueNodePtr) (p q : List ℕ) → HasPrefix at bytes P d name p → HasPrefix at bytes P d name q → p ≡ q
+    same_prefix : (d : ℕ) (name : OpaqueNodePtr) (p q : List ℕ) → HasPrefix at bytes P d name p → HasPrefix at bytes P d name q → p ≡ q
     same_prefix d name p q (h, slots, there, is) (k, others, here, is_too) =
         let header : k ≡ h = cc in
         go is (subst (λ z. IsPrefix at bytes P d name z q) header is_too)

@@ -20,7 +20,7 @@ abbrev pub Entry : Type 0 → Type 0
 Entry N = NodeType × List ℕ × N
 
 module _ {N : Type 0} where
-  abbrev pub Differ : Entry N → Entry N → Type 0
+  abbrev Differ : Entry N → Entry N → Type 0
   Differ e f = e.1 ≢ f.1
 
   -- an inner node of the second list that has the kind and the whole bytes of one of the first has its name
@@ -58,7 +58,7 @@ module _ {N A : Type 0} (bytes : A → List ℕ) (P : ℕ) where
           (whole_under cs (place ++ part) (length place + h.length_of + 1) (λ b. deeper place part b h.length_of (ap (λ z. z.length_of) e)) below),
     )
 
-    pub whole_under : (cs : Subtrees N A) (front : List ℕ) (d : ℕ) → ((b : ℕ) → d ≡ length (front ++ b ∷ [])) → AreRadix bytes P front cs →
+    whole_under : (cs : Subtrees N A) (front : List ℕ) (d : ℕ) → ((b : ℕ) → d ≡ length (front ++ b ∷ [])) → AreRadix bytes P front cs →
         Each (Under (λ (e : Entry N). e.1) front cs) (inner_nodes_below bytes d cs)
     whole_under no_child front d e h = tt
     whole_under (child b t cs) front d e h = under_child (λ (e : Entry N). e.1) front b t cs (inner_nodes bytes d t) (inner_nodes_below bytes d cs)
@@ -79,7 +79,7 @@ module _ {N A : Type 0} (bytes : A → List ℕ) (P : ℕ) where
           whole_differ_below cs (place ++ part) d depth up below,
         )
 
-    pub whole_differ_below : (cs : Subtrees N A) (front : List ℕ) (d : ℕ) → ((b : ℕ) → d ≡ length (front ++ b ∷ [])) → BytesRise (bytes_of cs) →
+    whole_differ_below : (cs : Subtrees N A) (front : List ℕ) (d : ℕ) → ((b : ℕ) → d ≡ length (front ++ b ∷ [])) → BytesRise (bytes_of cs) →
         AreRadix bytes P front cs → Pairwise Differ (inner_nodes_below bytes d cs)
     whole_differ_below no_child front d e up h = tt
     whole_differ_below (child b t cs) front d e up h =

@@ -17,16 +17,16 @@ module _ {A : Type 0} where
   joined [] = []
   joined ((b, group) ∷ others) = group ++ joined others
 
-  abbrev pub bytes_in : List (ℕ × List A) → List ℕ
+  abbrev bytes_in : List (ℕ × List A) → List ℕ
   bytes_in [] = []
   bytes_in ((b, group) ∷ others) = b ∷ bytes_in others
 
   -- each group has an element, and its elements have its byte
-  abbrev pub AreGroups : (A → ℕ) → List (ℕ × List A) → Type 0
+  abbrev AreGroups : (A → ℕ) → List (ℕ × List A) → Type 0
   AreGroups byte [] = Unit {0}
   AreGroups byte ((b, group) ∷ others) = (1 ≤ length group) × Each (λ x. byte x ≡ b) group × AreGroups byte others
 
-  abbrev pub IsSortedAt : (A → ℕ) → List A → Type 0
+  abbrev IsSortedAt : (A → ℕ) → List A → Type 0
   IsSortedAt byte [] = Unit {0}
   IsSortedAt byte (x ∷ xs) = Each (λ y. byte x ≤ byte y) xs × IsSortedAt byte xs
 
@@ -59,7 +59,7 @@ module _ {A : Type 0} where
         ),
       )
 
-  pub groups_are : (byte : A → ℕ) (xs : List A) → IsSortedAt byte xs → Groups byte (groups byte xs) xs
+  groups_are : (byte : A → ℕ) (xs : List A) → IsSortedAt byte xs → Groups byte (groups byte xs) xs
   groups_are byte [] h = (refl, tt, tt)
   groups_are byte (x ∷ xs) h =
       let (e, are, up) = groups_are byte xs h.1 in
@@ -85,11 +85,11 @@ module _ {A : Type 0} (bytes : A → List ℕ) where
   all_later front x (y ∷ ys) o e f = (later front x y o.0 e f.0, all_later front x ys o.1 e f.1)
 
   -- two or more keys of a map continue after every common prefix
-  pub go_on : (front : List ℕ) (x y : A) (xs : List A) → IsMap bytes (x ∷ y ∷ xs) → Each (λ z. IsFront front (bytes z)) (x ∷ y ∷ xs) →
+  go_on : (front : List ℕ) (x y : A) (xs : List A) → IsMap bytes (x ∷ y ∷ xs) → Each (λ z. IsFront front (bytes z)) (x ∷ y ∷ xs) →
       Each (GoesOn front) (x ∷ y ∷ xs)
   go_on front x y xs h f = (sooner front x y h.0.0 f.0 f.1.0, all_later front x (y ∷ xs) h.0 f.0 f.1)
 
-  pub at_byte : (front : List ℕ) (x : A) (b : ℕ) (r : List ℕ) → bytes x ≡ front ++ b ∷ r → byte_at bytes (length front) x ≡ b
+  at_byte : (front : List ℕ) (x : A) (b : ℕ) (r : List ℕ) → bytes x ≡ front ++ b ∷ r → byte_at bytes (length front) x ≡ b
   at_byte front x b r e = byte_after bytes front b x (r, e ∙ sym (append_assoc front (b ∷ []) r))
 
   byte_order : (front : List ℕ) (x y : A) → Precedes (bytes x) (bytes y) → GoesOn front x → GoesOn front y →
@@ -101,12 +101,12 @@ module _ {A : Type 0} (bytes : A → List ℕ) where
   bytes_order front x [] o e f = tt
   bytes_order front x (y ∷ ys) o e f = (byte_order front x y o.0 e f.0, bytes_order front x ys o.1 e f.1)
 
-  pub sorted_at : (front : List ℕ) (xs : List A) → IsMap bytes xs → Each (GoesOn front) xs → IsSortedAt (byte_at bytes (length front)) xs
+  sorted_at : (front : List ℕ) (xs : List A) → IsMap bytes xs → Each (GoesOn front) xs → IsSortedAt (byte_at bytes (length front)) xs
   sorted_at front [] h f = tt
   sorted_at front (x ∷ xs) h f = (bytes_order front x xs h.0 f.0 f.1, sorted_at front xs h.1 f.1)
 
   -- a group's keys start with the prefix and its byte
-  pub with_byte : (front : List ℕ) (b : ℕ) (xs : List A) → Each (GoesOn front) xs → Each (λ x. byte_at bytes (length front) x ≡ b) xs →
+  with_byte : (front : List ℕ) (b : ℕ) (xs : List A) → Each (GoesOn front) xs → Each (λ x. byte_at bytes (length front) x ≡ b) xs →
       Each (λ x. IsFront (front ++ b ∷ []) (bytes x)) xs
   with_byte front b [] f g = tt
   with_byte front b (x ∷ xs) f g =

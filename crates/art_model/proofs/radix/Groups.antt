@@ -10,7 +10,7 @@ module _ {A : Type 0} where
   StartsApart b [] = Unit {0}
   StartsApart b ((c, group) ∷ others) = eqb b c ≡ false
 
-  pub groups_alone : (b : ℕ) (x : A) (gs : List (ℕ × List A)) → StartsApart b gs → add_to_groups b x gs ≡ (b, x ∷ []) ∷ gs
+  groups_alone : (b : ℕ) (x : A) (gs : List (ℕ × List A)) → StartsApart b gs → add_to_groups b x gs ≡ (b, x ∷ []) ∷ gs
   groups_alone b x [] h = refl
   groups_alone b x ((c, group) ∷ others) h = rw h
 

@@ -16,13 +16,13 @@ use Rattle.art_model.proofs.radix.Rebuild.{radix_way}
 
 module _ {N A : Type 0} where
   -- the pairs of the entries before a hole, and of those after it
-  pub pairs_before-leaves : (fs : List (Frame N A)) → map (λ e. e.0) (entries_before fs) ≡ pairs_before fs
+  pairs_before-leaves : (fs : List (Frame N A)) → map (λ e. e.0) (entries_before fs) ≡ pairs_before fs
   pairs_before-leaves [] = refl
   pairs_before-leaves (f ∷ fs) =
       map-append (λ e. e.0) (entries_before fs) (entries_of (inner f.mark f.header f.left))
       ∙ ap₂ (λ (xs ys : List A). xs ++ ys) (pairs_before-leaves fs) (pairs_of-leaves (inner f.mark f.header f.left))
 
-  pub pairs_after-leaves : (fs : List (Frame N A)) → map (λ e. e.0) (entries_after fs) ≡ pairs_after fs
+  pairs_after-leaves : (fs : List (Frame N A)) → map (λ e. e.0) (entries_after fs) ≡ pairs_after fs
   pairs_after-leaves [] = refl
   pairs_after-leaves (f ∷ fs) =
       map-append (λ e. e.0) (entries_of (inner f.mark f.header f.right)) (entries_after fs)
@@ -30,23 +30,23 @@ module _ {N A : Type 0} where
 
   -- what holds of each pair holds of the pair of each entry
   module _ (Q : A → Type 0) where
-    pub each_entry : (t : Tree N A) → Each Q (pairs_of t) → Each (λ (e : A × N). Q e.0) (entries_of t)
+    each_entry : (t : Tree N A) → Each Q (pairs_of t) → Each (λ (e : A × N). Q e.0) (entries_of t)
     each_entry t h = each_unmap (λ (e : A × N). e.0) Q (entries_of t) (subst (Each Q) (sym (pairs_of-leaves t)) h)
 
-    pub each_entry_before : (fs : List (Frame N A)) → Each Q (pairs_before fs) → Each (λ (e : A × N). Q e.0) (entries_before fs)
+    each_entry_before : (fs : List (Frame N A)) → Each Q (pairs_before fs) → Each (λ (e : A × N). Q e.0) (entries_before fs)
     each_entry_before fs h = each_unmap (λ (e : A × N). e.0) Q (entries_before fs) (subst (Each Q) (sym (pairs_before-leaves fs)) h)
 
-    pub each_entry_after : (fs : List (Frame N A)) → Each Q (pairs_after fs) → Each (λ (e : A × N). Q e.0) (entries_after fs)
+    each_entry_after : (fs : List (Frame N A)) → Each Q (pairs_after fs) → Each (λ (e : A × N). Q e.0) (entries_after fs)
     each_entry_after fs h = each_unmap (λ (e : A × N). e.0) Q (entries_after fs) (subst (Each Q) (sym (pairs_after-leaves fs)) h)
 
   -- the names of the entries before a hole, and of those after it
-  pub leaves_before-leaves : (fs : List (Frame N A)) → map (λ e. e.1) (entries_before fs) ≡ leaves_before fs
+  leaves_before-leaves : (fs : List (Frame N A)) → map (λ e. e.1) (entries_before fs) ≡ leaves_before fs
   leaves_before-leaves [] = refl
   leaves_before-leaves (f ∷ fs) =
       map-append (λ e. e.1) (entries_before fs) (entries_of (inner f.mark f.header f.left))
       ∙ ap₂ (λ (xs ys : List N). xs ++ ys) (leaves_before-leaves fs) (leaf_names-leaves (inner f.mark f.header f.left))
 
-  pub leaves_after-leaves : (fs : List (Frame N A)) → map (λ e. e.1) (entries_after fs) ≡ leaves_after fs
+  leaves_after-leaves : (fs : List (Frame N A)) → map (λ e. e.1) (entries_after fs) ≡ leaves_after fs
   leaves_after-leaves [] = refl
   leaves_after-leaves (f ∷ fs) =
       map-append (λ e. e.1) (entries_of (inner f.mark f.header f.right)) (entries_after fs)

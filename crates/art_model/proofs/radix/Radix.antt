@@ -43,7 +43,7 @@ module _ {A : Type 0} (bytes : A → List ℕ) where
   parts front b c x y (r, e) (s, f) h = precedes_at front b c r s x y (e ∙ append_assoc front (b ∷ []) r) (f ∙ append_assoc front (c ∷ []) s) h
 
 module _ {A : Type 0} where
-  pub each_pair : (R : A → A → Type 0) (Q S : A → Type 0) → ((x y : A) → Q x → S y → R x y) → (xs ys : List A) → Each Q xs → Each S ys →
+  each_pair : (R : A → A → Type 0) (Q S : A → Type 0) → ((x y : A) → Q x → S y → R x y) → (xs ys : List A) → Each Q xs → Each S ys →
       Each (λ x. Each (λ y. R x y) ys) xs
   each_pair R Q S f [] ys h k = tt
   each_pair R Q S f (x ∷ xs) ys h k = (Each-weaker S (λ y. R x y) (λ y s. f x y h.0 s) ys k, each_pair R Q S f xs ys h.1 k)
@@ -71,7 +71,7 @@ module _ {N A : Type 0} (bytes : A → List ℕ) (P : ℕ) where
     radix_map (leaf n x) place h = (tt, tt)
     radix_map (inner n h cs) place (part, e, two, up, below) = radix_map_below cs (place ++ part) up below
 
-    pub radix_map_below : (cs : Subtrees N A) (front : List ℕ) → BytesRise (bytes_of cs) → AreRadix bytes P front cs → IsMap bytes (pairs_below cs)
+    radix_map_below : (cs : Subtrees N A) (front : List ℕ) → BytesRise (bytes_of cs) → AreRadix bytes P front cs → IsMap bytes (pairs_below cs)
     radix_map_below no_child front up h = tt
     radix_map_below (child b t cs) front up h =
         IsMap-append bytes (pairs_of t) (pairs_below cs) (radix_map t (front ++ b ∷ []) h.0) (radix_map_below cs front up.1 h.1)

@@ -35,7 +35,7 @@ module _ {N A : Type 0} (bytes : A → List ℕ) (P : ℕ) where
     radix_some (leaf n x) place h = (x, [], refl)
     radix_some (inner n h cs) place (part, e, two, up, below) = radix_some_below cs (place ++ part) two below
 
-    pub radix_some_below : (cs : Subtrees N A) (front : List ℕ) → 2 ≤ length (bytes_of cs) → AreRadix bytes P front cs →
+    radix_some_below : (cs : Subtrees N A) (front : List ℕ) → 2 ≤ length (bytes_of cs) → AreRadix bytes P front cs →
         (x : A) × (xs : List A) × (pairs_below cs ≡ x ∷ xs)
     radix_some_below no_child front two h = absurd (omega arith)
     radix_some_below (child b t cs) front two h =
@@ -73,7 +73,7 @@ module _ {N A : Type 0} (bytes : A → List ℕ) (P : ℕ) where
       (groups_below cs front h.1 up.1) (apart_from b cs up.0))
 
 module _ {A : Type 0} (bytes : A → List ℕ) (P : ℕ) where
-  pub tree_two : (turns d : ℕ) (xs : List A) → 2 ≤ length xs → tree_within bytes (suc turns) P d xs ≡ node_of bytes (tree_within bytes turns P) P d xs
+  tree_two : (turns d : ℕ) (xs : List A) → 2 ≤ length xs → tree_within bytes (suc turns) P d xs ≡ node_of bytes (tree_within bytes turns P) P d xs
   tree_two turns d [] two = absurd (omega arith)
   tree_two turns d (x ∷ []) two = absurd (omega arith)
   tree_two turns d (x ∷ y ∷ xs) two = refl
@@ -113,7 +113,7 @@ module _ {N A : Type 0} (bytes : A → List ℕ) (P : ℕ) where
 
   -- a radix tree is what grouping its pairs gives
   mutual
-    pub rebuild : (t : Tree N A) (place : List ℕ) (turns : ℕ) → IsRadix bytes P place t → length (pairs_of t) ≤ turns →
+    rebuild : (t : Tree N A) (place : List ℕ) (turns : ℕ) → IsRadix bytes P place t → length (pairs_of t) ≤ turns →
         tree_within bytes turns P (length place) (pairs_of t) ≡ Some (unmarked t)
     rebuild (leaf n x) place zero h enough = absurd (omega arith)
     rebuild (leaf n x) place (suc turns) h enough = refl
@@ -125,7 +125,7 @@ module _ {N A : Type 0} (bytes : A → List ℕ) (P : ℕ) where
         let ih = rebuild_below cs (place ++ part) turns below (omega arith) in
         tree_two bytes P turns (length place) (pairs_below cs) (omega arith) ∙ rw (s, ← length-append place part, g, length-groups_of bytes P cs, ih, e) refl
 
-    pub rebuild_below : (cs : Subtrees N A) (front : List ℕ) (turns : ℕ) → AreRadix bytes P front cs →
+    rebuild_below : (cs : Subtrees N A) (front : List ℕ) (turns : ℕ) → AreRadix bytes P front cs →
         length (pairs_below cs) + 1 ≤ turns + length (bytes_of cs) →
         children_of (tree_within bytes turns P (length front + 1)) (groups_of bytes P cs) ≡ all_unmarked cs
     rebuild_below no_child front turns h enough = refl

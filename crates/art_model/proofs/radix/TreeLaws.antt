@@ -16,11 +16,11 @@ front_of_both p a b (r, e) (s, f) = (common_front r s, rw (e, f) (common_front-a
 
 module _ {A : Type 0} where
   mutual
-    pub unmarked_plain : (t : Tree (Unit {0}) A) → unmarked t ≡ t
+    unmarked_plain : (t : Tree (Unit {0}) A) → unmarked t ≡ t
     unmarked_plain (leaf u x) = refl
     unmarked_plain (inner u h cs) = ap (inner tt h) (all_unmarked_plain cs)
 
-    pub all_unmarked_plain : (cs : Subtrees (Unit {0}) A) → all_unmarked cs ≡ cs
+    all_unmarked_plain : (cs : Subtrees (Unit {0}) A) → all_unmarked cs ≡ cs
     all_unmarked_plain no_child = refl
     all_unmarked_plain (child b t cs) = ap₂ (child b) (unmarked_plain t) (all_unmarked_plain cs)
 

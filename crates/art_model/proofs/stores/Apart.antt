@@ -50,7 +50,7 @@ module _ {K V : Type 0} {bytes : K × V → List ℕ} {P : ℕ} {s : Nodes K V} 
       each_in (IsTaken (node_at s)) k (names_of layout) (all_taken (node_at s) layout by.stands.0.holds) there (ap (option_map (tree_node k.kind)) free)
 
   -- a node of the root is one of its layout
-  pub node_in : (k : OpaqueNodePtr) → IsNodeOf bytes P s (Some root) k → IsIn k (names_of layout)
+  node_in : (k : OpaqueNodePtr) → IsNodeOf bytes P s (Some root) k → IsIn k (names_of layout)
   node_in k (others, other, is, there) = subst (λ l. IsIn k (names_of l)) (has_one_map bytes P s root pairs others layout other by is).1 there
 
   -- what is disjoint from a root has the root disjoint from it

@@ -33,7 +33,7 @@ module _ {N A : Type 0} (at : N → Option (Node N A)) where
           ),
         )
 
-    pub layouts_of : (cs : Subtrees (Unit {0}) A) (slots : List (ℕ × N)) (names leaves : List N) → StandBelow at slots cs names leaves →
+    layouts_of : (cs : Subtrees (Unit {0}) A) (slots : List (ℕ × N)) (names leaves : List N) → StandBelow at slots cs names leaves →
         (ls : Subtrees N A) × AreLayoutsBy slots cs names leaves ls
     layouts_of no_child slots names leaves (e, is, ls) = (no_child, (sym e, refl, sym is, sym ls, tt, subst AreDistinct (sym is) tt))
     layouts_of (child b t cs) slots names leaves (n, others, own, rest, ls, rs, e, is, lis, apart, stand, below) =
@@ -56,7 +56,7 @@ module _ {N A : Type 0} (at : N → Option (Node N A)) where
     stands_from (leaf n x) h d = (h, refl, refl)
     stands_from (inner n h cs) holds d = (slots_of cs, names_below cs, holds.0, refl, d.0, stand_from_below cs holds.1 d.1)
 
-    pub stand_from_below : (cs : Subtrees N A) → HoldsBelow at cs → AreDistinct (names_below cs) →
+    stand_from_below : (cs : Subtrees N A) → HoldsBelow at cs → AreDistinct (names_below cs) →
         StandBelow at (slots_of cs) (all_unmarked cs) (names_below cs) (leaf_names_below cs)
     stand_from_below no_child h d = (refl, refl, refl)
     stand_from_below (child b t cs) h d = (

@@ -14,21 +14,21 @@ use Rattle.art_model.proofs.radix.Radix.{radix_map}
 
 module _ {N A : Type 0} where
   mutual
-    pub pairs_of-unmarked : (t : Tree N A) → pairs_of (unmarked t) ≡ pairs_of t
+    pairs_of-unmarked : (t : Tree N A) → pairs_of (unmarked t) ≡ pairs_of t
     pairs_of-unmarked (leaf n x) = refl
     pairs_of-unmarked (inner n h cs) = pairs_below-unmarked cs
 
-    pub pairs_below-unmarked : (cs : Subtrees N A) → pairs_below (all_unmarked cs) ≡ pairs_below cs
+    pairs_below-unmarked : (cs : Subtrees N A) → pairs_below (all_unmarked cs) ≡ pairs_below cs
     pairs_below-unmarked no_child = refl
     pairs_below-unmarked (child b t cs) = ap₂ (λ (xs ys : List A). xs ++ ys) (pairs_of-unmarked t) (pairs_below-unmarked cs)
 
-  pub bytes_of-unmarked : (cs : Subtrees N A) → bytes_of (all_unmarked cs) ≡ bytes_of cs
+  bytes_of-unmarked : (cs : Subtrees N A) → bytes_of (all_unmarked cs) ≡ bytes_of cs
   bytes_of-unmarked no_child = refl
   bytes_of-unmarked (child b t cs) = ap (λ l. b ∷ l) (bytes_of-unmarked cs)
 
 module _ {N A : Type 0} (bytes : A → List ℕ) (P : ℕ) where
   mutual
-    pub radix_unmarked : (t : Tree N A) (place : List ℕ) → IsRadix bytes P place (unmarked t) → IsRadix bytes P place t
+    radix_unmarked : (t : Tree N A) (place : List ℕ) → IsRadix bytes P place (unmarked t) → IsRadix bytes P place t
     radix_unmarked (leaf n x) place h = h
     radix_unmarked (inner n h cs) place (part, e, two, up, below) =
         let bs = bytes_of-unmarked cs in (
@@ -39,7 +39,7 @@ module _ {N A : Type 0} (bytes : A → List ℕ) (P : ℕ) where
           radix_below_unmarked cs (place ++ part) below,
         )
 
-    pub radix_below_unmarked : (cs : Subtrees N A) (front : List ℕ) → AreRadix bytes P front (all_unmarked cs) → AreRadix bytes P front cs
+    radix_below_unmarked : (cs : Subtrees N A) (front : List ℕ) → AreRadix bytes P front (all_unmarked cs) → AreRadix bytes P front cs
     radix_below_unmarked no_child front h = tt
     radix_below_unmarked (child b t cs) front h = (radix_unmarked t (front ++ b ∷ []) h.0, radix_below_unmarked cs front h.1)
 

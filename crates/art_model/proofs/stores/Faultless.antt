@@ -196,7 +196,7 @@ module _ {A : Type 0} where
 module _ {K V : Type 0} (bytes : K × V → List ℕ) (P : ℕ) (s : Nodes K V) (root : OpaqueNodePtr) (pairs : List (K × V))
     (layout : Tree OpaqueNodePtr (K × V)) (laid : IsLaidOut bytes P (node_at s) (links_at s) root pairs layout) where
   -- what is reached is a part of the tree, at its place
-  pub reached_sub : {place : List ℕ} {name : OpaqueNodePtr} → Reaches bytes P s root place name → IsSub (node_at s) bytes P layout place name
+  reached_sub : {place : List ℕ} {name : OpaqueNodePtr} → Reaches bytes P s root place name → IsSub (node_at s) bytes P layout place name
   reached_sub {place} {name} reach =
       subst (IsSub (node_at s) bytes P layout place) (ap (λ n. end_of n reach.steps) laid.named ∙ reach.ends)
       (trail_sub (node_at s) bytes P layout [] place reach.steps laid.holds laid.radix
@@ -233,12 +233,12 @@ module _ {K V : Type 0} (bytes : K × V → List ℕ) (P : ℕ) (s : Nodes K V) 
             slots_are = cc;
           }
 
-  pub no_foreign_key : (place key : List ℕ) → HasForeignKey bytes P s root place key → ⊥
+  no_foreign_key : (place key : List ℕ) → HasForeignKey bytes P s root place key → ⊥
   no_foreign_key place key (name, x, (reach, there), is, off) =
       let sub = reached_sub reach in
       off (subst (IsFront place) is (descent_front (node_at s) bytes P sub.tree place [] x sub.holds sub.radix tt (ap (node_at s) sub.named ∙ there)))
 
-  pub stores_no_others : (place stored actual : List ℕ) → StoresOthers bytes P s root place stored actual → ⊥
+  stores_no_others : (place stored actual : List ℕ) → StoresOthers bytes P s root place stored actual → ⊥
   stores_no_others place stored actual (name, h, slots, (reach, there), more, (part, has, is, own, off)) =
       let node = reached_inner reach there in
       let part_is : part ≡ node.radix.0 =
@@ -249,7 +249,7 @@ module _ {K V : Type 0} (bytes : K × V → List ℕ) (P : ℕ) (s : Nodes K V) 
       let count : length stored ≡ P = ap length kept ∙ length-take-le P node.radix.0 (omega (arith, long, more)) in
       off (sym own ∙ ap₂ (λ i l. take i l) count part_is ∙ sym kept)
 
-  pub no_wrong_links : (key : List ℕ) (expected actual : Links OpaqueNodePtr) → HasWrongLinks bytes P s root key expected actual → ⊥
+  no_wrong_links : (key : List ℕ) (expected actual : Links OpaqueNodePtr) → HasWrongLinks bytes P s root key expected actual → ⊥
   no_wrong_links key expected actual (other, before, after, name, x, is, names, there, key_is, wanted, own, off) =
       let same : other ≡ layout =
       has_one_layout (node_at s) root layout other (record { named = laid.named; holds = laid.holds; distinct = laid.distinct }) is in
@@ -261,7 +261,7 @@ module _ {K V : Type 0} (bytes : K × V → List ℕ) (P : ℕ) (s : Nodes K V) 
       off cc
 
   -- a node has at least its kind's minimum of children
-  pub no_wrong_count : (place : List ℕ) (kind : NodeType) (n : ℕ) → HasWrongCount bytes P s root place kind n → ⊥
+  no_wrong_count : (place : List ℕ) (kind : NodeType) (n : ℕ) → HasWrongCount bytes P s root place kind n → ⊥
   no_wrong_count place kind n (name, h, slots, (reach, there), kind_is, count, few) =
       let node = reached_inner reach there in
       let many : length (bytes_of node.children) ≡ n = sym (length-slots_of node.children) ∙ ap length (sym node.slots_are) ∙ count in
@@ -269,10 +269,10 @@ module _ {K V : Type 0} (bytes : K × V → List ℕ) (P : ℕ) (s : Nodes K V) 
       enough kind n own (subst (λ i. 2 ≤ i) many node.radix.2) few
 
   -- a name that is reached is in use
-  pub no_dead_node : (place : List ℕ) (name : OpaqueNodePtr) → Reaches bytes P s root place name → node_at s name ≡ None → ⊥
+  no_dead_node : (place : List ℕ) (name : OpaqueNodePtr) → Reaches bytes P s root place name → node_at s name ≡ None → ⊥
   no_dead_node place name reach gone = let sub = reached_sub reach in is_held (node_at s) bytes P sub.tree sub.holds (ap (node_at s) sub.named ∙ gone)
 
-  pub no_unreadable : (place : List ℕ) (name : OpaqueNodePtr) → IsUnreadable bytes P s root place name → ⊥
+  no_unreadable : (place : List ℕ) (name : OpaqueNodePtr) → IsUnreadable bytes P s root place name → ⊥
   no_unreadable place name (h, slots, (reach, there), more, (ns, descent, bad)) =
       let sub = reached_sub reach in
       go sub.tree sub.named sub.holds sub.radix (sub.apart laid.distinct) (subst (λ n. IsDescent (node_at s) n ns) (sym sub.named) descent)
@@ -356,14 +356,14 @@ module _ {K V : Type 0} (bytes : K × V → List ℕ) (P : ℕ) (s : Nodes K V) 
             )
       ]
 
-  pub no_dead_name : (place : List ℕ) (name : OpaqueNodePtr) → IsDead bytes P s root place name → ⊥
+  no_dead_name : (place : List ℕ) (name : OpaqueNodePtr) → IsDead bytes P s root place name → ⊥
   no_dead_name place name (gone, inl reach) = no_dead_node place name reach gone
   no_dead_name place name (gone, inr (leaf_name, x, order, (reach, there), sibling)) =
       let (e, same, held, side) = siblings order name reach there sibling in
       let f = ap (node_at s) same in
       absurd cc
 
-  pub no_wrong_order : (sibling_key leaf_key : List ℕ) (expected actual : Ordering) → HasWrongOrder bytes P s root sibling_key leaf_key expected actual → ⊥
+  no_wrong_order : (sibling_key leaf_key : List ℕ) (expected actual : Ordering) → HasWrongOrder bytes P s root sibling_key leaf_key expected actual → ⊥
   no_wrong_order sibling_key leaf_key expected actual (place, name, sibling, x, y, (reach, there), has, here, own, its, compared, off) =
       let (e, same, held, side) = siblings expected sibling reach there has in
       let f = ap (node_at s) same in
@@ -375,7 +375,7 @@ module _ {K V : Type 0} (bytes : K × V → List ℕ) (P : ℕ) (s : Nodes K V) 
             ∙ ap ordering_reverse (before_less (slice_cmp nat_cmp (bytes x) (bytes e.0)) after.0) ∙ sym o)
       ]
 
-  pub no_loop : (name : OpaqueNodePtr) (first later : List ℕ) → IsLoop bytes P s root name first later → ⊥
+  no_loop : (name : OpaqueNodePtr) (first later : List ℕ) → IsLoop bytes P s root name first later → ⊥
   no_loop name first later (one, other, off) =
       off (one_way (node_at s) bytes P layout [] one.steps other.steps laid.holds laid.radix laid.distinct
       (subst (λ n. IsTrail (node_at s) n one.steps) (sym laid.named) one.is_trail)

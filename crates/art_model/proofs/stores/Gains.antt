@@ -106,7 +106,7 @@ module _ {K V : Type 0} (s : Nodes K V) where
 
 module _ {K V : Type 0} {s t : Nodes K V} {tree : Tree OpaqueNodePtr (K × V)} (holds : Holds (node_at s) tree) (lost : Loses s t tree) where
   -- nothing under a name of the tree
-  pub lost_in : (k : OpaqueNodePtr) → IsIn k (names_of tree) → content_at t k ≡ None
+  lost_in : (k : OpaqueNodePtr) → IsIn k (names_of tree) → content_at t k ≡ None
   lost_in k i = elim (leaf_or k) [
     | inl (p, e) ↦ subst (λ z. content_at t z ≡ None) (sym e) (ap (option_map held_leaf) (ap (λ z. get z p) lost.leaves
         ∙ without_in leaf_cmp_total leaf_cmp-IsAntisymmetric s.leaves (map as_leaf (leaf_names tree)) p
@@ -117,7 +117,7 @@ module _ {K V : Type 0} {s t : Nodes K V} {tree : Tree OpaqueNodePtr (K × V)} (
   ]
 
   -- a leaf of another name is unchanged
-  pub leaf_off : (p : LeafPtr) → (IsIn (leaf_name p) (names_of tree) → ⊥) → get t.leaves p ≡ get s.leaves p
+  leaf_off : (p : LeafPtr) → (IsIn (leaf_name p) (names_of tree) → ⊥) → get t.leaves p ≡ get s.leaves p
   leaf_off p off = ap (λ z. get z p) lost.leaves ∙ without_off leaf_cmp_total leaf_cmp-IsAntisymmetric s.leaves (map as_leaf (leaf_names tree)) p (λ i.
       let (k, j, e) = out_map as_leaf p (leaf_names tree) i in
       let (q, is) = leaf_kind s tree holds k j in
@@ -125,23 +125,19 @@ module _ {K V : Type 0} {s t : Nodes K V} {tree : Tree OpaqueNodePtr (K × V)} (
       off (taken_in takes_leaves tree (leaf_name p) (subst (λ z. IsIn z (leaf_names tree)) same j)))
 
   -- and so is an inner node
-  pub inner_off : (k : OpaqueNodePtr) → (IsIn k (names_of tree) → ⊥) → get t.inners (as_inner k) ≡ get s.inners (as_inner k)
+  inner_off : (k : OpaqueNodePtr) → (IsIn k (names_of tree) → ⊥) → get t.inners (as_inner k) ≡ get s.inners (as_inner k)
   inner_off k off = ap (λ z. get z (as_inner k)) lost.inners
       ∙ without_off inner_cmp_total inner_cmp-IsAntisymmetric s.inners (map as_inner (inner_names tree)) (as_inner k) (λ i.
       let (m, j, e) = out_map as_inner (as_inner k) (inner_names tree) i in
       off (taken_in takes_inners tree k (subst (λ z. IsIn z (inner_names tree)) (inner_name_one m k e) j)))
 
   -- under another name is what was before
-  pub lost_off : (k : OpaqueNodePtr) → (IsIn k (names_of tree) → ⊥) → content_at t k ≡ content_at s k
+  lost_off : (k : OpaqueNodePtr) → (IsIn k (names_of tree) → ⊥) → content_at t k ≡ content_at s k
   lost_off k off = elim (leaf_or k) [
     | inl (p, e) ↦ subst (λ z. content_at t z ≡ content_at s z) (sym e)
         (ap (option_map held_leaf) (leaf_off p (λ i. off (subst (λ z. IsIn z (names_of tree)) (sym e) i))))
     | inr kind ↦ held_in_inner t k.kind k.slot kind ∙ ap (option_map held_inner) (inner_off k off) ∙ sym (held_in_inner s k.kind k.slot kind)
   ]
-
-  -- exactly the tree's names are removed
-  pub lost_others : KeepsOthers s t (names_of tree) []
-  lost_others = record { beside = λ k off _. lost_off k off; gone = λ k i _. lost_in k i; taken = λ k i _. absurd i }
 
   -- and the other way round they are added
   pub came_others : KeepsOthers t s [] (names_of tree)
@@ -216,7 +212,7 @@ module _ {K V : Type 0} {old new : Nodes K V} where
 
 module _ {N A : Type 0} where
   -- names of joined children's inner nodes
-  pub inner_names_below-join : (cs : Subtrees N A) (b : ℕ) (u : Tree N A) →
+  inner_names_below-join : (cs : Subtrees N A) (b : ℕ) (u : Tree N A) →
       inner_names_below (join cs (child b u no_child)) ≡ inner_names_below cs ++ inner_names u
   inner_names_below-join no_child b u = append-nil (inner_names u)
   inner_names_below-join (child c t cs) b u = rw (inner_names_below-join cs b u) (sym (append_assoc (inner_names t) (inner_names_below cs) (inner_names u)))

@@ -12,7 +12,7 @@ use Rattle.art_parts.specs.declared.names.OpaqueNodePtr.{OpaqueNodePtr}
 use Rattle.art_parts.proofs.NameLemmas.{inner_cmp_total, inner_cmp-IsAntisymmetric}
 use Rattle.art_nodes.proofs.StoreLaws.{gone_elsewhere}
 use Rattle.art_model.specs.Trees.{Tree, leaf, inner, Subtrees, child, no_child}
-use Rattle.art_model.specs.Layouts.{Node, name_of, slots_of, names_of, inner_names, inner_names_below, Holds, HoldsBelow, AreDistinct, IsLayout}
+use Rattle.art_model.specs.Layouts.{Node, name_of, slots_of, names_of, inner_names, inner_names_below, Holds, HoldsBelow, AreDistinct}
 use Rattle.art_model.specs.Heights.{highest, height, tree_height, height_below}
 use Rattle.art_model.specs.Stores.{node_at}
 use Rattle.art_model.specs.Writes.{as_inner}
@@ -32,7 +32,7 @@ module _ {N A : Type 0} (at : N → Option (Node N A)) where
     height_is (inner n h cs) zero holds enough = absurd (omega arith)
     height_is (inner n h cs) (suc steps) holds enough = rw holds.0 (ap suc (highest_is cs steps holds.1 (omega arith)))
 
-    pub highest_is : (cs : Subtrees N A) (steps : ℕ) → HoldsBelow at cs → height_below cs ≤ steps → highest (height at steps) (slots_of cs) ≡ height_below cs
+    highest_is : (cs : Subtrees N A) (steps : ℕ) → HoldsBelow at cs → height_below cs ≤ steps → highest (height at steps) (slots_of cs) ≡ height_below cs
     highest_is no_child steps h enough = refl
     highest_is (child b t cs) steps h enough = ap₂ max (height_is t steps h.0 (omega arith)) (highest_is cs steps h.1 (omega arith))
 
@@ -43,7 +43,7 @@ module _ {N A : Type 0} where
     height_long (leaf n x) = omega arith
     height_long (inner n h cs) = let l = height_below_long cs in omega arith
 
-    pub height_below_long : (cs : Subtrees N A) → height_below cs ≤ length (inner_names_below cs)
+    height_below_long : (cs : Subtrees N A) → height_below cs ≤ length (inner_names_below cs)
     height_below_long no_child = omega arith
     height_below_long (child b t cs) = let l = height_long t in let k = height_below_long cs in rw length-append (omega arith)
 
@@ -61,7 +61,7 @@ one_less {cmp = cmp} total m p there =
     omega arith
 
 -- so a map has at least as many keys as there are distinct names that have keys of their own in it
-pub enough_keys : {Key X : Type 0} {cmp : Key → Key → Ordering} → IsTotalOrder cmp → map.IsAntisymmetric cmp →
+enough_keys : {Key X : Type 0} {cmp : Key → Key → Ordering} → IsTotalOrder cmp → map.IsAntisymmetric cmp →
     (key : OpaqueNodePtr → Key) (IsProper : OpaqueNodePtr → Type 0) →
     ((n k : OpaqueNodePtr) → IsProper n → IsProper k → key n ≡ key k → n ≡ k) → (ns : List OpaqueNodePtr) (m : map.FinMap cmp X) → AreDistinct ns →
     Each (λ n. IsProper n × (is_some (map.get m (key n)) ≡ true)) ns → length ns ≤ map.len m
@@ -103,9 +103,3 @@ module _ {K V : Type 0} (s : Nodes K V) where
       let l = height_long t in
       let k = enough_inners (inner_names t) s.inners (taken_distinct takes_inners t d) (inners_held t h) in
       omega arith
-
--- the height of a tree, read off its store
-pub height_of_layout : {K V : Type 0} (s : Nodes K V) (root : OpaqueNodePtr) (tree : Tree OpaqueNodePtr (K × V)) → IsLayout (node_at s) root tree →
-    height (node_at s) (map.len s.inners) root ≡ tree_height tree
-height_of_layout s root tree is = ap (height (node_at s) (map.len s.inners)) (sym is.named)
-    ∙ height_is (node_at s) tree (map.len s.inners) is.holds (enough_steps s tree is.holds is.distinct)

@@ -12,7 +12,7 @@ both true false e = absurd cc
 both false b e = absurd cc
 
 -- no promise is less than any
-pub lessened_none : (p : Promise) → IsLessened p no_promise
+lessened_none : (p : Promise) → IsLessened p no_promise
 lessened_none p = le-leb 0 p.leaves (omega arith)
 
 pub lessened_same : (p : Promise) → IsLessened p p

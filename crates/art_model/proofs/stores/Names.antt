@@ -63,7 +63,7 @@ module _ {N A : Type 0} {part : Tree N A → List N} {parts : Subtrees N A → L
       | inr e ↦ subst AreDistinct (sym e) (among_below (λ k. n ≢ k) cs d.0, taken_distinct_below cs d.1)
     ]
 
-    pub taken_distinct_below : (cs : Subtrees N A) → AreDistinct (names_below cs) → AreDistinct (parts cs)
+    taken_distinct_below : (cs : Subtrees N A) → AreDistinct (names_below cs) → AreDistinct (parts cs)
     taken_distinct_below no_child d = subst AreDistinct (sym takes.of_none) tt
     taken_distinct_below (child b t cs) d =
         let cross = Pairwise-across ◌≢◌ (names_of t) (names_below cs) d in

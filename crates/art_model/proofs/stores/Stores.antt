@@ -29,7 +29,7 @@ module _ {N A : Type 0} where
     HoldsBelow-right (child b t cs) ds h = HoldsBelow-right cs ds h.1
 
     -- a layout is held where its path and its subtree are
-    pub plug_holds : (fs : List (Frame N A)) (t : Tree N A) → HoldsPath at (name_of t) fs → Holds at t → Holds at (plug fs t)
+    plug_holds : (fs : List (Frame N A)) (t : Tree N A) → HoldsPath at (name_of t) fs → Holds at t → Holds at (plug fs t)
     plug_holds [] t path h = h
     plug_holds (f ∷ fs) t (e, l, r, path) h = plug_holds fs (fill f t) path (rw slots_of-join e, HoldsBelow-join f.left (child f.byte t f.right) l (h, r))
 
@@ -57,7 +57,7 @@ module _ {N A : Type 0} where
       )
 
     -- a path
-    pub frame_path : (fs : List (Frame N A)) (hole : N) → Each (λ n. to n ≡ at n) (names_before fs) →
+    frame_path : (fs : List (Frame N A)) (hole : N) → Each (λ n. to n ≡ at n) (names_before fs) →
         Each (λ n. to n ≡ at n) (names_after fs) → HoldsPath at hole fs → HoldsPath to hole fs
     frame_path [] hole l r h = tt
     frame_path (f ∷ fs) hole l r (e, hl, hr, path) =
@@ -95,7 +95,7 @@ module _ {N A : Type 0} where
 module _ {N A : Type 0} (at to : N → Option (Node N A)) (fs : List (Frame N A)) (t : Tree N A) (holds : Holds at (plug fs t))
     (distinct : AreDistinct (names_of (plug fs t))) where
   -- the names before the hole, in it and after it are distinct
-  pub all_distinct : AreDistinct (names_before fs ++ names_of t ++ names_after fs)
+  all_distinct : AreDistinct (names_before fs ++ names_of t ++ names_after fs)
   all_distinct = subst AreDistinct (names_of-plug fs t) distinct
 
   -- and so are those of the hole
@@ -112,7 +112,7 @@ module _ {N A : Type 0} (at to : N → Option (Node N A)) (fs : List (Frame N A)
   after_taken = Each-right (IsTaken at) (names_before fs ++ names_of t) (names_after fs) every_taken
 
   -- names of the hole are in use
-  pub hole_taken : (k : N) → IsIn k (names_of t) → at k ≡ None → ⊥
+  hole_taken : (k : N) → IsIn k (names_of t) → at k ≡ None → ⊥
   hole_taken k i = each_in (IsTaken at) k (names_of t)
       (Each-right (IsTaken at) (names_before fs) (names_of t)
       (Each-left (IsTaken at) (names_before fs ++ names_of t) (names_after fs) every_taken)) i

@@ -11,12 +11,6 @@ use Rattle.art_model.specs.Gains.{without}
 use Rattle.art_model.proofs.lists.Lists.{in_left, in_right, in_either}
 use Rattle.art_model.proofs.stores.Touches.{still_gone}
 
-module _ {N X : Type 0} {R : N → N → Ordering} where
-  -- first these, and then those
-  pub without-append : (m : FinMap R X) (ns ks : List N) → without m (ns ++ ks) ≡ without (without m ns) ks
-  without-append m [] ks = refl
-  without-append m (n ∷ ns) ks = without-append (remove m n) ns ks
-
 module _ {N : Type 0} {R : N → N → Ordering} (order : IsTotalOrder R) (same : IsAntisymmetric R) where
   -- a name is in the list, or not
   in_or : (ns : List N) (q : N) → IsIn q ns ⊎ (IsIn q ns → ⊥)
@@ -28,7 +22,7 @@ module _ {N : Type 0} {R : N → N → Ordering} (order : IsTotalOrder R) (same 
 
 module _ {N X : Type 0} {R : N → N → Ordering} (order : IsTotalOrder R) (same : IsAntisymmetric R) where
   -- what is not in the map is not in it without other names
-  pub still_none : (m : FinMap R X) (ns : List N) (q : N) → get m q ≡ None → get (without m ns) q ≡ None
+  still_none : (m : FinMap R X) (ns : List N) (q : N) → get m q ≡ None → get (without m ns) q ≡ None
   still_none m [] q h = h
   still_none m (n ∷ ns) q h = still_none (remove m n) ns q (still_gone order same m n q h)
 

@@ -5,10 +5,7 @@ use std::test::Fail;
 
 // The child that is set under a byte, with the byte.
 fn child(byte: u8) -> (u8, OpaqueNodePtr) {
-    (
-        byte,
-        OpaqueNodePtr::from_parts(NodeType::Leaf, byte as usize),
-    )
+    (byte, OpaqueNodePtr::from_parts(NodeType::Leaf, byte as u32))
 }
 
 // The child next to a byte, if the node has children and none under the byte.

@@ -20,7 +20,7 @@ type Store = NodeStore<[u8; 2], u32, 3>;
 const STEPS: usize = 10_000;
 
 // No name has a slot past this one: there are never so many nodes at a time.
-const LAST_SLOT: usize = 400;
+const LAST_SLOT: u32 = 400;
 
 // A kind of inner nodes.
 fn drawn_kind(numbers: &mut Numbers) -> NodeType {
@@ -39,7 +39,7 @@ fn drawn_name(numbers: &mut Numbers) -> OpaqueNodePtr {
     } else {
         drawn_kind(numbers)
     };
-    OpaqueNodePtr::from_parts(kind, numbers.below(LAST_SLOT))
+    OpaqueNodePtr::from_parts(kind, numbers.below(LAST_SLOT as usize) as u32)
 }
 
 // The name of a leaf, of some leaf or of none, where one is drawn.

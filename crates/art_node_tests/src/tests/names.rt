@@ -18,7 +18,7 @@ fn first_out_of_order<T: Ord>(rising: &[T]) -> Option<(usize, usize)> {
     None
 }
 
-fn inner(kind: NodeType, slot: usize) -> InnerPtr {
+fn inner(kind: NodeType, slot: u32) -> InnerPtr {
     InnerPtr { kind, slot }
 }
 

@@ -9,7 +9,7 @@ use std::test::Fail;
 
 // The name under a byte.
 fn name(byte: u8) -> OpaqueNodePtr {
-    OpaqueNodePtr::from_parts(NodeType::Leaf, byte as usize)
+    OpaqueNodePtr::from_parts(NodeType::Leaf, byte as u32)
 }
 
 // Whether a key has these bytes.
@@ -87,21 +87,31 @@ fn knows_each_range(rt: HostRuntime) -> Result<(), Fail> {
     same(ranges, [2..=4, 5..=16, 17..=48, 49..=256])
 }
 
+// The name of the leaf in a slot.
+fn leaf_in(slot: u32) -> Option<LeafPtr> {
+    Some(LeafPtr::from_slot(slot))
+}
+
 #[test]
 fn makes_a_leaf() -> Result<(), Fail> {
-    let leaf = LeafNode::with_no_siblings([1, 2, 3], 7u32);
+    let mut leaf = LeafNode::with_no_siblings([1, 2, 3], 7u32);
     let matches = [
         leaf.matches_full_key(&[1, 2, 3]),
         leaf.matches_full_key(&[1, 2]),
         leaf.matches_full_key(&[1, 2, 4]),
     ];
+    leaf.previous = leaf_in(1);
+    leaf.next = leaf_in(2);
     let copied = match leaf.clone_without_siblings() {
-        Ok(copy) => copy.value,
-        Err(_) => 0,
+        Ok(copy) => {
+            let key = copy.key;
+            Some((key, copy.value, copy.previous, copy.next))
+        }
+        Err(_) => None,
     };
     same(
         (leaf.key_ref()[2], *leaf.value_ref(), matches, copied),
-        (3, 7, [true, false, false], 7),
+        (3, 7, [true, false, false], Some(([1, 2, 3], 7, None, None))),
     )
 }
 
@@ -362,4 +372,114 @@ fn emptied(full: AnyInner<4>) -> usize {
 fn grows_and_shrinks_at_each_bound(rt: HostRuntime) -> Result<(), Fail> {
     let (full, growths) = grown();
     same((growths, emptied(full)), (256, 256))
+}
+
+// A node with a child under each of these bytes, as far as it has room.
+fn node_with<N: InnerNode<4>>(node: N, bytes: &[u8]) -> N {
+    let mut node = node;
+    for byte in bytes {
+        if node.is_full() {
+            return node;
+        }
+        node.write_child(*byte, name(*byte));
+    }
+    node
+}
+
+// The child under a byte, by a search of all children.
+fn searched<N: InnerNode<4>>(node: &N, byte: u8) -> Option<OpaqueNodePtr> {
+    for (other, child) in node.iter() {
+        if other == byte {
+            return Some(child);
+        }
+    }
+    None
+}
+
+// How many bytes a node looks up as that search does.
+fn count_agreed<N: InnerNode<4>>(node: &N) -> usize {
+    let mut agreed = 0usize;
+    for byte in 0..=255u8 {
+        if node.lookup_child(byte) == searched(node, byte) {
+            agreed = agreed.saturating_add(1);
+        }
+    }
+    agreed
+}
+
+// Rising bytes, with gaps.
+static BYTES: [u8; 16] = [
+    0, 1, 10, 20, 30, 40, 50, 60, 100, 127, 128, 129, 200, 201, 254, 255,
+];
+
+// The same of a Node16 with none of these children, with the first, and so on, all in all.
+fn count_agreed_by_number() -> usize {
+    let mut agreed = 0usize;
+    for count in 0..=BYTES.len() {
+        let node = InnerNode16::<4>::from_header(Header::new(&[], 0));
+        agreed = agreed.saturating_add(count_agreed(&node_with(node, &BYTES[..count])));
+    }
+    agreed
+}
+
+// What a Node16 of six children has under the last byte, after that child was removed, under none of the bytes, and
+// under the fifth.
+fn looked_up_after_removal() -> [Option<OpaqueNodePtr>; 3] {
+    let node = InnerNode16::<4>::from_header(Header::new(&[], 0));
+    let mut node = node_with(node, &[10, 20, 30, 40, 50, 60]);
+    node.remove_child(60);
+    [
+        node.lookup_child(60),
+        node.lookup_child(0),
+        node.lookup_child(50),
+    ]
+}
+
+#[test]
+fn looks_children_up_by_lanes() -> Result<(), Fail> {
+    same(
+        (looked_up_after_removal(), count_agreed_by_number()),
+        ([None, None, Some(name(50))], 17 * 256),
+    )
+}
+
+// Whether there is a child under 0, 5 and so on up to 235, each under its own name.
+fn are_by_fives(children: Children<'_>) -> bool {
+    let mut next = 0u8;
+    for (byte, child) in children {
+        if (byte, child) != (next, name(next)) {
+            return false;
+        }
+        next = next.wrapping_add(5);
+    }
+    next == 240
+}
+
+// A Node48 with these children.
+fn node_by_fives() -> InnerNode48<4> {
+    let mut node = InnerNode48::<4>::from_header(Header::new(&[], 0));
+    for number in 0..48u8 {
+        if node.is_full() {
+            return node;
+        }
+        let byte = number.wrapping_mul(5);
+        node.write_child(byte, name(byte));
+    }
+    node
+}
+
+// Whether its children are right, before one is removed and after it is added again.
+fn removed_and_added() -> [bool; 2] {
+    let mut node = node_by_fives();
+    let before = are_by_fives(node.iter());
+    node.remove_child(100);
+    if !node.is_full() {
+        node.write_child(100, name(100));
+    }
+    [before, are_by_fives(node.iter())]
+}
+
+#[test]
+fn a_child_comes_back_in_its_order() -> Result<(), Fail> {
+    same(removed_and_added(), [true; 2])
 }

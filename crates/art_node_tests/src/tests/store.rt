@@ -404,6 +404,31 @@ fn without_memory_there_is_room_like_that_of_another_store(rt: HostRuntime) -> R
     same(placed.ok(), Some([true; 2]))
 }
 
+// Whether a leaf is placed without memory before a store frees its spare room, whether it frees it, whether a leaf is
+// placed without memory then, and whether the first leaf is right.
+fn place_after_shrinking(store: &mut Store) -> Result<[bool; 4], AllocError> {
+    let first = place(store, leaf_of(1, 10))?;
+    let held = all_memory(store.alloc())?;
+    let before = store.place_leaf(leaf_of(2, 20)).is_ok();
+    drop(held);
+    let is_shrunk = store.shrink_to_fit().is_ok();
+    let held = all_memory(store.alloc())?;
+    let after = store.place_leaf(leaf_of(3, 30)).is_ok();
+    drop(held);
+    Ok([
+        before,
+        is_shrunk,
+        after,
+        leaf_seen(store, first) == expected_leaf(1, 10, None),
+    ])
+}
+
+#[test]
+fn without_memory_a_store_that_shrank_has_no_room(rt: HostRuntime) -> Result<(), Fail> {
+    let seen = place_after_shrinking(&mut Store::new(rt.alloc()));
+    same(seen.ok(), Some([true, true, false, true]))
+}
+
 #[test]
 fn without_memory_the_promise_is_kept(rt: HostRuntime) -> Result<(), Fail> {
     let placed = place_without_memory(&mut Store::new(rt.alloc()));

@@ -1,5 +1,5 @@
 //! Replaces an inner node by a larger or a smaller one, or by the other of its two children.
-ghost use Rattle.std.specs.Prelude.{◌≡◌, ◌≢◌, ◌≤◌, [], ◌∷◌, IsTrue, IsSome, IsSomeAnd, IfSome, Option, Some, None, length};
+ghost use Rattle.std.specs.Prelude.{◌≡◌, ◌≢◌, ◌≤◌, ◌^◌, [], ◌∷◌, IsTrue, IsSome, IsSomeAnd, IfSome, Option, Some, None, length};
 ghost use Rattle.slab.specs.Slab as slab;
 ghost use Rattle.slab.specs.Slab.{ContainsKey, HasRoomFor, Updates};
 ghost use Rattle.art_parts.specs.Kinds.{kind_capacity, larger_kind, smaller_kind};
@@ -83,13 +83,14 @@ impl<const P: usize> InnerSlabs<P> {
 fn grow<N: Grows<P>, const P: usize>(
     from: &mut Slab<N>,
     to: &mut Slab<N::Larger>,
-    slot: usize,
+    slot: u32,
     byte: u8,
     child: OpaqueNodePtr,
 ) -> InnerPtr
     requires node { IsSomeAnd (slab.get from.old slot) (λ node.
         HasPlace (kind_capacity N.Larger.TYPE) (N.view_of node).children byte) }
     requires room { HasRoomFor to.old 1 }
+    requires few { to.old.capacity ≤ 2 ^ 32 }
     ensures gone { Updates from.old from.new slot None }
     ensures put { IsSomeAnd (slab.get from.old slot) (λ node. IsMadeOf N.Larger.view_of
         to.old to.new result.slot (with_child byte child (N.view_of node))) }
@@ -97,11 +98,11 @@ fn grow<N: Grows<P>, const P: usize>(
     ensures fewer { IsOneFewer from.old from.new }
     ensures more { IsOneMore to.old to.new }
 {
-    let mut node = from.remove(slot).grown();
+    let mut node = from.remove(slot as usize).grown();
     node.write_child(byte, child);
     InnerPtr {
         kind: N::Larger::TYPE,
-        slot: to.insert_reserved(node),
+        slot: to.insert_reserved(node) as u32,
     }
 }
 
@@ -110,12 +111,13 @@ fn grow<N: Grows<P>, const P: usize>(
 fn shrink<N: Shrinks<P>, const P: usize>(
     from: &mut Slab<N>,
     to: &mut Slab<N::Smaller>,
-    slot: usize,
+    slot: u32,
     byte: u8,
 ) -> InnerPtr
     requires fit { IsSomeAnd (slab.get from.old slot) (λ node.
         length (without_child byte (N.view_of node)).children ≤ kind_capacity N.Smaller.TYPE) }
     requires room { HasRoomFor to.old 1 }
+    requires few { to.old.capacity ≤ 2 ^ 32 }
     ensures gone { Updates from.old from.new slot None }
     ensures put { IsSomeAnd (slab.get from.old slot) (λ node. IsMadeOf N.Smaller.view_of
         to.old to.new result.slot (without_child byte (N.view_of node))) }
@@ -123,22 +125,22 @@ fn shrink<N: Shrinks<P>, const P: usize>(
     ensures fewer { IsOneFewer from.old from.new }
     ensures more { IsOneMore to.old to.new }
 {
-    let mut node = from.remove(slot);
+    let mut node = from.remove(slot as usize);
     node.remove_child(byte);
     InnerPtr {
         kind: N::Smaller::TYPE,
-        slot: to.insert_reserved(node.shrunk()),
+        slot: to.insert_reserved(node.shrunk()) as u32,
     }
 }
 
 // Removes a value from its slot, and drops it.
 #[inline(never)]
-fn drop_from<T: Drop>(slab: &mut Slab<T>, slot: usize)
+fn drop_from<T: Drop>(slab: &mut Slab<T>, slot: u32)
     requires { ContainsKey slab.old slot }
     ensures updates { Updates slab.old slab.new slot None }
     ensures fewer { IsOneFewer slab.old slab.new }
 {
-    slab.remove(slot);
+    slab.remove(slot as usize);
 }
 
 impl<K: AsBytes + Drop, V: Drop, const P: usize> NodeStore<K, V, P> {

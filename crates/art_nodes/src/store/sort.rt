@@ -1,5 +1,5 @@
 //! Moves the leaves to slots in the order of their links.
-ghost use Rattle.std.specs.Prelude.{◌≡◌, ℕ, ◌≤◌, List, [], length, Option, Some, None, OnOk, OnErr};
+ghost use Rattle.std.specs.Prelude.{◌≡◌, ℕ, ◌≤◌, ◌^◌, List, [], length, Option, Some, None, OnOk, OnErr};
 ghost use Rattle.std.specs.Option.{option_map};
 ghost use Rattle.slab.specs.Slab as slab;
 ghost use Rattle.slab.specs.Slab.{HasRoomFor, slab_len};
@@ -15,7 +15,7 @@ ghost use Rattle.std.specs.FinMap as map;
 ghost use Rattle.art_parts.specs.declared.names.InnerPtr.{InnerPtr};
 ghost use Rattle.art_parts.specs.declared.names.NodeType.{NodeType};
 
-use super::{InnerSlabs, NodeStore};
+use super::{InnerSlabs, MOST_SLOTS, NodeStore};
 use crate::node::{AsBytes, InnerNode, LeafNode, LeafPtr};
 use art_inner::renaming::new_name;
 use slab::Slab;
@@ -37,6 +37,9 @@ impl<K: AsBytes + Drop, V: Drop, const P: usize> NodeStore<K, V, P> {
         ensures refused { OnErr result (self.new ≡ self.old) }
     {
         let mut sorted = Slab::with_capacity(self.alloc, self.leaves.len())?;
+        if sorted.capacity() > MOST_SLOTS {
+            return Err(AllocError);
+        }
         let mut places = vec![in self.alloc; 0; self.leaves.capacity()]?;
         let table = places.as_mut_slice();
         self.promised_leaves = 0;
@@ -52,7 +55,7 @@ impl<K: AsBytes + Drop, V: Drop, const P: usize> NodeStore<K, V, P> {
 
 impl<const P: usize> InnerSlabs<P> {
     // Renames the leaves among the children of all nodes by a table.
-    fn rename_leaves(&mut self, table: &[usize])
+    fn rename_leaves(&mut self, table: &[u32])
         ensures nodes { (name : InnerPtr) → map.get (inners_of self.new) name ≡
             option_map (inner_renamed (new_name table.now)) (map.get (inners_of self.old) name) }
         ensures rooms { (kind : Option NodeType) →
@@ -69,12 +72,13 @@ impl<const P: usize> InnerSlabs<P> {
 fn move_row<K: Drop, V: Drop>(
     from: &mut Slab<LeafNode<K, V>>,
     to: &mut Slab<LeafNode<K, V>>,
-    table: &mut [usize],
+    table: &mut [u32],
     first: LeafPtr,
 )
     requires row { (row : List LeafPtr) ×
         IsRow (leaves_of from.old.slots) None row × (first_of row ≡ Some first) }
     requires room { HasRoomFor to.old (slab_len from.old) }
+    requires few { to.old.capacity ≤ 2 ^ 32 }
     requires empty { to.old.slots ≡ [] }
     requires places { length from.old.slots ≤ length table.old }
     ensures { (row : List LeafPtr) →
@@ -83,14 +87,14 @@ fn move_row<K: Drop, V: Drop>(
 {
     let mut next = Some(first);
     while let Some(leaf) = next {
-        let node = from.remove(leaf.slot);
+        let node = from.remove(leaf.slot as usize);
         next = node.next;
-        table[leaf.slot] = to.insert_reserved(node);
+        table[leaf.slot as usize] = to.insert_reserved(node) as u32;
     }
 }
 
 // Renames the neighbours of all leaves by a table.
-fn rename_links<K: Drop, V: Drop>(leaves: &mut Slab<LeafNode<K, V>>, table: &[usize])
+fn rename_links<K: Drop, V: Drop>(leaves: &mut Slab<LeafNode<K, V>>, table: &[u32])
     ensures { (slot : ℕ) → slab.get leaves.new slot ≡
         option_map (leaf_renamed (new_name table.now)) (slab.get leaves.old slot) }
 {
@@ -102,7 +106,7 @@ fn rename_links<K: Drop, V: Drop>(leaves: &mut Slab<LeafNode<K, V>>, table: &[us
 }
 
 // Renames the neighbours of a leaf by a table.
-fn rename_beside<K, V>(leaf: &mut LeafNode<K, V>, table: &[usize])
+fn rename_beside<K, V>(leaf: &mut LeafNode<K, V>, table: &[u32])
     ensures { leaf.new ≡ leaf_renamed (new_name table.now) leaf.old }
 {
     leaf.previous = leaf.previous.map(|beside| new_name(table, beside));
@@ -110,7 +114,7 @@ fn rename_beside<K, V>(leaf: &mut LeafNode<K, V>, table: &[usize])
 }
 
 // Renames the leaves among the children of the nodes of a kind by a table.
-fn rename_children<N: InnerNode<P>, const P: usize>(nodes: &mut Slab<N>, table: &[usize])
+fn rename_children<N: InnerNode<P>, const P: usize>(nodes: &mut Slab<N>, table: &[u32])
     ensures renamed { (slot : ℕ) → option_map N.view_of (slab.get nodes.new slot) ≡
         option_map (λ node. inner_renamed (new_name table.now) (N.view_of node))
         (slab.get nodes.old slot) }

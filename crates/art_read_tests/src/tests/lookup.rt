@@ -8,7 +8,6 @@ use art_nodes::store::NodeStore;
 use art_operations::lookup::{
     PrefixMatchBehavior, Visits, prefix_search_visiting, search_visiting,
 };
-use art_operations::path::{AttemptOptimisticPrefixMatch, PessimisticMismatch};
 use art_operations::range::{
     first_from_visiting, last_up_to_visiting, prefix_visiting, range_visiting,
 };
@@ -149,52 +148,94 @@ fn readings_past_in<const P: usize>(store: &mut NodeStore<Key, u32, P>) -> Optio
     Some(readings_past(store, root))
 }
 
+// The same of searches past a prefix of which nothing is stored.
+fn found_past_nothing(store: &mut NodeStore<Key, u32, 0>) -> Option<[Option<u32>; 2]> {
+    let root = planted_all(store, &[&[5, 5, 1], &[5, 5, 2]]).ok()??;
+    Some([
+        found(store, root, Search::Whole(&[9, 9, 1])),
+        found(store, root, Search::Whole(&[5, 5, 2])),
+    ])
+}
+
 #[test]
 fn compares_the_whole_key_after_skipped_bytes(rt: HostRuntime) -> Result<(), Fail> {
     let wanted = ([(None, 2), (None, 2)], [Some(0), Some(1)]);
     let seen = readings_past_in::<2>(&mut NodeStore::new(rt.alloc()));
-    same(seen, Some(wanted))
+    let of_nothing = found_past_nothing(&mut NodeStore::new(rt.alloc()));
+    same((seen, of_nothing), (Some(wanted), Some([None, Some(1)])))
 }
 
-// The result of the comparison of a prefix, and how the next ones are to be made.
-type Compared = (
-    Result<AttemptOptimisticPrefixMatch, PessimisticMismatch>,
-    PrefixMatchBehavior,
-);
-
-// Compares a node's prefix with the rest of a key.
+// Compares a node's prefix with the rest of a key. Returns the fields of what comes of it, and how the next prefixes are
+// to be compared.
 fn compared<N: InnerNode<P>, const P: usize>(
     node: &N,
     behavior: PrefixMatchBehavior,
     rest: &[u8],
-) -> Compared {
+) -> (
+    Result<(usize, bool), (usize, Option<u8>)>,
+    PrefixMatchBehavior,
+) {
     let mut behavior = behavior;
-    let outcome = behavior.match_prefix(node, rest);
+    let outcome = match behavior.match_prefix(node, rest) {
+        Ok(matched) => Ok((matched.matched_bytes, matched.any_implicit_bytes)),
+        Err(mismatch) => Err((mismatch.matched_bytes, mismatch.prefix_byte)),
+    };
     (outcome, behavior)
 }
 
-// A stored byte that differs, and a prefix that is longer than stored, of which the stored bytes agree.
+// How the prefix [1, 1, 1, 1], of which two bytes are stored, is compared with the rest of a key: the behavior before,
+// the rest, and what comes of it, which is how many bytes match and whether any are skipped, or how many match and the
+// byte that differs.
+type Comparison = (
+    PrefixMatchBehavior,
+    &'static [u8],
+    Result<(usize, bool), (usize, Option<u8>)>,
+    PrefixMatchBehavior,
+);
+
+static COMPARISONS: [Comparison; 5] = [
+    (
+        PrefixMatchBehavior::Pessimistic,
+        &[1, 9],
+        Err((1, Some(1))),
+        PrefixMatchBehavior::Pessimistic,
+    ),
+    (
+        PrefixMatchBehavior::Pessimistic,
+        &[1, 1, 1],
+        Err((3, None)),
+        PrefixMatchBehavior::Optimistic,
+    ),
+    (
+        PrefixMatchBehavior::Pessimistic,
+        &[1, 1, 9, 1, 5],
+        Ok((4, true)),
+        PrefixMatchBehavior::Optimistic,
+    ),
+    (
+        PrefixMatchBehavior::Optimistic,
+        &[9, 9, 9],
+        Err((3, None)),
+        PrefixMatchBehavior::Optimistic,
+    ),
+    (
+        PrefixMatchBehavior::Optimistic,
+        &[9, 9, 9, 9],
+        Ok((4, true)),
+        PrefixMatchBehavior::Optimistic,
+    ),
+];
+
 #[test]
-fn compares_stored_bytes_and_then_lengths() -> Result<(), Fail> {
+fn compares_stored_bytes_and_then_lengths(rt: HostRuntime) -> Result<(), Fail> {
     let node: InnerNode4<2> = InnerNode4::from_header(Header::new(&[1, 1], 4));
-    let behavior = PrefixMatchBehavior::default();
-    let differs = compared(&node, behavior, &[1, 9]);
-    let agrees = compared(&node, behavior, &[1, 1, 9, 1, 5]);
-    let mismatch = PessimisticMismatch {
-        matched_bytes: 1,
-        prefix_byte: Some(1),
-    };
-    let matched = AttemptOptimisticPrefixMatch {
-        matched_bytes: 4,
-        any_implicit_bytes: true,
-    };
-    same(
-        (differs, agrees),
-        (
-            (Err(mismatch), PrefixMatchBehavior::Pessimistic),
-            (Ok(matched), PrefixMatchBehavior::Optimistic),
-        ),
-    )
+    for (before, rest, outcome, after) in &COMPARISONS {
+        same(
+            (*rest, compared(&node, *before, rest)),
+            (*rest, (*outcome, *after)),
+        )?;
+    }
+    Ok(())
 }
 
 // Whether keys are equal to [1, 2, 3], or start with it, from the third byte on or whole.

@@ -31,17 +31,20 @@ const NO_TREE: Left = Left {
     side: Side::First,
 };
 
-// What a run leaves.
+// What a run leaves, and how many leaves and inner nodes each store then has.
+type LeftIn = (Left, [(usize, usize); 2]);
+
 fn left_in<const P: usize>(
     first: &mut NodeStore<Key, u32, P>,
     second: &mut NodeStore<Key, u32, P>,
     rows: &[Row<'_>],
-) -> Option<Left> {
-    ran(first, second, rows).ok()
+) -> Option<LeftIn> {
+    let left = ran(first, second, rows).ok()?;
+    Some((left, [count_nodes(first, 4), count_nodes(second, 4)]))
 }
 
 // The same in stores of its own.
-fn left_by(alloc: Global, rows: &[Row<'_>]) -> Option<Left> {
+fn left_by(alloc: Global, rows: &[Row<'_>]) -> Option<LeftIn> {
     left_in::<4>(&mut NodeStore::new(alloc), &mut NodeStore::new(alloc), rows)
 }
 
@@ -92,14 +95,36 @@ static AT_THE_ENDS: [Row<'static>; 11] = [
     (Asked::DeleteMax, Told::Deleted(None)),
 ];
 
+// A clone of nothing.
+static CLONED_ALONE: [Row<'static>; 1] = [(Asked::Clone, Told::Cloned)];
+
+// A clone of two pairs, one of which is then deleted.
+static CLONED: [Row<'static>; 4] = [
+    (Asked::Insert(&[1], 1), Told::Inserted(None)),
+    (Asked::Insert(&[2], 2), Told::Inserted(None)),
+    (Asked::Clone, Told::Cloned),
+    (Asked::Delete(&[1]), Told::Deleted(Some((&[1], 1)))),
+];
+
+// What that leaves.
+const ON_THE_OTHER_SIDE: Left = Left {
+    wrong: None,
+    has_root: true,
+    side: Side::Second,
+};
+
 #[test]
 fn answers_each_command(rt: HostRuntime) -> Result<(), Fail> {
-    let runs: [(&[Row<'_>], Left); 5] = [
-        (&OVER_RELATED, A_TREE),
-        (&EACH, NO_TREE),
-        (&[], NO_TREE),
-        (&LONGEST, A_TREE),
-        (&AT_THE_ENDS, NO_TREE),
+    let a_leaf = (A_TREE, [(1, 0), (0, 0)]);
+    let nothing = (NO_TREE, [(0, 0); 2]);
+    let runs: [(&[Row<'_>], LeftIn); 7] = [
+        (&OVER_RELATED, a_leaf),
+        (&EACH, nothing),
+        (&[], nothing),
+        (&LONGEST, a_leaf),
+        (&AT_THE_ENDS, nothing),
+        (&CLONED_ALONE, nothing),
+        (&CLONED, (ON_THE_OTHER_SIDE, [(0, 0), (1, 0)])),
     ];
     for (rows, left) in runs {
         same(left_by(rt.alloc(), rows), Some(left))?;

@@ -1,16 +1,15 @@
 //! Searches for the shortest text of at least so many bytes that is a prefix of a query, among keys each of which is a
 //! text and an end byte. A text may be a prefix of another one.
-ghost use Rattle.std.specs.Prelude.{◌≡◌, ◌+◌, ◌<◌, ◌≤◌, ◌↔◌, length, IsSome, IfSome, IsTrue, None};
-ghost use Rattle.std.specs.FinMap as map;
+ghost use Rattle.std.specs.Prelude.{◌≡◌, ◌+◌, ◌<◌, ◌≤◌, ◌↔◌, length, IsTrue, None};
 ghost use Rattle.art_inner.specs.Inner.{child_at};
 ghost use Rattle.art_inner.specs.Views.{ref_view};
 ghost use Rattle.art_model.specs.Keys.{IsFront};
-ghost use Rattle.art_model.specs.Lookups.{pair_under};
-ghost use Rattle.art_model.specs.Pairs.{first_of, of_key};
+ghost use Rattle.art_model.specs.Pairs.{of_key};
 ghost use Rattle.art_model.specs.Roots.{ForTree, IsCanonicalRoot};
 ghost use Rattle.art_model.specs.Texts.{AreEnded};
 ghost use Rattle.art_reading.specs.TextWays.{IsLeafOr};
-ghost use Rattle.art_reading.specs.ShortTexts.{EndsAtFirst, FindsFirst, texts_from};
+ghost use Rattle.art_reading.specs.Found.{HasFoundFirst};
+ghost use Rattle.art_reading.specs.ShortTexts.{EndsAtFirst, texts_from};
 
 use super::texts::{leaf_or, text_of};
 use crate::descent::Visits;
@@ -32,12 +31,8 @@ pub fn shortest_text_unchecked<K: AsBytes + Drop, V: Drop, const P: usize>(
     requires root { IsCanonicalRoot (of_key K.bytes) P store.now root }
     requires ended { ForTree (of_key K.bytes) P store.now root (λ pairs _.
         AreEnded (of_key K.bytes) end pairs) }
-    ensures leaf { ForTree (of_key K.bytes) P store.now root (λ pairs layout.
-        FindsFirst layout (texts_from (of_key K.bytes) query.now at_least pairs) result) }
-    ensures there { IfSome result (λ leaf. IsSome (map.get store.now.leaves leaf)) }
-    ensures pair { ForTree (of_key K.bytes) P store.now root (λ pairs _.
-        pair_under store.now result ≡
-        first_of (texts_from (of_key K.bytes) query.now at_least pairs)) }
+    ensures { HasFoundFirst (of_key K.bytes) P store.now root
+        (texts_from (of_key K.bytes) query.now at_least) result }
 {
     shortest_text_visiting(store, root, query, end, at_least, &mut Visits::new())
 }
@@ -56,12 +51,8 @@ pub fn shortest_text_visiting<K: AsBytes + Drop, V: Drop, const P: usize>(
     requires root { IsCanonicalRoot (of_key K.bytes) P store.now root }
     requires ended { ForTree (of_key K.bytes) P store.now root (λ pairs _.
         AreEnded (of_key K.bytes) end pairs) }
-    ensures leaf { ForTree (of_key K.bytes) P store.now root (λ pairs layout.
-        FindsFirst layout (texts_from (of_key K.bytes) query.now at_least pairs) result) }
-    ensures there { IfSome result (λ leaf. IsSome (map.get store.now.leaves leaf)) }
-    ensures pair { ForTree (of_key K.bytes) P store.now root (λ pairs _.
-        pair_under store.now result ≡
-        first_of (texts_from (of_key K.bytes) query.now at_least pairs)) }
+    ensures found { HasFoundFirst (of_key K.bytes) P store.now root
+        (texts_from (of_key K.bytes) query.now at_least) result }
     ensures visits { visits.new ≤ visits.old + length query.now + 2 }
 {
     let leaf = walk_to_first(store, root, query, end, at_least, visits)?;

@@ -1,12 +1,11 @@
 //! Searches for the longest text that is a prefix of a query, among keys each of which is a text and the byte that
 //! ends it. A text may be a prefix of another.
-ghost use Rattle.std.specs.Prelude.{◌≡◌, ◌+◌, ◌*◌, ◌≤◌, length, IsSome, IfSome};
-ghost use Rattle.std.specs.FinMap as map;
+ghost use Rattle.std.specs.Prelude.{◌≡◌, ◌+◌, ◌*◌, ◌≤◌, length};
 ghost use Rattle.art_inner.specs.Views.{ref_view};
-ghost use Rattle.art_model.specs.Lookups.{FindsLast, pair_under};
-ghost use Rattle.art_model.specs.Pairs.{last_of, of_key, without_last};
+ghost use Rattle.art_model.specs.Pairs.{of_key, without_last};
 ghost use Rattle.art_model.specs.Roots.{ForTree, IsCanonicalRoot};
 ghost use Rattle.art_model.specs.Texts.{AreEnded, texts_in_front};
+ghost use Rattle.art_reading.specs.Found.{HasFoundLast};
 ghost use Rattle.art_reading.specs.TextWays.{EndsAt, IsLeafOr, IsTextStep, leaf_of_end};
 
 use crate::descent::Visits;
@@ -31,12 +30,8 @@ pub fn longest_text_unchecked<K: AsBytes + Drop, V: Drop, const P: usize>(
     requires root { IsCanonicalRoot (of_key K.bytes) P store.now root }
     requires ended { ForTree (of_key K.bytes) P store.now root (λ pairs _.
         AreEnded (of_key K.bytes) end pairs) }
-    ensures leaf { ForTree (of_key K.bytes) P store.now root (λ pairs layout.
-        FindsLast layout (texts_in_front (of_key K.bytes) query.now pairs) result) }
-    ensures there { IfSome result (λ leaf. IsSome (map.get store.now.leaves leaf)) }
-    ensures pair { ForTree (of_key K.bytes) P store.now root (λ pairs _.
-        pair_under store.now result ≡
-        last_of (texts_in_front (of_key K.bytes) query.now pairs)) }
+    ensures { HasFoundLast (of_key K.bytes) P store.now root
+        (texts_in_front (of_key K.bytes) query.now) result }
 {
     longest_text_visiting(store, root, query, end, &mut Visits::new())
 }
@@ -53,12 +48,8 @@ pub fn longest_text_by<B: KeyBytes, K: AsBytes + Drop, V: Drop, const P: usize>(
     requires root { IsCanonicalRoot (of_key K.bytes) P store.now root }
     requires ended { ForTree (of_key K.bytes) P store.now root (λ pairs _.
         AreEnded (of_key K.bytes) end pairs) }
-    ensures leaf { ForTree (of_key K.bytes) P store.now root (λ pairs layout.
-        FindsLast layout (texts_in_front (of_key K.bytes) (B.key query.old) pairs) result) }
-    ensures there { IfSome result (λ leaf. IsSome (map.get store.now.leaves leaf)) }
-    ensures pair { ForTree (of_key K.bytes) P store.now root (λ pairs _.
-        pair_under store.now result ≡
-        last_of (texts_in_front (of_key K.bytes) (B.key query.old) pairs)) }
+    ensures { HasFoundLast (of_key K.bytes) P store.now root
+        (texts_in_front (of_key K.bytes) (B.key query.old)) result }
 {
     let (guide, _) = find_guide(store, root, query, root, 0);
     let key = store.leaf_at(guide).key.as_bytes();
@@ -79,12 +70,8 @@ pub fn longest_text_visiting<K: AsBytes + Drop, V: Drop, const P: usize>(
     requires root { IsCanonicalRoot (of_key K.bytes) P store.now root }
     requires ended { ForTree (of_key K.bytes) P store.now root (λ pairs _.
         AreEnded (of_key K.bytes) end pairs) }
-    ensures leaf { ForTree (of_key K.bytes) P store.now root (λ pairs layout.
-        FindsLast layout (texts_in_front (of_key K.bytes) query.now pairs) result) }
-    ensures there { IfSome result (λ leaf. IsSome (map.get store.now.leaves leaf)) }
-    ensures pair { ForTree (of_key K.bytes) P store.now root (λ pairs _.
-        pair_under store.now result ≡
-        last_of (texts_in_front (of_key K.bytes) query.now pairs)) }
+    ensures found { HasFoundLast (of_key K.bytes) P store.now root
+        (texts_in_front (of_key K.bytes) query.now) result }
     ensures visits { visits.new ≤ visits.old + 2 * length query.now + 2 }
 {
     let leaf = match walk_to_text(store, root, query, end, visits) {

@@ -10,7 +10,7 @@ use art_test_support::commands::{
 };
 use art_test_support::expected::same;
 use art_test_support::nodes::{Seen, count_nodes, count_touched, nodes_seen};
-use art_test_support::trees::{Key, planted_all, planted_keys};
+use art_test_support::trees::{Key, keys_of_three, planted_all, planted_keys};
 use std::alloc::{AllocError, Global};
 use std::test::Fail;
 
@@ -120,6 +120,24 @@ fn a_split_prefix_is_merged_again(rt: HostRuntime) -> Result<(), Fail> {
     ];
     let wanted = ([(2, 0, 4), (0, 2, 4), (0, 0, 0)], true);
     same(seen, [Some(wanted); 3])
+}
+
+// What an insertion touches that adds a child to the root of these keys.
+fn put_beside<const P: usize>(
+    store: &mut NodeStore<Key, u32, P>,
+    all: Vec<Key>,
+) -> Option<Touched> {
+    let mut root = Some(planted_keys(store, all)?);
+    let put = (Asked::Insert(&[60, 0, 0], 7), Told::Inserted(None));
+    touched_by(store, &mut root, put)
+}
+
+// The root is a Node256 of 51 children, below each of which are six leaves.
+#[test]
+fn a_root_of_many_children_is_changed_in_place(rt: HostRuntime) -> Result<(), Fail> {
+    let all = keys_of_three(rt.alloc(), [51, 2, 3])?;
+    let touched = put_beside::<16>(&mut NodeStore::new(rt.alloc()), all);
+    same(touched, Some((1, 0, 2)))
 }
 
 /// Each kind that the root of keys of one byte can have, with the least number of keys for it.

@@ -1,4 +1,5 @@
 mod effect;
+mod points;
 mod refused;
 mod rows;
 mod search;

@@ -1,16 +1,9 @@
 //! Delete points, applied.
-ghost use Rattle.std.specs.Prelude.{◌≡◌, ℕ, List, nat_lt, length, Some, IsOk, IsSome, IfOk, IfErr, IfSome, OnOk, OnErr};
+ghost use Rattle.std.specs.Prelude.{◌≡◌, nat_lt, length, Some, IsOk, IsSome, IfOk, IfErr, OnErr};
 ghost use Rattle.std.specs.FinMap as map;
 ghost use Rattle.art_nodes.specs.Nodes.{no_promise};
-ghost use Rattle.art_model.specs.Apart.{KeepsApart};
-ghost use Rattle.art_model.specs.Canonical.{IsCanonical};
-ghost use Rattle.art_model.specs.Kept.{ChangesInPlace};
-ghost use Rattle.art_model.specs.Pairs.{first_of, last_of, of_key, remove_key, remove_reply, without_first, without_last};
-ghost use Rattle.art_model.specs.Promises.{promise_after};
-ghost use Rattle.art_model.specs.Roots.{ForRoot, ForTree, IsCanonicalRoot};
-ghost use Rattle.art_model.specs.Stores.{pair_of};
-ghost use Rattle.art_writing.specs.Inserted.{unlinked_leaf};
-ghost use Rattle.art_writing.specs.Deleted.{IsDeletePointIn, IsRootAfter, TouchesFor, pair_at, parent_change, placed_for_deletion, shrinks};
+ghost use Rattle.art_model.specs.Pairs.{of_key};
+ghost use Rattle.art_writing.specs.Deleted.{IsDeletePointIn, parent_change, shrinks};
 ghost use Rattle.art_reading.specs.PathSteps.{last_step};
 ghost use Rattle.art_inner.specs.Views.{ref_kind, ref_view};
 ghost use Rattle.art_parts.specs.Kinds.{kind_least, next_smaller};
@@ -35,43 +28,8 @@ impl DeletePoint {
         root: OpaqueNodePtr,
     ) -> Result<DeleteResult<K, V>, DeleteRefused>
         requires { IsDeletePointIn (of_key K.bytes) P store.old root self }
-        ensures canonical { ForTree (of_key K.bytes) P store.old root (λ pairs layout.
-            IfOk result (λ done.
-            IsCanonical (of_key K.bytes) P store.new done.new_root
-            (remove_key (of_key K.bytes) (K.bytes done.deleted_leaf.key) pairs))) }
-        ensures left { IfOk result (λ done.
-            IfSome done.new_root (IsCanonicalRoot (of_key K.bytes) P store.new)) }
-        ensures deleted { IfOk result (λ done.
-            IfSome (map.get store.old.leaves self.leaf_node_ptr) (λ leaf.
-            done.deleted_leaf ≡ unlinked_leaf (pair_of leaf))) }
-        ensures pair { IfOk result (λ done.
-            pair_at store.old (Some self) ≡ Some (pair_of done.deleted_leaf)) }
-        ensures sought { ForTree (of_key K.bytes) P store.old root (λ pairs _.
-            IfOk result (λ done. (key : List ℕ) →
-            pair_at store.old (Some self) ≡ remove_reply (of_key K.bytes) key pairs →
-            IsCanonical (of_key K.bytes) P store.new done.new_root
-            (remove_key (of_key K.bytes) key pairs))) }
-        ensures first { ForTree (of_key K.bytes) P store.old root (λ pairs _.
-            IfOk result (λ done. pair_at store.old (Some self) ≡ first_of pairs →
-            IsCanonical (of_key K.bytes) P store.new done.new_root
-            (without_first pairs))) }
-        ensures last { ForTree (of_key K.bytes) P store.old root (λ pairs _.
-            IfOk result (λ done. pair_at store.old (Some self) ≡ last_of pairs →
-            IsCanonical (of_key K.bytes) P store.new done.new_root
-            (without_last pairs))) }
-        ensures root { IfOk result (λ done.
-            IsRootAfter (parent_change store.old self.path) self.path root done.new_root) }
-        ensures kept { ForTree (of_key K.bytes) P store.old root (λ pairs old.
-            IfOk result (λ done.
-            ForRoot (of_key K.bytes) P store.new done.new_root (λ after new.
-            ChangesInPlace (of_key K.bytes) store.old store.new (Some old) new))) }
-        ensures apart { IfOk result (λ done. KeepsApart (of_key K.bytes) P
-            store.old store.new (Some root) done.new_root) }
-        ensures touches { OnOk result
-            (TouchesFor (parent_change store.old self.path) store.old store.new) }
-        ensures promise { OnOk result (store.new.promise ≡
-            promise_after (placed_for_deletion store.old self.path) store.old.promise) }
-
+        ensures applied { IfOk result
+            (IsTakenOut (of_key K.bytes) P store.old store.new root self) }
         ensures succeeds { IsOk result }
         ensures handed_back { IfErr result (λ refused. refused.point ≡ self) }
         ensures leaves { OnErr result (store.new.leaves ≡ store.old.leaves) }

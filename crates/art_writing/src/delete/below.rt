@@ -1,10 +1,9 @@
 //! The points of keys that start with a prefix: that of all, that of the first, and that of an equal one.
-ghost use Rattle.std.specs.Prelude.{◌≡◌, IfNone, IfSome, Some};
-ghost use Rattle.art_model.specs.Canonical.{IsCanonical};
-ghost use Rattle.art_model.specs.Pairs.{first_of, of_key, remove_key, remove_reply};
+ghost use Rattle.std.specs.Prelude.{◌≡◌, IfSome, Some};
+ghost use Rattle.art_model.specs.Pairs.{first_of, of_key};
 ghost use Rattle.art_model.specs.Parts.{below};
 ghost use Rattle.art_model.specs.Roots.{ForTree, IsCanonicalRoot};
-ghost use Rattle.art_writing.specs.Deleted.{IsDeletePoint, IsDeletePointIn, pair_at};
+ghost use Rattle.art_writing.specs.Deleted.{HasDeletePoint, HasKeyPoint};
 ghost use Rattle.art_writing.specs.Subtrees.{ArePointsBelow, IsPrefixPoint, IsSubtreePointIn, joined};
 
 use super::DeletePoint;
@@ -44,11 +43,8 @@ pub fn search_for_first_delete_point_below<
     const P: usize,
 >(store: &NodeStore<K, V, P>, root: OpaqueNodePtr, prefix: B) -> Option<DeletePoint>
     requires { IsCanonicalRoot (of_key K.bytes) P store.now root }
-    ensures point { ForTree (of_key K.bytes) P store.now root (λ pairs layout.
-        IsDeletePoint layout (first_of (below (of_key K.bytes) (B.key prefix) pairs)) result) }
-    ensures pair { ForTree (of_key K.bytes) P store.now root (λ pairs _.
-        pair_at store.now result ≡ first_of (below (of_key K.bytes) (B.key prefix) pairs)) }
-    ensures applies { IfSome result (IsDeletePointIn (of_key K.bytes) P store.now root) }
+    ensures { HasDeletePoint (of_key K.bytes) P store.now root
+        (λ pairs. first_of (below (of_key K.bytes) (B.key prefix) pairs)) result }
 {
     let (_, first) = points_below(store, root, prefix)?;
     Some(first)
@@ -63,14 +59,7 @@ pub fn search_for_delete_point_by<B: KeyBytes + Drop, K: AsBytes + Drop, V: Drop
     key: &mut B,
 ) -> Option<DeletePoint>
     requires { IsCanonicalRoot (of_key K.bytes) P store.now root }
-    ensures point { ForTree (of_key K.bytes) P store.now root (λ pairs layout.
-        IsDeletePoint layout (remove_reply (of_key K.bytes) (B.key key.old) pairs) result) }
-    ensures pair { ForTree (of_key K.bytes) P store.now root (λ pairs _.
-        pair_at store.now result ≡ remove_reply (of_key K.bytes) (B.key key.old) pairs) }
-    ensures absent { ForTree (of_key K.bytes) P store.now root (λ pairs _.
-        IfNone result (IsCanonical (of_key K.bytes) P store.now (Some root)
-        (remove_key (of_key K.bytes) (B.key key.old) pairs))) }
-    ensures applies { IfSome result (IsDeletePointIn (of_key K.bytes) P store.now root) }
+    ensures { HasKeyPoint (of_key K.bytes) P store.now root (B.key key.old) result }
 {
     let point = search_for_first_delete_point_below(store, root, key.again())?;
     let bytes = store.leaf_at(point.leaf_node_ptr).key.as_bytes();

@@ -1,5 +1,5 @@
 //! A new inner node above an existing node and a new leaf.
-ghost use Rattle.std.specs.Prelude.{◌≡◌, ℕ, ◌+◌, drop, List, IsSome, IsTrue, Some};
+ghost use Rattle.std.specs.Prelude.{◌≡◌, ℕ, ◌+◌, drop, List, IsSome, IsTrue, IfOk, Some};
 ghost use Rattle.std.specs.FinMap as map;
 ghost use Rattle.art_parts.specs.Headers.{header_of};
 ghost use Rattle.art_nodes.specs.Nodes.{covers, take_inner, take_leaf};
@@ -10,9 +10,9 @@ ghost use Rattle.art_model.specs.Places.{depth_of, prefix_of};
 ghost use Rattle.art_model.specs.Roots.{IsFullTree};
 ghost use Rattle.art_model.specs.Trees.{Tree};
 ghost use Rattle.art_model.specs.Writes.{IsThere};
-ghost use Rattle.art_writing.specs.Applied.{IsApplied};
+ghost use Rattle.art_writing.specs.Applied.{IsApplied, TakesMemory};
 ghost use Rattle.art_writing.specs.Branches.{ForEnd, IsBranch, IsBranchPlaced};
-ghost use Rattle.art_writing.specs.Inserted.{IsPointIn};
+ghost use Rattle.art_writing.specs.Inserted.{IsPointIn, placed_for};
 ghost use Rattle.art_writing.specs.ParentWrites.{HasChild, IsBeside, side_of};
 ghost use Rattle.art_reading.specs.PathSteps.{last_step};
 ghost use Rattle.art_reading.specs.declared.end_node.InsertKind.TheVariants as kinds;
@@ -189,7 +189,10 @@ impl InsertPoint {
     ) -> Result<InsertResult<K, V>, PairRefused<K, V>>
         requires point { self.insert_kind ≡ kinds.SplitLeaf leaf_node_ptr new_key_bytes_used }
         requires answers { IsPointIn (of_key K.bytes) P store.old (K.bytes key) self }
-        ensures { IsApplied (of_key K.bytes) P store.old store.new self (key, value) result }
+        ensures applied { IfOk result
+            (IsApplied (of_key K.bytes) P store.old store.new self (key, value)) }
+        ensures memory { TakesMemory store.old store.new
+            (placed_for store.old self.insert_kind) (key, value) result }
     {
         let branch = self.branch_at_leaf(store, leaf_node_ptr, new_key_bytes_used, key.as_bytes());
         if store.reserve(1, Some(NodeType::Node4)).is_err() {
@@ -211,7 +214,10 @@ impl InsertPoint {
     ) -> Result<InsertResult<K, V>, PairRefused<K, V>>
         requires point { self.insert_kind ≡ kinds.MismatchPrefix mismatch inner_node_ptr }
         requires answers { IsPointIn (of_key K.bytes) P store.old (K.bytes key) self }
-        ensures { IsApplied (of_key K.bytes) P store.old store.new self (key, value) result }
+        ensures applied { IfOk result
+            (IsApplied (of_key K.bytes) P store.old store.new self (key, value)) }
+        ensures memory { TakesMemory store.old store.new
+            (placed_for store.old self.insert_kind) (key, value) result }
     {
         let branch = self.branch_at_prefix(store, mismatch, inner_node_ptr, key.as_bytes());
         let header = self.trimmed_header(store, mismatch, inner_node_ptr);

@@ -1,7 +1,7 @@
 //! A new leaf below an existing node.
-ghost use Rattle.std.specs.Prelude.{◌≡◌, get_or};
+ghost use Rattle.std.specs.Prelude.{◌≡◌, get_or, IfOk};
 ghost use Rattle.art_model.specs.Pairs.{of_key};
-ghost use Rattle.art_writing.specs.Applied.{IsApplied};
+ghost use Rattle.art_writing.specs.Applied.{IsApplied, TakesMemory};
 ghost use Rattle.art_writing.specs.Inserted.{IsPointIn, placed_for};
 ghost use Rattle.art_reading.specs.declared.end_node.InsertKind.TheVariants as kinds;
 
@@ -25,7 +25,10 @@ impl InsertPoint {
     ) -> Result<InsertResult<K, V>, PairRefused<K, V>>
         requires point { self.insert_kind ≡ kinds.IntoExisting inner_node_ptr }
         requires answers { IsPointIn (of_key K.bytes) P store.old (K.bytes key) self }
-        ensures { IsApplied (of_key K.bytes) P store.old store.new self (key, value) result }
+        ensures applied { IfOk result
+            (IsApplied (of_key K.bytes) P store.old store.new self (key, value)) }
+        ensures memory { TakesMemory store.old store.new
+            (placed_for store.old self.insert_kind) (key, value) result }
     {
         let key_bytes = key.as_bytes();
         let byte = key_bytes[self.key_bytes_used];

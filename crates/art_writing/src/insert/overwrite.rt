@@ -1,15 +1,15 @@
 //! A leaf replaces an inner node with its subtree.
-ghost use Rattle.std.specs.Prelude.{◌≢◌, ℕ, List, Option};
+ghost use Rattle.std.specs.Prelude.{◌≢◌, ℕ, List, IfOk, Option};
 ghost use Rattle.art_parts.specs.declared.names.LeafPtr.{LeafPtr};
 ghost use Rattle.art_parts.specs.declared.names.OpaqueNodePtr.{OpaqueNodePtr};
 ghost use Rattle.art_parts.specs.declared.names.NodeType.TheVariants.{Leaf};
 ghost use Rattle.art_model.specs.Pairs.{of_key};
 ghost use Rattle.art_model.specs.Roots.{IsFullTree};
 ghost use Rattle.art_model.specs.Trees.{Tree};
-ghost use Rattle.art_writing.specs.Applied.{IsPrefixApplied};
+ghost use Rattle.art_writing.specs.Applied.{IsPrefixApplied, TakesMemory};
 ghost use Rattle.art_writing.specs.ParentWrites.{IsBeside};
 ghost use Rattle.art_writing.specs.declared.writes.Direction.TheVariants.{Before, After};
-ghost use Rattle.art_writing.specs.Overwritten.{IsOverwritePointIn};
+ghost use Rattle.art_writing.specs.Overwritten.{IsOverwritePointIn, placed_for_overwrite};
 ghost use Rattle.art_writing.specs.declared.insert.PrefixInsertPoint.TheVariants as points;
 
 use super::{
@@ -31,8 +31,10 @@ impl OverwritePoint {
     ) -> Result<PrefixInsertResult<K, V>, PairRefused<K, V>>
         requires inner { self.overwrite_point.kind ≢ Leaf }
         requires answers { IsOverwritePointIn (of_key K.bytes) P store.old (K.bytes key) self }
-        ensures { IsPrefixApplied (of_key K.bytes) P store.old store.new
-            (points.OverwritePoint self) (key, value) result }
+        ensures applied { IfOk result (IsPrefixApplied (of_key K.bytes) P store.old store.new
+            (points.OverwritePoint self) (key, value)) }
+        ensures memory { TakesMemory store.old store.new
+            (placed_for_overwrite self.overwrite_point.kind) (key, value) result }
     {
         let (previous, next) = self.links_around(store);
         if store.reserve(1, None).is_err() {

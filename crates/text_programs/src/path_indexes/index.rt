@@ -4,9 +4,9 @@ ghost use Rattle.art_operations.specs.Ended.{HasNoZero};
 ghost use Rattle.art_operations.specs.MapItems.{keys_of};
 ghost use Rattle.text_programs.specs.Paths.{AddsPath, IsFaultOf};
 
-use art_operations::keys::{EndError, Terminated};
+use art_operations::keys::Terminated;
 use art_operations::tree_map::TreeMap;
-use std::alloc::{AllocError, Global};
+use std::alloc::Global;
 use thiserror::Error;
 
 /// Paths in the order of their bytes.
@@ -31,7 +31,7 @@ pub fn add_path(index: &mut Index, alloc: Global, path: &[u8]) -> Result<(), Pat
     let key = key_of(alloc, path)?;
     match index.insert(key, ()) {
         Ok(_) => Ok(()),
-        Err(_) => Err(PathError::NoMemory),
+        Err(_refused) => Err(PathError::NoMemory),
     }
 }
 
@@ -41,21 +41,9 @@ fn key_of(alloc: Global, path: &[u8]) -> Result<Terminated, PathError>
     ensures accepted { OnOk result (HasNoZero path.now) }
     ensures fault { IfErr result (IsFaultOf path.now) }
 {
-    let Ok(bytes) = copy_with_room(alloc, path) else {
-        return Err(PathError::NoMemory);
-    };
-    match Terminated::new(bytes) {
-        Ok(key) => Ok(key),
-        Err(EndError::InnerZero { .. }) => Err(PathError::Zero),
-        Err(EndError::Memory { .. }) => Err(PathError::NoMemory),
+    match Terminated::encode(alloc, path) {
+        Ok(Some(key)) => Ok(key),
+        Ok(None) => Err(PathError::Zero),
+        Err(_) => Err(PathError::NoMemory),
     }
-}
-
-// Returns the bytes, with room for one more.
-fn copy_with_room(alloc: Global, bytes: &[u8]) -> Result<Vec<u8>, AllocError>
-    ensures { IfOk result (λ copy. copy.items ≡ bytes.now) }
-{
-    let mut copy = Vec::with_capacity(alloc, bytes.len().saturating_add(1))?;
-    copy.extend_from_slice(bytes)?;
-    Ok(copy)
 }

@@ -1,9 +1,6 @@
 use Rattle.std.proofs.Common.{◌<◌, length, arith}
-use Rattle.art_inner.proofs.RemovalLemmas.{not_moved, moved_front, all_moved}
+use Rattle.art_inner.proofs.RemovalLemmas.{moved_front, all_moved}
 use Rattle.art_inner.proofs.table.remove_from.Goals as goal
-
-pub loop-place-init : goal.loop-place-init
-loop-place-init g c = (omega arith, omega (arith, c.requires), not_moved c.args.part.now c.args.at)
 
 pub loop-place-preserved : goal.loop-place-preserved
 loop-place-preserved g c =

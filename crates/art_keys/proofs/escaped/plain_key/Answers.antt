@@ -1,17 +1,18 @@
-use Rattle.std.proofs.Common.{◌≡◌, ◌++◌, [], ◌∷◌, List, ℕ, ap, subst, sym, ◌∙◌}
-use Rattle.art_keys.specs.Escapes.{IsEscape, IsPlain, escape, unescape}
+use Rattle.std.proofs.Common.{◌∷◌, [], ap, arith, length, length-append, subst, sym, ◌∙◌}
+use Rattle.std.proofs.lemmas.Bool.{false≢true}
+use Rattle.art_keys.specs.Escapes.{IsEscape, escape, unescape}
 use Rattle.art_keys.specs.EscapeLaws.{escape-plain, unescape-escape}
 use Rattle.art_keys.proofs.escaped.plain_key.Goals as goal
 
--- what is written is the escape
-written : (text empty joined items : List ℕ) → IsPlain text → empty ≡ [] → joined ≡ empty ++ text → items ≡ joined ++ 0 ∷ [] → items ≡ escape text
-written text empty joined items plain none all ended = ended ∙ ap (λ xs. xs ++ 0 ∷ []) (all ∙ ap (λ xs. xs ++ text) none) ∙ sym (escape-plain text plain)
-
 pub invariant_of-result : goal.invariant_of-result
-invariant_of-result c = subst IsEscape (sym
-    (written _ _ _ _ c.requires c.in_ok-bytes.ensures.items c.in_ok-extend_from_slice.ensures.items c.in_ok-push.ensures.items))
-    (ap escape (unescape-escape c.args.text.now))
+invariant_of-result c =
+    subst IsEscape (sym (c.in_ok-bytes.ensures.bytes ∙ sym (escape-plain c.args.text.now c.requires))) (ap escape (unescape-escape c.args.text.now))
 
-pub returns : goal.returns
-returns c = ap unescape (written _ _ _ _ c.requires c.in_ok-bytes.ensures.items c.in_ok-extend_from_slice.ensures.items
-    c.in_ok-push.ensures.items) ∙ unescape-escape c.args.text.now
+pub returns-clause-key : goal.returns-clause-key
+returns-clause-key c =
+    ap unescape (c.in_ok-bytes.ensures.bytes ∙ sym (escape-plain c.args.text.now c.requires)) ∙ unescape-escape c.args.text.now
+
+pub returns-in_err-bytes-clause-succeeds : goal.returns-in_err-bytes-clause-succeeds
+returns-in_err-bytes-clause-succeeds c =
+    λ few. absurd (false≢true (c.in_err-bytes.ensures.succeeds
+    (omega (arith, few, ap length (escape-plain c.args.text.now c.requires), length-append c.args.text.now (0 ∷ [])))))

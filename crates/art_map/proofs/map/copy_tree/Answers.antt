@@ -1,15 +1,10 @@
-use Rattle.std.proofs.Common.{ap, rules, ◌∙◌, Some}
+use Rattle.std.proofs.Common.{ap, ◌∙◌, Some}
 use Rattle.std.proofs.lemmas.List.Elements.{length_all_zip}
 use Rattle.art_parts.specs.LeafClones.{IsPairClone}
 use Rattle.art_model.specs.Pairs.{of_key}
 use Rattle.art_map.proofs.Puts.{at_root}
 use Rattle.art_map.proofs.Views.{none_held, none_other}
 use Rattle.art_map.proofs.map.copy_tree.Goals as goal
-
-pub clone_unchecked-requires : goal.clone_unchecked-requires
-clone_unchecked-requires g c =
-    let has = at_root (of_key g.K.AsBytes.bytes) g.row.P c.requires.holds in
-    (search rules, ((_, has.layout, has.by), c.requires.clones))
 
 pub returns : goal.returns
 returns g c =

@@ -56,17 +56,17 @@ returns-in-Err-Memory g c =
 pub one_more-requires : goal.one_more-requires
 one_more-requires g c =
     let has = at_some (c.in-Some.is ∙ ap Some (sym c.in-Ok-search_for_insert_point.ensures.root)) c.requires in
-    let more = pair_more g.K.AsBytes.bytes g.row.P (c.args.key, c.args.value) has c.in-Ok-apply.ensures.replaced c.in_default-existing_leaf.is in
+    let more = pair_more g.K.AsBytes.bytes g.row.P (c.args.key, c.args.value) has c.in-Ok-apply.ensures.applied.replaced c.in_default-existing_leaf.is in
     let counted = more.1 in
-    let most = enough (c.in-Ok-apply.ensures.canonical _ has.layout has.by).1 in
+    let most = enough (c.in-Ok-apply.ensures.applied.canonical _ has.layout has.by).1 in
     (search rules, omega arith)
 
 pub returns-in_default-existing_leaf : goal.returns-in_default-existing_leaf
 returns-in_default-existing_leaf g c =
     let has = at_some (c.in-Some.is ∙ ap Some (sym c.in-Ok-search_for_insert_point.ensures.root)) c.requires in
-    let more = pair_more g.K.AsBytes.bytes g.row.P (c.args.key, c.args.value) has c.in-Ok-apply.ensures.replaced c.in_default-existing_leaf.is in (
-      left_holds (of_key g.K.AsBytes.bytes) g.row.P has (c.in-Ok-apply.ensures.canonical _ has.layout has.by)
-          (c.in-Ok-apply.ensures.kept _ has.layout has.by) (c.one_more.ensures ∙ sym more.1),
+    let more = pair_more g.K.AsBytes.bytes g.row.P (c.args.key, c.args.value) has c.in-Ok-apply.ensures.applied.replaced c.in_default-existing_leaf.is in (
+      left_holds (of_key g.K.AsBytes.bytes) g.row.P has (c.in-Ok-apply.ensures.applied.canonical _ has.layout has.by)
+          (c.in-Ok-apply.ensures.applied.kept _ has.layout has.by) (c.one_more.ensures ∙ sym more.1),
       sym more.0,
       accepted g.K.AsBytes.bytes g.row.P (c.args.key, c.args.value) has c.in-Ok-search_for_insert_point.ensures.root c.as_bytes.ensures
           (λ pairs layout by. (c.in-Ok-search_for_insert_point.ensures.accepted pairs layout by).0 refl),
@@ -75,10 +75,10 @@ returns-in_default-existing_leaf g c =
 pub returns-in-Some-existing_leaf : goal.returns-in-Some-existing_leaf
 returns-in-Some-existing_leaf g c =
     let has = at_some (c.in-Some.is ∙ ap Some (sym c.in-Ok-search_for_insert_point.ensures.root)) c.requires in
-    let many = same_many g.K.AsBytes.bytes g.row.P (c.args.key, c.args.value) has c.in-Ok-apply.ensures.replaced c.in-Some-existing_leaf.is in
+    let many = same_many g.K.AsBytes.bytes g.row.P (c.args.key, c.args.value) has c.in-Ok-apply.ensures.applied.replaced c.in-Some-existing_leaf.is in
     rw c.in-Some-existing_leaf.is (
-      left_holds (of_key g.K.AsBytes.bytes) g.row.P has (c.in-Ok-apply.ensures.canonical _ has.layout has.by)
-          (c.in-Ok-apply.ensures.kept _ has.layout has.by) (sym many.1),
+      left_holds (of_key g.K.AsBytes.bytes) g.row.P has (c.in-Ok-apply.ensures.applied.canonical _ has.layout has.by)
+          (c.in-Ok-apply.ensures.applied.kept _ has.layout has.by) (sym many.1),
       sym many.0,
       accepted g.K.AsBytes.bytes g.row.P (c.args.key, c.args.value) has c.in-Ok-search_for_insert_point.ensures.root c.as_bytes.ensures
           (λ pairs layout by. (c.in-Ok-search_for_insert_point.ensures.accepted pairs layout by).0 refl),
@@ -93,10 +93,10 @@ returns-in-Err-apply g c =
     let at = subst (λ key. AnswersTo bytes g.row.P has.layout key c.in-Ok-search_for_insert_point.point) c.as_bytes.ensures
     (c.in-Ok-search_for_insert_point.ensures.point pairs has.layout has.by) in
     rw c.without_memory-in-Err-apply.ensures (
-      stays bytes g.row.P c.args.store.now c.apply.new.store c.in-Err-apply.ensures.leaves c.in-Err-apply.ensures.inners c.requires,
+      stays bytes g.row.P c.args.store.now c.apply.new.store c.in-Err-apply.ensures.memory.leaves c.in-Err-apply.ensures.memory.inners c.requires,
       (
-        c.in-Err-apply.ensures.handed_back.0,
-        c.in-Err-apply.ensures.handed_back.1,
-        refused_new here at (λ covered. absurd (false≢true (c.in-Err-apply.ensures.succeeds covered))),
+        c.in-Err-apply.ensures.memory.handed_back.0,
+        c.in-Err-apply.ensures.memory.handed_back.1,
+        refused_new here at (λ covered. absurd (false≢true (c.in-Err-apply.ensures.memory.succeeds covered))),
       ),
     )

@@ -1,15 +1,12 @@
-use Rattle.std.proofs.Common.{rules, sym, subst, Some}
+use Rattle.std.proofs.Common.{sym, subst, Some}
 use Rattle.art_model.specs.Pairs.{first_of, of_key}
 use Rattle.art_model.specs.Parts.{below, without_below}
 use Rattle.art_writing.proofs.KeysFound.{point_none, point_some}
 use Rattle.art_map.specs.MapChanges.{HasTaken}
 use Rattle.art_map.specs.MapPairs.{HoldsPairs, pairs_at}
 use Rattle.art_map.proofs.PartsOut.{first_below, nothing_out}
-use Rattle.art_map.proofs.Puts.{at_some, canonical_root}
+use Rattle.art_map.proofs.Puts.{at_some}
 use Rattle.art_map.proofs.map.take_below.Goals as goal
-
-pub search_for_first_delete_point_below-requires : goal.search_for_first_delete_point_below-requires
-search_for_first_delete_point_below-requires g c = (search rules, canonical_root c.in-Some.is c.requires)
 
 pub returns-in_default-search_for_first_delete_point_below : goal.returns-in_default-search_for_first_delete_point_below
 returns-in_default-search_for_first_delete_point_below g c =

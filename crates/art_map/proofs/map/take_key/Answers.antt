@@ -1,13 +1,10 @@
-use Rattle.std.proofs.Common.{rules, sym, subst, Some}
+use Rattle.std.proofs.Common.{sym, subst, Some}
 use Rattle.art_model.specs.Pairs.{of_key, remove_reply, remove_key}
 use Rattle.art_writing.proofs.KeysFound.{point_none, point_some, removed_key, removes_none}
 use Rattle.art_map.specs.MapChanges.{HasTaken}
 use Rattle.art_map.specs.MapPairs.{HoldsPairs, pairs_at}
-use Rattle.art_map.proofs.Puts.{at_some, canonical_root}
+use Rattle.art_map.proofs.Puts.{at_some}
 use Rattle.art_map.proofs.map.take_key.Goals as goal
-
-pub search_for_delete_point_by_lengths-requires : goal.search_for_delete_point_by_lengths-requires
-search_for_delete_point_by_lengths-requires g c = (search rules, canonical_root c.in-Some.is c.requires)
 
 pub returns-in_default-search_for_delete_point_by_lengths : goal.returns-in_default-search_for_delete_point_by_lengths
 returns-in_default-search_for_delete_point_by_lengths g c =

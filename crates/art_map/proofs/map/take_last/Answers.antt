@@ -1,14 +1,11 @@
-use Rattle.std.proofs.Common.{rules, sym, subst, Some}
+use Rattle.std.proofs.Common.{sym, subst, Some}
 use Rattle.art_model.specs.Pairs.{last_of, of_key, without_last}
 use Rattle.art_model.proofs.pairs.MapLaws.{last_is_removed_by_key}
 use Rattle.art_writing.proofs.KeysFound.{point_some}
 use Rattle.art_map.specs.MapChanges.{HasTaken}
 use Rattle.art_map.specs.MapPairs.{pairs_at}
-use Rattle.art_map.proofs.Puts.{at_some, canonical_root}
+use Rattle.art_map.proofs.Puts.{at_some}
 use Rattle.art_map.proofs.map.take_last.Goals as goal
-
-pub find_maximum_to_delete-point-requires : goal.find_maximum_to_delete-point-requires
-find_maximum_to_delete-point-requires g c = (search rules, canonical_root c.in-Some.is c.requires)
 
 pub returns : goal.returns
 returns g c =

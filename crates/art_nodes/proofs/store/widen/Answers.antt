@@ -1,5 +1,11 @@
-use Rattle.art_nodes.proofs.StoreLemmas.{is_wider}
+use Rattle.std.proofs.Common.{arith}
 use Rattle.art_nodes.proofs.store.widen.Goals as goal
 
 pub returns-clause-wider : goal.returns-clause-wider
-returns-clause-wider g c = is_wider _ _ c.reserve_exact.ensures.rest_kept c.reserve_exact.ensures.capacity
+returns-clause-wider g c =
+    let copy = c.in_ok-slab.ensures in
+    record {
+      slots = copy.slots;
+      len = copy.len;
+      capacity = omega (arith, c.usual_growth.ensures c.requires.few, copy.len, copy.room);
+    }

@@ -34,11 +34,11 @@ returns-in-Ok-apply g c side second =
     let accepted = rw c.as_bytes.ensures at (c.in-Ok.ensures.accepted (pairs_of layout) layout by) in
     let here = at_root g.K.AsBytes.bytes g.row.P by at.root_is in
     inserted_step g.K.AsBytes.bytes g.row.P by second (accepted.0 refl) at (record {
-      canonical = c.in-Ok-apply.ensures.canonical (pairs_of layout) layout here;
-      replaced = c.in-Ok-apply.ensures.replaced (pairs_of layout) layout here;
-      kept = c.in-Ok-apply.ensures.kept (pairs_of layout) layout here;
-      touches = c.in-Ok-apply.ensures.touches;
-      promise = c.in-Ok-apply.ensures.promise;
+      canonical = c.in-Ok-apply.ensures.applied.canonical (pairs_of layout) layout here;
+      replaced = c.in-Ok-apply.ensures.applied.replaced (pairs_of layout) layout here;
+      kept = c.in-Ok-apply.ensures.applied.kept (pairs_of layout) layout here;
+      touches = c.in-Ok-apply.ensures.applied.touches;
+      promise = c.in-Ok-apply.ensures.memory.promise;
     })))
 
 pub returns-in-Err : goal.returns-in-Err
@@ -47,8 +47,8 @@ returns-in-Err g c side second =
     let at = rw c.as_bytes.ensures at (c.in-Ok.ensures.point (pairs_of layout) layout by) in
     let accepted = rw c.as_bytes.ensures at (c.in-Ok.ensures.accepted (pairs_of layout) layout by) in
     refused_step g.K.AsBytes.bytes g.row.P by second (accepted.0 refl) at
-    (ap₂ (λ a b. (a, b)) c.in-Err.ensures.handed_back.0 c.in-Err.ensures.handed_back.1) (record {
-      same = (c.in-Err.ensures.leaves, c.in-Err.ensures.inners);
-      void = c.in-Err.ensures.void;
-      uncovered = λ covered. absurd (false≢true (c.in-Err.ensures.succeeds covered));
+    (ap₂ (λ a b. (a, b)) c.in-Err.ensures.memory.handed_back.0 c.in-Err.ensures.memory.handed_back.1) (record {
+      same = (c.in-Err.ensures.memory.leaves, c.in-Err.ensures.memory.inners);
+      void = c.in-Err.ensures.memory.void;
+      uncovered = λ covered. absurd (false≢true (c.in-Err.ensures.memory.succeeds covered));
     })))

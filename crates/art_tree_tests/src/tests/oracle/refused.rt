@@ -8,7 +8,10 @@ use art_checking::well_formed::WellFormedChecker;
 use art_nodes::node::OpaqueNodePtr;
 use art_nodes::store::NodeStore;
 use art_running::run::{Command, Reply, RunResult, Side, run};
-use art_test_support::commands::{Asked, Row, Told, command, commands, first_apart, told_by};
+use art_test_support::commands::{
+    Asked, Left, Row, Told, command, commands, first_apart, ran, told_by,
+};
+use art_test_support::expected::same;
 use art_test_support::memory::end_refusals;
 use art_test_support::shapes::count_nodes;
 use art_test_support::side_by_side::kind_if_same;
@@ -18,7 +21,7 @@ use std::process::Abort;
 use std::test::Fail;
 
 // No store of these tests has a node in a later slot.
-const SLOTS: usize = 128;
+const SLOTS: u32 = 128;
 
 const BYTES: [u8; 51] = [
     0, 1, 2, 3, 4, 5, 6, 7, 8, 9, 10, 11, 12, 13, 14, 15, 16, 17, 18, 19, 20, 21, 22, 23, 24, 25,
@@ -90,6 +93,31 @@ fn push_script<'a>(rows: &mut Vec<Row<'a>>, bytes: &'a [u8]) -> Result<(), Alloc
 fn scripted(alloc: Global) -> Result<Vec<Command<Key, u32>>, AllocError> {
     let rows = script(alloc, &BYTES)?;
     commands(alloc, &rows)
+}
+
+/// What a run of the commands leaves with memory, and how many leaves and inner nodes each store has then.
+fn left_with_memory<const P: usize>(
+    first: &mut NodeStore<Key, u32, P>,
+    second: &mut NodeStore<Key, u32, P>,
+) -> Result<(Left, [(usize, usize); 2]), AllocError> {
+    let rows = script(first.alloc(), &BYTES)?;
+    let left = ran(first, second, &rows)?;
+    Ok((
+        left,
+        [count_nodes(first, SLOTS), count_nodes(second, SLOTS)],
+    ))
+}
+
+#[test]
+fn each_command_has_the_reply_of_its_row(rt: HostRuntime) -> Result<(), Fail> {
+    let alloc = rt.alloc();
+    let seen = left_with_memory::<4>(&mut NodeStore::new(alloc), &mut NodeStore::new(alloc))?;
+    let left = Left {
+        wrong: None,
+        has_root: true,
+        side: Side::Second,
+    };
+    same(seen, (left, [(0, 0), (1, 0)]))
 }
 
 fn count_related(pairs: &[(Key, u32)], key: &[u8]) -> usize {

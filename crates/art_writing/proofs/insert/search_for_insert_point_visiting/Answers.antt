@@ -2,18 +2,24 @@ use Rattle.std.proofs.Common.{refl, sym, ◌∙◌}
 use Rattle.std.proofs.lemmas.Bool.{true≢false, false≢true}
 use Rattle.art_writing.proofs.insert.search_for_insert_point_visiting.Goals as goal
 
-pub returns-in-InsertPoint-clause-accepted : goal.returns-in-InsertPoint-clause-accepted
-returns-in-InsertPoint-clause-accepted g c pairs layout by = ((λ ok. (c.in-InsertPoint.ensures.point pairs layout by).0), (λ free. refl))
-
 pub returns-in-InsertPoint-clause-point : goal.returns-in-InsertPoint-clause-point
-returns-in-InsertPoint-clause-point g c pairs layout by = (c.in-InsertPoint.ensures.point pairs layout by).1
+returns-in-InsertPoint-clause-point g c =
+    let found = c.in-InsertPoint.ensures.point in
+    record {
+      accepted = λ pairs layout by. ((λ ok. (found.point pairs layout by).0), (λ free. refl));
+      point = λ pairs layout by. (found.point pairs layout by).1;
+      root = found.root;
+      applies = found.applies;
+      refused = tt;
+    }
 
-pub returns-in-InsertPoint-clause-root : goal.returns-in-InsertPoint-clause-root
-returns-in-InsertPoint-clause-root g c = c.in-InsertPoint.ensures.root
-
-pub returns-in-InsertPoint-clause-applies : goal.returns-in-InsertPoint-clause-applies
-returns-in-InsertPoint-clause-applies g c = c.in-InsertPoint.ensures.applies
-
-pub returns-in-OverwritePoint-clause-accepted : goal.returns-in-OverwritePoint-clause-accepted
-returns-in-OverwritePoint-clause-accepted g c pairs layout by =
-    ((λ ok. absurd (false≢true ok)), (λ free. absurd (true≢false (sym (c.in-OverwritePoint.ensures.point pairs layout by).0 ∙ free))))
+pub returns-in-OverwritePoint-clause-point : goal.returns-in-OverwritePoint-clause-point
+returns-in-OverwritePoint-clause-point g c =
+    let found = c.in-OverwritePoint.ensures.point in
+    record {
+      accepted = λ pairs layout by. ((λ ok. absurd (false≢true ok)), (λ free. absurd (true≢false (sym (found.point pairs layout by).0 ∙ free))));
+      point = λ pairs layout by. tt;
+      root = tt;
+      applies = tt;
+      refused = c.refusal.ensures;
+    }

@@ -10,5 +10,5 @@ returns g c =
     let (layout, is) = at.one in (
       remove_key (of_key g.K.AsBytes.bytes) (g.K.AsBytes.bytes c.unwrap-done.result.deleted_leaf.key) ids,
       ends,
-      both_changed at (rw c.unwrap-done.ensures at c.apply.ensures.canonical ids layout is) (rw c.unwrap-done.ensures at c.apply.ensures.apart),
+      both_changed at ((rw c.unwrap-done.ensures at c.apply.ensures.applied).canonical ids layout is) (rw c.unwrap-done.ensures at c.apply.ensures.applied).apart,
     )

@@ -9,5 +9,5 @@ returns-clause-left g c =
     let at = first_named (of_key g.K.AsBytes.bytes)
     g.row.P c.args.store.now c.args.roots.by_end c.args.roots.by_id c.in-Some.root ends ids c.in-Some.is (both_turned h) in
     let (layout, is) = at.one in
-    let left = both_changed at (rw c.unwrap-done.ensures at c.apply.ensures.canonical ends layout is) (rw c.unwrap-done.ensures at c.apply.ensures.apart) in
+    let left = both_changed at ((rw c.unwrap-done.ensures at c.apply.ensures.applied).canonical ends layout is) (rw c.unwrap-done.ensures at c.apply.ensures.applied).apart in
     (ids, remove_key (of_key g.K.AsBytes.bytes) (g.K.AsBytes.bytes c.unwrap-done.result.deleted_leaf.key) ends, both_turned left)

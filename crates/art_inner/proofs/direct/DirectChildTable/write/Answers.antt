@@ -3,7 +3,7 @@ use Rattle.art_inner.specs.Inner.{child_at, put_child}
 use Rattle.art_inner.specs.Tables.{names_by_byte}
 use Rattle.art_inner.specs.Direct.{direct_at}
 use Rattle.art_inner.proofs.ChildrenLaws.{length-put_child_new, length-put_child_old}
-use Rattle.art_inner.proofs.Extent.{listed_bound, listed_rising}
+use Rattle.art_inner.proofs.Extent.{listed_rising}
 use Rattle.art_inner.proofs.DirectLemmas.{direct_put}
 use Rattle.art_inner.proofs.direct.DirectChildTable.write.Goals.{in-Some, in-None}
 use Rattle.art_inner.proofs.direct.DirectChildTable.write.Goals as goal
@@ -13,9 +13,6 @@ returns c =
     direct_put c.self.inside.slots c.self.inside.places c.args.byte c.ranges.byte.fits (omega (arith, c.self.told))
     (omega (arith, c.self.told)) c.place_of.result c.args.child c.place_of.ensures
     ∙ ap (λ cs. put_child cs c.args.byte c.args.child) c.self.view_is
-
-pub overflow_add-len : goal.overflow_add-len
-overflow_add-len c = omega (arith, c.self.invariant, listed_bound (direct_at c.self.inside.slots c.self.inside.places))
 
 pub invariant_of-self : goal.invariant_of-self
 invariant_of-self c =

@@ -1,4 +1,4 @@
-use Rattle.std.proofs.Common.{length, subst, arith, ap}
+use Rattle.std.proofs.Common.{subst}
 use Rattle.art_inner.specs.Inner.{IsAbove, IsRising}
 use Rattle.art_inner.specs.Indexed.{indexed_at}
 use Rattle.art_inner.proofs.Extent.{listed_rising, listed_above}
@@ -12,6 +12,3 @@ of_indexed-requires-clause-bytes c = subst (IsAbove 256) c.self.view_is (listed_
 
 pub returns-clause-rising : goal.returns-clause-rising
 returns-clause-rising c = subst IsRising c.self.view_is (listed_rising (indexed_at c.self.inside.slots c.self.inside.kinds c.self.inside.index))
-
-pub returns-clause-bound : goal.returns-clause-bound
-returns-clause-bound c = omega (arith, ap length c.self.view_is, c.self.invariant.0, c.self.invariant.1)

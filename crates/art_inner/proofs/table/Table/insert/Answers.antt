@@ -31,6 +31,7 @@ invariant_of-self g c =
       omega (arith, room),
       length_around c.self.inside.kinds c.insert_into.new.kinds g.row.N (c.self.inside.len + 1) (omega (arith, room)) s.kinds c.insert_into.auto.kinds,
       subst IsRising (sym made) (IsRising-put_child _ _ _ s.rising),
+      s.small,
     )
 
 pub returns : goal.returns

@@ -27,9 +27,15 @@ invariant_of-self g c =
       length-set c.self.inside.kinds c.self.inside.len c.args.child.kind
           ∙ s.kinds,
       subst IsRising (sym (table_pushed c.self.inside c.args.self.now s c.args.byte c.args.child room)) (rising_behind _ _ _ s.rising c.requires.rising),
+      s.small,
     )
 
 pub returns : goal.returns
 returns g c =
     let s = shows_of c.self.inside c.args.self.now c.self.told c.self.told2 c.self.invariant c.self.view_is in
     table_pushed c.self.inside c.args.self.now s c.args.byte c.args.child (omega (arith, table_length c.self.inside c.args.self.now s, c.requires.room))
+
+pub overflow_add-self : goal.overflow_add-self
+overflow_add-self g c =
+    let s = shows_of c.self.inside c.args.self.now c.self.told c.self.told2 c.self.invariant c.self.view_is in
+    omega (arith, s.small, table_length c.self.inside c.args.self.now s, c.requires.room)

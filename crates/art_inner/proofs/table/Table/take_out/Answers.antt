@@ -40,6 +40,7 @@ invariant_of-self g c =
       omega (arith, s.fits),
       length_around c.self.inside.kinds c.remove_from-2.new.part g.row.N c.self.inside.len s.fits s.kinds c.remove_from-2.auto.part,
       subst IsRising (sym out) (IsRising-remove_child _ _ s.rising),
+      s.small,
     )
 
 pub returns-clause-removed : goal.returns-clause-removed

@@ -1,5 +1,5 @@
 use Rattle.std.proofs.Common.{rules}
-use Rattle.art_inner.proofs.Extent.{next_above, next_fits, pushed_over}
+use Rattle.art_inner.proofs.Extent.{next_above, next_fits}
 use Rattle.art_inner.proofs.table.TableChildTable.of.Goals as goal
 
 pub push-requires : goal.push-requires
@@ -10,6 +10,3 @@ push-requires g c = (
     next_above _ _ _ _ _ _ c.loop-byte.invariant c.in-Some.ensures.steps c.requires.rising,
   ),
 )
-
-pub loop-byte-preserved : goal.loop-byte-preserved
-loop-byte-preserved g c = pushed_over _ _ _ _ _ _ _ c.loop-byte.invariant c.in-Some.ensures.steps c.push.ensures

@@ -11,7 +11,7 @@ invariant_of-self g c =
     let shown =
     shown-new_slots c.args.table.now t.len t.bytes t.kinds t.slots c.rename_slots.new.slots c.rename_slots.ensures.count
     c.rename_slots.ensures.slots in
-    (c.self.invariant.0, c.self.invariant.1, subst IsRising (sym shown) (IsRising-renamed (new_name c.args.table.now) _ c.self.invariant.2))
+    (c.self.invariant.0, c.self.invariant.1, subst IsRising (sym shown) (IsRising-renamed (new_name c.args.table.now) _ c.self.invariant.2), c.self.invariant.3)
 
 pub returns : goal.returns
 returns g c =

@@ -36,6 +36,7 @@ invariant_of-self g c =
       length-set c.self.inside.kinds c.in-Ok.at c.args.child.kind
           ∙ s.kinds,
       subst IsRising (sym (table_set c.self.inside c.args.self.now s c.in-Ok.at c.args.byte place c.args.child there)) (IsRising-put_child _ _ _ s.rising),
+      s.small,
     )
 
 pub returns-in-Ok : goal.returns-in-Ok

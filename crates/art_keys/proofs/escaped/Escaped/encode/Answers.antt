@@ -9,7 +9,7 @@ written : (items bytes text : List ℕ) (i : ℕ) → length text ≤ i → byte
 written items bytes text i h e f = f ∙ ap (λ rest. bytes ++ escape rest) (sym (drop_all i text h)) ∙ e
 
 pub invariant_of-result : goal.invariant_of-result
-invariant_of-result c = rw (written _ _ _ _ c.loop-byte-test.false c.loop-byte.invariant c.in_ok-push.ensures.items, unescape-escape) refl
+invariant_of-result c = rw (written _ _ _ _ c.loop-byte-test.false c.loop-byte.invariant c.in_ok-push.ensures.ok, unescape-escape) refl
 
-pub returns : goal.returns
-returns c = rw (written _ _ _ _ c.loop-byte-test.false c.loop-byte.invariant c.in_ok-push.ensures.items) (unescape-escape c.args.text.now)
+pub returns-clause-key : goal.returns-clause-key
+returns-clause-key c = rw (written _ _ _ _ c.loop-byte-test.false c.loop-byte.invariant c.in_ok-push.ensures.ok) (unescape-escape c.args.text.now)

@@ -5,4 +5,4 @@ use Rattle.art_keys.proofs.escaped.EscapedDecodeBytes.from_key_bytes.Goals as go
 
 pub invariant_of-result : goal.invariant_of-result
 invariant_of-result c =
-    subst IsEscape (sym (c.in_ok-to_vec.ensures.items_if_clones_equal (λ x y is. is) ∙ c.requires.is)) (ap escape (unescape-escape c.requires.key))
+    subst IsEscape (sym (c.in_ok-from_slice.ensures.bytes ∙ c.requires.is)) (ap escape (unescape-escape c.requires.key))

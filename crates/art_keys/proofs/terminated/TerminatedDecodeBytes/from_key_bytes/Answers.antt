@@ -5,4 +5,4 @@ use Rattle.art_keys.proofs.terminated.TerminatedDecodeBytes.from_key_bytes.Goals
 
 pub invariant_of-result : goal.invariant_of-result
 invariant_of-result c =
-    subst IsEnded (sym (c.in_ok-to_vec.ensures.items_if_clones_equal (λ x y is. is) ∙ c.requires.is)) (ended_is c.requires.key c.requires.of_key)
+    subst IsEnded (sym (c.in_ok-from_slice.ensures.bytes ∙ c.requires.is)) (ended_is c.requires.key c.requires.of_key)

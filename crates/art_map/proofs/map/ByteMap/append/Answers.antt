@@ -1,4 +1,4 @@
-use Rattle.std.proofs.Common.{refl, ap, sym, ◌∙◌, subst, arith, [], ◌∷◌, ◌++◌, append_assoc, append-nil, length}
+use Rattle.std.proofs.Common.{ap, sym, ◌∙◌, subst, arith, [], ◌∷◌, ◌++◌, append_assoc, append-nil, length}
 use Rattle.art_model.specs.Pairs.{of_key, put, without_first}
 use Rattle.art_model.proofs.pairs.Puts.{first_none}
 use Rattle.art_map.specs.MapAnswers.{IsRefusalOf}
@@ -6,9 +6,6 @@ use Rattle.art_map.specs.MapCalls.{put_all}
 use Rattle.art_map.proofs.Extended.{put_last}
 use Rattle.art_map.proofs.Moved.{first_and_others, removed_first}
 use Rattle.art_map.proofs.map.ByteMap.append.Goals as goal
-
-pub loop-key-init : goal.loop-key-init
-loop-key-init g c = ([], refl, refl)
 
 pub loop-key-smaller : goal.loop-key-smaller
 loop-key-smaller g c =

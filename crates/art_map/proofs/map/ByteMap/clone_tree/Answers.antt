@@ -1,4 +1,4 @@
-use Rattle.std.proofs.Common.{ap, rules, sym, ◌∙◌, subst, [], Some, None}
+use Rattle.std.proofs.Common.{ap, sym, ◌∙◌, subst, [], Some, None}
 use Rattle.art_model.specs.Clones.{AreClones}
 use Rattle.art_model.specs.Pairs.{of_key}
 use Rattle.art_map.specs.MapPairs.{pairs_at}
@@ -18,9 +18,6 @@ returns-in_default g c =
     let none = sym (no_pairs B g.row.P c.self.inside.store c.in_default.is c.self.invariant) ∙ c.self.view_is in
     let new = view_of B g.row.P c.new-store.result (new_holds c.new-store.result c.new-store.ensures.leaves c.new-store.ensures.inners B g.row.P) in
     subst (λ before. Are before (pairs_at c.new-store.result None)) none (subst (λ after. Are [] after) (sym new) tt)
-
-pub copy_tree-requires : goal.copy_tree-requires
-copy_tree-requires g c = (search rules, (rw c.in-Some.is at c.self.invariant, (c.new-store.ensures.leaves, (c.new-store.ensures.inners, c.requires))))
 
 pub invariant_of-result-2 : goal.invariant_of-result-2
 invariant_of-result-2 g c = let (copies, are, held) = c.in_ok-root.ensures in holds (of_key g.K.AsBytes.bytes) g.row.P c.copy_tree.new.into held

@@ -1,18 +1,9 @@
-use Rattle.std.proofs.Common.{refl, ap, sym, subst, ◌∙◌}
+use Rattle.std.proofs.Common.{ap, sym, subst, ◌∙◌}
 use Rattle.std.proofs.iter.Next as it
 use Rattle.art_model.specs.Pairs.{of_key, put}
 use Rattle.art_map.specs.MapAnswers.{IsRefusalOf}
 use Rattle.art_map.proofs.Extended.{put_last}
 use Rattle.art_map.proofs.map.ByteMap.extend.Goals as goal
-
-pub loop-key-init : goal.loop-key-init
-loop-key-init g c = it.begun c.requires.can c.requires.ends refl
-
-pub next-requires : goal.next-requires
-next-requires g c = c.loop-key.invariant.callable
-
-pub loop-key-smaller : goal.loop-key-smaller
-loop-key-smaller g c = it.less c.loop-key.invariant (c.in-Some.key, c.in-Some.value) c.in-Some.is c.next.ensures.goes
 
 pub loop-key-preserved : goal.loop-key-preserved
 loop-key-preserved g c =
@@ -30,8 +21,3 @@ returns-in-Err g c =
     subst (λ pairs. IsRefusalOf g.K.AsBytes.bytes c.in-Some.key c.in-Some.value pairs c.in-Err.error)
     (sym c.in-Err.ensures.kept) c.in-Err.ensures.refused in
     record { all = tt; refused = (inv.seen, x, it.Gave-then inv c.in-Some.is c.next.ensures.steps, c.in-Err.ensures.kept ∙ inv.holds, refused) }
-
-pub returns : goal.returns
-returns g c =
-    let inv = c.loop-key.invariant in
-    record { all = (inv.seen, it.Gave-then inv c.in_default.is c.next.ensures.steps, inv.holds); refused = tt }

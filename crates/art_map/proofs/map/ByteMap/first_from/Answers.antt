@@ -8,7 +8,6 @@ use Rattle.art_map.specs.MapItems.{deref_pair}
 use Rattle.art_map.specs.MapPairs.{pairs_at}
 use Rattle.art_map.proofs.Puts.{at_some}
 use Rattle.art_map.proofs.Ranges.{also_true, first_pair, no_first_pair}
-use Rattle.art_map.proofs.Views.{view_sorted}
 use Rattle.art_map.proofs.map.ByteMap.first_from.Goals as goal
 
 pub returns-in_err-leaf-clause-pair : goal.returns-in_err-leaf-clause-pair
@@ -28,6 +27,3 @@ returns-clause-pair g c =
     ∙ ap (λ test. first_of (filter test (pairs_at c.self.inside.store c.self.inside.root)))
     (λ i x. also_true (is_from (bound_map (λ b. b.now) c.args.from) (g.K.AsBytes.bytes x.0)) i)
     ∙ ap (λ pairs. first_of (between (of_key g.K.AsBytes.bytes) (bound_map (λ b. b.now) c.args.from) Unbounded pairs)) c.self.view_is
-
-pub returns-clause-sorted : goal.returns-clause-sorted
-returns-clause-sorted g c = view_sorted (of_key g.K.AsBytes.bytes) g.row.P c.self.inside.store c.self.invariant c.self.view_is

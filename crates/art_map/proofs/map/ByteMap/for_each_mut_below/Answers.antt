@@ -3,7 +3,6 @@ use Rattle.art_model.specs.Keys.{is_front}
 use Rattle.art_model.specs.Pairs.{of_key}
 use Rattle.art_model.specs.Parts.{below, not_below}
 use Rattle.art_map.specs.MapCalls.{ChangesPairs}
-use Rattle.art_map.specs.MapItems.{keys_of}
 use Rattle.art_map.specs.MapPairs.{pairs_at}
 use Rattle.art_map.proofs.Items.{no_pairs}
 use Rattle.art_map.proofs.Puts.{at_some}
@@ -43,9 +42,3 @@ returns-clause-others g c =
     let has = at_some c.in-Some.is c.self.invariant in
     let first = range_pairs has.by (λ x. is_front c.args.prefix.now (g.K.AsBytes.bytes x.0)) (c.prefix_unchecked-walk.ensures _ has.layout has.by) has.len_is in
     (c.change_pairs.ensures.changed.those (is_front c.args.prefix.now) first).1 ∙ ap (not_below (of_key g.K.AsBytes.bytes) c.args.prefix.now) c.self.view_is
-
-pub returns-clause-keys : goal.returns-clause-keys
-returns-clause-keys g c = c.change_pairs.ensures.changed.keys ∙ ap keys_of c.self.view_is
-
-pub invariant_of-self : goal.invariant_of-self
-invariant_of-self g c = c.change_pairs.ensures.changed.holds

@@ -3,7 +3,6 @@ use Rattle.std.specs.Range.Bound.{bound_map}
 use Rattle.art_model.specs.Pairs.{of_key}
 use Rattle.art_model.specs.Parts.{between, is_between}
 use Rattle.art_map.specs.MapCalls.{ChangesPairs}
-use Rattle.art_map.specs.MapItems.{keys_of}
 use Rattle.art_map.specs.MapPairs.{pairs_at}
 use Rattle.art_map.specs.MapParts.{not_between}
 use Rattle.art_map.proofs.Items.{no_pairs}
@@ -49,9 +48,3 @@ returns-clause-others g c =
     let first = range_pairs has.by (λ x. test (g.K.AsBytes.bytes x.0)) (c.range_unchecked-walk.ensures _ has.layout has.by) has.len_is in
     (c.change_pairs.ensures.changed.those test first).1
     ∙ ap (not_between (of_key g.K.AsBytes.bytes) (bound_map (λ b. b.now) c.args.from) (bound_map (λ b. b.now) c.args.to)) c.self.view_is
-
-pub returns-clause-keys : goal.returns-clause-keys
-returns-clause-keys g c = c.change_pairs.ensures.changed.keys ∙ ap keys_of c.self.view_is
-
-pub invariant_of-self : goal.invariant_of-self
-invariant_of-self g c = c.change_pairs.ensures.changed.holds

@@ -1,18 +1,6 @@
-use Rattle.std.proofs.Common.{ap, rules}
+use Rattle.std.proofs.Common.{ap}
 use Rattle.std.specs.Option.{option_map}
-use Rattle.art_model.specs.Pairs.{of_key, with_key}
-use Rattle.art_map.proofs.Puts.{canonical_root}
-use Rattle.art_map.proofs.Takings.{found_pair}
-use Rattle.art_map.proofs.Views.{view_sorted}
 use Rattle.art_map.proofs.map.ByteMap.get.Goals as goal
 
-pub find_unchecked-requires : goal.find_unchecked-requires
-find_unchecked-requires g c = (search rules, canonical_root c.in_ok-self.was c.self.invariant)
-
 pub returns-clause-value : goal.returns-clause-value
-returns-clause-value g c =
-    ap (option_map (λ x. x.1)) (found_pair g.K.AsBytes.bytes g.row.P c.in_ok-self.was c.self.invariant
-    (with_key (of_key g.K.AsBytes.bytes) c.args.key_bytes.now) c.in_ok-leaf.ensures c.self.view_is)
-
-pub returns-clause-sorted : goal.returns-clause-sorted
-returns-clause-sorted g c = view_sorted (of_key g.K.AsBytes.bytes) g.row.P c.self.inside.store c.self.invariant c.self.view_is
+returns-clause-value g c = ap (option_map (λ x. x.1)) c.in_ok-leaf.ensures.pair

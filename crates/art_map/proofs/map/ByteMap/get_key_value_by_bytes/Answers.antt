@@ -2,12 +2,8 @@ use Rattle.std.proofs.Common.{[], ◌≡◌, ap, sym, ◌∙◌, subst, rules}
 use Rattle.art_model.specs.Pairs.{first_of, of_key, with_key}
 use Rattle.art_map.specs.MapChanges.{NamesLeafOf}
 use Rattle.art_map.specs.MapPairs.{pairs_at}
-use Rattle.art_map.proofs.Puts.{held_there}
 use Rattle.art_map.proofs.Written.{is_there, pair_read}
 use Rattle.art_map.proofs.map.ByteMap.get_key_value_by_bytes.Goals as goal
-
-pub leaf_by-requires : goal.leaf_by-requires
-leaf_by-requires g c = (search rules, (c.self.inside.len, held_there c.in_ok-self.was c.self.invariant))
 
 pub returns-in_err-leaf : goal.returns-in_err-leaf
 returns-in_err-leaf g c =

@@ -1,13 +1,10 @@
-use Rattle.std.proofs.Common.{ap, sym, ◌∙◌, rules, is_some}
+use Rattle.std.proofs.Common.{ap, sym, ◌∙◌, is_some}
 use Rattle.art_model.specs.Pairs.{of_key}
 use Rattle.art_map.specs.MapAnswers.{with_value_at}
-use Rattle.art_map.proofs.Puts.{canonical_root, is_some-map}
+use Rattle.art_map.proofs.Puts.{is_some-map}
 use Rattle.art_map.proofs.Views.{holds, view_of}
 use Rattle.art_map.proofs.Written.{leaf_named, lends_same, some_of, value_read, value_written}
 use Rattle.art_map.proofs.map.ByteMap.get_mut_by.Goals as goal
-
-pub search_for-requires : goal.search_for-requires
-search_for-requires g c = (search rules, canonical_root c.in_ok-self.was c.self.invariant)
 
 pub invariant_of-self-lent : goal.invariant_of-self-lent
 invariant_of-self-lent g c lent =

@@ -1,16 +1,13 @@
-use Rattle.std.proofs.Common.{[], ◌≡◌, ap, inr, sym, ◌∙◌, subst, rules, is_some}
+use Rattle.std.proofs.Common.{[], ◌≡◌, ap, inr, sym, ◌∙◌, subst, is_some}
 use Rattle.std.specs.Option.{option_map}
 use Rattle.art_model.specs.Pairs.{first_of, of_key, with_key}
 use Rattle.art_map.specs.MapAnswers.{value_at, with_value_at}
 use Rattle.art_map.specs.MapChanges.{NamesLeafOf}
 use Rattle.art_map.specs.MapPairs.{pairs_at}
-use Rattle.art_map.proofs.Puts.{held_there, is_some-map}
+use Rattle.art_map.proofs.Puts.{is_some-map}
 use Rattle.art_map.proofs.Views.{holds, view_of}
 use Rattle.art_map.proofs.Written.{is_there, lends_same, some_of, value_read, value_written}
 use Rattle.art_map.proofs.map.ByteMap.get_mut_by_bytes.Goals as goal
-
-pub leaf_by-requires : goal.leaf_by-requires
-leaf_by-requires g c = (search rules, (c.self.inside.len, held_there c.in_ok-self.was c.self.invariant))
 
 pub returns-in_err-leaf : goal.returns-in_err-leaf
 returns-in_err-leaf g c =

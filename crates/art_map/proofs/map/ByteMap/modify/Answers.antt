@@ -1,18 +1,9 @@
-use Rattle.std.proofs.Common.{ap, sym, ◌∙◌, refl, rules, is_some}
+use Rattle.std.proofs.Common.{ap, sym, ◌∙◌, refl}
 use Rattle.art_model.specs.Pairs.{of_key}
 use Rattle.art_map.specs.MapAnswers.{with_value_at}
-use Rattle.art_map.proofs.Puts.{canonical_root, is_some-map}
 use Rattle.art_map.proofs.Views.{holds, view_of}
 use Rattle.art_map.proofs.Written.{leaf_named, value_read, value_written}
 use Rattle.art_map.proofs.map.ByteMap.modify.Goals as goal
-
-pub search_unchecked-requires : goal.search_unchecked-requires
-search_unchecked-requires g c = (search rules, canonical_root c.in_ok-self.was c.self.invariant)
-
-pub unwrap-value-requires : goal.unwrap-value-requires
-unwrap-value-requires g c =
-    sym (is_some-map (λ lent. lent.now) c.value_mut.result) ∙ ap is_some c.value_mut.ensures.value ∙ is_some-map (λ node. node.value) _
-    ∙ c.in_ok-leaf.ensures.there
 
 pub invariant_of-self : goal.invariant_of-self
 invariant_of-self g c =

@@ -1,10 +1,7 @@
 use Rattle.std.proofs.Common.{subst}
 use Rattle.art_map.specs.MapRetain.{TakesRefused}
-use Rattle.art_map.proofs.Retained.{begins, ends, fewer, goes_on}
+use Rattle.art_map.proofs.Retained.{ends, fewer, goes_on}
 use Rattle.art_map.proofs.map.ByteMap.retain_by_ref.Goals as goal
-
-pub loop-pair-init : goal.loop-pair-init
-loop-pair-init g c = (begins g.F.FnMut g.K.AsBytes.bytes c.args.f.now c.args.self.now, c.requires)
 
 pub loop-pair-smaller : goal.loop-pair-smaller
 loop-pair-smaller g c =

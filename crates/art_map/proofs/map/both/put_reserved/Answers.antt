@@ -21,9 +21,9 @@ one_more-requires g c =
     let has = at_some root_is c.requires.holds in
     let more =
     pair_more g.K.AsBytes.bytes g.row.P (c.args.key, c.args.value) has
-    (rw c.unwrap-done.ensures at c.apply.ensures.replaced) c.in_default-existing_leaf.is in
+    (rw c.unwrap-done.ensures at c.apply.ensures.applied).replaced c.in_default-existing_leaf.is in
     let counted = more.1 in
-    let most = enough (rw c.unwrap-done.ensures at (c.apply.ensures.canonical _ has.layout has.by)).1 in
+    let most = enough ((rw c.unwrap-done.ensures at c.apply.ensures.applied).canonical _ has.layout has.by).1 in
     (search rules, omega arith)
 
 pub returns-in_default-existing_leaf : goal.returns-in_default-existing_leaf
@@ -31,9 +31,9 @@ returns-in_default-existing_leaf g c =
     let (root_is, point_in, covered, free) = rw c.in-Some.is at c.requires.reserved in
     let has = at_some root_is c.requires.holds in
     let more = pair_more g.K.AsBytes.bytes g.row.P (c.args.key, c.args.value) has
-    (rw c.unwrap-done.ensures at c.apply.ensures.replaced) c.in_default-existing_leaf.is in (
-      left_holds (of_key g.K.AsBytes.bytes) g.row.P has (rw c.unwrap-done.ensures at (c.apply.ensures.canonical _ has.layout has.by))
-          (rw c.unwrap-done.ensures at (c.apply.ensures.kept _ has.layout has.by)) (c.one_more.ensures ∙ sym more.1),
+    (rw c.unwrap-done.ensures at c.apply.ensures.applied).replaced c.in_default-existing_leaf.is in (
+      left_holds (of_key g.K.AsBytes.bytes) g.row.P has ((rw c.unwrap-done.ensures at c.apply.ensures.applied).canonical _ has.layout has.by)
+          ((rw c.unwrap-done.ensures at c.apply.ensures.applied).kept _ has.layout has.by) (c.one_more.ensures ∙ sym more.1),
       sym more.0,
       free,
     )
@@ -44,10 +44,10 @@ returns g c =
     let has = at_some root_is c.requires.holds in
     let many =
     same_many g.K.AsBytes.bytes g.row.P (c.args.key, c.args.value) has
-    (rw c.unwrap-done.ensures at c.apply.ensures.replaced) c.in-Some-existing_leaf.is in
+    (rw c.unwrap-done.ensures at c.apply.ensures.applied).replaced c.in-Some-existing_leaf.is in
     rw c.in-Some-existing_leaf.is (
-      left_holds (of_key g.K.AsBytes.bytes) g.row.P has (rw c.unwrap-done.ensures at (c.apply.ensures.canonical _ has.layout has.by))
-          (rw c.unwrap-done.ensures at (c.apply.ensures.kept _ has.layout has.by)) (sym many.1),
+      left_holds (of_key g.K.AsBytes.bytes) g.row.P has ((rw c.unwrap-done.ensures at c.apply.ensures.applied).canonical _ has.layout has.by)
+          ((rw c.unwrap-done.ensures at c.apply.ensures.applied).kept _ has.layout has.by) (sym many.1),
       sym many.0,
       free,
     )

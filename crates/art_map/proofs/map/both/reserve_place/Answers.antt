@@ -1,4 +1,4 @@
-use Rattle.std.proofs.Common.{◌≡◌, rules, refl, ap, sym, ◌∙◌, subst, false, true, Some}
+use Rattle.std.proofs.Common.{◌≡◌, refl, ap, sym, ◌∙◌, subst, false, true, Some}
 use Rattle.std.proofs.lemmas.Bool.{false≢true}
 use Rattle.art_model.specs.Canonical.{IsCanonicalTree}
 use Rattle.art_model.specs.Pairs.{is_conflict, of_key}
@@ -7,13 +7,10 @@ use Rattle.art_writing.proofs.KeysFound.{not_false}
 use Rattle.art_writing.proofs.Standing.{tree_stays}
 use Rattle.art_writing.proofs.Unstored.{refused_new}
 use Rattle.art_map.specs.MapPairs.{pairs_at}
-use Rattle.art_map.proofs.Puts.{at_some, canonical_root, stays}
+use Rattle.art_map.proofs.Puts.{at_some, stays}
 use Rattle.art_map.proofs.Reserving.{placed_same, unreserved}
 use Rattle.art_map.proofs.Views.{view_of}
 use Rattle.art_map.proofs.map.both.reserve_place.Goals as goal
-
-pub search_for_insert_point-requires : goal.search_for_insert_point-requires
-search_for_insert_point-requires g c = (search rules, canonical_root c.in-Some.is c.requires.1)
 
 pub returns-in-Err-search_for_insert_point-clause-refused : goal.returns-in-Err-search_for_insert_point-clause-refused
 returns-in-Err-search_for_insert_point-clause-refused g c =

@@ -1,15 +1,9 @@
-use Rattle.art_map.proofs.Items.{last_counts, last_ended, last_over}
+use Rattle.art_map.proofs.Items.{last_ended}
 use Rattle.art_map.proofs.Owned.{last_out, last_out_walk}
 use Rattle.art_map.proofs.map.owned.take_next_back.Goals as goal
 
 pub returns-in_err-name-clause-pair : goal.returns-in_err-name-clause-pair
 returns-in_err-name-clause-pair g c = rw c.from_residual.ensures (last_ended c.requires c.in_err-name.ensures.rest c.in_err-name.ensures.leaf)
-
-pub returns-in_err-name-clause-walk : goal.returns-in_err-name-clause-walk
-returns-in_err-name-clause-walk g c = last_over c.requires c.in_err-name.ensures.rest c.in_err-name.ensures.leaf
-
-pub overflow_sub-len : goal.overflow_sub-len
-overflow_sub-len g c = last_counts c.requires c.in_ok-name.ensures.rest c.in_ok-name.ensures.leaf
 
 pub returns-clause-walk : goal.returns-clause-walk
 returns-clause-walk g c =

@@ -22,7 +22,7 @@ one_more-requires g c =
     let none = point_new bytes g.row.P root_is point_in off in
     let more = one_more bytes (c.args.key, c.args.value) pairs has.by.is_map (none_back bytes (c.args.key, c.args.value) pairs none) in
     let counted = has.len_is in
-    let most = enough (c.in-Ok-apply.ensures.canonical pairs has.layout has.by).1 in
+    let most = enough (c.in-Ok-apply.ensures.applied.canonical pairs has.layout has.by).1 in
     (search rules, omega arith)
 
 pub returns-in-Leaf : goal.returns-in-Leaf
@@ -66,11 +66,11 @@ returns-in-Ok-apply g c =
     let has = at_some root_is c.requires.holds in
     let none = point_new bytes g.row.P root_is point_in off in
     let more = one_more bytes new pairs has.by.is_map (none_back bytes new pairs none) in
-    let after = c.in-Ok-apply.ensures.canonical pairs has.layout has.by in
+    let after = c.in-Ok-apply.ensures.applied.canonical pairs has.layout has.by in
     rw (sym (new_is_put bytes new pairs none)) (
-      left_holds (of_key bytes) g.row.P has after (c.in-Ok-apply.ensures.kept pairs has.layout has.by)
+      left_holds (of_key bytes) g.row.P has after (c.in-Ok-apply.ensures.applied.kept pairs has.layout has.by)
           (c.one_more.ensures ∙ ap (λ n. n + 1) has.len_is ∙ sym more),
-      leaf_of_result bytes g.row.P new _ c.in-Ok-apply.done after c.in-Ok-apply.ensures.leaf,
+      leaf_of_result bytes g.row.P new _ c.in-Ok-apply.done after c.in-Ok-apply.ensures.applied.leaf,
       free,
     )
 
@@ -79,8 +79,8 @@ returns-in-Err-apply g c =
     let bytes = g.K.AsBytes.bytes in
     let (root_is, point_in, off, free) = rw c.in-Point.is at c.requires.position in
     rw c.without_memory-in-Err-apply.ensures (
-      stays (of_key bytes) g.row.P c.args.store.now c.apply.new.store c.in-Err-apply.ensures.leaves c.in-Err-apply.ensures.inners c.requires.holds,
-      (c.in-Err-apply.ensures.handed_back.0, c.in-Err-apply.ensures.handed_back.1, point_new bytes g.row.P root_is point_in off),
+      stays (of_key bytes) g.row.P c.args.store.now c.apply.new.store c.in-Err-apply.ensures.memory.leaves c.in-Err-apply.ensures.memory.inners c.requires.holds,
+      (c.in-Err-apply.ensures.memory.handed_back.0, c.in-Err-apply.ensures.memory.handed_back.1, point_new bytes g.row.P root_is point_in off),
     )
 
 pub returns-in-Refused-Memory : goal.returns-in-Refused-Memory

@@ -1,13 +1,10 @@
-use Rattle.std.proofs.Common.{Some, refl, rules}
+use Rattle.std.proofs.Common.{Some, refl}
 use Rattle.art_model.specs.Pairs.{of_key, remove_reply, with_key}
 use Rattle.art_model.proofs.pairs.Puts.{first_none}
 use Rattle.art_writing.proofs.KeysFound.{point_none, point_some, removed_key}
 use Rattle.art_map.specs.MapPairs.{pairs_at}
-use Rattle.art_map.proofs.Puts.{at_some, canonical_root}
+use Rattle.art_map.proofs.Puts.{at_some}
 use Rattle.art_map.proofs.map.position.leaf_by.Goals as goal
-
-pub search_for_delete_point_by-requires : goal.search_for_delete_point_by-requires
-search_for_delete_point_by-requires g c = (search rules, canonical_root refl c.requires.1)
 
 pub returns-in_err-point : goal.returns-in_err-point
 returns-in_err-point g c =

@@ -1,9 +1,9 @@
-use Rattle.std.proofs.Common.{rules, ap, sym, ◌∙◌, subst, length}
+use Rattle.std.proofs.Common.{ap, sym, ◌∙◌, subst, length}
 use Rattle.art_model.specs.Pairs.{of_key}
 use Rattle.art_model.specs.Parts.{below, not_below}
 use Rattle.art_map.specs.MapPairs.{HoldsPairs}
 use Rattle.art_map.proofs.PartsOut.{none_begins, none_held, others_hold, removed_few, removed_is}
-use Rattle.art_map.proofs.Puts.{at_some, canonical_root}
+use Rattle.art_map.proofs.Puts.{at_some}
 use Rattle.art_map.proofs.map.remove.take_all_below.Goals as goal
 
 pub returns-in_default : goal.returns-in_default
@@ -14,9 +14,6 @@ returns-in_default g c =
           (none ∙ ap (not_below B (g.B.KeyBytes.key c.args.prefix)) (sym none)) c.requires,
       ap (λ xs. length (below B (g.B.KeyBytes.key c.args.prefix) xs)) (sym none),
     )
-
-pub search_for_prefix_delete_point-requires : goal.search_for_prefix_delete_point-requires
-search_for_prefix_delete_point-requires g c = (search rules, canonical_root c.in-Some.is c.requires)
 
 pub returns-in_default-search_for_prefix_delete_point : goal.returns-in_default-search_for_prefix_delete_point
 returns-in_default-search_for_prefix_delete_point g c =

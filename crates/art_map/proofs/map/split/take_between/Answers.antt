@@ -13,9 +13,6 @@ use Rattle.art_map.proofs.Puts.{at_some, canonical_root}
 use Rattle.art_map.proofs.Ranges.{first_pair, no_first_pair}
 use Rattle.art_map.proofs.map.split.take_between.Goals as goal
 
-pub range_unchecked-requires : goal.range_unchecked-requires
-range_unchecked-requires g c = (search rules, canonical_root c.in-Some.is c.requires)
-
 pub next-requires : goal.next-requires
 next-requires g c =
     let has = at_some c.in-Some.is c.requires in
@@ -29,9 +26,6 @@ returns-in_default-next g c =
     let has = at_some c.in-Some.is c.requires in
     let none = no_first_pair has.by (λ x. test (g.K.AsBytes.bytes x.0)) (c.in_default-next.ensures.leaf _ (c.range_unchecked.ensures _ has.layout has.by)) in
     subst (λ o. HasTaken g.K.AsBytes.bytes g.row.P o (without B o pairs) None c.args.store.now c.args.root.now c.args.len.now) none (c.requires, refl)
-
-pub pair_at-requires : goal.pair_at-requires
-pair_at-requires g c = (search rules, c.in-Some-next.ensures.there)
 
 pub search_for_delete_point_by_lengths-requires : goal.search_for_delete_point_by_lengths-requires
 search_for_delete_point_by_lengths-requires g c = (search rules, canonical_root c.in-Some.is c.requires)

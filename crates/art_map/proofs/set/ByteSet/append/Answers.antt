@@ -1,18 +1,10 @@
-use Rattle.std.proofs.Common.{refl, ap, sym, subst, ◌∙◌, arith, [], ◌∷◌, ◌++◌, append_assoc, append-nil, length}
+use Rattle.std.proofs.Common.{ap, sym, subst, ◌∙◌, [], ◌∷◌, ◌++◌, append_assoc, append-nil}
 use Rattle.art_model.specs.Pairs.{without_first}
 use Rattle.art_model.proofs.pairs.Puts.{first_none}
 use Rattle.art_map.specs.SetKeys.{IsKeyRefusal, add_all, add_key}
 use Rattle.art_map.proofs.Extended.{add_last}
 use Rattle.art_map.proofs.Moved.{first_and_others}
 use Rattle.art_map.proofs.set.ByteSet.append.Goals as goal
-
-pub loop-key-init : goal.loop-key-init
-loop-key-init g c = ([], refl, refl)
-
-pub loop-key-smaller : goal.loop-key-smaller
-loop-key-smaller g c =
-    let less = ap length (first_and_others c.loop-key.other c.in-Some.key (sym c.in-Some.is ∙ c.pop_first.ensures.removed)) in
-    rw c.pop_first.ensures.keys (omega arith)
 
 pub loop-key-preserved : goal.loop-key-preserved
 loop-key-preserved g c =

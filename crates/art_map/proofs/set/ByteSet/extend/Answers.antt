@@ -1,17 +1,8 @@
-use Rattle.std.proofs.Common.{refl, ap, sym, subst, ◌∙◌}
+use Rattle.std.proofs.Common.{ap, sym, subst, ◌∙◌}
 use Rattle.std.proofs.iter.Next as it
 use Rattle.art_map.specs.SetKeys.{IsKeyRefusal, add_key}
 use Rattle.art_map.proofs.Extended.{add_last}
 use Rattle.art_map.proofs.set.ByteSet.extend.Goals as goal
-
-pub loop-key-init : goal.loop-key-init
-loop-key-init g c = it.begun c.requires.can c.requires.ends refl
-
-pub next-requires : goal.next-requires
-next-requires g c = c.loop-key.invariant.callable
-
-pub loop-key-smaller : goal.loop-key-smaller
-loop-key-smaller g c = it.less c.loop-key.invariant c.in-Some.key c.in-Some.is c.next.ensures.goes
 
 pub loop-key-preserved : goal.loop-key-preserved
 loop-key-preserved g c =
@@ -25,8 +16,3 @@ returns-in-Err g c =
     let inv = c.loop-key.invariant in
     let refused = subst (λ keys. IsKeyRefusal g.K.AsBytes.bytes c.in-Some.key keys c.in-Err.error) (sym c.in-Err.ensures.kept) c.in-Err.ensures.refused in
     record { all = tt; refused = (inv.seen, c.in-Some.key, it.Gave-then inv c.in-Some.is c.next.ensures.steps, c.in-Err.ensures.kept ∙ inv.holds, refused) }
-
-pub returns : goal.returns
-returns g c =
-    let inv = c.loop-key.invariant in
-    record { all = (inv.seen, it.Gave-then inv c.in_default.is c.next.ensures.steps, inv.holds); refused = tt }

@@ -12,4 +12,13 @@ returns-clause-rooms g c =
     let node16 = ap (count_by is_some) c.new-2.ensures.empty in
     let node48 = ap (count_by is_some) c.new-3.ensures.empty in
     let node256 = ap (count_by is_some) c.new-4.ensures.empty in
-    record { node4 = omega arith; node16 = omega arith; node48 = omega arith; node256 = omega arith }
+    record {
+      node4 = omega arith;
+      node16 = omega arith;
+      node48 = omega arith;
+      node256 = omega arith;
+      few4 = omega (arith, c.new.ensures.capacity);
+      few16 = omega (arith, c.new-2.ensures.capacity);
+      few48 = omega (arith, c.new-3.ensures.capacity);
+      few256 = omega (arith, c.new-4.ensures.capacity);
+    }

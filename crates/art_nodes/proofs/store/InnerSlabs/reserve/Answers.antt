@@ -30,6 +30,10 @@ returns-in-Node16-clause-room g c =
       node16 = omega (arith, c.in_ok-make_room_beside-2.ensures.room);
       node48 = omega arith;
       node256 = omega arith;
+      few4 = c.make_room_beside.ensures.few;
+      few16 = c.make_room_beside-2.ensures.few;
+      few48 = c.requires.room.few48;
+      few256 = c.requires.room.few256;
     })
 
 pub returns-in_err-make_room_beside-3-clause-nodes : goal.returns-in_err-make_room_beside-3-clause-nodes
@@ -54,6 +58,10 @@ returns-in-Node48-clause-room g c =
       node16 = omega (arith, c.in_ok-make_room_beside-2.ensures.room);
       node48 = omega (arith, c.in_ok-make_room_beside-3.ensures.room);
       node256 = omega arith;
+      few4 = c.make_room_beside.ensures.few;
+      few16 = c.make_room_beside-2.ensures.few;
+      few48 = c.make_room_beside-3.ensures.few;
+      few256 = c.requires.room.few256;
     })
 
 pub returns-clause-nodes : goal.returns-clause-nodes

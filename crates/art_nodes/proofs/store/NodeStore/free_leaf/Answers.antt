@@ -23,4 +23,10 @@ returns-clause-leaves g c =
     ∙ ap (λ nodes. map.remove nodes.leaves c.args.leaf) c.self.view_is
 
 pub invariant_of-self : goal.invariant_of-self
-invariant_of-self g c = (omega (arith, c.remove.ensures.len, c.self.invariant.0), c.self.invariant.1)
+invariant_of-self g c = (
+  record {
+    room = omega (arith, c.remove.ensures.len, c.self.invariant.0.room);
+    few = λ promised. omega (arith, c.remove.ensures.capacity, c.self.invariant.0.few promised);
+  },
+  c.self.invariant.1,
+)

@@ -9,7 +9,7 @@ pub returns-clause-placed : goal.returns-clause-placed
 returns-clause-placed g c =
     let same : c.if-self-gt0.self-inside.leaves.slots ≡ c.self.inside.leaves.slots = elim c.if-self-gt0.branch [
       | then-self-gt0 w ↦ ap (λ s. s.leaves.slots) w.self-inside-is
-      | else-self-gt0+in_default w ↦ ap (λ s. s.leaves.slots) w.self-inside-is ∙ w.make_room.ensures.wider.slots
+      | else-self-gt0+in_default w ↦ ap (λ s. s.leaves.slots) w.self-inside-is ∙ w.make_leaf_room.ensures.wider.slots
     ] in
     leaves_placed c.if-self-gt0.self-inside.leaves c.insert_reserved-slot.new.self c.insert_reserved-slot.result c.args.leaf
     c.insert_reserved-slot.ensures.updates

@@ -8,6 +8,7 @@ pub loop-next-init : goal.loop-next-init
 loop-next-init g c = record {
   moving = λ row is first. none_moved c.args.from.now c.args.to.now c.args.table.now row (Some c.args.first) is first c.requires.empty;
   room = c.requires.room;
+  few = c.requires.few;
   places = c.requires.places;
 }
 
@@ -33,5 +34,6 @@ loop-next-preserved g c =
           c.remove-node.ensures.value
           c.remove-node.ensures.updates put.ensures.was_vacant put.ensures.updates fits moving;
       room = omega (arith, l.invariant.room, c.remove-node.ensures.len, put.ensures.len, put.ensures.capacity);
+      few = omega (arith, l.invariant.few, put.ensures.capacity);
       places = omega (arith, l.invariant.places, as_long);
     }

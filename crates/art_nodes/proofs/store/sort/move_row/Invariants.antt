@@ -1,4 +1,4 @@
-use Rattle.std.proofs.Common.{◌≡◌, ◌≤◌, List, length, Some, None}
+use Rattle.std.proofs.Common.{◌≡◌, ◌≤◌, ◌^◌, List, length, Some, None}
 use Rattle.slab.specs.Slab.{HasRoomFor, slab_len}
 use Rattle.art_nodes.specs.Renamed.{IsRow}
 use Rattle.art_parts.specs.Lists.{first_of}
@@ -12,6 +12,7 @@ invariant-loop-next g l = record {
   moving : (row : List LeafPtr) → IsRow (leaves_of l.fn.from.slots) None row → first_of row ≡ Some l.fn.first →
       AreMoving l.fn.from l.from l.to l.table row l.next;
   room : HasRoomFor l.to (slab_len l.from);
+  few : l.to.capacity ≤ 2 ^ 32;
   places : length l.fn.from.slots ≤ length l.table;
 }
 

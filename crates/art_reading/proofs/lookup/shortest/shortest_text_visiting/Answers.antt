@@ -1,51 +1,40 @@
-use Rattle.std.proofs.Common.{◌≤◌, length, None, Some, ap, rules, subst, sym, ◌∙◌}
+use Rattle.std.proofs.Common.{◌≤◌, length, ap, rules, subst, sym, ◌∙◌}
 use Rattle.art_model.specs.Keys.{IsFront}
 use Rattle.art_model.specs.Pairs.{of_key, without_last}
 use Rattle.art_model.specs.Texts.{text_of}
+use Rattle.art_reading.proofs.Found.{has_found_first}
 use Rattle.art_reading.proofs.LongestTexts.{own_pair}
 use Rattle.art_reading.proofs.Parts.{leaf_is_there}
-use Rattle.art_reading.proofs.ShortTexts.{first_found, first_missed, first_none, first_pair}
-use Rattle.art_reading.specs.ShortTexts.{texts_from}
+use Rattle.art_reading.proofs.ShortTexts.{first_found, first_missed, first_none}
 use Rattle.art_reading.proofs.lookup.shortest.shortest_text_visiting.Goals as goal
 
-pub returns-in_err-leaf-clause-leaf : goal.returns-in_err-leaf-clause-leaf
-returns-in_err-leaf-clause-leaf g c pairs layout by =
+pub returns-in_err-leaf-clause-found : goal.returns-in_err-leaf-clause-found
+returns-in_err-leaf-clause-found g c =
+    has_found_first (of_key g.K.AsBytes.bytes) g.row.P c.requires.root (λ pairs layout by.
     first_none by c.args.end (c.requires.ended pairs layout by)
-    c.args.query.now c.args.at_least c.from_residual.result c.from_residual.ensures (c.in_err-leaf.ensures.ends pairs layout by)
-
-pub returns-in_err-leaf-clause-pair : goal.returns-in_err-leaf-clause-pair
-returns-in_err-leaf-clause-pair g c pairs layout by =
-    first_pair by (texts_from (of_key g.K.AsBytes.bytes) c.args.query.now c.args.at_least pairs) c.from_residual.result
-    (returns-in_err-leaf-clause-leaf g c pairs layout by)
+    c.args.query.now c.args.at_least c.from_residual.result c.from_residual.ensures (c.in_err-leaf.ensures.ends pairs layout by))
 
 pub leaf_at-node-requires : goal.leaf_at-node-requires
 leaf_at-node-requires g c =
     let (pairs, layout, by) = c.requires.root in
     (search rules, leaf_is_there c.args.store.now by.stands.0.holds (c.in_ok-leaf.ensures.ends pairs layout by).has)
 
-pub returns-then-is_sought-clause-leaf : goal.returns-then-is_sought-clause-leaf
-returns-then-is_sought-clause-leaf g c pairs layout by =
+pub returns-then-is_sought-clause-found : goal.returns-then-is_sought-clause-found
+returns-then-is_sought-clause-found g c =
+    has_found_first (of_key g.K.AsBytes.bytes) g.row.P c.requires.root (λ pairs layout by.
     let before = c.in_ok-leaf.ensures.ends pairs layout by in
     let own = c.text_of.ensures ∙ ap without_last c.as_bytes.ensures ∙ ap (text_of (of_key g.K.AsBytes.bytes)) (own_pair by before.has (sym c.leaf_at-node.ensures)) in
     let sought = c.is_sought.ensures.0 c.if-is_sought.true in
     first_found by c.args.end (c.requires.ended pairs layout by) c.args.query.now c.args.at_least before
-    (subst (λ z. IsFront z c.args.query.now × (c.args.at_least ≤ length z)) own sought)
+    (subst (λ z. IsFront z c.args.query.now × (c.args.at_least ≤ length z)) own sought))
 
-pub returns-then-is_sought-clause-pair : goal.returns-then-is_sought-clause-pair
-returns-then-is_sought-clause-pair g c pairs layout by =
-    first_pair by (texts_from (of_key g.K.AsBytes.bytes) c.args.query.now c.args.at_least pairs) (Some c.in_ok-leaf.leaf)
-    (returns-then-is_sought-clause-leaf g c pairs layout by)
-
-pub returns-clause-leaf : goal.returns-clause-leaf
-returns-clause-leaf g c pairs layout by =
+pub returns-clause-found : goal.returns-clause-found
+returns-clause-found g c =
+    has_found_first (of_key g.K.AsBytes.bytes) g.row.P c.requires.root (λ pairs layout by.
     let before = c.in_ok-leaf.ensures.ends pairs layout by in
     let own = c.text_of.ensures ∙ ap without_last c.as_bytes.ensures ∙ ap (text_of (of_key g.K.AsBytes.bytes)) (own_pair by before.has (sym c.leaf_at-node.ensures)) in
     first_missed by c.args.end (c.requires.ended pairs layout by) c.args.query.now c.args.at_least before
     (λ sought.
     let yes = c.is_sought.ensures.1 (subst (λ z. IsFront z c.args.query.now × (c.args.at_least ≤ length z)) (sym own) sought) in
     let no = c.if-is_sought.false in
-    absurd cc)
-
-pub returns-clause-pair : goal.returns-clause-pair
-returns-clause-pair g c pairs layout by =
-    first_pair by (texts_from (of_key g.K.AsBytes.bytes) c.args.query.now c.args.at_least pairs) None (returns-clause-leaf g c pairs layout by)
+    absurd cc))

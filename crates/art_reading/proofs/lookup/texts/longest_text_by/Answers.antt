@@ -1,8 +1,9 @@
 use Rattle.std.proofs.Common.{rules, length-take, ap, subst, sym, ◌∙◌, arith}
 use Rattle.art_model.specs.Lookups.{FindsLast}
-use Rattle.art_model.specs.Pairs.{last_of, of_key}
+use Rattle.art_model.specs.Pairs.{of_key}
 use Rattle.art_reading.specs.Matching.{shared_len}
 use Rattle.art_reading.proofs.EndNodes.{start}
+use Rattle.art_reading.proofs.Found.{has_found_last}
 use Rattle.art_reading.proofs.Guides.{guide_there}
 use Rattle.art_reading.proofs.GuideTexts.{same_texts}
 use Rattle.art_reading.proofs.LongestTexts.{own_pair, shared_within}
@@ -24,17 +25,11 @@ slice_bounds-longest_text_unchecked-end g c =
     let shared = c.shared_after-shared.ensures.shared in
     omega arith
 
-pub returns-clause-leaf : goal.returns-clause-leaf
-returns-clause-leaf g c pairs layout by =
+pub returns : goal.returns
+returns g c =
+    has_found_last (of_key g.K.AsBytes.bytes) g.row.P c.requires.root (λ pairs layout by.
     let guide = c.find_guide.ensures.guide pairs layout by in
     let own = c.as_bytes-key.ensures ∙ ap (of_key g.K.AsBytes.bytes) (own_pair by guide.has (sym c.leaf_at.ensures)) in
     let shared = c.shared_after-shared.ensures.shared ∙ ap (shared_len c.as_bytes-key.result.now) c.find_guide.ensures.same in
     subst (λ found. FindsLast layout found c.longest_text_unchecked.result) (same_texts by guide own shared)
-    (c.longest_text_unchecked.ensures.leaf pairs layout by)
-
-pub returns-clause-pair : goal.returns-clause-pair
-returns-clause-pair g c pairs layout by =
-    let guide = c.find_guide.ensures.guide pairs layout by in
-    let own = c.as_bytes-key.ensures ∙ ap (of_key g.K.AsBytes.bytes) (own_pair by guide.has (sym c.leaf_at.ensures)) in
-    let shared = c.shared_after-shared.ensures.shared ∙ ap (shared_len c.as_bytes-key.result.now) c.find_guide.ensures.same in
-    c.longest_text_unchecked.ensures.pair pairs layout by ∙ ap last_of (same_texts by guide own shared)
+    (c.longest_text_unchecked.ensures.leaf pairs layout by))

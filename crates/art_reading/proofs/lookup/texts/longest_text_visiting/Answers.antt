@@ -1,33 +1,23 @@
-use Rattle.std.proofs.Common.{None, length, length-take, Some, ap, arith, refl, rules, sym, ◌∙◌}
+use Rattle.std.proofs.Common.{None, length, length-take, ap, arith, refl, rules, sym, ◌∙◌}
 use Rattle.art_model.specs.Keys.{common_front}
 use Rattle.art_model.specs.Pairs.{of_key, without_last}
+use Rattle.art_reading.proofs.Found.{has_found_last}
 use Rattle.art_reading.proofs.Parts.{leaf_is_there}
-use Rattle.art_model.specs.Texts.{texts_in_front, text_of}
-use Rattle.art_reading.proofs.LongestTexts.{ends_at, ends_walk, found_again, found_none, found_whole, last_found, last_pair, last_there, own_pair, shared_short, shared_within}
+use Rattle.art_model.specs.Texts.{text_of}
+use Rattle.art_reading.proofs.LongestTexts.{ends_at, ends_walk, found_again, found_none, found_whole, last_found, own_pair, shared_short, shared_within}
 use Rattle.art_reading.proofs.lookup.texts.longest_text_visiting.Goals as goal
 
-pub returns-in-Whole-clause-leaf : goal.returns-in-Whole-clause-leaf
-returns-in-Whole-clause-leaf g c pairs layout by =
+pub returns-in-Whole-clause-found : goal.returns-in-Whole-clause-found
+returns-in-Whole-clause-found g c =
+    has_found_last (of_key g.K.AsBytes.bytes) g.row.P c.requires.root (λ pairs layout by.
     let (covering, on) = c.in-Whole.ensures.ends pairs layout by in
-    last_found by c.args.end (c.requires.ended pairs layout by) c.args.query.now covering on
+    last_found by c.args.end (c.requires.ended pairs layout by) c.args.query.now covering on)
 
-pub returns-in-Whole-clause-there : goal.returns-in-Whole-clause-there
-returns-in-Whole-clause-there g c =
-    let (pairs, layout, by) = c.requires.root in
-    last_there by (texts_in_front (of_key g.K.AsBytes.bytes) c.args.query.now pairs) (Some c.in-Whole.leaf) (returns-in-Whole-clause-leaf g c pairs layout by)
-
-pub returns-in-Whole-clause-pair : goal.returns-in-Whole-clause-pair
-returns-in-Whole-clause-pair g c pairs layout by =
-    last_pair by (texts_in_front (of_key g.K.AsBytes.bytes) c.args.query.now pairs) (Some c.in-Whole.leaf) (returns-in-Whole-clause-leaf g c pairs layout by)
-
-pub returns-in-Passed-None-clause-leaf : goal.returns-in-Passed-None-clause-leaf
-returns-in-Passed-None-clause-leaf g c pairs layout by =
+pub returns-in-Passed-None-clause-found : goal.returns-in-Passed-None-clause-found
+returns-in-Passed-None-clause-found g c =
+    has_found_last (of_key g.K.AsBytes.bytes) g.row.P c.requires.root (λ pairs layout by.
     found_none by c.args.end (c.requires.ended pairs layout by) c.args.query.now None refl
-    (ends_at by _ c.in-Passed-None.field-0-is (c.in-Passed-None.ensures.ends pairs layout by))
-
-pub returns-in-Passed-None-clause-pair : goal.returns-in-Passed-None-clause-pair
-returns-in-Passed-None-clause-pair g c pairs layout by =
-    last_pair by (texts_in_front (of_key g.K.AsBytes.bytes) c.args.query.now pairs) None (returns-in-Passed-None-clause-leaf g c pairs layout by)
+    (ends_at by _ c.in-Passed-None.field-0-is (c.in-Passed-None.ensures.ends pairs layout by)))
 
 pub leaf_at-node-requires : goal.leaf_at-node-requires
 leaf_at-node-requires g c =
@@ -35,19 +25,15 @@ leaf_at-node-requires g c =
     let covering = ends_at by _ c.in-Passed-Some.field-0-is (c.in-Passed-Some.ensures.ends pairs layout by) in
     (search rules, leaf_is_there c.args.store.now by.stands.0.holds covering.has)
 
-pub returns-then-shared-text-clause-leaf : goal.returns-then-shared-text-clause-leaf
-returns-then-shared-text-clause-leaf g c pairs layout by =
+pub returns-then-shared-text-clause-found : goal.returns-then-shared-text-clause-found
+returns-then-shared-text-clause-found g c =
+    has_found_last (of_key g.K.AsBytes.bytes) g.row.P c.requires.root (λ pairs layout by.
     let covering = ends_at by _ c.in-Passed-Some.field-0-is (c.in-Passed-Some.ensures.ends pairs layout by) in
     let own =
     c.text_of-text.ensures ∙ ap without_last c.as_bytes.ensures
     ∙ ap (text_of (of_key g.K.AsBytes.bytes)) (own_pair by covering.has (sym c.leaf_at-node.ensures)) in
     found_whole by c.args.end (c.requires.ended pairs layout by) c.args.query.now covering
-    (ap (λ t. length (common_front t c.args.query.now)) (sym own) ∙ sym c.shared_len-shared.ensures ∙ c.if-shared-text.true ∙ ap length own)
-
-pub returns-then-shared-text-clause-pair : goal.returns-then-shared-text-clause-pair
-returns-then-shared-text-clause-pair g c pairs layout by =
-    last_pair by (texts_in_front (of_key g.K.AsBytes.bytes) c.args.query.now pairs) (Some c.in-Passed-Some.leaf)
-    (returns-then-shared-text-clause-leaf g c pairs layout by)
+    (ap (λ t. length (common_front t c.args.query.now)) (sym own) ∙ sym c.shared_len-shared.ensures ∙ c.if-shared-text.true ∙ ap length own))
 
 pub slice_bounds-walk_to_text-end : goal.slice_bounds-walk_to_text-end
 slice_bounds-walk_to_text-end g c =
@@ -56,24 +42,16 @@ slice_bounds-walk_to_text-end g c =
     let shared = c.shared_len-shared.ensures in
     omega arith
 
-pub returns-clause-leaf : goal.returns-clause-leaf
-returns-clause-leaf g c pairs layout by =
+pub returns-clause-found : goal.returns-clause-found
+returns-clause-found g c =
+    has_found_last (of_key g.K.AsBytes.bytes) g.row.P c.requires.root (λ pairs layout by.
     let covering = ends_at by _ c.in-Passed-Some.field-0-is (c.in-Passed-Some.ensures.ends pairs layout by) in
     let own =
     c.text_of-text.ensures ∙ ap without_last c.as_bytes.ensures
     ∙ ap (text_of (of_key g.K.AsBytes.bytes)) (own_pair by covering.has (sym c.leaf_at-node.ensures)) in
     found_again by c.args.end (c.requires.ended pairs layout by) c.args.query.now covering c.shared_len-shared.result
     (c.shared_len-shared.ensures ∙ ap (λ t. length (common_front t c.args.query.now)) own) c.leaf.result
-    (ends_walk by _ c.walk_to_text-2.result c.leaf.ensures (c.walk_to_text-2.ensures.ends pairs layout by))
-
-pub returns-clause-there : goal.returns-clause-there
-returns-clause-there g c =
-    let (pairs, layout, by) = c.requires.root in
-    last_there by (texts_in_front (of_key g.K.AsBytes.bytes) c.args.query.now pairs) c.leaf.result (returns-clause-leaf g c pairs layout by)
-
-pub returns-clause-pair : goal.returns-clause-pair
-returns-clause-pair g c pairs layout by =
-    last_pair by (texts_in_front (of_key g.K.AsBytes.bytes) c.args.query.now pairs) c.leaf.result (returns-clause-leaf g c pairs layout by)
+    (ends_walk by _ c.walk_to_text-2.result c.leaf.ensures (c.walk_to_text-2.ensures.ends pairs layout by)))
 
 pub returns-clause-visits : goal.returns-clause-visits
 returns-clause-visits g c =

@@ -6,16 +6,16 @@ use Rattle.art_parts.specs.declared.names.NodeType.TheVariants.{Node4}
 use Rattle.art_model.specs.Writes.{IsThere}
 use Rattle.art_model.specs.Promises.{is_covered}
 use Rattle.art_writing.specs.Inserted.{placed_for}
-use Rattle.art_writing.proofs.Applied.{applied, refused}
+use Rattle.art_writing.proofs.Applied.{applied, granted, handed_back}
 use Rattle.art_writing.proofs.Branches.{previous_is_there, next_is_there, read_for}
 use Rattle.art_writing.proofs.Reserved.{after_reserve, not_granted, was_refused}
 use Rattle.art_writing.proofs.Standing.{tree_stays, answers_to}
 use Rattle.art_writing.proofs.Splits.{parent_stays, prefix_split}
 use Rattle.art_writing.proofs.insert.InsertPoint.split_prefix.Goals as goal
 
-pub returns-then-is_err : goal.returns-then-is_err
-returns-then-is_err g c =
-    refused g.K.AsBytes.bytes (λ covered. not_granted c.reserve.result (sym c.is_err.ensures.value ∙ c.if-is_err.true) c.reserve.ensures.succeeds
+pub returns-then-is_err-clause-memory : goal.returns-then-is_err-clause-memory
+returns-then-is_err-clause-memory g c =
+    handed_back (λ covered. not_granted c.reserve.result (sym c.is_err.ensures.value ∙ c.if-is_err.true) c.reserve.ensures.succeeds
     (subst (λ kind. IsTrue (is_covered (placed_for c.args.store.now kind) c.args.store.now.promise)) c.requires.point covered))
     c.reserve.ensures.leaves c.reserve.ensures.inners (was_refused c.reserve.result (sym c.is_err.ensures.value ∙ c.if-is_err.true) c.reserve.ensures.refused)
 
@@ -43,8 +43,8 @@ place_branch-requires g c =
       ),
     )
 
-pub returns : goal.returns
-returns g c =
+pub returns-clause-applied : goal.returns-clause-applied
+returns-clause-applied g c =
     applied g.K.AsBytes.bytes c.requires.answers (λ pairs layout by.
     let same : SameNodes c.args.store.now c.reserve.new.self = (c.reserve.ensures.leaves, c.reserve.ensures.inners) in
     let at = answers_to c.requires.answers by in
@@ -53,6 +53,10 @@ returns g c =
     (c.set_header.ensures.inners ∙ ap (λ m. change m c.args.inner_node_ptr (with_header c.trimmed_header-header.result)) c.reserve.ensures.inners)
     (c.trimmed_header-header.ensures.header (g.K.AsBytes.bytes c.args.key) pairs layout by at)
     c.branch_at_prefix-branch.ensures.len c.place_branch.ensures.placed)
+
+pub returns-clause-memory : goal.returns-clause-memory
+returns-clause-memory g c =
+    granted
     (c.place_branch.ensures.promise
     ∙ ap (λ promise. take_inner Node4 (take_leaf promise)) c.set_header.ensures.promise
     ∙ after_reserve c.args.store.now c.reserve.new.self (Some Node4) c.reserve.result

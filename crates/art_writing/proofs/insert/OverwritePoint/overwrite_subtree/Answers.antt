@@ -3,14 +3,14 @@ use Rattle.art_model.specs.Kept.{SameNodes}
 use Rattle.art_parts.specs.declared.leaf.LeafNode.{LeafNode}
 use Rattle.art_model.specs.Promises.{is_covered}
 use Rattle.art_reading.specs.PathSteps.{root_with}
-use Rattle.art_writing.proofs.Applied.{overwritten, refused_overwrite}
+use Rattle.art_writing.proofs.Applied.{granted, handed_back, overwritten}
 use Rattle.art_writing.proofs.Reserved.{after_reserve, leaf_promised, not_granted, not_refused, was_refused}
 use Rattle.art_writing.proofs.Overwrites.{end_parent, end_still, ends_there, placed_for_inner, put_at, read_next, read_previous, subtree_at, subtree_overwritten, subtree_still}
 use Rattle.art_writing.proofs.insert.OverwritePoint.overwrite_subtree.Goals as goal
 
-pub returns-then-is_err : goal.returns-then-is_err
-returns-then-is_err g c =
-    refused_overwrite g.K.AsBytes.bytes (λ covered. not_granted c.reserve.result (sym c.is_err.ensures.value ∙ c.if-is_err.true) c.reserve.ensures.succeeds
+pub returns-then-is_err-clause-memory : goal.returns-then-is_err-clause-memory
+returns-then-is_err-clause-memory g c =
+    handed_back (λ covered. not_granted c.reserve.result (sym c.is_err.ensures.value ∙ c.if-is_err.true) c.reserve.ensures.succeeds
     (subst (λ placed. IsTrue (is_covered placed c.args.store.now.promise)) (placed_for_inner _ c.requires.inner) covered))
     c.reserve.ensures.leaves c.reserve.ensures.inners (was_refused c.reserve.result (sym c.is_err.ensures.value ∙ c.if-is_err.true) c.reserve.ensures.refused)
 
@@ -42,8 +42,8 @@ deallocate_tree-leafs_removed-requires g c =
           c.place_between-leaf_node_ptr.ensures.inners c.to_opaque.ensures c.replace_at-new_root.ensures.leaves c.replace_at-new_root.ensures.inners),
     )
 
-pub returns : goal.returns
-returns g c =
+pub returns-clause-applied : goal.returns-clause-applied
+returns-clause-applied g c =
     overwritten c.requires.answers (λ pairs layout by.
     let same : SameNodes c.args.store.now c.reserve.new.self = (c.reserve.ensures.leaves, c.reserve.ensures.inners) in
     let at = subtree_at c.requires.answers c.requires.inner by in
@@ -63,6 +63,10 @@ returns g c =
     c.replace_at-new_root.result c.deallocate_tree-leafs_removed.result
     (c.replace_at-new_root.ensures.root ∙ ap (λ z. root_with c.args.self.path c.args.self.root z) c.to_opaque.ensures)
     (c.deallocate_tree-leafs_removed.ensures.count at.node still) c.requires.inner)
+
+pub returns-clause-memory : goal.returns-clause-memory
+returns-clause-memory g c =
+    granted
     (c.deallocate_tree-leafs_removed.ensures.promise ∙ c.replace_at-new_root.ensures.promise ∙ c.place_between-leaf_node_ptr.ensures.promise
     ∙ after_reserve c.args.store.now c.reserve.new.self None c.reserve.result
     (sym c.is_err.ensures.value ∙ c.if-is_err.false) c.reserve.ensures.covered c.reserve.ensures.granted

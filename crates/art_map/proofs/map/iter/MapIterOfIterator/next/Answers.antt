@@ -1,8 +1,5 @@
-use Rattle.art_map.proofs.Ranges.{first_counted, walk_range}
+use Rattle.art_map.proofs.Ranges.{first_counted}
 use Rattle.art_map.proofs.map.iter.MapIterOfIterator.next.Goals as goal
-
-pub step-requires : goal.step-requires
-step-requires g c = walk_range c.self.invariant
 
 pub invariant_of-self : goal.invariant_of-self
 invariant_of-self g c = first_counted c.self.invariant c.step.ensures.range c.step.result c.step.ensures.pair c.step.ensures.count

@@ -1,0 +1,125 @@
+//! Random calls of a map with hints beside the same calls of a `BTreeMap`. Pairs are removed through a `TreeMap` and moved in
+//! memory meanwhile, so that hints are missing and wrong.
+use super::short::{COUNT, Short};
+use art_hinted::map::HintedMap;
+use art_keys::terminated::Terminated;
+use art_node_support::expected::same;
+use art_node_support::numbers::Numbers;
+use std::alloc::Global;
+use std::collections::BTreeMap;
+use std::hash::RandomState;
+use std::test::Fail;
+
+type Map = HintedMap<Terminated, usize, 2>;
+
+type Model = BTreeMap<Short, usize>;
+
+// An insertion into both, and whether they return the same value.
+fn agree_on_insertion(
+    map: &mut Map,
+    model: &mut Model,
+    key: Terminated,
+    string: Short,
+    value: usize,
+) -> bool {
+    let Ok(old) = model.insert(string, value) else {
+        return false;
+    };
+    match map.insert(key, value) {
+        Ok(Some((_, own))) => old == Some(own),
+        Ok(None) => old.is_none(),
+        Err(_) => false,
+    }
+}
+
+// Whether a removal returns this value.
+fn is_removed(own: Option<(Terminated, usize)>, value: Option<usize>) -> bool {
+    match own {
+        Some(pair) => value == Some(pair.1),
+        None => value.is_none(),
+    }
+}
+
+// Adds one to the value of a string, or inserts it with 1. Returns the value.
+fn counted(map: &mut Map, alloc: Global, string: Short) -> Option<usize> {
+    let Ok(value) = map.get_text_or_insert(alloc, string.as_slice(), 0) else {
+        return None;
+    };
+    *value = value.wrapping_add(1);
+    Some(*value)
+}
+
+fn counted_in_model(model: &mut Model, string: Short) -> Option<usize> {
+    let value = model.get(&string).copied().unwrap_or(0).wrapping_add(1);
+    model.insert(string, value).ok()?;
+    Some(value)
+}
+
+// Adds two to the value of a key, if it is stored. Returns the value.
+fn changed(map: &mut Map, key: &Terminated) -> Option<usize> {
+    let value = map.get_mut(key)?;
+    *value = value.wrapping_add(2);
+    Some(*value)
+}
+
+fn changed_in_model(model: &mut Model, string: Short) -> Option<usize> {
+    let value = model.get(&string).copied()?.wrapping_add(2);
+    model.insert(string, value).ok()?;
+    Some(value)
+}
+
+// A call of both, and whether they return the same.
+fn agree_on_call(map: &mut Map, model: &mut Model, alloc: Global, numbers: &mut Numbers) -> bool {
+    let number = numbers.below(COUNT);
+    let string = Short::new(number);
+    let Ok(Some(key)) = Terminated::encode(alloc, string.as_slice()) else {
+        return string.has_zero() && map.get_text(string.as_slice()).is_none();
+    };
+    match numbers.below(12) {
+        0..=2 => agree_on_insertion(map, model, key, string, number),
+        3..=4 => counted(map, alloc, string) == counted_in_model(model, string),
+        5..=6 => changed(map, &key) == changed_in_model(model, string),
+        7 => is_removed(map.remove_text(string.as_slice()), model.remove(&string)),
+        8 => is_removed(map.remove(&key), model.remove(&string)),
+        9 => map.compact().is_ok(),
+        _ => map.get(&key).copied() == model.get(&string).copied(),
+    }
+}
+
+// Whether each string has the same value in both, by a key and by a text.
+fn agree_on_all(map: &Map, model: &Model, alloc: Global) -> bool {
+    for number in 0..COUNT {
+        let string = Short::new(number);
+        let Ok(Some(key)) = Terminated::encode(alloc, string.as_slice()) else {
+            continue;
+        };
+        let value = model.get(&string).copied();
+        let by_key = map.get(&key).copied();
+        if by_key != value || map.get_text(string.as_slice()).copied() != value {
+            return false;
+        }
+    }
+    map.len() == model.len()
+}
+
+// The number of the first call after which they differ, if they do.
+fn differ_at(map: &mut Map, model: &mut Model, alloc: Global, calls: usize) -> Option<usize> {
+    let mut numbers = Numbers::new(3);
+    for call in 0..calls {
+        if !agree_on_call(map, model, alloc, &mut numbers) {
+            return Some(call);
+        }
+    }
+    None
+}
+
+#[test]
+fn drawn_calls_of_a_hinted_map_return_what_those_of_a_btree_map_do(
+    rt: HostRuntime,
+) -> Result<(), Fail> {
+    let alloc = rt.alloc();
+    let mut map = HintedMap::new(alloc, RandomState::new(&rt)?);
+    let mut model = BTreeMap::new(alloc);
+    let differ = differ_at(&mut map, &mut model, alloc, 4_000);
+    same((differ, agree_on_all(&map, &model, alloc)), (None, true))
+}

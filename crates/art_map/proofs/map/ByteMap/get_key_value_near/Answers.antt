@@ -1,0 +1,30 @@
+use Rattle.std.proofs.Common.{[], ◌≡◌, ap, sym, ◌∙◌, subst, rules}
+use Rattle.art_model.specs.Pairs.{first_of, of_key, with_key}
+use Rattle.art_map.specs.MapChanges.{NamesLeafOf}
+use Rattle.art_map.specs.MapPairs.{pairs_at}
+use Rattle.art_map.proofs.Puts.{held_there}
+use Rattle.art_map.proofs.Written.{is_there, pair_read}
+use Rattle.art_map.proofs.map.ByteMap.get_key_value_near.Goals as goal
+
+pub leaf_near-requires : goal.leaf_near-requires
+leaf_near-requires g c = (search rules, (c.self.inside.len, held_there c.in_ok-self.was c.self.invariant))
+
+pub returns-in_err-leaf : goal.returns-in_err-leaf
+returns-in_err-leaf g c =
+    let B = of_key g.K.AsBytes.bytes in
+    let key = g.Q.KeyBytes.key c.args.query in
+    let s = c.self.inside.store in
+    let none = subst (λ r. with_key B key (pairs_at s r) ≡ []) (sym c.in_ok-self.was) c.in_err-leaf.ensures in
+    rw c.from_residual-in_err-leaf.ensures (sym (ap first_of none) ∙ ap (λ pairs. first_of (with_key B key pairs)) c.self.view_is)
+
+pub pair_at-requires : goal.pair_at-requires
+pair_at-requires g c =
+    let key = g.Q.KeyBytes.key c.args.query in
+    (search rules, is_there g.K.AsBytes.bytes g.row.P key c.in_ok-leaf.ensures)
+
+pub returns : goal.returns
+returns g c =
+    let bytes = g.K.AsBytes.bytes in
+    let key = g.Q.KeyBytes.key c.args.query in
+    let named = subst (λ r. NamesLeafOf bytes g.row.P c.self.inside.store r key c.in_ok-leaf.leaf) (sym c.in_ok-self.was) c.in_ok-leaf.ensures in
+    pair_read bytes g.row.P key named c.pair_at.ensures c.self.view_is

@@ -1,0 +1,61 @@
+-- The leaf that is found in the tree is in the store, with its pair.
+use Rattle.std.proofs.Common.{◌≡◌, ℕ, List, refl, ap, sym, ◌∙◌, Option, Some, None, IsSome}
+use Rattle.std.specs.FinMap.{get}
+use Rattle.std.specs.Option.{option_map}
+use Rattle.art_nodes.specs.Nodes.{Nodes}
+use Rattle.art_parts.specs.Names.{leaf_name}
+use Rattle.art_parts.specs.declared.names.LeafPtr.{LeafPtr}
+use Rattle.art_parts.specs.declared.names.OpaqueNodePtr.{OpaqueNodePtr}
+use Rattle.art_model.specs.Canonical.{IsCanonicalTree}
+use Rattle.art_model.specs.Lookups.{FindsLast, FindsLeaf, HasLeaf}
+use Rattle.art_model.specs.Pairs.{first_of, last_of}
+use Rattle.art_model.specs.Roots.{ForTree, IsCanonicalRoot}
+use Rattle.art_model.specs.Stores.{pair_of}
+use Rattle.art_model.specs.Trees.{Tree}
+use Rattle.art_model.proofs.leaves.LeavesFound.{found_is_there, leaf_found, pair_found}
+use Rattle.art_reading.specs.Found.{HasFound, HasFoundFirst, HasFoundLast}
+use Rattle.art_reading.specs.ShortTexts.{FindsFirst}
+
+module _ {K V : Type 0} (bytes : K × V → List ℕ) (P : ℕ) {s : Nodes K V} {root : OpaqueNodePtr} where
+  module _ {pairs : List (K × V)} {layout : Tree OpaqueNodePtr (K × V)} (by : IsCanonicalTree bytes P s root pairs layout) where
+    there : {p : LeafPtr} {x : K × V} → HasLeaf layout (leaf_name p) x → IsSome (get s.leaves p)
+    there has = let (node, is, its) = leaf_found bytes P by has in rw is refl
+
+    shown : {p : LeafPtr} {x : K × V} → HasLeaf layout (leaf_name p) x → option_map pair_of (get s.leaves p) ≡ Some x
+    shown has = let (node, is, its) = leaf_found bytes P by has in ap (option_map pair_of) is ∙ ap Some its
+
+  module _ (is : IsCanonicalRoot bytes P s root) {sought : List (K × V) → List (K × V)} where
+    -- of the only pair that is sought
+    pub has_found : {result : Option LeafPtr} → ForTree bytes P s root (λ pairs layout. FindsLeaf layout (sought pairs) result) →
+        HasFound bytes P s root sought result
+    has_found {result} leaf =
+        let (pairs, layout, by) = is in
+        record {
+          leaf = leaf;
+          there = found_is_there bytes P by result (sought pairs) (leaf pairs layout by);
+          pair = λ ps l b. pair_found bytes P b result (sought ps) (leaf ps l b);
+        }
+
+    -- of the first
+    pub has_found_first : {result : Option LeafPtr} → ForTree bytes P s root (λ pairs layout. FindsFirst layout (sought pairs) result) →
+        HasFoundFirst bytes P s root sought result
+    has_found_first {result = None} leaf = record { leaf = leaf; there = tt; pair = λ pairs layout by. ap first_of (sym (leaf pairs layout by)) }
+    has_found_first {result = Some p} leaf =
+        let (pairs, layout, by) = is in
+        record {
+          leaf = leaf;
+          there = there by (leaf pairs layout by).2;
+          pair = λ ps l b. let (x, first, has) = leaf ps l b in shown b has ∙ sym first;
+        }
+
+    -- of the last
+    pub has_found_last : {result : Option LeafPtr} → ForTree bytes P s root (λ pairs layout. FindsLast layout (sought pairs) result) →
+        HasFoundLast bytes P s root sought result
+    has_found_last {result = None} leaf = record { leaf = leaf; there = tt; pair = λ pairs layout by. ap last_of (sym (leaf pairs layout by)) }
+    has_found_last {result = Some p} leaf =
+        let (pairs, layout, by) = is in
+        record {
+          leaf = leaf;
+          there = there by (leaf pairs layout by).2;
+          pair = λ ps l b. let (x, last, has) = leaf ps l b in shown b has ∙ sym last;
+        }
