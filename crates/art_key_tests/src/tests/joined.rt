@@ -60,7 +60,7 @@ fn starve(
 
 // A string and a number as one key.
 fn key_of_string(alloc: Global) -> Option<Joined<Escaped, U16Key>> {
-    let string = Escaped::encode(alloc, b"car").ok()?;
+    let string = Escaped::encode(alloc, b"a string of more than thirty bytes").ok()?;
     Joined::join(alloc, &string, &U16Key::from(513)).ok()
 }
 
