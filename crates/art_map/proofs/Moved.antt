@@ -2,33 +2,16 @@
 use Rattle.std.proofs.Common.{◌≡◌, ℕ, List, [], ◌∷◌, ◌++◌, refl, ap, sym, ◌∙◌, subst, append_assoc, append-nil, Option, Some, None, Result, Ok, IfOk, Bool, true, false, not, ◌&&◌, filter}
 use Rattle.std.specs.List.{AllByRecursion as Each}
 use Rattle.std.specs.declared.ops.Bound.TheVariants.{Included, Unbounded}
-use Rattle.art_model.specs.Keys.{Precedes, are_same, is_before}
-use Rattle.art_model.specs.Pairs.{IsMap, add_in_order, first_of, of_key, put, remove_key, with_key, without_first}
+use Rattle.art_model.specs.Keys.{Precedes, is_before}
+use Rattle.art_model.specs.Pairs.{IsMap, first_of, of_key, put, without_first}
 use Rattle.art_model.specs.Parts.{is_between}
-use Rattle.art_model.proofs.keys.Keys.{related_sym, same_related}
 use Rattle.art_model.proofs.lists.Filters.{Pairwise-filter}
 use Rattle.art_model.proofs.lists.Pairwises.{Pairwise-before}
-use Rattle.art_model.proofs.pairs.Between.{add_in_order-after}
-use Rattle.art_model.proofs.pairs.Puts.{first_none, put-new}
+use Rattle.art_model.proofs.pairs.Puts.{first_none, put_end}
 use Rattle.art_map.specs.MapParts.{keys_before, keys_from, without}
 use Rattle.art_map.proofs.FirstOut.{all_gone, failing, first_out, passing}
 
 module _ {K V : Type 0} (bytes : K → List ℕ) where
-  -- no pair before a key has that key
-  none_same : (x : K × V) (l : List (K × V)) → Each (λ y. Precedes (bytes y.0) (bytes x.0)) l →
-      (with_key (of_key bytes) (bytes x.0) l ≡ []) × (remove_key (of_key bytes) (bytes x.0) l ≡ l)
-  none_same x [] h = (refl, refl)
-  none_same x (y ∷ l) h =
-      let (none, all) = none_same x l h.1 in
-      let off : are_same (bytes x.0) (bytes y.0) ≡ false = same_related (bytes x.0) (bytes y.0) (related_sym (bytes x.0) (bytes y.0) ∙ h.0.1) in
-      (rw off none, rw off (ap (λ zs. y ∷ zs) all))
-
-  -- a pair that is greater than all others is put at the end
-  put_end : (x : K × V) (l : List (K × V)) → Each (λ y. Precedes (bytes y.0) (bytes x.0)) l → put (of_key bytes) x l ≡ l ++ x ∷ []
-  put_end x l h =
-      let (none, all) = none_same x l h in
-      put-new (of_key bytes) x l (ap first_of none) ∙ ap (add_in_order (of_key bytes) x) (all ∙ sym (append-nil l)) ∙ add_in_order-after (of_key bytes) x l [] h
-
   module _ (test : List ℕ → Bool) (before : List (K × V)) where
     -- Some of the pairs that pass have moved, and the others have stayed.
     pub record Moving (now moved : List (K × V)) : Type 0 where
@@ -57,7 +40,7 @@ module _ {K V : Type 0} (bytes : K → List ℕ) where
           let out = first_out (of_key bytes) test now x rising (sym first) in
           let rise : IsMap (of_key bytes) (moved ++ x ∷ passing (of_key bytes) test left) =
           subst (λ zs. IsMap (of_key bytes) (moved ++ zs)) out.passes (so_far.rises rising) in
-          let is = put_end x moved (Pairwise-before _ moved (passing (of_key bytes) test left) x rise) in
+          let is = put_end bytes x moved (Pairwise-before _ moved (passing (of_key bytes) test left) x rise) in
           let joins : moved ++ x ∷ passing (of_key bytes) test left ≡ put (of_key bytes) x moved ++ passing (of_key bytes) test left =
           sym (append_assoc moved (x ∷ []) (passing (of_key bytes) test left)) ∙ ap (λ ys. ys ++ passing (of_key bytes) test left) (sym is) in
           record { kept = next_out.1; parts = next_out.0 ∙ joins; rises = λ _. subst (IsMap (of_key bytes)) joins rise }

@@ -1,35 +1,18 @@
 -- Pairs in the order of their keys, and their entries.
-use Rattle.std.proofs.Common.{◌≡◌, ◌⊎◌, inl, inr, ℕ, Bool, true, false, List, [], ◌∷◌, ◌++◌, Option, Some, IfSome, refl, ap, sym, subst, ◌∙◌, append-nil}
+use Rattle.std.proofs.Common.{◌≡◌, ◌⊎◌, inl, inr, ℕ, Bool, true, false, List, [], ◌∷◌, ◌++◌, Option, Some, IfSome, refl, ap, sym, subst, ◌∙◌}
 use Rattle.std.proofs.lemmas.Bool.{true≢false}
 use Rattle.std.proofs.lemmas.List.{map_push}
 use Rattle.std.specs.List.{AllByRecursion as Each}
 use Rattle.art_keys.specs.Prefixes.{HasNoPrefixes}
 use Rattle.art_keyed.specs.KeyedPairs.{HaveKeys}
-use Rattle.art_model.specs.Keys.{IsFront, Precedes, are_related, are_same, is_before}
-use Rattle.art_model.specs.Pairs.{first_of, of_key, put, remove_key, with_key, add_in_order}
-use Rattle.art_model.proofs.keys.Keys.{related_sym, same_related}
+use Rattle.art_model.specs.Keys.{IsFront, Precedes, are_related, is_before}
+use Rattle.art_model.specs.Pairs.{of_key, put}
 use Rattle.art_model.proofs.keys.KeyLaws.{order_is_strict, order_is_transitive, relation_is_decided}
-use Rattle.art_model.proofs.pairs.Between.{add_in_order-after}
-use Rattle.art_model.proofs.pairs.Puts.{put-new}
+use Rattle.art_model.proofs.pairs.Puts.{put_end}
 use Rattle.snapshot_format.specs.Snapshots.{IsNext, IsRising, Rise, entry, is_none, last_key}
 use Rattle.art_snapshots.specs.MapEntries.{IsEntry, entries_of}
 
 module _ {K V : Type 0} (bytes : K → List ℕ) (value_bytes : V → List ℕ) where
-  -- no pair before a key has that key
-  none_same : (x : K × V) (l : List (K × V)) → Each (λ y. Precedes (bytes y.0) (bytes x.0)) l →
-      (with_key (of_key bytes) (bytes x.0) l ≡ []) × (remove_key (of_key bytes) (bytes x.0) l ≡ l)
-  none_same x [] h = (refl, refl)
-  none_same x (y ∷ l) h =
-      let (none, all) = none_same x l h.1 in
-      let off : are_same (bytes x.0) (bytes y.0) ≡ false = same_related (bytes x.0) (bytes y.0) (related_sym (bytes x.0) (bytes y.0) ∙ h.0.1) in
-      (rw off none, rw off (ap (λ zs. y ∷ zs) all))
-
-  -- a pair that is greater than all others is put at the end
-  put_end : (x : K × V) (l : List (K × V)) → Each (λ y. Precedes (bytes y.0) (bytes x.0)) l → put (of_key bytes) x l ≡ l ++ x ∷ []
-  put_end x l h =
-      let (none, all) = none_same x l h in
-      put-new (of_key bytes) x l (ap first_of none) ∙ ap (add_in_order (of_key bytes) x) (all ∙ sym (append-nil l)) ∙ add_in_order-after (of_key bytes) x l [] h
-
   -- the entries of pairs can be taken
   pub each_entry : (is_key : K → Type 0) (pairs : List (K × V)) → HaveKeys is_key pairs → Each (IsEntry bytes value_bytes is_key) (entries_of bytes value_bytes pairs)
   each_entry is_key [] keys = tt
@@ -74,7 +57,7 @@ module _ {K V : Type 0} (bytes : K → List ℕ) (value_bytes : V → List ℕ) 
         IsNext (entries_of bytes value_bytes pairs) (bytes key) →
         entries_of bytes value_bytes (put (of_key bytes) (key, value) pairs) ≡ entries_of bytes value_bytes pairs ++ entry (bytes key) (value_bytes value) ∷ []
     entries_put key value of_key' pairs keys rise next =
-        ap (entries_of bytes value_bytes) (put_end (key, value) pairs (all_next key of_key' pairs keys rise next)) ∙ map_push _ pairs (key, value)
+        ap (entries_of bytes value_bytes) (put_end bytes (key, value) pairs (all_next key of_key' pairs keys rise next)) ∙ map_push _ pairs (key, value)
 
 pub some_at : {X : Type 0} (P : X → Type 0) (o : Option X) (x : X) → o ≡ Some x → IfSome o P → P x
 some_at P o x e h = subst (λ o. IfSome o P) e h

@@ -1,11 +1,12 @@
 -- What a put and an overwrite are, where it is known whether an equal key is stored.
-use Rattle.std.proofs.Common.{◌≡◌, ℕ, List, [], ◌∷◌, filter, Option, Some, None, Bool, true, false, cond, is_some, refl, ap, ◌∙◌}
+use Rattle.std.proofs.Common.{◌≡◌, ℕ, List, [], ◌∷◌, ◌++◌, append-nil, filter, Option, Some, None, Bool, true, false, cond, is_some, refl, ap, sym, ◌∙◌}
 use Rattle.std.specs.List.{AllByRecursion as Each, list_any}
 use Rattle.std.specs.Option.{option_map}
-use Rattle.art_model.specs.Keys.{are_same}
-use Rattle.art_model.specs.Pairs.{first_of, only_or_count, with_key, has_key, related_to, replace_key, replace_related, stored_for, put, put_reply, overwrite, overwrite_reply, of_key}
+use Rattle.art_model.specs.Keys.{Precedes, are_same}
+use Rattle.art_model.specs.Pairs.{add_in_order, first_of, only_or_count, with_key, has_key, remove_key, related_to, replace_key, replace_related, stored_for, put, put_reply, overwrite, overwrite_reply, of_key}
 use Rattle.art_model.proofs.lists.Filters.{filter_passes}
-use Rattle.art_model.proofs.keys.Keys.{same_equal}
+use Rattle.art_model.proofs.keys.Keys.{related_sym, same_equal, same_related}
+use Rattle.art_model.proofs.pairs.Between.{add_in_order-after}
 
 module _ {A : Type 0} where
   -- whether any passes, by the first that does
@@ -95,3 +96,20 @@ module _ {K V : Type 0} (bytes : K → List ℕ) where
       go : (o : Option (K × V)) → first_of (with_key (of_key bytes) (bytes new.0) pairs) ≡ o → (stored_for (of_key bytes) new pairs).1 ≡ new.1
       go None e = ap (λ x. x.1) (stored_for-new (of_key bytes) new pairs e)
       go (Some old) e = ap (λ x. x.1) (stored_for-old (of_key bytes) new pairs old e)
+
+module _ {K V : Type 0} (bytes : K → List ℕ) where
+  -- no pair before a key has that key
+  none_same : (x : K × V) (l : List (K × V)) → Each (λ y. Precedes (bytes y.0) (bytes x.0)) l →
+      (with_key (of_key bytes) (bytes x.0) l ≡ []) × (remove_key (of_key bytes) (bytes x.0) l ≡ l)
+  none_same x [] h = (refl, refl)
+  none_same x (y ∷ l) h =
+      let (none, all) = none_same x l h.1 in
+      let off : are_same (bytes x.0) (bytes y.0) ≡ false = same_related (bytes x.0) (bytes y.0) (related_sym (bytes x.0) (bytes y.0) ∙ h.0.1) in
+      (rw off none, rw off (ap (λ zs. y ∷ zs) all))
+
+  -- a pair that is greater than all others is put at the end
+  pub put_end : (x : K × V) (l : List (K × V)) → Each (λ y. Precedes (bytes y.0) (bytes x.0)) l → put (of_key bytes) x l ≡ l ++ x ∷ []
+  put_end x l h =
+      let (none, all) = none_same x l h in
+      put-new (of_key bytes) x l (ap first_of none) ∙ ap (add_in_order (of_key bytes) x) (all ∙ sym (append-nil l)) ∙
+      add_in_order-after (of_key bytes) x l [] h

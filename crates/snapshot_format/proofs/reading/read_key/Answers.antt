@@ -34,9 +34,14 @@ returns-then-not-is_next-clause-fault g c =
     let shared = c.in_ok-shared.shared in
     let key : c.append_sized.new.into.items ≡ take shared before ++ read.bytes = rw (← c.truncate.ensures.items) read.items in
     let others = rest_is before read.bytes c.append_sized.new.into.items shared (omega arith) key in
+    let byte : c.byte_at-byte.result ≡ slice_get before shared =
+    c.byte_at-byte.ensures ∙ ap (λ bytes. slice_get bytes shared) c.deref.ensures.value in
     rw c.malformed-then-not-is_next.ensures (λ next rest small after.
-    not_above (g.R.Read.remaining c.args.source.now.input) (g.R.Read.remaining c.number.new.self.input) (g.R.Read.remaining c.append_sized.new.self.input) before read.bytes c.args.is_first shared
-    c.in_ok-shared.ensures.read.taken read.reads.taken (tested c.args.is_first c.byte_at-byte.result (slice_get before shared) _ read.bytes c.is_next.result false c.is_next.ensures (c.byte_at-byte.ensures ∙ ap (λ bytes. slice_get bytes shared) c.deref.ensures.value) (rw c.deref-2.ensures.value others) c.if-not-is_next.true) next rest after)
+    not_above (g.R.Read.remaining c.args.source.now.input) (g.R.Read.remaining c.number.new.self.input)
+    (g.R.Read.remaining c.append_sized.new.self.input) before read.bytes c.args.is_first shared
+    c.in_ok-shared.ensures.read.taken read.reads.taken
+    (tested c.args.is_first c.byte_at-byte.result (slice_get before shared) _ read.bytes c.is_next.result false c.is_next.ensures
+    byte (rw c.deref-2.ensures.value others) c.if-not-is_next.true) next rest after)
 
 pub returns-clause-read : goal.returns-clause-read
 returns-clause-read g c =
@@ -44,7 +49,12 @@ returns-clause-read g c =
     let before = c.args.key.now.items in
     let shared = c.in_ok-shared.shared in
     let key : c.append_sized.new.into.items ≡ take shared before ++ read.bytes = rw (← c.truncate.ensures.items) read.items in
-    let is = key_is c.args.is_first before read.bytes shared (omega arith) c.requires (tested c.args.is_first c.byte_at-byte.result (slice_get before shared) _ read.bytes c.is_next.result true c.is_next.ensures (c.byte_at-byte.ensures ∙ ap (λ bytes. slice_get bytes shared) c.deref.ensures.value) (rw c.deref-2.ensures.value (rest_is before read.bytes c.append_sized.new.into.items shared (omega arith) key)) c.if-not-is_next.false) in
+    let others = rest_is before read.bytes c.append_sized.new.into.items shared (omega arith) key in
+    let byte : c.byte_at-byte.result ≡ slice_get before shared =
+    c.byte_at-byte.ensures ∙ ap (λ bytes. slice_get bytes shared) c.deref.ensures.value in
+    let next = tested c.args.is_first c.byte_at-byte.result (slice_get before shared) _ read.bytes c.is_next.result true c.is_next.ensures
+    byte (rw c.deref-2.ensures.value others) c.if-not-is_next.false in
+    let is = key_is c.args.is_first before read.bytes shared (omega arith) c.requires next in
     rw (key, ← is.0) (reads_more g.R.Read.remaining c.args.source.now c.number.new.self c.append_sized.new.self (number_bytes shared) (sized read.bytes) c.in_ok-shared.ensures.read read.reads)
 
 pub returns-clause-after : goal.returns-clause-after
@@ -53,4 +63,9 @@ returns-clause-after g c =
     let before = c.args.key.now.items in
     let shared = c.in_ok-shared.shared in
     let key : c.append_sized.new.into.items ≡ take shared before ++ read.bytes = rw (← c.truncate.ensures.items) read.items in
-    rw key (key_is c.args.is_first before read.bytes shared (omega arith) c.requires (tested c.args.is_first c.byte_at-byte.result (slice_get before shared) _ read.bytes c.is_next.result true c.is_next.ensures (c.byte_at-byte.ensures ∙ ap (λ bytes. slice_get bytes shared) c.deref.ensures.value) (rw c.deref-2.ensures.value (rest_is before read.bytes c.append_sized.new.into.items shared (omega arith) key)) c.if-not-is_next.false)).1
+    let others = rest_is before read.bytes c.append_sized.new.into.items shared (omega arith) key in
+    let byte : c.byte_at-byte.result ≡ slice_get before shared =
+    c.byte_at-byte.ensures ∙ ap (λ bytes. slice_get bytes shared) c.deref.ensures.value in
+    let next = tested c.args.is_first c.byte_at-byte.result (slice_get before shared) _ read.bytes c.is_next.result true c.is_next.ensures
+    byte (rw c.deref-2.ensures.value others) c.if-not-is_next.false in
+    rw key (key_is c.args.is_first before read.bytes shared (omega arith) c.requires next).1
