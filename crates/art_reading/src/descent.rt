@@ -160,7 +160,7 @@ fn walk<'a, Q: KeyQuery, K: AsBytes + Drop, V: Drop, const P: usize>(
                 behavior,
             });
         };
-        match behavior.step_at(node, front, depth) {
+        match behavior.step(node, front, depth) {
             Step::Down(place, child) => {
                 steps.step_down(inner, front[place]);
                 name = child;

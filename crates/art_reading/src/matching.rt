@@ -114,17 +114,16 @@ impl PrefixMatchBehavior {
     // Where a key leads below an inner node, of which all bytes but perhaps the last one are given. Where these end with
     // the prefix of the node nothing is compared yet.
     #[inline(always)]
-    fn step<N: InnerNode<P>, const P: usize>(
+    pub(crate) fn step<const P: usize>(
         &mut self,
-        node: &N,
+        node: InnerRef<'_, P>,
         front: &[u8],
         depth: usize,
     ) -> Step
         requires depth { depth ≤ length front.now }
-        requires stored { length (N.view_of node.now).prefix.stored
-            ≤ (N.view_of node.now).prefix.len }
+        requires stored { length (ref_view node).prefix.stored ≤ (ref_view node).prefix.len }
         ensures { (key : List ℕ) → HasRest key front.now →
-            LeadsTo self.old self.new (N.view_of node.now) key front.now depth result }
+            LeadsTo self.old self.new (ref_view node.entry) key front.now depth result }
     {
         let (prefix_len, left) = (node.prefix_len(), front.len() - depth);
         if prefix_len >= left {
@@ -143,36 +142,15 @@ impl PrefixMatchBehavior {
     // Whether the rest of the key continues with the prefix of a node, as far as it is compared. An empty
     // prefix is not compared.
     #[inline(always)]
-    fn passes<N: InnerNode<P>, const P: usize>(&mut self, node: &N, rest: &[u8]) -> bool
-        requires { length (N.view_of node.now).prefix.stored ≤ (N.view_of node.now).prefix.len }
+    fn passes<const P: usize>(&mut self, node: InnerRef<'_, P>, rest: &[u8]) -> bool
+        requires { length (ref_view node).prefix.stored ≤ (ref_view node).prefix.len }
         ensures outcome { result ≡
-            is_ok (prefix_match self.old (N.view_of node.now).prefix rest.now) }
+            is_ok (prefix_match self.old (ref_view node.entry).prefix rest.now) }
         ensures behavior { IsTrue result → self.new ≡
-            behavior_after self.old (N.view_of node.now).prefix rest.now }
+            behavior_after self.old (ref_view node.entry).prefix rest.now }
     {
         let prefix_len = node.prefix_len();
         prefix_len == 0 || self.goes_on(prefix_len, node.read_prefix(), rest)
-    }
-
-    // The same as `step` at a node of any kind. All that a lookup reads of a node is behind one test of the kind.
-    #[inline(always)]
-    pub(crate) fn step_at<const P: usize>(
-        &mut self,
-        node: InnerRef<'_, P>,
-        front: &[u8],
-        depth: usize,
-    ) -> Step
-        requires depth { depth ≤ length front.now }
-        requires stored { length (ref_view node).prefix.stored ≤ (ref_view node).prefix.len }
-        ensures { (key : List ℕ) → HasRest key front.now →
-            LeadsTo self.old self.new (ref_view node.entry) key front.now depth result }
-    {
-        match node {
-            InnerRef::Node4(node) => self.step(node, front, depth),
-            InnerRef::Node16(node) => self.step(node, front, depth),
-            InnerRef::Node48(node) => self.step(node, front, depth),
-            InnerRef::Node256(node) => self.step(node, front, depth),
-        }
     }
 
     // The child under the last byte of a key, where the bytes before it end with the prefix of the node.

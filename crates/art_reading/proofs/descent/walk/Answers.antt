@@ -30,8 +30,8 @@ returns-in_default-clause-ends g c pairs layout by =
     rw c.path-path.ensures (last_leaf by _ (c.down.invariant.on_way pairs layout by) c.in-Some-as_leaf.ensures.name (sym c.leaf_at-node.ensures)
     (omega arith) c.add_one.ensures)
 
-pub step_at-requires : goal.step_at-requires
-step_at-requires g c =
+pub step-requires : goal.step-requires
+step-requires g c =
     let (pairs, layout, by) = c.requires.root in
     let d = c.down.invariant.on_way pairs layout by in
     (search rules, (c.down.invariant.short, stored_short d (shown_here by d c.in-Some.node c.in-Some.ensures.kind c.in-Some.ensures.view)))
