@@ -64,6 +64,17 @@ module _ {K V : Type 0} (bytes : K × V → List ℕ) (P : ℕ) (s : Nodes K V) 
   CountsToBound bound before after =
       CountsBetween (nodes_to bytes bound) (λ layout. 3 * (tree_height layout + 1) + 2) before after
 
+  -- the search for a text: at least the nodes on the path of these bytes, and at most so many readings
+  abbrev pub CountsToText : List ℕ → ℕ → ℕ → ℕ → Type 0
+  CountsToText front most before after =
+      CountsBetween (λ layout. length (nodes_on_way bytes front layout)) (λ layout. most) before after
+
+  -- its descent to a leaf, which is not read, or to none
+  abbrev pub CountsToTextLeaf : List ℕ → ℕ → Option LeafPtr → ℕ → ℕ → Type 0
+  CountsToTextLeaf front most None before after = CountsToText front most before after
+  CountsToTextLeaf front most (Some leaf) before after =
+      CountsBetween (λ layout. length (nodes_on_way bytes front layout) - 1) (λ layout. most) before after
+
   -- the search for the leaves between two bounds, of which this is the lower one
   abbrev pub CountsToBounds : Bound (List ℕ) → ℕ → ℕ → Type 0
   CountsToBounds from before after =
