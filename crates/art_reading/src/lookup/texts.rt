@@ -49,8 +49,9 @@ pub fn longest_text_by<B: KeyBytes, K: AsBytes + Drop, V: Drop, const P: usize>(
     requires root { IsCanonicalRoot (of_key K.bytes) P store.now root }
     requires ended { ForTree (of_key K.bytes) P store.now root (λ pairs _.
         AreEnded (of_key K.bytes) end pairs) }
-    ensures { HasFoundLast (of_key K.bytes) P store.now root
+    ensures leaf { HasFoundLast (of_key K.bytes) P store.now root
         (texts_in_front (of_key K.bytes) (B.key query.old)) result }
+    ensures same { B.key query.new ≡ B.key query.old }
 {
     let (guide, _) = find_guide(store, root, query, root, 0);
     let key = store.leaf_at(guide).key.as_bytes();
