@@ -2,7 +2,7 @@
 use Rattle.std.specs.Prelude.{◌≡◌, ◌<◌, ◌≤◌, ℕ, List, [], ◌∷◌, ◌++◌, length, Some, true}
 use Rattle.std.specs.List.{AllByRecursion as Each}
 use Rattle.art_model.specs.Keys.{IsFront, is_before}
-use Rattle.art_model.specs.Pairs.{Pairwise, last_of, match_of, without_last}
+use Rattle.art_model.specs.Pairs.{Pairwise, first_of, last_of, match_of, without_last}
 
 -- A key is a text and the end byte, which is less than each byte of the text.
 pub record IsEndedBy (end : ℕ) (key : List ℕ) : Type 0 where
@@ -33,6 +33,12 @@ module _ {A : Type 0} (text : A → List ℕ) where
   LastIsLongest =
       (xs : List A) (query : List ℕ) (last : A) → TextsRise xs → last_of (match_of text query xs) ≡ Some last →
       Each (λ x. length (text x) ≤ length (text last)) (match_of text query xs)
+
+  -- the first of the texts that are prefixes of a query is a shortest one
+  abbrev pub FirstIsShortest : Type 0
+  FirstIsShortest =
+      (xs : List A) (query : List ℕ) (first : A) → TextsRise xs → first_of (match_of text query xs) ≡ Some first →
+      Each (λ x. length (text first) ≤ length (text x)) (match_of text query xs)
 
   -- each of the texts that are prefixes of a query is a prefix of the last one
   abbrev pub LastHasAll : Type 0

@@ -29,3 +29,4 @@ pub mod TextWays
 pub mod LongestTexts
 pub mod ShortTexts
 pub mod Levels
+pub mod TextReads

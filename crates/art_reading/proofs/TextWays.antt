@@ -40,11 +40,11 @@ use Rattle.art_reading.specs.declared.lookup.texts.TextEnd.{TextEnd}
 use Rattle.art_reading.specs.declared.lookup.texts.TextEnd.TheVariants.{Whole}
 use Rattle.art_model.proofs.keys.Texts.{ended_text, front_in_text, front_of_fronts, front_short, goes_within, mark_ends}
 
-unmapped : {A B : Type 0} (f : A → B) (o : Option A) → option_map f o ≡ None → o ≡ None
+pub unmapped : {A B : Type 0} (f : A → B) (o : Option A) → option_map f o ≡ None → o ≡ None
 unmapped f None e = refl
 unmapped f (Some x) e = absurd cc
 
-same_parts : {A B : Type 0} {a c : A} {b d : B} → ◌≡◌ {A = Option (A × B)} (Some (a, b)) (Some (c, d)) → (a ≡ c) × (b ≡ d)
+pub same_parts : {A B : Type 0} {a c : A} {b d : B} → ◌≡◌ {A = Option (A × B)} (Some (a, b)) (Some (c, d)) → (a ≡ c) × (b ≡ d)
 same_parts {A = A} {B = B} {a = a} {b = b} e =
     let both : ◌≡◌ {A = A × B} (a, b) _ = ap (λ o. unwrap_or o (a, b)) e in
     (ap (λ (both : A × B). both.0) both, ap (λ (both : A × B). both.1) both)

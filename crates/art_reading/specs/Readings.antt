@@ -1,5 +1,5 @@
 -- How many nodes a search reads: each reading counts, also where a node is read again.
-use Rattle.std.specs.Prelude.{◌≡◌, ℕ, ◌+◌, ◌-◌, ◌*◌, ◌^◌, ◌≤◌, min, List, length, Option, Some, None, Result, Ok, Err}
+use Rattle.std.specs.Prelude.{◌≡◌, ℕ, ◌+◌, ◌-◌, ◌*◌, ◌^◌, ◌≤◌, min, List, [], ◌∷◌, length, Option, Some, None, Result, Ok, Err}
 use Rattle.std.specs.FinMap as map
 use Rattle.std.specs.declared.ops.Bound.{Bound}
 use Rattle.std.specs.declared.ops.Bound.TheVariants.{Included, Excluded, Unbounded}
@@ -9,6 +9,7 @@ use Rattle.art_parts.specs.declared.names.OpaqueNodePtr.{OpaqueNodePtr}
 use Rattle.art_model.specs.Heights.{height, tree_height}
 use Rattle.art_model.specs.Lookups.{nodes_on_way}
 use Rattle.art_model.specs.Pairs.{match_of}
+use Rattle.art_model.specs.Parts.{is_between, is_from, leaves_where}
 use Rattle.art_model.specs.Places.{places}
 use Rattle.art_model.specs.Roots.{ForTree}
 use Rattle.art_model.specs.Stores.{node_at}
@@ -42,6 +43,11 @@ abbrev pub CountsToEnd : {K V : Type 0} → (K × V → List ℕ) → ℕ → No
 CountsToEnd bytes P s root key before after =
     CountsReadings before after (λ number. ForTree bytes P s root (λ pairs layout. ReadsToEnd bytes P key layout number))
 
+-- so many, if there is a leaf, and else none
+abbrev pub if_any : {N : Type 0} → List N → ℕ → ℕ
+if_any [] number = 0
+if_any (name ∷ names) number = number
+
 -- how many nodes are on the path of a bound's key
 abbrev pub nodes_to : {A : Type 0} → (A → List ℕ) → Bound (List ℕ) → Tree OpaqueNodePtr A → ℕ
 nodes_to bytes (Included key) layout = length (nodes_on_way bytes key layout)
@@ -64,10 +70,24 @@ module _ {K V : Type 0} (bytes : K × V → List ℕ) (P : ℕ) (s : Nodes K V) 
   CountsToBound bound before after =
       CountsBetween (nodes_to bytes bound) (λ layout. 3 * (tree_height layout + 1) + 2) before after
 
-  -- the search for the leaves between two bounds, of which this is the lower one
-  abbrev pub CountsToBounds : Bound (List ℕ) → ℕ → ℕ → Type 0
-  CountsToBounds from before after =
-      CountsBetween (nodes_to bytes from) (λ layout. 2 * (3 * (tree_height layout + 1) + 2) + 1) before after
+  -- the search for a text: at least the nodes on the path of these bytes, and at most so many readings
+  abbrev pub CountsToText : List ℕ → ℕ → ℕ → ℕ → Type 0
+  CountsToText front most before after =
+      CountsBetween (λ layout. length (nodes_on_way bytes front layout)) (λ layout. most) before after
+
+  -- its descent to a leaf, which is not read, or to none
+  abbrev pub CountsToTextLeaf : List ℕ → ℕ → Option LeafPtr → ℕ → ℕ → Type 0
+  CountsToTextLeaf front most None before after = CountsToText front most before after
+  CountsToTextLeaf front most (Some leaf) before after =
+      CountsBetween (λ layout. length (nodes_on_way bytes front layout) - 1) (λ layout. most) before after
+
+  -- The search for the leaves between two bounds: that to the lower one, the first leaf from there on, and, if a leaf is
+  -- between both, that to the upper one.
+  abbrev pub CountsToBounds : Bound (List ℕ) → Bound (List ℕ) → ℕ → ℕ → Type 0
+  CountsToBounds from to before after =
+      CountsBetween (λ layout. nodes_to bytes from layout + if_any (leaves_where (λ x. is_from from (bytes x)) layout) 1
+      + if_any (leaves_where (λ x. is_between from to (bytes x)) layout) (nodes_to bytes to layout))
+      (λ layout. 2 * (3 * (tree_height layout + 1) + 2) + 1) before after
 
 module _ {K V : Type 0} (s : Nodes K V) where
   -- how many inner nodes a descent from a node passes at most

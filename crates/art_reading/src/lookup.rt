@@ -104,9 +104,29 @@ pub fn find_unchecked<'a, Q: KeyQuery, K: AsBytes + Drop, V: Drop, const P: usiz
         first_of (asked_of asked (of_key K.bytes) (Q.key query) pairs)) }
 {
     query.fits();
+    find_visiting(store, root, query, asked, &mut Visits::new())
+}
+
+/// Returns what `find_unchecked` does, and counts as `search_visiting` does. The lookups of maps call it.
+#[inline(always)]
+pub fn find_visiting<'a, Q: KeyQuery, K: AsBytes + Drop, V: Drop, const P: usize>(
+    store: &'a NodeStore<K, V, P>,
+    root: OpaqueNodePtr,
+    query: Q,
+    asked: Asked,
+    visits: &mut Visits,
+) -> Option<&'a LeafNode<K, V>>
+    requires root { IsCanonicalRoot (of_key K.bytes) P store.now root }
+    requires room { visits.old + length (Q.key query) + 1 < 2 ^ 64 }
+    ensures leaf { ForTree (of_key K.bytes) P store.now root (λ pairs _.
+        option_map (λ leaf. pair_of leaf.now) result ≡
+        first_of (asked_of asked (of_key K.bytes) (Q.key query) pairs)) }
+    ensures visits { CountsVisits (of_key K.bytes) P store.now root (Q.key query)
+        visits.old visits.new (IsSome result) }
+{
     let start = PrefixMatchBehavior::Pessimistic;
-    let last = walk_to_key(store, root, query, asked, start, &mut Visits::new())?;
-    Some(last.node)
+    let found = walk_to_key(store, root, query, asked, start, visits)?;
+    Some(found.node)
 }
 
 /// Returns the leaf of the key, or `None` if no stored key is equal to it: what `search_unchecked` returns for its

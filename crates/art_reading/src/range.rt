@@ -99,7 +99,9 @@ pub fn range_unchecked<B: KeyBytes + Drop, K: AsBytes + Drop, V: Drop, const P: 
 }
 
 /// Returns what `range_unchecked` does, and counts each reading of a node: at least the nodes whose place is a prefix
-/// of the first bound's key, and at most twice the most that `first_from_visiting` counts, and one.
+/// of the first bound's key, the first leaf from there on, and, if a leaf is in the range, the nodes whose place is a
+/// prefix of the second bound's key; at most twice the most that `first_from_visiting` counts, and one. A full counter
+/// stays full.
 #[inline(always)]
 pub fn range_visiting<B: KeyBytes + Drop, K: AsBytes + Drop, V: Drop, const P: usize>(
     store: &NodeStore<K, V, P>,
@@ -114,7 +116,7 @@ pub fn range_visiting<B: KeyBytes + Drop, K: AsBytes + Drop, V: Drop, const P: u
         is_between (bound_map B.key from) (bound_map B.key to) (K.bytes x.0))
         layout)) }
     ensures visits { CountsToBounds (of_key K.bytes) P store.now root
-        (bound_map B.key from) visits.old visits.new }
+        (bound_map B.key from) (bound_map B.key to) visits.old visits.new }
 {
     let Some(first) = first_from_visiting(store, root, from, visits) else {
         return RawIterator::empty();

@@ -1,10 +1,10 @@
--- The last of the texts that are prefixes of a query.
-use Rattle.std.proofs.Common.{◌≡◌, ℕ, ◌≤◌, ◌⊎◌, List, [], ◌∷◌, ◌++◌, length, arith, ap, sym, ◌∙◌, append_assoc, append-nil, Some, true, inl, inr}
+-- The last and the first of the texts that are prefixes of a query.
+use Rattle.std.proofs.Common.{◌≡◌, ℕ, ◌≤◌, ◌⊎◌, List, [], ◌∷◌, ◌++◌, length, arith, ap, sym, subst, ◌∙◌, append_assoc, append-nil, Some, true, inl, inr}
 use Rattle.std.specs.List.{AllByRecursion as Each}
 use Rattle.art_model.specs.Keys.{IsFront, is_before, is_front}
 use Rattle.art_model.specs.KeyLaws.{HasSmallerByte, IsProperFront}
-use Rattle.art_model.specs.Pairs.{Pairwise, last_of, match_of}
-use Rattle.art_model.specs.Texts.{LastHasAll, LastIsLongest}
+use Rattle.art_model.specs.Pairs.{Pairwise, first_of, last_of, match_of}
+use Rattle.art_model.specs.Texts.{FirstIsShortest, LastHasAll, LastIsLongest}
 use Rattle.art_model.proofs.keys.KeyLaws.{order_is_decided}
 use Rattle.art_model.proofs.keys.Keys.{front_from}
 use Rattle.art_model.proofs.keys.Texts.{front_short}
@@ -17,6 +17,18 @@ last_related : {A : Type 0} (R : A → A → Type 0) (xs : List A) (z : A) → P
 last_related R [] z rise e = tt
 last_related R (x ∷ []) z rise e = let same : x ≡ z = cc in (inr same, tt)
 last_related R (x ∷ y ∷ xs) z rise e = (inl (last_each (R x) (y ∷ xs) z rise.0 e), last_related R (y ∷ xs) z rise.1 e)
+
+-- the first element of a list is related to each one, or is it
+first_related : {A : Type 0} (R : A → A → Type 0) (xs : List A) (z : A) → Pairwise R xs → first_of xs ≡ Some z → Each (λ y. R z y ⊎ (y ≡ z)) xs
+first_related R [] z rise e = tt
+first_related R (x ∷ xs) z rise e =
+    let same : x ≡ z = cc in
+    (inr same, subst (λ w. Each (λ y. R w y ⊎ (y ≡ w)) xs) same (Each-weaker (R x) (λ y. R x y ⊎ (y ≡ x)) (λ y r. inl r) xs rise.0))
+
+-- what holds of each element holds of the first
+first_each : {A : Type 0} (P : A → Type 0) (xs : List A) (z : A) → Each P xs → first_of xs ≡ Some z → P z
+first_each P [] z h e = absurd cc
+first_each P (x ∷ xs) z h e = let is : x ≡ z = cc in subst P is h.0
 
 -- of two prefixes of a query the first one is a prefix of the other
 front_if_before : (t u query : List ℕ) → is_before t u ≡ true → IsFront t query → IsFront u query → IsFront t u
@@ -48,3 +60,17 @@ module _ {A : Type 0} (text : A → List ℕ) where
   last_is_longest xs query last rise e =
       Each-weaker (λ x. IsFront (text x) (text last)) (λ x. length (text x) ≤ length (text last))
       (λ x f. front_short (text x) (text last) f) (match_of text query xs) (last_has_all xs query last rise e)
+
+  pub first_is_shortest : FirstIsShortest text
+  first_is_shortest xs query first rise e =
+      let rise_in = Pairwise-filter (λ x y. is_before (text x) (text y) ≡ true) (λ x. is_front (text x) query) xs rise in
+      let passes = filter_passes (λ x. is_front (text x) query) xs in
+      let of_first = front_from (text first) query (first_each (λ x. is_front (text x) query ≡ true) (match_of text query xs) first passes e) in
+      Each-both (λ y. (is_before (text first) (text y) ≡ true) ⊎ (y ≡ first)) (λ y. is_front (text y) query ≡ true)
+      (λ y. length (text first) ≤ length (text y)) (λ y r p. either y of_first (front_from (text y) query p) r) (match_of text query xs)
+      (first_related (λ x y. is_before (text x) (text y) ≡ true) (match_of text query xs) first rise_in e) passes
+    where
+      either : (y : A) → IsFront (text first) query → IsFront (text y) query → (is_before (text first) (text y) ≡ true) ⊎ (y ≡ first) →
+          length (text first) ≤ length (text y)
+      either y f g (inl before) = front_short (text first) (text y) (front_if_before (text first) (text y) query before f g)
+      either y f g (inr same) = let long = ap (λ z. length (text z)) same in omega arith

@@ -1,6 +1,6 @@
 //! Searches for the shortest text of at least so many bytes that is a prefix of a query, among keys each of which is a
 //! text and an end byte. A text may be a prefix of another one.
-ghost use Rattle.std.specs.Prelude.{◌≡◌, ◌+◌, ◌<◌, ◌≤◌, ◌↔◌, length, IsTrue, None};
+ghost use Rattle.std.specs.Prelude.{◌≡◌, ◌+◌, ◌<◌, ◌≤◌, ◌↔◌, length, take, IsTrue, None};
 ghost use Rattle.art_inner.specs.Inner.{child_at};
 ghost use Rattle.art_inner.specs.Views.{ref_view};
 ghost use Rattle.art_model.specs.Keys.{IsFront};
@@ -9,6 +9,7 @@ ghost use Rattle.art_model.specs.Roots.{ForTree, IsCanonicalRoot};
 ghost use Rattle.art_model.specs.Texts.{AreEnded};
 ghost use Rattle.art_reading.specs.TextWays.{IsLeafOr};
 ghost use Rattle.art_reading.specs.Found.{HasFoundFirst};
+ghost use Rattle.art_reading.specs.Readings.{CountsToText, CountsToTextLeaf};
 ghost use Rattle.art_reading.specs.ShortTexts.{EndsAtFirst, texts_from};
 
 use super::texts::{leaf_or, text_of};
@@ -37,8 +38,9 @@ pub fn shortest_text_unchecked<K: AsBytes + Drop, V: Drop, const P: usize>(
     shortest_text_visiting(store, root, query, end, at_least, &mut Visits::new())
 }
 
-/// Returns what `shortest_text_unchecked` does, and adds one to the counter for each node that it reads: at most one
-/// for each byte of the query, and two more.
+/// Returns what `shortest_text_unchecked` does, and counts each reading of a node: at least the nodes whose place is a
+/// prefix of the query's first `at_least` bytes, and at most one for each byte of the query, and two more. A full
+/// counter stays full.
 #[inline(always)]
 pub fn shortest_text_visiting<K: AsBytes + Drop, V: Drop, const P: usize>(
     store: &NodeStore<K, V, P>,
@@ -53,7 +55,8 @@ pub fn shortest_text_visiting<K: AsBytes + Drop, V: Drop, const P: usize>(
         AreEnded (of_key K.bytes) end pairs) }
     ensures found { HasFoundFirst (of_key K.bytes) P store.now root
         (texts_from (of_key K.bytes) query.now at_least) result }
-    ensures visits { visits.new ≤ visits.old + length query.now + 2 }
+    ensures visits { CountsToText (of_key K.bytes) P store.now root
+        (take at_least query.now) (length query.now + 2) visits.old visits.new }
 {
     let leaf = walk_to_first(store, root, query, end, at_least, visits)?;
     let node = store.leaf_at(leaf);
@@ -88,7 +91,8 @@ fn walk_to_first<K: AsBytes + Drop, V: Drop, const P: usize>(
         AreEnded (of_key K.bytes) end pairs) }
     ensures ends { ForTree (of_key K.bytes) P store.now root (λ pairs layout.
         EndsAtFirst (of_key K.bytes) query.now at_least pairs layout result) }
-    ensures visits { visits.new ≤ visits.old + length query.now + 1 }
+    ensures visits { CountsToTextLeaf (of_key K.bytes) P store.now root
+        (take at_least query.now) (length query.now + 1) result visits.old visits.new }
 {
     let mut name = root;
     let mut depth = 0;

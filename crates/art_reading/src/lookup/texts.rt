@@ -6,6 +6,7 @@ ghost use Rattle.art_model.specs.Pairs.{of_key, without_last};
 ghost use Rattle.art_model.specs.Roots.{ForTree, IsCanonicalRoot};
 ghost use Rattle.art_model.specs.Texts.{AreEnded, texts_in_front};
 ghost use Rattle.art_reading.specs.Found.{HasFoundLast};
+ghost use Rattle.art_reading.specs.Readings.{CountsToText};
 ghost use Rattle.art_reading.specs.TextWays.{EndsAt, IsLeafOr, IsTextStep, leaf_of_end};
 
 use crate::descent::Visits;
@@ -48,8 +49,9 @@ pub fn longest_text_by<B: KeyBytes, K: AsBytes + Drop, V: Drop, const P: usize>(
     requires root { IsCanonicalRoot (of_key K.bytes) P store.now root }
     requires ended { ForTree (of_key K.bytes) P store.now root (λ pairs _.
         AreEnded (of_key K.bytes) end pairs) }
-    ensures { HasFoundLast (of_key K.bytes) P store.now root
+    ensures leaf { HasFoundLast (of_key K.bytes) P store.now root
         (texts_in_front (of_key K.bytes) (B.key query.old)) result }
+    ensures same { B.key query.new ≡ B.key query.old }
 {
     let (guide, _) = find_guide(store, root, query, root, 0);
     let key = store.leaf_at(guide).key.as_bytes();
@@ -57,8 +59,8 @@ pub fn longest_text_by<B: KeyBytes, K: AsBytes + Drop, V: Drop, const P: usize>(
     longest_text_unchecked(store, root, &key[..shared], end)
 }
 
-/// Returns what `longest_text_unchecked` does, and adds one to the counter for each node that it reads: at
-/// most two for each byte of the query, and two more.
+/// Returns what `longest_text_unchecked` does, and counts each reading of a node: at least the nodes whose place is a
+/// prefix of the query, and at most two for each byte of the query, and two more. A full counter stays full.
 #[inline(always)]
 pub fn longest_text_visiting<K: AsBytes + Drop, V: Drop, const P: usize>(
     store: &NodeStore<K, V, P>,
@@ -72,7 +74,8 @@ pub fn longest_text_visiting<K: AsBytes + Drop, V: Drop, const P: usize>(
         AreEnded (of_key K.bytes) end pairs) }
     ensures found { HasFoundLast (of_key K.bytes) P store.now root
         (texts_in_front (of_key K.bytes) query.now) result }
-    ensures visits { visits.new ≤ visits.old + 2 * length query.now + 2 }
+    ensures visits { CountsToText (of_key K.bytes) P store.now root query.now
+        (2 * length query.now + 2) visits.old visits.new }
 {
     let leaf = match walk_to_text(store, root, query, end, visits) {
         TextEnd::Whole(leaf) => return Some(leaf),
@@ -126,7 +129,8 @@ fn walk_to_text<K: AsBytes + Drop, V: Drop, const P: usize>(
         AreEnded (of_key K.bytes) end pairs) }
     ensures ends { ForTree (of_key K.bytes) P store.now root (λ pairs layout.
         EndsAt (of_key K.bytes) query.now pairs layout result) }
-    ensures visits { visits.new ≤ visits.old + length query.now + 1 }
+    ensures visits { CountsToText (of_key K.bytes) P store.now root query.now
+        (length query.now + 1) visits.old visits.new }
 {
     let mut passed = None;
     let mut name = root;

@@ -52,14 +52,16 @@ pub fn search_for_first_delete_point_below<
 
 /// Returns the point of a key whose bytes need not stand in a slice, or `None` where no stored key is equal to it.
 ///
-/// On its descent it skips prefixes by their lengths, without a comparison; at the leaf it compares the whole key.
+/// On its descent it skips prefixes by their lengths, without a comparison; at the leaf it compares the whole key. The
+/// bytes are the same afterwards.
 pub fn search_for_delete_point_by<B: KeyBytes + Drop, K: AsBytes + Drop, V: Drop, const P: usize>(
     store: &NodeStore<K, V, P>,
     root: OpaqueNodePtr,
     key: &mut B,
 ) -> Option<DeletePoint>
     requires { IsCanonicalRoot (of_key K.bytes) P store.now root }
-    ensures { HasKeyPoint (of_key K.bytes) P store.now root (B.key key.old) result }
+    ensures point { HasKeyPoint (of_key K.bytes) P store.now root (B.key key.old) result }
+    ensures same { B.key key.new ≡ B.key key.old }
 {
     let point = search_for_first_delete_point_below(store, root, key.again())?;
     let bytes = store.leaf_at(point.leaf_node_ptr).key.as_bytes();

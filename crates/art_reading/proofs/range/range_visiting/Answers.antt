@@ -2,9 +2,11 @@ use Rattle.std.proofs.Common.{arith, ◌+◌, rules, ap, sym, ◌∙◌}
 use Rattle.std.specs.Option.{option_map}
 use Rattle.std.specs.Range.Bound.{bound_map}
 use Rattle.art_parts.specs.Names.{leaf_name}
-use Rattle.art_model.specs.Parts.{is_between, is_up_to, leaves_where}
+use Rattle.art_model.specs.Pairs.{of_key}
+use Rattle.art_model.specs.Parts.{is_between, is_from, is_up_to, leaves_where}
+use Rattle.art_reading.specs.Readings.{nodes_to}
 use Rattle.art_reading.proofs.Bounds.{first_past, last_is_there, none_after, span_walk}
-use Rattle.art_reading.proofs.Counts.{count_both}
+use Rattle.art_reading.proofs.Counts.{count_both, if_any_most, if_no_first, if_none}
 use Rattle.art_reading.proofs.range.range_visiting.Goals as goal
 
 pub returns-in_default-clause-leaves : goal.returns-in_default-clause-leaves
@@ -55,7 +57,12 @@ returns-in_default-clause-visits g c =
     record {
       number = first.number;
       counted = first.counted;
-      is_number = λ pairs layout by. let (seen, few) = first.is_number pairs layout by in (omega arith, omega arith);
+      is_number = λ pairs layout by.
+          let (seen, few) = first.is_number pairs layout by in
+          let at = if_no_first _ 1 (c.in_default.ensures.leaf pairs layout by) in
+          let within = if_none _ (nodes_to (of_key g.K.AsBytes.bytes) (bound_map g.B.KeyBytes.key c.args.to) layout)
+          (none_after by (bound_map g.B.KeyBytes.key c.args.from) (bound_map g.B.KeyBytes.key c.args.to) (c.in_default.ensures.leaf pairs layout by)).ends in
+          (omega arith, omega arith);
     }
 
 pub returns-then-not-ends_after-clause-visits : goal.returns-then-not-ends_after-clause-visits
@@ -64,7 +71,14 @@ returns-then-not-ends_after-clause-visits g c =
     record {
       number = first.number + 1;
       counted = count_both _ _ _ first.counted c.count_one.ensures;
-      is_number = λ pairs layout by. let (seen, few) = first.is_number pairs layout by in (omega arith, omega arith);
+      is_number = λ pairs layout by.
+          let (seen, few) = first.is_number pairs layout by in
+          let at = if_any_most (leaves_where (λ x. is_from (bound_map g.B.KeyBytes.key c.args.from) (g.K.AsBytes.bytes x.0)) layout) 1 in
+          let past = first_past by (bound_map g.B.KeyBytes.key c.args.from) (bound_map g.B.KeyBytes.key c.args.to)
+          (c.in-Some.ensures.leaf pairs layout by) (sym c.leaf_at-leaf.ensures)
+          (ap (is_up_to (bound_map g.B.KeyBytes.key c.args.to)) (sym c.as_bytes.ensures) ∙ sym c.ends_after.ensures ∙ c.if-not-ends_after.true) in
+          let within = if_none _ (nodes_to (of_key g.K.AsBytes.bytes) (bound_map g.B.KeyBytes.key c.args.to) layout) past.ends in
+          (omega arith, omega arith);
     }
 
 pub returns-clause-visits : goal.returns-clause-visits
@@ -75,7 +89,11 @@ returns-clause-visits g c =
       number = first.number + 1 + last.number;
       counted = count_both _ _ _ (count_both _ _ _ first.counted c.count_one.ensures) last.counted;
       is_number = λ pairs layout by.
+          let from = bound_map g.B.KeyBytes.key c.args.from in
+          let to = bound_map g.B.KeyBytes.key c.args.to in
           let (seen, few) = first.is_number pairs layout by in
           let (all, more) = last.is_number pairs layout by in
+          let at = if_any_most (leaves_where (λ x. is_from from (g.K.AsBytes.bytes x.0)) layout) 1 in
+          let within = if_any_most (leaves_where (λ x. is_between from to (g.K.AsBytes.bytes x.0)) layout) (nodes_to (of_key g.K.AsBytes.bytes) to layout) in
           (omega arith, omega arith);
     }

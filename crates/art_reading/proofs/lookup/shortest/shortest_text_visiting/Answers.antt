@@ -1,4 +1,4 @@
-use Rattle.std.proofs.Common.{◌≤◌, length, ap, rules, subst, sym, ◌∙◌}
+use Rattle.std.proofs.Common.{◌≤◌, length, ap, arith, rules, subst, sym, ◌∙◌}
 use Rattle.art_model.specs.Keys.{IsFront}
 use Rattle.art_model.specs.Pairs.{of_key, without_last}
 use Rattle.art_model.specs.Texts.{text_of}
@@ -6,6 +6,7 @@ use Rattle.art_reading.proofs.Found.{has_found_first}
 use Rattle.art_reading.proofs.LongestTexts.{own_pair}
 use Rattle.art_reading.proofs.Parts.{leaf_is_there}
 use Rattle.art_reading.proofs.ShortTexts.{first_found, first_missed, first_none}
+use Rattle.art_reading.proofs.TextReads.{at_most, with_leaf}
 use Rattle.art_reading.proofs.lookup.shortest.shortest_text_visiting.Goals as goal
 
 pub returns-in_err-leaf-clause-found : goal.returns-in_err-leaf-clause-found
@@ -38,3 +39,13 @@ returns-clause-found g c =
     let yes = c.is_sought.ensures.1 (subst (λ z. IsFront z c.args.query.now × (c.args.at_least ≤ length z)) (sym own) sought) in
     let no = c.if-is_sought.false in
     absurd cc))
+
+-- ---- the counter
+pub returns-in_err-leaf-clause-visits : goal.returns-in_err-leaf-clause-visits
+returns-in_err-leaf-clause-visits g c = at_most c.in_err-leaf.ensures.visits (omega arith)
+
+pub returns-then-is_sought-clause-visits : goal.returns-then-is_sought-clause-visits
+returns-then-is_sought-clause-visits g c = with_leaf c.in_ok-leaf.leaf c.in_ok-leaf.ensures.visits c.count_one.ensures (omega arith)
+
+pub returns-clause-visits : goal.returns-clause-visits
+returns-clause-visits g c = with_leaf c.in_ok-leaf.leaf c.in_ok-leaf.ensures.visits c.count_one.ensures (omega arith)

@@ -1,13 +1,14 @@
-use Rattle.std.proofs.Common.{◌+◌, ◌-◌, ◌≤◌, length}
+use Rattle.std.proofs.Common.{◌-◌, ◌≤◌, length, take}
 use Rattle.art_model.specs.Pairs.{of_key}
 use Rattle.art_model.specs.Roots.{ForTree}
 use Rattle.art_reading.proofs.ShortTexts.{IsShortWay}
+use Rattle.art_reading.proofs.TextReads.{CountsAbove}
 use Rattle.art_reading.proofs.lookup.shortest.walk_to_first.Given as goal
 
 abbrev pub invariant-down : goal.invariant-down
 invariant-down g l = record {
   within : l.depth ≤ length l.query;
-  few : l.visits ≤ l.fn.visits + l.depth;
+  readings : CountsAbove (of_key g.K.AsBytes.bytes) g.row.P l.store l.fn.root (take l.at_least l.query) l.fn.visits l.name l.depth l.visits;
   way : ForTree (of_key g.K.AsBytes.bytes) g.row.P l.store l.fn.root
       (λ pairs layout. IsShortWay (of_key g.K.AsBytes.bytes) g.row.P l.end l.query l.at_least layout l.name l.depth);
 }

@@ -25,8 +25,8 @@ slice_bounds-longest_text_unchecked-end g c =
     let shared = c.shared_after-shared.ensures.shared in
     omega arith
 
-pub returns : goal.returns
-returns g c =
+pub returns-clause-leaf : goal.returns-clause-leaf
+returns-clause-leaf g c =
     has_found_last (of_key g.K.AsBytes.bytes) g.row.P c.requires.root (λ pairs layout by.
     let guide = c.find_guide.ensures.guide pairs layout by in
     let own = c.as_bytes-key.ensures ∙ ap (of_key g.K.AsBytes.bytes) (own_pair by guide.has (sym c.leaf_at.ensures)) in

@@ -1,17 +1,19 @@
-use Rattle.std.proofs.Common.{◌<◌, ◌≤◌, ap, arith, length, rules, subst, sym, ◌∙◌}
+use Rattle.std.proofs.Common.{◌+◌, ◌<◌, ◌≤◌, ap, arith, length, rules, subst, sym, ◌∙◌}
 use Rattle.art_model.specs.Keys.{IsFront}
 use Rattle.art_model.specs.Pairs.{of_key, without_last}
 use Rattle.art_model.specs.Roots.{ForTree}
 use Rattle.art_model.specs.Stores.{pair_of}
-use Rattle.art_model.proofs.stores.Shown.{inner_met, leaf_met, leaf_shown, shown_met}
+use Rattle.art_model.proofs.stores.Shown.{inner_met, leaf_met, leaf_named, leaf_shown, shown_met}
 use Rattle.art_reading.proofs.Descents.{stands_there}
 use Rattle.art_reading.proofs.Parts.{some_there}
+use Rattle.art_reading.proofs.Counts.{count_both}
+use Rattle.art_reading.proofs.TextReads.{read_begins, read_last, read_leaf, text_read, text_reads_on}
 use Rattle.art_reading.proofs.TextWays.{IsNestedWay, ended_all, other_leaf, over_ends, own_leaf, step_ends, step_goes, way_begins}
 use Rattle.art_reading.specs.declared.lookup.texts.TextEnd.TheVariants.{Passed, Whole}
 use Rattle.art_reading.proofs.lookup.texts.walk_to_text.Goals as goal
 
 pub down-init : goal.down-init
-down-init g c = record { within = omega arith; few = omega arith; way = λ pairs layout by. way_begins by c.args.end c.args.query.now }
+down-init g c = record { within = omega arith; readings = record { number = 0; counted = omega arith; is_number = (omega arith, λ pairs layout by. read_begins c.args.query.now by) }; way = λ pairs layout by. way_begins by c.args.end c.args.query.now }
 
 pub leaf_at-node-requires : goal.leaf_at-node-requires
 leaf_at-node-requires g c =
@@ -73,4 +75,44 @@ down-preserved g c =
     step_goes by c.args.end c.args.query.now ended way at c.step_at.ensures c.in-Some.is in
     let (pairs, layout, by) = c.requires.root in
     let (way, less, within) = goes pairs layout by in
-    record { within = within; few = omega arith; way = λ pairs layout by. (goes pairs layout by).0 }
+    let before = c.down.invariant.readings in
+    let (few, reads) = before.is_number in
+    record {
+      within = within;
+      readings = record {
+        number = before.number + 1;
+        counted = count_both _ _ _ before.counted c.count_one.ensures;
+        is_number = (
+          omega arith,
+          λ pairs layout by.
+              let read = reads pairs layout by in
+              let at = shown_met (stands_there by read.descent.at) c.in-Inner.ensures.proper c.in-Inner.ensures.name (sym c.inner_at-node.ensures.view) in
+              text_reads_on read at c.step_at.ensures c.in-Some.is,
+        );
+      };
+      way = λ pairs layout by. (goes pairs layout by).0;
+    }
+
+-- ---- the counter
+pub returns-then-begins_with-clause-visits : goal.returns-then-begins_with-clause-visits
+returns-then-begins_with-clause-visits g c =
+    let within = c.down.invariant.within in
+    read_last c.down.invariant.readings (λ pairs layout by n r.
+    let there = stands_there by r.descent.at in
+    let (x, is) = leaf_named c.args.store.now c.in-Leaf.leaf r.descent.at.node (there.named ∙ sym c.in-Leaf.ensures.name) there.holds in
+    read_leaf r _ x is) c.count_one.ensures (omega arith)
+
+pub returns-in-Leaf-clause-visits : goal.returns-in-Leaf-clause-visits
+returns-in-Leaf-clause-visits g c =
+    let within = c.down.invariant.within in
+    read_last c.down.invariant.readings (λ pairs layout by n r.
+    let there = stands_there by r.descent.at in
+    let (x, is) = leaf_named c.args.store.now c.in-Leaf.leaf r.descent.at.node (there.named ∙ sym c.in-Leaf.ensures.name) there.holds in
+    read_leaf r _ x is) c.count_one.ensures (omega arith)
+
+pub returns-in_default-clause-visits : goal.returns-in_default-clause-visits
+returns-in_default-clause-visits g c =
+    let within = c.down.invariant.within in
+    read_last c.down.invariant.readings (λ pairs layout by n r.
+    let at = shown_met (stands_there by r.descent.at) c.in-Inner.ensures.proper c.in-Inner.ensures.name (sym c.inner_at-node.ensures.view) in
+    text_read r at c.step_at.ensures c.in_default.is) c.count_one.ensures (omega arith)

@@ -1,13 +1,14 @@
-use Rattle.std.proofs.Common.{◌+◌, ◌-◌, ◌≤◌, length}
+use Rattle.std.proofs.Common.{◌-◌, ◌≤◌, length}
 use Rattle.art_model.specs.Pairs.{of_key}
 use Rattle.art_model.specs.Roots.{ForTree}
+use Rattle.art_reading.proofs.TextReads.{CountsAbove}
 use Rattle.art_reading.proofs.TextWays.{IsNestedWay}
 use Rattle.art_reading.proofs.lookup.texts.walk_to_text.Given as goal
 
 abbrev pub invariant-down : goal.invariant-down
 invariant-down g l = record {
   within : l.depth ≤ length l.query;
-  few : l.visits ≤ l.fn.visits + l.depth;
+  readings : CountsAbove (of_key g.K.AsBytes.bytes) g.row.P l.store l.fn.root l.query l.fn.visits l.name l.depth l.visits;
   way : ForTree (of_key g.K.AsBytes.bytes) g.row.P l.store l.fn.root
       (λ pairs layout. IsNestedWay (of_key g.K.AsBytes.bytes) g.row.P l.end l.query layout l.name l.depth l.passed);
 }
