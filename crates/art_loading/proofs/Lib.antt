@@ -1,0 +1,5 @@
+pub mod Steps
+pub mod Next
+pub mod Points
+pub mod Puts
+pub mod Edges

@@ -1,0 +1,11 @@
+use Rattle.std.proofs.Common.{◌≡◌, ◌<◌, List, ◌++◌, length}
+use Rattle.std.specs.List.{AllByRecursion as Each}
+use Rattle.art_loading.specs.declared.edge.Step.{Step}
+use Rattle.art_loading.proofs.Steps.{AreLeft}
+use Rattle.art_loading.proofs.edge.last_within.Given as goal
+
+abbrev pub invariant-up : goal.invariant-up
+invariant-up l = AreLeft l.shared l.fn.steps l.rest
+
+abbrev pub decreases-up : goal.decreases-up
+decreases-up l = length l.rest
