@@ -1,19 +1,23 @@
 -- a tree that is being built
 use Rattle.std.proofs.Common.{◌≡◌, ℕ, ◌+◌, ◌<◌, List, [], ◌∷◌, ◌++◌, length, refl, ap, sym, ◌∙◌, subst, arith, length-append, Option, Some, None, Result, Ok, Err, OnOk, OnErr, IfErr}
 use Rattle.std.specs.FinMap as map
-use Rattle.art_building.specs.Built.{HasAppended, HoldsEdge, IsEdgeOf, IsRefusal, root_of}
-use Rattle.art_building.specs.MapPairs.{HoldsPairs, pairs_at}
-use Rattle.art_building.proofs.Enough.{enough}
-use Rattle.art_building.proofs.Puts.{at_root, left_holds, planted, stays}
-use Rattle.art_building.proofs.Views.{view_of}
+use Rattle.art_building.specs.Built.{HasAppended, HoldsEdge, IsEdgeOf, root_of}
+use Rattle.art_building.specs.Pushes.{IsPushError, IsReasonAfter}
+use Rattle.art_map.specs.MapPairs.{HoldsPairs, pairs_at}
+use Rattle.art_map.proofs.Enough.{enough}
+use Rattle.art_map.proofs.Puts.{at_root, left_holds, planted, stays}
+use Rattle.art_map.proofs.Views.{view_of}
 use Rattle.art_loading.specs.Edges.{IsEdge}
 use Rattle.art_loading.specs.declared.append.Edge.{Edge}
-use Rattle.art_loading.specs.declared.append.Refused.{Refused}
+use Rattle.art_loading.specs.declared.append.AppendError.{AppendError}
+use Rattle.art_loading.specs.declared.append.AppendReason.{AppendReason}
+use Rattle.art_loading.specs.declared.append.AppendReason.TheVariants.{Memory}
+use Rattle.art_loading.specs.Next.{IsReason}
 use Rattle.art_loading.specs.declared.edge.Step.{Step}
-use Rattle.art_loading.proofs.Edges.{edge_stays}
+use Rattle.art_loading.proofs.Edges.{edge_last, edge_stays}
 use Rattle.art_model.specs.Canonical.{IsCanonicalTree}
 use Rattle.art_model.specs.Kept.{ChangesInPlace}
-use Rattle.art_model.specs.Pairs.{of_key}
+use Rattle.art_model.specs.Pairs.{last_of, of_key}
 use Rattle.art_model.specs.Roots.{ForTree, IsRootOf}
 use Rattle.art_model.specs.Trees.{Tree}
 use Rattle.art_model.proofs.stores.StoreLaws.{has_one_map}
@@ -86,6 +90,13 @@ module _ {K V : Type 0} (bytes : K → List ℕ) (P : ℕ) where
       go None h = h
       go (Some l) h = absurd h
 
+  -- to no pairs one can be added, where there is memory
+  pub no_reason : {s : Nodes K V} {edge : Option Edge} {len : ℕ} {pairs : List (K × V)} {key : K} → edge ≡ None →
+      HoldsEdge (of_key bytes) P s edge len pairs → IsReasonAfter bytes (last_of pairs) key Memory
+  no_reason {s} {edge} {len} {pairs} {key} none h =
+      subst (λ ps. IsReasonAfter bytes (last_of ps) key Memory)
+      (sym (bare (subst (λ e. HoldsPairs (of_key bytes) P s (root_of e) len pairs) none h.held))) refl
+
   -- a tree is begun
   pub begun_held : {s t : Nodes K V} {edge : Option Edge} {begun : Edge} {len : ℕ} {pairs : List (K × V)} {key : K} {value : V} → edge ≡ None →
       HoldsEdge (of_key bytes) P s edge len pairs → begun.root ≡ leaf_name begun.leaf → IsPlanted s t begun.leaf (key, value) →
@@ -100,23 +111,30 @@ module _ {K V : Type 0} (bytes : K → List ℕ) (P : ℕ) where
 
   module _ (t : Nodes K V) (edge : Option Edge) (len : ℕ) (pairs : List (K × V)) (key : K) (value : V) where
     -- what is left is held
-    pub appended_holds : (result : Result (Unit {0}) (Refused K V)) → HasAppended bytes P pairs key value result t edge len →
+    pub appended_holds : (result : Result (Unit {0}) (AppendError K V)) → HasAppended bytes P pairs key value result t edge len →
         HoldsEdge (of_key bytes) P t edge len (pairs_at t (root_of edge))
     appended_holds (Ok done) h = seen_holds h
-    appended_holds (Err refused) h = seen_holds h.0
+    appended_holds (Err error) h = seen_holds h.0
 
     module _ {before : List (K × V)} (same : pairs ≡ before) where
-      pub pushed : (result : Result (Unit {0}) (Refused K V)) → HasAppended bytes P pairs key value result t edge len →
+      pub pushed : (result : Result (Unit {0}) (AppendError K V)) → HasAppended bytes P pairs key value result t edge len →
           OnOk result (pairs_at t (root_of edge) ≡ before ++ (key, value) ∷ [])
       pushed (Ok done) h = seen h ∙ ap (λ ps. ps ++ (key, value) ∷ []) same
-      pushed (Err refused) h = tt
+      pushed (Err error) h = tt
 
-      pub unchanged : (result : Result (Unit {0}) (Refused K V)) → HasAppended bytes P pairs key value result t edge len →
+      pub unchanged : (result : Result (Unit {0}) (AppendError K V)) → HasAppended bytes P pairs key value result t edge len →
           OnErr result (pairs_at t (root_of edge) ≡ before)
       unchanged (Ok done) h = tt
-      unchanged (Err refused) h = seen h.0 ∙ same
+      unchanged (Err error) h = seen h.0 ∙ same
 
-      pub returned : (result : Result (Unit {0}) (Refused K V)) → HasAppended bytes P pairs key value result t edge len →
-          IfErr result (IsRefusal bytes before key value)
+      pub returned : (result : Result (Unit {0}) (AppendError K V)) → HasAppended bytes P pairs key value result t edge len →
+          IfErr result (IsPushError bytes before key value)
       returned (Ok done) h = tt
-      returned (Err refused) h = subst (λ ps. IsRefusal bytes ps key value refused) same h.1
+      returned (Err error) h = subst (λ ps. IsPushError bytes ps key value error) same h.1
+
+-- the reason is about the last pair
+pub reason_after : {K V : Type 0} {bytes : K → List ℕ} {P : ℕ} {s : Nodes K V} {right : Edge} {pairs : List (K × V)} {key : K} {reason : AppendReason} →
+    IsEdge (of_key bytes) P s right.root right.steps.items right.leaf pairs →
+    ((last : K × V) → last_of pairs ≡ Some last → IsReason (bytes last.0) (bytes key) reason) → IsReasonAfter bytes (last_of pairs) key reason
+reason_after {bytes = bytes} {key = key} {reason} e told =
+    subst (λ o. IsReasonAfter bytes o key reason) (sym (edge_last e)) (told e.pair (edge_last e))

@@ -8,13 +8,12 @@ ghost use Rattle.art_map.specs.MapPairs.{pairs_at};
 ghost use Rattle.art_model.specs.Pairs.{IsMap, of_key};
 
 use art_loading::append::{Edge, append, begin};
+pub use art_loading::append::{AppendError, AppendReason};
 use art_map::map::{ByteMap, PairRefused};
 use art_nodes::node::AsBytes;
 use art_nodes::store::NodeStore;
 use std::alloc::Global;
 use std::marker::Model;
-
-pub use art_loading::append::{AppendError, AppendReason};
 
 /// A `ByteMap` that is being built from pairs in ascending order of their keys.
 ///
@@ -101,7 +100,10 @@ impl<K: AsBytes + Drop, V: Drop, const P: usize> MapBuilder<K, V, P> {
             BuildsUntil I.next_gives K.bytes pairs.old self.old error pairs.new self.new) }
     {
         while let Some((key, value)) = pairs.next() {
-            self.push(key, value)?;
+            match self.push(key, value) {
+                Ok(()) => {}
+                Err(error) => return Err(error),
+            }
         }
         Ok(())
     }
@@ -128,8 +130,10 @@ impl<K: AsBytes + Drop, V: Drop, const P: usize> MapBuilder<K, V, P> {
             BuildsUntil I.next_gives K.bytes pairs.old [] error pairs.new before) }
     {
         let mut builder = MapBuilder::new(alloc);
-        builder.extend(pairs)?;
-        Ok(builder.finish())
+        match builder.extend(pairs) {
+            Ok(()) => Ok(builder.finish()),
+            Err(error) => Err(error),
+        }
     }
 }
 

@@ -1,5 +1,5 @@
 -- what is known at the right edge of a tree, and the points there
-use Rattle.std.proofs.Common.{◌≡◌, ◌≢◌, ℕ, ◌+◌, ◌<◌, ◌≤◌, List, [], ◌∷◌, ◌++◌, length, refl, ap, sym, ◌∙◌, arith, subst, Option, Some, None, IsSome, true, inl, inr, ◌⊎◌, take_at, take, append-nil}
+use Rattle.std.proofs.Common.{◌≡◌, ◌≢◌, ℕ, ◌+◌, ◌<◌, ◌≤◌, List, [], ◌∷◌, ◌++◌, length, refl, ap, sym, ◌∙◌, arith, subst, Option, Some, None, IsSome, true, inl, inr, ◌⊎◌, take_at, take, append-nil, get_or}
 use Rattle.std.specs.List.{AllByRecursion as Each}
 use Rattle.std.specs.FinMap as map
 use Rattle.art_inner.specs.Inner.{Inner}
@@ -10,13 +10,13 @@ use Rattle.art_parts.specs.declared.names.LeafPtr.{LeafPtr}
 use Rattle.art_parts.specs.declared.names.NodeType.TheVariants.{Leaf}
 use Rattle.art_parts.specs.declared.names.OpaqueNodePtr.{OpaqueNodePtr}
 use Rattle.art_nodes.specs.Nodes.{Nodes}
-use Rattle.art_loading.specs.Edges.{IsEdge, IsEdgePoint, IsLeafIf, IsNewKind}
+use Rattle.art_loading.specs.Edges.{EndsIfInto, IsEdge, IsEdgePoint, IsLeafIf, IsNewKind}
 use Rattle.art_loading.specs.Next.{IsNext}
 use Rattle.art_loading.specs.Steps.{IsReach, path_by, step_of, steps_of}
 use Rattle.art_loading.specs.declared.edge.Step.{Step}
-use Rattle.art_loading.proofs.Next.{next_precedes}
-use Rattle.art_loading.proofs.Points.{IsPointAt, leaf_point, into_point, mismatch_point, plug_twice, prefix_len}
-use Rattle.art_loading.proofs.Puts.{before_last, last_child, pairs_with_last, put_last}
+use Rattle.art_loading.proofs.Next.{next_byte, next_precedes}
+use Rattle.art_loading.proofs.Points.{IsPointAt, leaf_point, into_byte, into_point, mismatch_point, plug_twice, prefix_len}
+use Rattle.art_loading.proofs.Puts.{before_last, ends_with_last, last_child, last_of_push, pairs_with_last, put_last}
 use Rattle.art_loading.proofs.Steps.{IsCut, cut_at, path_by-steps}
 use Rattle.art_model.specs.Canonical.{IsCanonical, IsCanonicalTree}
 use Rattle.art_model.specs.Keys.{Precedes, is_before}
@@ -85,12 +85,7 @@ module _ {K V : Type 0} {bytes : K × V → List ℕ} {P : ℕ} {s : Nodes K V} 
   edge_pairs = sym (tree_radix e.by).1 ∙ ap pairs_of (sym e.whole) ∙ pairs_with_last e.frames (leaf_name last) e.pair e.rightmost
 
   pub edge_last : last_of pairs ≡ Some e.pair
-  edge_last = ap last_of edge_pairs ∙ go (pairs_before e.frames)
-    where
-      go : (xs : List (K × V)) → last_of (xs ++ e.pair ∷ []) ≡ Some e.pair
-      go [] = refl
-      go (x ∷ []) = refl
-      go (x ∷ y ∷ xs) = go (y ∷ xs)
+  edge_last = ap last_of edge_pairs ∙ last_of_push (pairs_before e.frames) e.pair
 
   -- all pairs are before a key after the last one
   pub all_before : (key : List ℕ) → Precedes (bytes e.pair) key → Each (λ x. is_before (bytes x) key ≡ true) pairs
@@ -119,7 +114,7 @@ module _ {K V : Type 0} {bytes : K × V → List ℕ} {P : ℕ} {s : Nodes K V} 
   -- the point at the leaf
   pub leaf_edge : {key : List ℕ} {shared x y : ℕ} (point : InsertPoint) (above : List Step) (depth : ℕ) → IsNext (bytes e.pair) key shared x y →
       point ≡ record { path = path_of e.frames; insert_kind = SplitLeaf last shared; key_bytes_used = depth; root = root } →
-      above ≡ steps_of e.frames → depth ≡ depth_of e.frames → depth ≤ shared → IsEdgePoint bytes P e.layout key point above depth
+      above ≡ steps_of e.frames → depth ≡ depth_of e.frames → depth ≤ shared → IsEdgePoint bytes P e.layout last key point above depth
   leaf_edge {key} {shared} point above depth next is above_is depth_is short =
       let p = leaf_point last e.pair e.by next e.frames e.whole (omega arith) in
       record {
@@ -135,12 +130,13 @@ module _ {K V : Type 0} {bytes : K × V → List ℕ} {P : ℕ} {s : Nodes K V} 
         above_is = above_is;
         depth_is = depth_is;
         rightmost = e.rightmost;
+        ends = subst (λ (z : InsertPoint). EndsIfInto z.insert_kind last (get_or key z.key_bytes_used 0) (leaf (leaf_name last) e.pair)) (sym is) tt;
         is_new = subst (λ (z : InsertPoint). IsNewKind z.insert_kind) (sym is) tt;
       }
 
   pub bare_edge : {key : List ℕ} {shared x y : ℕ} (point : InsertPoint) → IsNext (bytes e.pair) key shared x y →
       Each (λ step. shared < step.depth) steps →
-      point ≡ record { path = Root; insert_kind = SplitLeaf last shared; key_bytes_used = 0; root = root } → IsEdgePoint bytes P e.layout key point [] 0
+      point ≡ record { path = Root; insert_kind = SplitLeaf last shared; key_bytes_used = 0; root = root } → IsEdgePoint bytes P e.layout last key point [] 0
   bare_edge {shared = shared} point next deep is =
       let bare = edge_bare shared deep in
       leaf_edge point [] 0 next
@@ -196,8 +192,8 @@ module _ {K V : Type 0} {bytes : K × V → List ℕ} {P : ℕ} {s : Nodes K V} 
     -- the point at an inner node
     inner_edge : {key : List ℕ} {used depth : ℕ} (kind : InsertKind) (point : InsertPoint) → IsPointAt bytes P e.layout key c.outer here used kind →
         point ≡ record { path = path_by Root above; insert_kind = kind; key_bytes_used = used; root = root } →
-        IsNewKind kind → depth ≡ step.depth → (kept : List Step) → kept ≡ above → IsEdgePoint bytes P e.layout key point kept depth
-    inner_edge {key} kind point p is new depth_is kept kept_is =
+        IsNewKind kind → EndsIfInto kind last (get_or key used 0) here → depth ≡ step.depth → (kept : List Step) → kept ≡ above → IsEdgePoint bytes P e.layout last key point kept depth
+    inner_edge {key} {used} kind point p is new ends depth_is kept kept_is =
         record {
           at = record {
             path = c.outer;
@@ -211,6 +207,7 @@ module _ {K V : Type 0} {bytes : K × V → List ℕ} {P : ℕ} {s : Nodes K V} 
           depth_is = depth_is ∙ ap (λ (z : Step). z.depth) c.step_is;
           rightmost = outer_right.1;
           is_new = subst (λ (z : InsertPoint). IsNewKind z.insert_kind) (sym is) new;
+          ends = subst (λ (z : InsertPoint). EndsIfInto z.insert_kind last (get_or key z.key_bytes_used 0) here) (sym is) ends;
         }
 
     module _ {key : List ℕ} {x y : ℕ} (next : IsNext (bytes e.pair) key shared x y) (within : step.depth ≤ shared) (path : TreePath)
@@ -218,22 +215,38 @@ module _ {K V : Type 0} {bytes : K × V → List ℕ} {P : ℕ} {s : Nodes K V} 
       short : depth_of c.outer ≤ shared
       short = subst (λ (z : Step). z.depth ≤ shared) c.step_is within
 
+      -- the last child of the node is the one on the path
+      left_ends : step.depth + c.frame.header.length_of ≡ shared → EndsIfInto (IntoExisting (as_inner c.frame.mark)) last (get_or key shared 0) here
+      left_ends end =
+          let byte = into_byte last e.pair e.by next c.inner c.frame c.outer cut_whole short outer_right.0
+          (sym (subst (λ (z : Step). z.depth + c.frame.header.length_of ≡ shared) c.step_is end)) in
+          let other = next_byte next in
+          let less = next.less in (
+            c.frame.left,
+            c.frame.byte,
+            plug c.inner (leaf (leaf_name last) e.pair),
+            ap (λ r. join c.frame.left (child c.frame.byte (plug c.inner (leaf (leaf_name last) e.pair)) r)) outer_right.0,
+            omega arith,
+            ends_with_last c.inner (leaf_name last) e.pair
+                (Each-left (λ f. f.right ≡ no_child) c.inner (c.frame ∷ c.outer) (subst (Each (λ f. f.right ≡ no_child)) c.whole e.rightmost)),
+          )
+
       pub into_edge : step.depth + c.frame.header.length_of ≡ shared → path ≡ path_by Root above →
           point ≡ record { path = path; insert_kind = IntoExisting step.node; key_bytes_used = shared; root = root } →
-          IsEdgePoint bytes P e.layout key point kept step.depth
+          IsEdgePoint bytes P e.layout last key point kept step.depth
       into_edge end path_is is =
           inner_edge (IntoExisting (as_inner c.frame.mark)) point
           (into_point last e.pair e.by next c.inner c.frame c.outer cut_whole short outer_right.0
           (sym (subst (λ (z : Step). z.depth + c.frame.header.length_of ≡ shared) c.step_is end)))
           (is ∙ ap (λ p. record { path = p; insert_kind = IntoExisting step.node; key_bytes_used = shared; root = root }) path_is
           ∙ ap (λ (z : Step). record { path = path_by Root above; insert_kind = IntoExisting z.node; key_bytes_used = shared; root = root }) c.step_is)
-          tt refl kept kept_is
+          tt (left_ends end) refl kept kept_is
 
       pub mismatch_edge : (m : ExplicitMismatch) (len : ℕ) → len ≡ c.frame.header.length_of → shared < step.depth + len →
           m.matched_bytes + step.depth ≡ shared → m.prefix_byte ≡ x →
           IsLeafIf P len (fill c.frame (plug c.inner (leaf (leaf_name last) e.pair))) m.leaf_ptr → path ≡ path_by Root above →
           point ≡ record { path = path; insert_kind = MismatchPrefix m step.node; key_bytes_used = step.depth; root = root } →
-          IsEdgePoint bytes P e.layout key point kept step.depth
+          IsEdgePoint bytes P e.layout last key point kept step.depth
       mismatch_edge m len len_is inside matched byte least path_is is =
           inner_edge (MismatchPrefix m (as_inner c.frame.mark)) point
           (mismatch_point last e.pair e.by next c.inner c.frame c.outer cut_whole short
@@ -243,13 +256,13 @@ module _ {K V : Type 0} {bytes : K × V → List ℕ} {P : ℕ} {s : Nodes K V} 
           (prefix_len last e.pair e.by next c.inner c.frame c.outer cut_whole) (subst (λ n. IsLeafIf P n here m.leaf_ptr) len_is least)))
           (is ∙ ap (λ p. record { path = p; insert_kind = MismatchPrefix m step.node; key_bytes_used = step.depth; root = root }) path_is
           ∙ ap (λ (z : Step). record { path = path_by Root above; insert_kind = MismatchPrefix m z.node; key_bytes_used = z.depth; root = root }) c.step_is)
-          tt refl kept kept_is
+          tt tt refl kept kept_is
 
     -- beyond the node's prefix there is only the leaf
     pub far_edge : {key : List ℕ} {x y : ℕ} → IsNext (bytes e.pair) key shared x y → (point : InsertPoint) (path : TreePath) (len : ℕ) →
         len ≡ c.frame.header.length_of → step.depth + len < shared → path ≡ path_by Root steps →
         point ≡ record { path = path; insert_kind = SplitLeaf last shared; key_bytes_used = step.depth + len + 1; root = root } →
-        IsEdgePoint bytes P e.layout key point (take (length steps) steps) (step.depth + len + 1)
+        IsEdgePoint bytes P e.layout last key point (take (length steps) steps) (step.depth + len + 1)
     far_edge next point path len len_is past path_is is =
         leaf_edge point (take (length steps) steps) (step.depth + len + 1) next
         (is ∙ ap (λ p. record { path = p; insert_kind = SplitLeaf last shared; key_bytes_used = step.depth + len + 1; root = root })
@@ -268,7 +281,7 @@ module _ {K V : Type 0} {bytes : K × V → List ℕ} {P : ℕ} {s : Nodes K V} 
 
   -- the edge after the pair is inserted
   pub edge_after : {t : Nodes K V} {new_root : OpaqueNodePtr} {new : K × V} {point : InsertPoint} {above after : List Step} {depth byte : ℕ}
-      {parent : InnerPtr} {name : LeafPtr} → Precedes (bytes e.pair) (bytes new) → (p : IsEdgePoint bytes P e.layout (bytes new) point above depth) →
+      {parent : InnerPtr} {name : LeafPtr} → Precedes (bytes e.pair) (bytes new) → (p : IsEdgePoint bytes P e.layout last (bytes new) point above depth) →
       (canonical : IsCanonical bytes P t (Some new_root) (put bytes new pairs)) → IsBelow p.at.path canonical.0 new name (NewParent parent byte) →
       after ≡ above ++ record { node = parent; depth = depth; byte = byte } ∷ [] → IsEdge bytes P t new_root after name (pairs ++ new ∷ [])
   edge_after {t} {new_root} {new} {after = after} {depth} {byte} {parent} {name} later p (tree, by) below is =
@@ -301,12 +314,12 @@ module _ {K V : Type 0} {bytes : K × V → List ℕ} {P : ℕ} {s : Nodes K V} 
       subst (λ l. IsNext l key shared x y) (old_is ∙ ap bytes (edge_same there)) (subst (λ k. IsNext old k shared x y) new_is next)
 
   -- the point is one of the store
-  pub edge_point : {key : List ℕ} {point : InsertPoint} {above : List Step} {depth : ℕ} → IsEdgePoint bytes P e.layout key point above depth →
+  pub edge_point : {key : List ℕ} {point : InsertPoint} {above : List Step} {depth : ℕ} → IsEdgePoint bytes P e.layout last key point above depth →
       IsPointIn bytes P s key point
   edge_point p = point_in e.by refl p.at
 
   -- its root is the tree's
-  pub edge_at : {key : List ℕ} {point : InsertPoint} {above : List Step} {depth : ℕ} → IsEdgePoint bytes P e.layout key point above depth →
+  pub edge_at : {key : List ℕ} {point : InsertPoint} {above : List Step} {depth : ℕ} → IsEdgePoint bytes P e.layout last key point above depth →
       IsCanonicalTree bytes P s point.root pairs e.layout
   edge_at p = subst (λ r. IsCanonicalTree bytes P s r pairs e.layout) (sym (p.at.root_is ∙ e.by.stands.0.named)) e.by
 

@@ -3,3 +3,4 @@ pub mod Next
 pub mod Points
 pub mod Puts
 pub mod Edges
+pub mod Last

@@ -150,6 +150,9 @@ module _ {K V : Type 0} {bytes : K × V → List ℕ} {P : ℕ} {s : Nodes K V} 
             (Pairwise-before ◌<◌ (bytes_of f.left) (bytes_of f.right) f.byte up))
             ((λ same. omega arith), subst (λ cs. Each (λ c. c ≢ y) (bytes_of cs)) (sym right) tt))
 
+        pub into_byte : x ≡ f.byte
+        into_byte = (into spot).byte_is
+
         pub into_point : IsPointAt bytes P layout key fs (fill f (plug gs (leaf (leaf_name n) pair))) shared (IntoExisting (as_inner f.mark))
         into_point =
             let at = spot in

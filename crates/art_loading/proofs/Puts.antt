@@ -1,13 +1,15 @@
 -- a pair that comes after all others
-use Rattle.std.proofs.Common.{◌≡◌, ◌≢◌, ℕ, List, [], ◌∷◌, ◌++◌, None, refl, ap, sym, ◌∙◌, subst, true, false, Bool, not, inl, inr, ◌⊎◌, append_assoc, append-nil}
+use Rattle.std.proofs.Common.{◌≡◌, ◌≢◌, ℕ, List, [], ◌∷◌, ◌++◌, Some, None, refl, ap, sym, ◌∙◌, subst, true, false, Bool, not, inl, inr, ◌⊎◌, append_assoc, append-nil}
 use Rattle.std.specs.List.{AllByRecursion as Each}
 use Rattle.std.proofs.lemmas.Bool.{true≢false}
 use Rattle.std.proofs.lemmas.List.{same_from_push}
 use Rattle.art_loading.proofs.Steps.{HasPush, push_view}
 use Rattle.art_loading.specs.Steps.{IsRightmost}
 use Rattle.art_model.specs.Keys.{IsFront, Precedes, is_before, are_same}
-use Rattle.art_model.specs.Pairs.{add_in_order, first_of, put, remove_key, with_key}
-use Rattle.art_model.specs.Paths.{Frame, IsPath, plug, pairs_before, pairs_after}
+use Rattle.art_model.specs.Layouts.{leaf_names}
+use Rattle.art_model.specs.Lookups.{HasLastLeaf}
+use Rattle.art_model.specs.Pairs.{add_in_order, first_of, last_of, put, remove_key, with_key}
+use Rattle.art_model.specs.Paths.{Frame, IsPath, plug, leaves_before, leaves_after, pairs_before, pairs_after}
 use Rattle.art_model.specs.Radix.{AreRadix, IsRadix, pairs_below, pairs_of}
 use Rattle.art_model.specs.Trees.{Tree, leaf, Subtrees, child, no_child}
 use Rattle.art_model.proofs.keys.KeyLaws.{order_is_strict, order_is_transitive}
@@ -15,7 +17,7 @@ use Rattle.art_model.proofs.keys.Keys.{before_apart, not_same}
 use Rattle.art_model.proofs.lists.Filters.{filter_all}
 use Rattle.art_model.proofs.lists.Lists.{Each-append, Each-weaker, Each-right, filter_none}
 use Rattle.art_model.proofs.pairs.Puts.{put-new}
-use Rattle.art_model.proofs.places.Paths.{pairs_of-plug, path_after, path_before, radix_plug}
+use Rattle.art_model.proofs.places.Paths.{leaf_names-plug, pairs_of-plug, path_after, path_before, radix_plug}
 use Rattle.art_model.proofs.radix.Rebuild.{radix_some}
 
 module _ {K V : Type 0} (bytes : K × V → List ℕ) (new : K × V) where
@@ -39,6 +41,11 @@ module _ {K V : Type 0} (bytes : K × V → List ℕ) (new : K × V) where
       (Each-weaker IsLess (λ x. not (are_same (bytes new) (bytes x)) ≡ true) (λ x l. ap not (unequal x l)) pairs less) in
       put-new bytes new pairs (ap first_of none) ∙ ap (add_in_order bytes new) all ∙ at_end pairs less
 
+pub last_of_push : {X : Type 0} (xs : List X) (x : X) → last_of (xs ++ x ∷ []) ≡ Some x
+last_of_push [] x = refl
+last_of_push (y ∷ []) x = refl
+last_of_push (y ∷ z ∷ xs) x = last_of_push (z ∷ xs) x
+
 module _ {N A : Type 0} where
   -- nothing is after such a path
   pub none_after : (fs : List (Frame N A)) → Each (λ f. f.right ≡ no_child) fs → pairs_after fs ≡ []
@@ -48,6 +55,25 @@ module _ {N A : Type 0} where
   pub pairs_with_last : (fs : List (Frame N A)) (n : N) (x : A) → Each (λ f. f.right ≡ no_child) fs → pairs_of (plug fs (leaf n x)) ≡ pairs_before fs ++ x ∷ []
   pairs_with_last fs n x all =
       pairs_of-plug fs (leaf n x) ∙ ap (λ l. (pairs_before fs ++ x ∷ []) ++ l) (none_after fs all) ∙ append-nil (pairs_before fs ++ x ∷ [])
+
+  -- nor a leaf
+  no_leaf_after : (fs : List (Frame N A)) → Each (λ f. f.right ≡ no_child) fs → leaves_after fs ≡ []
+  no_leaf_after [] all = refl
+  no_leaf_after (f ∷ fs) all = rw (all.0, no_leaf_after fs all.1) refl
+
+  pub names_with_last : (fs : List (Frame N A)) (n : N) (x : A) → Each (λ f. f.right ≡ no_child) fs →
+      leaf_names (plug fs (leaf n x)) ≡ leaves_before fs ++ n ∷ []
+  names_with_last fs n x all =
+      leaf_names-plug fs (leaf n x) ∙ ap (λ l. (leaves_before fs ++ n ∷ []) ++ l) (no_leaf_after fs all) ∙ append-nil (leaves_before fs ++ n ∷ [])
+
+  -- it ends with the leaf
+  pub ends_with_last : (fs : List (Frame N A)) (n : N) (x : A) → Each (λ f. f.right ≡ no_child) fs → HasLastLeaf (plug fs (leaf n x)) n
+  ends_with_last fs n x all = record {
+    name_is = ap last_of (names_with_last fs n x all) ∙ last_of_push (leaves_before fs) n;
+    pair = x;
+    pair_is = ap last_of (pairs_with_last fs n x all) ∙ last_of_push (pairs_before fs) x;
+    has = record { path = fs; whole = refl };
+  }
 
 module _ {N A : Type 0} (bytes : A → List ℕ) (P : ℕ) where
   -- the others are before the last one

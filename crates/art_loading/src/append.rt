@@ -6,18 +6,22 @@ ghost use Rattle.art_model.specs.Pairs.{last_of, of_key};
 ghost use Rattle.art_model.specs.Kept.{ChangesInPlace};
 ghost use Rattle.art_model.specs.Roots.{ForTree, IsFullTree};
 ghost use Rattle.art_model.specs.Trees.{Tree};
-ghost use Rattle.art_loading.specs.Edges.{IsEdge, IsEdgePoint, IsLeafIf};
+ghost use Rattle.art_loading.specs.Edges.{IsEdge, IsEdgePoint, IsLastPoint, IsLeafIf};
 ghost use Rattle.art_loading.specs.Next.{IsNext, IsReason};
 ghost use Rattle.art_loading.specs.declared.append.AppendReason.TheVariants as reasons;
+ghost use Rattle.art_writing.specs.Applied.{IsApplied, TakesMemory};
+ghost use Rattle.art_writing.specs.Inserted.{placed_for};
 ghost use Rattle.art_writing.specs.ParentWrites.{IsPlanted};
 
 use crate::edge::{Step, last_within, path_down};
 use art_nodes::node::{AsBytes, InnerPtr, LeafPtr, OpaqueNodePtr, OptionalLeafPtr};
 use art_nodes::store::NodeStore;
+use art_reading::lookup::KeyBytes;
 use art_reading::minmax::minimum_unchecked;
 use art_reading::path::{ExplicitMismatch, TreePath};
-use art_reading::lookup::KeyBytes;
-use art_writing::insert::{InsertKind, InsertParentNodeChange, InsertPoint, PairRefused, plant};
+use art_writing::insert::{
+    InsertKind, InsertParentNodeChange, InsertPoint, InsertResult, PairRefused, plant,
+};
 use thiserror::Error;
 
 /// The right edge of a tree.
@@ -117,11 +121,18 @@ pub fn append<K: AsBytes + Drop, V: Drop, const P: usize>(
         Ok(part) => part,
         Err(reason) => return Err(AppendError { key, value, reason }),
     };
-    let (point, above, depth) = point_after(store, edge.root, &edge.steps, edge.leaf, shared, old_byte);
+    let (point, above, depth) = point_after(
+        store,
+        edge.root,
+        &edge.steps,
+        edge.leaf,
+        shared,
+        old_byte,
+    );
     if edge.steps.reserve(1).is_err() {
         return Err(without_memory(PairRefused { key, value }));
     }
-    match point.apply(store, key, value) {
+    match apply_last(store, point, edge.leaf, key, value) {
         Err(refused) => Err(without_memory(refused)),
         Ok(done) => {
             let InsertParentNodeChange::NewParent {
@@ -145,6 +156,29 @@ pub fn append<K: AsBytes + Drop, V: Drop, const P: usize>(
             Ok(())
         }
     }
+}
+
+// Applies the point of a key after the last one. The new leaf is right after the last leaf, so none is looked up.
+#[inline(always)]
+fn apply_last<K: AsBytes + Drop, V: Drop, const P: usize>(
+    store: &mut NodeStore<K, V, P>,
+    point: InsertPoint,
+    last: LeafPtr,
+    key: K,
+    value: V,
+) -> Result<InsertResult<K, V>, PairRefused<K, V>>
+    requires { IsLastPoint (of_key K.bytes) P store.old last (K.bytes key) point }
+    ensures applied { IfOk result
+        (IsApplied (of_key K.bytes) P store.old store.new point (key, value)) }
+    ensures memory { TakesMemory store.old store.new
+        (placed_for store.old point.insert_kind) (key, value) result }
+{
+    let InsertKind::IntoExisting { inner_node_ptr } = point.insert_kind else {
+        return point.apply(store, key, value);
+    };
+    // The proof reads from it that a child under a lesser byte is one of fewer than 256.
+    let _byte = key.as_bytes()[point.key_bytes_used];
+    point.add_child_between(store, inner_node_ptr, (Some(last), None), key, value)
 }
 
 // The error with the pair for which an allocation failed.
@@ -206,7 +240,7 @@ fn point_after<K: AsBytes + Drop, V: Drop, const P: usize>(
         (edge : IsEdge (of_key K.bytes) P store.now root steps.now leaf pairs) →
         (key : List ℕ) → (new_byte : ℕ) →
         IsNext (of_key K.bytes edge.pair) key shared old_byte new_byte →
-        IsEdgePoint (of_key K.bytes) P edge.layout key result.0
+        IsEdgePoint (of_key K.bytes) P edge.layout leaf key result.0
         (take result.1 steps.now) result.2 }
 {
     let Some((step, above)) = last_within(steps, shared) else {
