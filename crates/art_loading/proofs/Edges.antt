@@ -10,8 +10,10 @@ use Rattle.art_parts.specs.declared.names.LeafPtr.{LeafPtr}
 use Rattle.art_parts.specs.declared.names.NodeType.TheVariants.{Leaf}
 use Rattle.art_parts.specs.declared.names.OpaqueNodePtr.{OpaqueNodePtr}
 use Rattle.art_nodes.specs.Nodes.{Nodes}
-use Rattle.art_loading.specs.Edges.{EndsIfInto, IsEdge, IsEdgePoint, IsLeafIf, IsNewKind}
-use Rattle.art_loading.specs.Next.{IsNext}
+use Rattle.art_loading.specs.Edges.{EndsIfInto, IsEdge, IsEdgePoint, IsLastPoint, IsLeafIf, IsNewKind}
+use Rattle.art_loading.specs.Next.{IsNext, IsReason}
+use Rattle.art_loading.specs.declared.append.AppendReason.{AppendReason}
+use Rattle.art_loading.specs.declared.append.AppendReason.TheVariants.{Memory}
 use Rattle.art_loading.specs.Steps.{IsReach, path_by, step_of, steps_of}
 use Rattle.art_loading.specs.declared.edge.Step.{Step}
 use Rattle.art_loading.proofs.Next.{next_byte, next_precedes}
@@ -20,8 +22,7 @@ use Rattle.art_loading.proofs.Puts.{before_last, ends_with_last, last_child, las
 use Rattle.art_loading.proofs.Steps.{IsCut, cut_at, path_by-steps}
 use Rattle.art_model.specs.Canonical.{IsCanonical, IsCanonicalTree}
 use Rattle.art_model.specs.Keys.{Precedes, is_before}
-use Rattle.art_model.specs.Layouts.{AreDistinct, name_of, names_of, Holds, IsLayout, inner_node, leaf_node, slots_of}
-use Rattle.art_model.specs.Lookups.{HasFirstLeaf}
+use Rattle.art_model.specs.Layouts.{AreDistinct, name_of, names_of, Holds, slots_of}
 use Rattle.art_model.specs.Pairs.{last_of, put}
 use Rattle.art_model.specs.Paths.{Frame, fill, plug, pairs_before}
 use Rattle.art_model.specs.Places.{depth_of, prefix_of}
@@ -47,8 +48,6 @@ use Rattle.art_reading.specs.declared.path.TreePath.{TreePath}
 use Rattle.art_reading.specs.declared.path.TreePath.TheVariants.{Root}
 use Rattle.art_writing.specs.Inserted.{HasInserted, IsBelow, IsChange, IsPointIn}
 use Rattle.art_writing.proofs.Standing.{point_in, tree_stays}
-use Rattle.art_writing.specs.Points.{AnswersTo}
-use Rattle.art_writing.specs.declared.insert.InsertParentNodeChange.{InsertParentNodeChange}
 use Rattle.art_writing.specs.declared.insert.InsertParentNodeChange.TheVariants.{NewParent, NoChange}
 use Rattle.art_writing.specs.declared.insert.InsertResult.{InsertResult}
 use Rattle.art_writing.specs.declared.insert.InsertPoint.{InsertPoint}
@@ -313,6 +312,14 @@ module _ {K V : Type 0} {bytes : K × V → List ℕ} {P : ℕ} {s : Nodes K V} 
   next_here {old} {new} {key} {shared} {x} {y} there old_is new_is next =
       subst (λ l. IsNext l key shared x y) (old_is ∙ ap bytes (edge_same there)) (subst (λ k. IsNext old k shared x y) new_is next)
 
+  -- for a key after the last one only memory can be missing
+  pub memory_after : {key : List ℕ} {shared x y : ℕ} {own : K × V} {reason : AppendReason} → IsNext (bytes e.pair) key shared x y →
+      last_of pairs ≡ Some own → reason ≡ Memory → IsReason (bytes own) key reason
+  memory_after {key} {own = own} next is memory =
+      let mine = edge_last in
+      let same : e.pair ≡ own = cc in
+      subst (IsReason (bytes own) key) (sym memory) (subst (λ z. Precedes (bytes z) key) same (next_precedes next))
+
   -- the point is one of the store
   pub edge_point : {key : List ℕ} {point : InsertPoint} {above : List Step} {depth : ℕ} → IsEdgePoint bytes P e.layout last key point above depth →
       IsPointIn bytes P s key point
@@ -322,6 +329,26 @@ module _ {K V : Type 0} {bytes : K × V → List ℕ} {P : ℕ} {s : Nodes K V} 
   pub edge_at : {key : List ℕ} {point : InsertPoint} {above : List Step} {depth : ℕ} → IsEdgePoint bytes P e.layout last key point above depth →
       IsCanonicalTree bytes P s point.root pairs e.layout
   edge_at p = subst (λ r. IsCanonicalTree bytes P s r pairs e.layout) (sym (p.at.root_is ∙ e.by.stands.0.named)) e.by
+
+  -- it is one of a key after the last leaf
+  pub last_point : {key : List ℕ} {point : InsertPoint} {above : List Step} {depth : ℕ} → IsEdgePoint bytes P e.layout last key point above depth →
+      IsLastPoint bytes P s last key point
+  last_point {above = above} {depth} p = (
+    steps,
+    pairs,
+    record {
+      layout = e.layout;
+      by = edge_at p;
+      frames = e.frames;
+      pair = e.pair;
+      whole = e.whole;
+      rightmost = e.rightmost;
+      steps_are = e.steps_are;
+    },
+    above,
+    depth,
+    p,
+  )
 
 -- the leaf's parent is reported
 pub not_kept : {K V : Type 0} {tree : Tree OpaqueNodePtr (K × V)} {point : InsertPoint} {pair : K × V} {done : InsertResult K V} →

@@ -4,9 +4,7 @@ use Rattle.std.specs.List.{AllByRecursion as Each}
 use Rattle.std.specs.FinMap as map
 use Rattle.std.specs.Option.{option_map}
 use Rattle.std.proofs.lemmas.List.{same_from_push}
-use Rattle.art_inner.specs.Inner.{Inner}
 use Rattle.art_parts.specs.Names.{leaf_name, inner_name}
-use Rattle.art_parts.specs.declared.leaf.LeafNode.{LeafNode}
 use Rattle.art_parts.specs.declared.names.InnerPtr.{InnerPtr}
 use Rattle.art_parts.specs.declared.names.LeafPtr.{LeafPtr}
 use Rattle.art_parts.specs.declared.names.OpaqueNodePtr.{OpaqueNodePtr}
@@ -21,7 +19,7 @@ use Rattle.art_model.specs.Paths.{leaves_before, plug}
 use Rattle.art_model.specs.Places.{depth_of}
 use Rattle.art_model.specs.Radix.{BytesRise, IsRadix, bytes_of, join}
 use Rattle.art_model.specs.Stores.{links_at, node_at}
-use Rattle.art_model.specs.Trees.{Tree, leaf, inner, Subtrees, child, no_child}
+use Rattle.art_model.specs.Trees.{Tree, inner, Subtrees, child, no_child}
 use Rattle.art_model.proofs.leaves.Chains.{links_leaf}
 use Rattle.art_model.proofs.leaves.Links.{link_of}
 use Rattle.art_model.proofs.lists.Lists.{Each-right, Each-weaker}
@@ -34,7 +32,6 @@ use Rattle.art_model.proofs.stores.StoreLaws.{has_one_layout}
 use Rattle.art_model.proofs.stores.Stores.{hole_distinct, path_holds}
 use Rattle.art_model.proofs.stores.Writes.{inner_at}
 use Rattle.art_reading.specs.EndNodes.{IsKindOf}
-use Rattle.art_reading.specs.declared.end_node.InsertKind.{InsertKind}
 use Rattle.art_reading.specs.declared.end_node.InsertKind.TheVariants.{IntoExisting}
 use Rattle.art_writing.specs.ParentWrites.{ComesBetween, HasGap}
 use Rattle.art_writing.specs.declared.insert.InsertPoint.{InsertPoint}
@@ -58,7 +55,7 @@ no_child_after left (child d u rest) others c b t whole less high = absurd (go (
 
 -- rising bytes are no more than the last one says
 rise_from : (low : ℕ) (bs : List ℕ) (c : ℕ) → BytesRise (bs ++ c ∷ []) → Each (λ b. low ≤ b) (bs ++ c ∷ []) → length bs + low ≤ c
-rise_from low [] c rise most = most.0
+rise_from low [] c rise most = let first = most.0 in omega arith
 rise_from low (b ∷ bs) c rise most =
     let rest = rise_from (b + 1) bs c rise.1 (Each-weaker (λ d. b < d) (λ d. b + 1 ≤ d) (λ d l. omega arith) (bs ++ c ∷ []) rise.0) in
     let first = most.0 in

@@ -1,14 +1,14 @@
 -- where the next key leaves the path of the last one
-use Rattle.std.proofs.Common.{◌≡◌, ◌≢◌, ℕ, ◌+◌, ◌-◌, ◌<◌, ◌≤◌, List, [], ◌∷◌, ◌++◌, length, get_or, drop, refl, ap, ap₂, sym, ◌∙◌, arith, subst, append_assoc, append-nil, length-append, Bool, false, true, ◌||◌, ◌⊎◌, inl, inr}
+use Rattle.std.proofs.Common.{◌≡◌, ◌≢◌, ℕ, ◌+◌, ◌<◌, ◌≤◌, List, [], ◌∷◌, ◌++◌, length, get_or, refl, ap, ap₂, sym, ◌∙◌, arith, subst, append_assoc, append-nil, length-append, Bool, false, true, ◌||◌, ◌⊎◌, inl, inr}
 use Rattle.std.proofs.lemmas.List.{get_or_at}
 use Rattle.std.proofs.lemmas.Bool.{cases_eq, ne_eqb}
 use Rattle.art_loading.specs.Next.{IsNext, IsReason}
 use Rattle.art_loading.specs.declared.append.AppendReason.{AppendReason}
-use Rattle.art_loading.specs.declared.append.AppendReason.TheVariants.{Before, Equal, Conflict, Memory}
+use Rattle.art_loading.specs.declared.append.AppendReason.TheVariants.{Equal, Conflict}
 use Rattle.art_model.specs.Keys.{IsFront, is_front, are_related, Precedes}
-use Rattle.art_model.proofs.keys.Fronts.{ArePart, part_where, front_right, shared_whole}
+use Rattle.art_model.proofs.keys.Fronts.{part_where, front_right, shared_whole}
 use Rattle.art_model.proofs.keys.Keys.{front_from, front_related, precedes_at, related_sym}
-use Rattle.art_model.proofs.lists.Lists.{common_front-append, common_front_right}
+use Rattle.art_model.proofs.lists.Lists.{common_front-append}
 use Rattle.art_reading.specs.Matching.{shared_len}
 
 -- of two lists that begin the same one the shorter one is a prefix of the other

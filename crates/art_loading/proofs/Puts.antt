@@ -1,21 +1,20 @@
 -- a pair that comes after all others
-use Rattle.std.proofs.Common.{◌≡◌, ◌≢◌, ℕ, List, [], ◌∷◌, ◌++◌, Some, None, refl, ap, sym, ◌∙◌, subst, true, false, Bool, not, inl, inr, ◌⊎◌, append_assoc, append-nil}
+use Rattle.std.proofs.Common.{◌≡◌, ℕ, List, [], ◌∷◌, ◌++◌, Some, refl, ap, sym, ◌∙◌, subst, true, false, not, inl, inr, ◌⊎◌, append_assoc, append-nil}
 use Rattle.std.specs.List.{AllByRecursion as Each}
 use Rattle.std.proofs.lemmas.Bool.{true≢false}
 use Rattle.std.proofs.lemmas.List.{same_from_push}
 use Rattle.art_loading.proofs.Steps.{HasPush, push_view}
-use Rattle.art_loading.specs.Steps.{IsRightmost}
-use Rattle.art_model.specs.Keys.{IsFront, Precedes, is_before, are_same}
+use Rattle.art_model.specs.Keys.{Precedes, is_before, are_same}
 use Rattle.art_model.specs.Layouts.{leaf_names}
 use Rattle.art_model.specs.Lookups.{HasLastLeaf}
 use Rattle.art_model.specs.Pairs.{add_in_order, first_of, last_of, put, remove_key, with_key}
 use Rattle.art_model.specs.Paths.{Frame, IsPath, plug, leaves_before, leaves_after, pairs_before, pairs_after}
 use Rattle.art_model.specs.Radix.{AreRadix, IsRadix, pairs_below, pairs_of}
-use Rattle.art_model.specs.Trees.{Tree, leaf, Subtrees, child, no_child}
-use Rattle.art_model.proofs.keys.KeyLaws.{order_is_strict, order_is_transitive}
+use Rattle.art_model.specs.Trees.{leaf, Subtrees, child, no_child}
+use Rattle.art_model.proofs.keys.KeyLaws.{order_is_strict}
 use Rattle.art_model.proofs.keys.Keys.{before_apart, not_same}
 use Rattle.art_model.proofs.lists.Filters.{filter_all}
-use Rattle.art_model.proofs.lists.Lists.{Each-append, Each-weaker, Each-right, filter_none}
+use Rattle.art_model.proofs.lists.Lists.{Each-weaker, Each-right, filter_none}
 use Rattle.art_model.proofs.pairs.Puts.{put-new}
 use Rattle.art_model.proofs.places.Paths.{leaf_names-plug, pairs_of-plug, path_after, path_before, radix_plug}
 use Rattle.art_model.proofs.radix.Rebuild.{radix_some}

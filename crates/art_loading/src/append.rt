@@ -1,5 +1,5 @@
 //! Insertion of a pair after the last one.
-ghost use Rattle.std.specs.Prelude.{◌≡◌, ◌≢◌, ◌++◌, ◌∷◌, [], ℕ, List, Some, take, IfOk, IfErr, OnOk, OnErr};
+ghost use Rattle.std.specs.Prelude.{◌≡◌, ◌≢◌, ◌++◌, ◌∷◌, [], ℕ, List, Some, take, IfOk, IfErr, OnOk, OnErr, ◌<◌, get_or, length};
 ghost use Rattle.art_parts.specs.Names.{inner_name, leaf_name};
 ghost use Rattle.art_parts.specs.declared.names.OpaqueNodePtr.{OpaqueNodePtr};
 ghost use Rattle.art_model.specs.Pairs.{last_of, of_key};
@@ -176,9 +176,19 @@ fn apply_last<K: AsBytes + Drop, V: Drop, const P: usize>(
     let InsertKind::IntoExisting { inner_node_ptr } = point.insert_kind else {
         return point.apply(store, key, value);
     };
-    // The proof reads from it that a child under a lesser byte is one of fewer than 256.
-    let _byte = key.as_bytes()[point.key_bytes_used];
+    // The proof reads from it that a node whose children are all under lesser bytes has fewer than 256.
+    let _byte = byte_at(key.as_bytes(), point.key_bytes_used);
     point.add_child_between(store, inner_node_ptr, (Some(last), None), key, value)
+}
+
+// The byte at a place. Its contract states that there are 256.
+#[inline(always)]
+fn byte_at(bytes: &[u8], place: usize) -> u8
+    requires { place < length bytes.now }
+    ensures byte { result ≡ get_or bytes.now place 0 }
+    ensures bound { result < 256 }
+{
+    bytes[place]
 }
 
 // The error with the pair for which an allocation failed.

@@ -1,5 +1,5 @@
-use Rattle.std.proofs.Common.{◌≡◌, refl, get_or, ap, ◌∙◌, arith}
-use Rattle.art_loading.proofs.Next.{next_from, not_next}
+use Rattle.std.proofs.Common.{refl, get_or, inl, inr}
+use Rattle.art_loading.proofs.Next.{next_from, why_before, why_related}
 use Rattle.art_loading.proofs.append.part_after.Goals as goal
 use Rattle.art_loading.proofs.append.part_after.Goals.{then-shared-last-via-then-shared-last, then-shared-last-via-else-shared-last+then-shared-key}
 
@@ -12,15 +12,16 @@ returns-clause-part c =
           c.if-old_byte-key.false,
     )
 
-pub returns-then-shared-last-clause-none : goal.returns-then-shared-last-clause-none
-returns-then-shared-last-clause-none c after =
-    not_next c.args.last.now c.args.key.now c.shared_after-shared.result c.shared_after-shared.ensures.shared after
-    (λ long within less. elim c.then-shared-last.branch [
-      | then-shared-last-via-then-shared-last w ↦ let over = w.if-shared-last.true in omega arith
-      | then-shared-last-via-else-shared-last+then-shared-key w ↦ let over = w.if-shared-key.true in omega arith
+pub returns-then-shared-last-clause-reason : goal.returns-then-shared-last-clause-reason
+returns-then-shared-last-clause-reason c =
+    why_related c.args.last.now c.args.key.now c.shared_after-shared.result c.related_reason.result c.shared_after-shared.ensures.shared
+    (elim c.then-shared-last.branch [
+      | then-shared-last-via-then-shared-last w ↦ inl w.if-shared-last.true
+      | then-shared-last-via-else-shared-last+then-shared-key w ↦ inr w.if-shared-key.true
     ])
+    c.related_reason.ensures.equal c.related_reason.ensures.conflict
 
-pub returns-then-old_byte-key-clause-none : goal.returns-then-old_byte-key-clause-none
-returns-then-old_byte-key-clause-none c after =
-    not_next c.args.last.now c.args.key.now c.shared_after-shared.result c.shared_after-shared.ensures.shared after
-    (λ long within less. let over = c.if-old_byte-key.true in omega arith)
+pub returns-then-old_byte-key-clause-reason : goal.returns-then-old_byte-key-clause-reason
+returns-then-old_byte-key-clause-reason c =
+    why_before c.args.last.now c.args.key.now c.shared_after-shared.result _ _ c.shared_after-shared.ensures.shared c.if-shared-last.false c.if-shared-key.false refl refl
+    c.if-old_byte-key.true

@@ -1,4 +1,4 @@
-use Rattle.std.proofs.Common.{rules, refl, ap, sym, ◌∙◌, arith}
+use Rattle.std.proofs.Common.{rules, refl, ◌∙◌, arith}
 use Rattle.art_loading.proofs.Edges.{bare_edge, cut_full, cut_len, cut_met, edge_cut, edge_kept, far_edge, into_edge, mismatch_edge}
 use Rattle.art_loading.proofs.append.point_after.Goals as goal
 

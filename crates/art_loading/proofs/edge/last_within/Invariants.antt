@@ -1,6 +1,4 @@
-use Rattle.std.proofs.Common.{◌≡◌, ◌<◌, List, ◌++◌, length}
-use Rattle.std.specs.List.{AllByRecursion as Each}
-use Rattle.art_loading.specs.declared.edge.Step.{Step}
+use Rattle.std.proofs.Common.{length}
 use Rattle.art_loading.proofs.Steps.{AreLeft}
 use Rattle.art_loading.proofs.edge.last_within.Given as goal
 
