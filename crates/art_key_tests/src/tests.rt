@@ -1,4 +1,5 @@
 mod arrays;
+mod built;
 mod collected;
 mod drawn;
 mod entries;

@@ -20,6 +20,7 @@ use std::marker::Model;
 use std::ops::Index;
 
 mod both;
+mod byte_map;
 mod clones;
 mod compared;
 mod each;

@@ -16,6 +16,7 @@ mod algebra;
 mod clones;
 mod compared;
 mod extend;
+mod from_map;
 mod joined;
 mod joined_array;
 mod operators;

@@ -59,6 +59,7 @@ mod retain;
 mod split;
 mod texts;
 mod to_key;
+mod tree;
 
 pub use art_writing::insert::PairRefused;
 pub use both::BothInsertError;

@@ -17,6 +17,7 @@ mod algebra;
 mod clones;
 mod compared;
 mod extend;
+mod from_map;
 mod queried;
 mod range;
 mod retain;

@@ -5,12 +5,14 @@ use Rattle.art_nodes.specs.Nodes.{Nodes, Promise, no_promise}
 use Rattle.art_model.specs.Canonical.{IsCanonical}
 use Rattle.art_model.specs.Kept.{ChangesInPlace}
 use Rattle.art_model.specs.Pairs.{of_key, overwrite, put, stored_for}
+use Rattle.art_model.specs.Paths.{Frame}
 use Rattle.art_model.specs.Promises.{is_covered, promise_after}
 use Rattle.art_model.specs.Roots.{ForTree}
 use Rattle.art_model.proofs.stores.Apart.{tree_apart}
 use Rattle.art_model.proofs.pairs.MapLaws.{stored_again}
 use Rattle.art_model.proofs.pairs.PutOver.{put_is_overwrite, put_reply_is, was_free}
 use Rattle.art_model.proofs.stores.StoreLaws.{has_one_map}
+use Rattle.art_parts.specs.declared.names.OpaqueNodePtr.{OpaqueNodePtr}
 use Rattle.art_writing.specs.declared.insert.InsertPoint.{InsertPoint}
 use Rattle.art_writing.specs.declared.insert.InsertResult.{InsertResult}
 use Rattle.art_writing.specs.declared.insert.OverwritePoint.{OverwritePoint}
@@ -18,9 +20,11 @@ use Rattle.art_writing.specs.declared.insert.PrefixInsertPoint.TheVariants as po
 use Rattle.art_writing.specs.declared.insert.PrefixInsertResult.{PrefixInsertResult}
 use Rattle.art_writing.specs.declared.insert.PairRefused.{PairRefused}
 use Rattle.art_writing.specs.Applied.{IsApplied, IsPrefixApplied, TakesMemory}
-use Rattle.art_writing.specs.Inserted.{HasInserted, IsPointIn, unlinked_leaf}
+use Rattle.art_writing.specs.Inserted.{HasInserted, IsBelow, IsPointIn, unlinked_leaf}
+use Rattle.art_writing.specs.Points.{AnswersTo}
 use Rattle.art_writing.specs.Overwritten.{HasOverwritten, IsOverwritePointIn}
 use Rattle.art_writing.proofs.Left.{IsInserted, IsOverwritten}
+use Rattle.art_writing.proofs.Standing.{answers_to}
 
 -- ---- allocations
 
@@ -41,23 +45,30 @@ module _ {K V : Type 0} {s t : Nodes K V} {placed : Promise} {pair : K × V} whe
 -- ---- points that are applied
 
 module _ {K V : Type 0} (bytes : K → List ℕ) {P : ℕ} {s t : Nodes K V} {pair : K × V} where
-  pub applied : {key : List ℕ} {point : InsertPoint} {done : InsertResult K V} → IsPointIn (of_key bytes) P s key point →
-      ForTree (of_key bytes) P s point.root (λ pairs layout. IsInserted (of_key bytes) P s t point pair pairs layout done) →
+  pub applied : {point : InsertPoint} {done : InsertResult K V} → IsPointIn (of_key bytes) P s (bytes pair.0) point →
+      ForTree (of_key bytes) P s point.root (λ pairs layout. (at : AnswersTo (of_key bytes) P layout (bytes pair.0) point) →
+      IsInserted (of_key bytes) P s t point pair pairs layout at.path done) →
       IsApplied (of_key bytes) P s t point pair done
   applied {point = point} {done} (pairs, layout, by, answers) all =
-      let own = all pairs layout by in
+      let own = all pairs layout by answers in
+      let each : ForTree (of_key bytes) P s point.root (λ ps l. (path : List (Frame OpaqueNodePtr (K × V))) × IsInserted (of_key bytes) P s t point pair ps l path done) =
+      (λ ps l b. let at = answers_to (pairs, layout, by, answers) b in (at.path, all ps l b at)) in
       record {
-        canonical = λ ps l b. ((all ps l b).tree, (all ps l b).canonical);
+        canonical = λ ps l b. ((each ps l b).1.tree, (each ps l b).1.canonical);
         root = (put (of_key bytes) pair pairs, own.tree, own.canonical);
         leaf = λ after new b.
             let one = has_one_map (of_key bytes) P t done.new_root (put (of_key bytes) pair pairs) after own.tree new own.canonical b in
             subst (λ x. HasInserted new point x done) (sym (ap (stored_for (of_key bytes) pair) one.0 ∙ stored_again bytes pair pairs))
             (subst (λ z. HasInserted z point (stored_for (of_key bytes) pair pairs) done) (sym one.1) own.inserted);
-        replaced = λ ps l b. (all ps l b).replaced;
+        replaced = λ ps l b. (each ps l b).1.replaced;
         kept = λ ps l b after new c.
-            let is = all ps l b in
+            let is = (each ps l b).1 in
             subst (λ z. ChangesInPlace (of_key bytes) s t (Some l) (Some z))
             (sym (has_one_map (of_key bytes) P t done.new_root (put (of_key bytes) pair ps) after is.tree new is.canonical c).1) is.kept;
+        below = λ ps l b at after new c.
+            let is = all ps l b at in
+            subst (λ z. IsBelow at.path z pair done.leaf_node_ptr done.parent_node_change)
+            (sym (has_one_map (of_key bytes) P t done.new_root (put (of_key bytes) pair ps) after is.tree new is.canonical c).1) is.below;
         apart = tree_apart (of_key bytes) P s t (Some point.root) (Some done.new_root) pairs (put (of_key bytes) pair pairs) (Some layout)
             (Some own.tree) by own.canonical own.kept.others;
         touches = own.touches;

@@ -47,7 +47,7 @@ use Rattle.art_writing.specs.declared.insert.InsertPoint.{InsertPoint}
 use Rattle.art_writing.specs.declared.insert.InsertResult.{InsertResult}
 use Rattle.art_writing.specs.declared.insert.branch.Branch.{Branch}
 use Rattle.art_writing.specs.Branches.{ForEnd, IsBranch, IsBranchPlaced}
-use Rattle.art_writing.specs.Inserted.{HasInserted, IsChange, Touches, unlinked_leaf, root_after}
+use Rattle.art_writing.specs.Inserted.{HasInserted, IsBelow, IsChange, Touches, unlinked_leaf, root_after}
 use Rattle.art_writing.specs.Points.{AnswersTo}
 use Rattle.art_writing.specs.ParentWrites.{HasChild}
 use Rattle.art_reading.specs.PathSteps.{last_step, root_with}
@@ -206,7 +206,7 @@ module _ {K V : Type 0} {bytes : K × V → List ℕ} {P : ℕ} {s : Nodes K V} 
         IsChange point.insert_kind (Some parent) told) →
         {touched : List InnerPtr} → BranchStored bytes P s t at.path (take (depth_of at.path) (bytes pair)) at.node placed.node done.leaf_node_ptr
         is.part branch.old_byte branch.new_byte (record { key = pair.0; value = pair.1; previous = branch.previous; next = branch.next }) mid.inners touched →
-        Touches point.insert_kind s t → IsInserted bytes P s t point pair pairs layout done
+        Touches point.insert_kind s t → IsInserted bytes P s t point pair pairs layout at.path done
     branch_done branches stored few = record {
       tree = plug at.path grown;
       canonical = canonical_from (subst (λ ps. IsLaidOut bytes P (node_at t) (links_at t) done.new_root ps (plug at.path grown))
@@ -218,6 +218,12 @@ module _ {K V : Type 0} {bytes : K × V → List ℕ} {P : ℕ} {s : Nodes K V} 
         whole = ap (plug at.path) (filled (ltb branch.old_byte branch.new_byte));
         change = branches (placed.node, branch.new_byte) done.parent_node_change placed.change;
         root = placed.root ∙ root_told point point.path placed.node branch.new_byte ∙ ap (root_after point) (sym placed.change);
+      });
+      below = subst (IsBelow at.path (plug at.path grown) pair done.leaf_node_ptr) (sym placed.change) (record {
+        frame = leaf_frame (ltb branch.old_byte branch.new_byte);
+        mark = refl;
+        byte_is = refl;
+        whole = ap (plug at.path) (filled (ltb branch.old_byte branch.new_byte));
       });
       replaced = placed.existing ∙ sym (ap (option_map unlinked_leaf) (put_reply-new bytes pair pairs none_stored));
       kept = subst (λ tree. ChangesInPlace bytes s t (Some tree) (Some (plug at.path grown))) at.is_end.whole (branch_in_place (end_laid by at) stored new);

@@ -49,7 +49,8 @@ use Rattle.art_reading.specs.declared.path.TreePath.{TreePath}
 use Rattle.art_writing.specs.Inserted.{HasInserted, IsChange, IsPointIn, Touches, unlinked_leaf, is_full}
 use Rattle.art_reading.specs.EndNodes.{IsKindOf}
 use Rattle.art_reading.specs.PathSteps.{last_step, path_of, root_with}
-use Rattle.art_writing.specs.ParentWrites.{HasChild, HasGap}
+use Rattle.art_writing.specs.ParentWrites.{ComesBetween, HasChild, HasGap}
+use Rattle.art_writing.specs.Points.{AnswersTo}
 use Rattle.art_writing.proofs.Left.{IsInserted}
 use Rattle.art_writing.proofs.Answered.{placed_end}
 use Rattle.art_writing.proofs.Standing.{answers_to}
@@ -71,11 +72,12 @@ pub record IsEntry {K V : Type 0} (bytes : K × V → List ℕ) (P : ℕ) (p : I
   pub path_is : path ≡ path_of frames
 
 module _ {K V : Type 0} {bytes : K × V → List ℕ} {P : ℕ} {s : Nodes K V} {point : InsertPoint} {p : InnerPtr} {key : List ℕ}
-    (answers : IsPointIn bytes P s key point) (into : point.insert_kind ≡ IntoExisting p) where
-  pub entry : {pairs : List (K × V)} {layout : Tree OpaqueNodePtr (K × V)} {b : ℕ} → b ≡ get_or key point.key_bytes_used 0 →
-      IsCanonicalTree bytes P s point.root pairs layout → IsEntry bytes P p layout key point.path b
-  entry {pairs} {layout} {b} byte by =
-      let answers_at = answers_to answers by in
+    (into : point.insert_kind ≡ IntoExisting p) where
+  -- at the end of the point's path
+  pub entry_at : {pairs : List (K × V)} {layout : Tree OpaqueNodePtr (K × V)} (at : AnswersTo bytes P layout key point) {b : ℕ} →
+      b ≡ get_or key point.key_bytes_used 0 → IsCanonicalTree bytes P s point.root pairs layout →
+      (e : IsEntry bytes P p layout key point.path b) × (e.frames ≡ at.path)
+  entry_at {pairs} {layout} answers_at {b} byte by =
       let a = placed_end by answers_at.is_end in
       let fs = answers_at.path in
       let node = answers_at.node in
@@ -99,23 +101,31 @@ module _ {K V : Type 0} {bytes : K × V → List ℕ} {P : ℕ} {s : Nodes K V} 
       let deep = a.deep in
       let count = ap length prefix in
       let sum = length-append a.place part in
-      let used_is : point.key_bytes_used ≡ length (a.place ++ part) = omega arith in
-      record {
-        frames = fs;
-        place = a.place;
-        header = header;
-        left = split.left;
-        right = split.right;
-        whole = ap (plug fs) (sym here) ∙ answers_at.is_end.whole;
-        gap = record {
-          hole = hole;
-          front = subst (λ z. IsFront ((a.place ++ part) ++ z ∷ []) key) (ap (λ d. get_or key d 0) (sym used_is) ∙ sym byte)
-              (front_byte (a.place ++ part) key on_way (omega arith));
-          low = split.low;
-          high = split.high;
-        };
-        path_is = answers_at.path_is;
-      }
+      let used_is : point.key_bytes_used ≡ length (a.place ++ part) = omega arith in (
+        record {
+          frames = fs;
+          place = a.place;
+          header = header;
+          left = split.left;
+          right = split.right;
+          whole = ap (plug fs) (sym here) ∙ answers_at.is_end.whole;
+          gap = record {
+            hole = hole;
+            front = subst (λ z. IsFront ((a.place ++ part) ++ z ∷ []) key) (ap (λ d. get_or key d 0) (sym used_is) ∙ sym byte)
+                (front_byte (a.place ++ part) key on_way (omega arith));
+            low = split.low;
+            high = split.high;
+          };
+          path_is = answers_at.path_is;
+        },
+        refl,
+      )
+
+module _ {K V : Type 0} {bytes : K × V → List ℕ} {P : ℕ} {s : Nodes K V} {point : InsertPoint} {p : InnerPtr} {key : List ℕ}
+    (answers : IsPointIn bytes P s key point) (into : point.insert_kind ≡ IntoExisting p) where
+  pub entry : {pairs : List (K × V)} {layout : Tree OpaqueNodePtr (K × V)} {b : ℕ} → b ≡ get_or key point.key_bytes_used 0 →
+      IsCanonicalTree bytes P s point.root pairs layout → IsEntry bytes P p layout key point.path b
+  entry byte by = (entry_at into (answers_to answers by) byte by).0
 
 module _ {K V : Type 0} {bytes : K × V → List ℕ} {P : ℕ} {s : Nodes K V} {p : InnerPtr} {root : OpaqueNodePtr} {pairs : List (K × V)}
     {layout : Tree OpaqueNodePtr (K × V)} {key : List ℕ} {path : TreePath} {b : ℕ} (by : IsCanonicalTree bytes P s root pairs layout)
@@ -229,11 +239,11 @@ module _ {K V : Type 0} {bytes : K × V → List ℕ} {P : ℕ} {s t : Nodes K V
       ChildAdded bytes P s t point.root pairs e.frames (inner_name p) (inner_name k) e.header e.left e.right b (leaf_name n) new →
       root ≡ paths.root_with e.frames point.root (inner_name k) →
       done ≡ record { leaf_node_ptr = n; existing_leaf = None; new_root = root; parent_node_change = NewParent k b } →
-      Touches point.insert_kind s t → IsInserted bytes P s t point new pairs layout done
+      Touches point.insert_kind s t → IsInserted bytes P s t point new pairs layout e.frames done
   entered_inserted {root} by into e added root_is done_is few =
       let tree = plug e.frames (inner (inner_name k) added.header (join e.left (child b (leaf (leaf_name n) new) e.right))) in
       let frame : Frame OpaqueNodePtr (K × V) = record { mark = inner_name k; header = added.header; left = e.left; byte = b; right = e.right } in
-      subst (IsInserted bytes P s t point new pairs layout) (sym done_is) (record {
+      subst (IsInserted bytes P s t point new pairs layout e.frames) (sym done_is) (record {
         tree = tree;
         canonical = canonical_from (subst (λ ps. IsLaidOut bytes P (node_at t) (links_at t) root ps tree) (sym (put-new bytes new pairs (entry_reply by e)))
             (subst (λ r. IsLaidOut bytes P (node_at t) (links_at t) r (replace_key bytes new pairs) tree) (sym root_is) added.laid));
@@ -251,7 +261,16 @@ module _ {K V : Type 0} {bytes : K × V → List ℕ} {P : ℕ} {s t : Nodes K V
               root = root_is ∙ sym (ap (λ path. root_with path point.root (inner_name k)) e.path_is ∙
                   root_with-path_of e.frames point.root (inner_name k)) ∙ root_told point point.path k b;
             });
+        below = record { frame = frame; mark = refl; byte_is = refl; whole = refl };
         replaced = ap (option_map unlinked_leaf) (sym (put_reply-new bytes new pairs (entry_reply by e)));
         kept = subst (λ z. ChangesInPlace bytes s t (Some z) (Some tree)) e.whole added.kept;
         touches = few;
       })
+
+-- neighbours that are right for a key are right for the same bytes
+pub beside_for : {K V : Type 0} {s : Nodes K V} {p : InnerPtr} {text key : List ℕ} (used : ℕ) {previous next : Option LeafPtr} → text ≡ key →
+    ((left : Subtrees OpaqueNodePtr (K × V)) (right : Subtrees OpaqueNodePtr (K × V)) → HasGap s p (get_or key used 0) left right →
+    ComesBetween s left right previous next) →
+    (left : Subtrees OpaqueNodePtr (K × V)) (right : Subtrees OpaqueNodePtr (K × V)) → HasGap s p (get_or text used 0) left right →
+    ComesBetween s left right previous next
+beside_for {s = s} {p} used same beside left right gap = beside left right (subst (λ l. HasGap s p (get_or l used 0) left right) same gap)

@@ -142,7 +142,7 @@ module _ {K V : Type 0} {bytes : K × V → List ℕ} {P : ℕ} {s : Nodes K V} 
 
         pub room_inserted : point.insert_kind ≡ IntoExisting p → (done : InsertResult K V) →
             done ≡ record { leaf_node_ptr = n; existing_leaf = None; new_root = point.root; parent_node_change = NewParent p b } →
-            IsInserted bytes P s t point new pairs layout done
+            IsInserted bytes P s t point new pairs layout e.frames done
         room_inserted into done is =
             entered_inserted by into e (room_added (entry_laid by e) into_room)
             (sym (root_stays e.frames (inner (inner_name p) e.header (join e.left e.right)) (entry_laid by e).named)) is (room_touched into)
@@ -190,7 +190,7 @@ module _ {K V : Type 0} {bytes : K × V → List ℕ} {P : ℕ} {s : Nodes K V} 
         pub full_inserted : point.insert_kind ≡ IntoExisting p → {root : OpaqueNodePtr} →
             root ≡ root_with point.path point.root (inner_name k) → (done : InsertResult K V) →
             done ≡ record { leaf_node_ptr = n; existing_leaf = None; new_root = root; parent_node_change = NewParent k b } →
-            IsInserted bytes P s t point new pairs layout done
+            IsInserted bytes P s t point new pairs layout e.frames done
         full_inserted into root_is done is =
             entered_inserted by into e (full_added (entry_laid by e) into_full)
             (root_is ∙ ap (λ path. root_with path point.root (inner_name k)) e.path_is

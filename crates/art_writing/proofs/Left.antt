@@ -7,7 +7,8 @@ use Rattle.art_model.specs.Canonical.{IsCanonicalTree}
 use Rattle.art_model.specs.Kept.{ChangesInPlace}
 use Rattle.art_model.specs.Pairs.{overwrite, overwrite_reply, put, put_reply, stored_for}
 use Rattle.art_model.specs.Trees.{Tree}
-use Rattle.art_writing.specs.Inserted.{HasInserted, Touches, unlinked_leaf}
+use Rattle.art_model.specs.Paths.{Frame}
+use Rattle.art_writing.specs.Inserted.{HasInserted, IsBelow, Touches, unlinked_leaf}
 use Rattle.art_writing.specs.Overwritten.{HasOverwritten, TouchesForNode}
 use Rattle.art_writing.specs.declared.insert.InsertPoint.{InsertPoint}
 use Rattle.art_writing.specs.declared.insert.InsertResult.{InsertResult}
@@ -17,10 +18,11 @@ use Rattle.art_writing.specs.declared.insert.PrefixInsertResult.{PrefixInsertRes
 -- The root is canonical for the pairs with the new one; an equal stored key's old value is returned, as a leaf with no siblings; the rest stays.
 pub record IsInserted {K V : Type 0} (bytes : K × V → List ℕ) (P : ℕ) (s t : Nodes K V) (point : InsertPoint)
     (pair : K × V) (pairs : List (K × V))
-    (layout : Tree OpaqueNodePtr (K × V)) (done : InsertResult K V) : Type 0 where
+    (layout : Tree OpaqueNodePtr (K × V)) (up : List (Frame OpaqueNodePtr (K × V))) (done : InsertResult K V) : Type 0 where
   pub tree : Tree OpaqueNodePtr (K × V)
   pub canonical : IsCanonicalTree bytes P t done.new_root (put bytes pair pairs) tree
   pub inserted : HasInserted tree point (stored_for bytes pair pairs) done
+  pub below : IsBelow up tree pair done.leaf_node_ptr done.parent_node_change
   pub replaced : done.existing_leaf ≡ option_map unlinked_leaf (put_reply bytes pair pairs)
   pub kept : ChangesInPlace bytes s t (Some layout) (Some tree)
   pub touches : Touches point.insert_kind s t

@@ -23,6 +23,7 @@ use Rattle.art_writing.specs.declared.insert.InsertParentNodeChange.TheVariants.
 use Rattle.art_writing.specs.declared.insert.InsertPoint.{InsertPoint}
 use Rattle.art_writing.specs.Inserted.{HasInserted, IsChange, IsPointIn, Touches, unlinked_leaf}
 use Rattle.art_reading.specs.EndNodes.{IsKindOf}
+use Rattle.art_writing.specs.Points.{AnswersTo}
 use Rattle.art_writing.proofs.Left.{IsInserted}
 use Rattle.art_writing.proofs.Answered.{IsEndLeaf, end_leaf}
 use Rattle.art_writing.proofs.Standing.{answers_to}
@@ -71,9 +72,9 @@ module _ {K V : Type 0} {bytes : K × V → List ℕ} {P : ℕ} {s : Nodes K V} 
     -- the value is stored, and the old one is returned with the key that was passed
     pub value_replaced : (swapped : V) (existing : LeafNode K V) → IfSome (map.get s.leaves p) (λ leaf. swapped ≡ leaf.value) →
         existing ≡ unlinked_leaf (new.0, swapped) →
-        ForTree bytes P s point.root (λ pairs layout. IsInserted bytes P s t point new pairs layout
+        ForTree bytes P s point.root (λ pairs layout. (at : AnswersTo bytes P layout (bytes new) point) → IsInserted bytes P s t point new pairs layout at.path
         (record { leaf_node_ptr = p; existing_leaf = Some existing; new_root = point.root; parent_node_change = NoChange }))
-    value_replaced swapped existing value is pairs layout by =
+    value_replaced swapped existing value is pairs layout by at =
         let l = own_leaf answers exact by in
         let into = into_leaf l in
         let old = subst (IsLaidOut bytes P (node_at s) (links_at s) point.root pairs) (sym l.at.whole) (laid_out by) in
@@ -86,6 +87,7 @@ module _ {K V : Type 0} {bytes : K × V → List ℕ} {P : ℕ} {s : Nodes K V} 
               (record { leaf_node_ptr = p; existing_leaf = Some existing; new_root = point.root; parent_node_change = NoChange }))
               (sym (leaf_stored_for old into new l.same (alike l) refl))
               (record { path = l.at.path; whole = refl; change = subst (λ kind. IsChange kind (parent_of l.at.path) NoChange) (sym exact) refl; root = refl });
+          below = tt;
           replaced =
               ap Some (is ∙ ap (λ v. unlinked_leaf (new.0, v)) went)
               ∙ ap (option_map unlinked_leaf) (sym (leaf_reply old into new l.same (alike l) refl));

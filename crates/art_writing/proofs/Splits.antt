@@ -99,7 +99,7 @@ module _ {K V : Type 0} {bytes : K × V → List ℕ} {P : ℕ} {s : Nodes K V} 
       (inner_name placed.node) (leaf_name done.leaf_node_ptr) is.part branch.old_byte branch.new_byte pair →
       {touched : List InnerPtr} → BranchStored bytes P s t at.path (take (depth_of at.path) (bytes pair)) at.node placed.node done.leaf_node_ptr
       is.part branch.old_byte branch.new_byte (record { key = pair.0; value = pair.1; previous = branch.previous; next = branch.next }) mid.inners touched →
-      Touches k s t → IsInserted bytes P s t point pair pairs layout done
+      Touches k s t → IsInserted bytes P s t point pair pairs layout at.path done
   split_done kind tells placed new stored few =
       branch_done by at is placed new (λ parent told e. subst (λ k. IsChange k (Some parent) told) (sym kind) (tells parent told e)) stored
       (subst (λ k. Touches k s t) (sym kind) few)
@@ -112,7 +112,7 @@ module _ {K V : Type 0} {bytes : K × V → List ℕ} {P : ℕ} {s : Nodes K V} 
         (λ k i. absurd i) (leaf_named by at kind ∙ sym named)
 
     -- the pair is inserted; two names are placed, and at most three are changed
-    pub leaf_split : IsInserted bytes P s t point pair pairs layout done
+    pub leaf_split : IsInserted bytes P s t point pair pairs layout at.path done
     leaf_split =
         let (y, found) = leaf_found by at kind in
         split_done kind (λ parent told e. e) placed (leaf_inserted (leaf_name p) y at.node found (end_laid by at) leaf_stored is.old_way) leaf_stored
@@ -160,7 +160,7 @@ module _ {K V : Type 0} {bytes : K × V → List ℕ} {P : ℕ} {s : Nodes K V} 
         ap (λ n. is.part ++ branch.old_byte ∷ drop (n + 1) prefix) count
 
     -- the pair is inserted; two names are placed, and at most four are changed
-    pub prefix_split : IsInserted bytes P s t point pair pairs layout done
+    pub prefix_split : IsInserted bytes P s t point pair pairs layout at.path done
     prefix_split =
         let (h, cs, found) = inner_found by at kind in
         split_done kind (λ parent told e. e) placed

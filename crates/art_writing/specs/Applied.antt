@@ -13,7 +13,8 @@ use Rattle.art_writing.specs.declared.insert.InsertResult.{InsertResult}
 use Rattle.art_writing.specs.declared.insert.PrefixInsertPoint.{PrefixInsertPoint}
 use Rattle.art_writing.specs.declared.insert.PrefixInsertResult.{PrefixInsertResult}
 use Rattle.art_writing.specs.declared.insert.PairRefused.{PairRefused}
-use Rattle.art_writing.specs.Inserted.{HasInserted, Touches, unlinked_leaf}
+use Rattle.art_writing.specs.Inserted.{HasInserted, IsBelow, Touches, unlinked_leaf}
+use Rattle.art_writing.specs.Points.{AnswersTo}
 use Rattle.art_writing.specs.Overwritten.{HasCome, TouchesForPrefix, root_of}
 
 -- The nodes are placed, from the promise where it covers them; or the pair is returned, with the nodes as they were and nothing promised.
@@ -38,6 +39,9 @@ module _ {K V : Type 0} (bytes : K × V → List ℕ) (P : ℕ) (s t : Nodes K V
         done.existing_leaf ≡ option_map unlinked_leaf (put_reply bytes pair pairs))
     pub kept : ForTree bytes P s point.root (λ pairs old. ForTree bytes P t done.new_root (λ after new.
         ChangesInPlace bytes s t (Some old) (Some new)))
+    pub below : ForTree bytes P s point.root (λ pairs old. (at : AnswersTo bytes P old (bytes pair) point) →
+        ForTree bytes P t done.new_root (λ after new.
+        IsBelow at.path new pair done.leaf_node_ptr done.parent_node_change))
     pub apart : KeepsApart bytes P s t (Some point.root) (Some done.new_root)
     pub touches : Touches point.insert_kind s t
 

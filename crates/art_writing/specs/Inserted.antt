@@ -1,5 +1,5 @@
 -- What an applied insert point places and touches, and what it leaves.
-use Rattle.std.specs.Prelude.{◌≡◌, ◌↔◌, ℕ, Bool, false, MatchBool, if◌then◌else◌, nat_le, List, length, Option, Some, None, Result, IsOk, IfOk, IfErr}
+use Rattle.std.specs.Prelude.{◌≡◌, ◌↔◌, ℕ, Bool, false, MatchBool, if◌then◌else◌, nat_le, List, ◌∷◌, length, Option, Some, None, Result, IsOk, IfOk, IfErr, ⊤}
 use Rattle.std.specs.FinMap as map
 use Rattle.art_parts.specs.Kinds.{kind_capacity, next_larger}
 use Rattle.art_parts.specs.Names.{leaf_name, inner_name}
@@ -7,6 +7,7 @@ use Rattle.art_nodes.specs.Nodes.{Nodes, Promise}
 use Rattle.art_parts.specs.declared.names.NodeType.TheVariants.{Node4}
 use Rattle.art_parts.specs.declared.names.InnerPtr.{InnerPtr}
 use Rattle.art_parts.specs.declared.leaf.LeafNode.{LeafNode}
+use Rattle.art_parts.specs.declared.names.LeafPtr.{LeafPtr}
 use Rattle.art_parts.specs.declared.names.OpaqueNodePtr.{OpaqueNodePtr}
 use Rattle.art_model.specs.Canonical.{IsCanonicalTree}
 use Rattle.art_model.specs.Footprints.{TouchesAtMost}
@@ -73,6 +74,20 @@ IsChange kind (Some parent) told = told ≡ NewParent parent.0 parent.1
 abbrev pub root_after : InsertPoint → InsertParentNodeChange → OpaqueNodePtr
 root_after point NoChange = point.root
 root_after point (NewParent parent byte) = elim point.path [ Root ↦ inner_name parent | _ ↦ point.root ]
+
+-- The leaf of the pair is a child of the parent, under the byte, and this path leads to the parent.
+pub record IsChildAt {K V : Type 0} (up : List (Frame OpaqueNodePtr (K × V))) (tree : Tree OpaqueNodePtr (K × V))
+    (pair : K × V) (name : LeafPtr) (parent : InnerPtr) (byte : ℕ) : Type 0 where
+  pub frame : Frame OpaqueNodePtr (K × V)
+  pub mark : frame.mark ≡ inner_name parent
+  pub byte_is : frame.byte ≡ byte
+  pub whole : plug (frame ∷ up) (leaf (leaf_name name) pair) ≡ tree
+
+-- a new leaf's parent is where this path leads, which was the path to the point's node; nothing is said where a value was replaced
+abbrev pub IsBelow : {K V : Type 0} → List (Frame OpaqueNodePtr (K × V)) → Tree OpaqueNodePtr (K × V) → K × V → LeafPtr →
+    InsertParentNodeChange → Type 0
+IsBelow up tree pair name NoChange = ⊤
+IsBelow up tree pair name (NewParent parent byte) = IsChildAt up tree pair name parent byte
 
 -- The tree has the pair's leaf under the returned name, and root and parent follow from the leaf's path.
 pub record HasInserted {K V : Type 0} (tree : Tree OpaqueNodePtr (K × V)) (point : InsertPoint)

@@ -30,12 +30,41 @@ impl InsertPoint {
         ensures memory { TakesMemory store.old store.new
             (placed_for store.old self.insert_kind) (key, value) result }
     {
+        let links = self.links_of_child(store, inner_node_ptr, key.as_bytes());
+        self.add_child_between(store, inner_node_ptr, links, key, value)
+    }
+
+    /// Does what `apply` does at an inner node that gets a further child, for a caller who knows the neighbours of the
+    /// new leaf: it reads no other leaf, and descends nowhere.
+    #[inline(always)]
+    pub fn add_child_between<K: AsBytes + Drop, V: Drop, const P: usize>(
+        self,
+        store: &mut NodeStore<K, V, P>,
+        inner_node_ptr: InnerPtr,
+        links: (OptionalLeafPtr, OptionalLeafPtr),
+        key: K,
+        value: V,
+    ) -> Result<InsertResult<K, V>, PairRefused<K, V>>
+        requires point { self.insert_kind ≡ kinds.IntoExisting inner_node_ptr }
+        requires answers { IsPointIn (of_key K.bytes) P store.old (K.bytes key) self }
+        requires beside { (left : Subtrees OpaqueNodePtr (K × V)) →
+            (right : Subtrees OpaqueNodePtr (K × V)) →
+            HasGap store.old inner_node_ptr (get_or (K.bytes key) self.key_bytes_used 0) left right →
+            ComesBetween store.old left right links.0 links.1 }
+        requires few { IfSome (map.get store.old.inners inner_node_ptr) (λ node.
+            length node.children < 256) }
+        ensures applied { IfOk result
+            (IsApplied (of_key K.bytes) P store.old store.new self (key, value)) }
+        ensures memory { TakesMemory store.old store.new
+            (placed_for store.old self.insert_kind) (key, value) result }
+    {
         let key_bytes = key.as_bytes();
         let byte = key_bytes[self.key_bytes_used];
-        let (larger, (previous, next)) = self.larger_and_links(store, inner_node_ptr, key_bytes);
+        let larger = larger_if_full(store.inner_at(inner_node_ptr));
         if store.reserve(1, larger).is_err() {
             return Err(PairRefused { key, value });
         }
+        let (previous, next) = links;
         let leaf_node_ptr = place_between(store, key, value, previous, next);
         let child = leaf_node_ptr.to_opaque();
         if larger.is_some() {
@@ -53,30 +82,27 @@ impl InsertPoint {
         Ok(new_child(leaf_node_ptr, inner_node_ptr, byte, self.root))
     }
 
-    // The kind of the node that replaces this one if it is full, and the neighbours of a new leaf below it.
+    // The neighbours of a new leaf below a node.
     #[inline(always)]
-    fn larger_and_links<K: AsBytes + Drop, V: Drop, const P: usize>(
+    fn links_of_child<K: AsBytes + Drop, V: Drop, const P: usize>(
         self,
         store: &NodeStore<K, V, P>,
         name: InnerPtr,
         key_bytes: &[u8],
-    ) -> (Option<NodeType>, (OptionalLeafPtr, OptionalLeafPtr))
+    ) -> (OptionalLeafPtr, OptionalLeafPtr)
         requires point { self.insert_kind ≡ kinds.IntoExisting name }
         requires answers { IsPointIn (of_key K.bytes) P store.now key_bytes.now self }
-        ensures larger { result.0 ≡ (placed_for store.now (kinds.IntoExisting name)).inner }
         ensures beside { (left : Subtrees OpaqueNodePtr (K × V)) →
             (right : Subtrees OpaqueNodePtr (K × V)) →
             HasGap store.now name (get_or key_bytes.now self.key_bytes_used 0) left right →
-            ComesBetween store.now left right result.1.0 result.1.1 }
+            ComesBetween store.now left right result.0 result.1 }
         ensures few { IfSome (map.get store.now.inners name) (λ node.
             length node.children < 256) }
     {
         let node = store.inner_at(name);
-        let larger = larger_if_full(node);
         let byte = key_bytes[self.key_bytes_used];
         let (other, child) = node.beside(byte);
-        let links = links_beside(store, child, Direction::of(byte, other));
-        (larger, links)
+        links_beside(store, child, Direction::of(byte, other))
     }
 }
 

@@ -1,121 +1,18 @@
-use Rattle.std.proofs.Common.{rules, ◌∙◌, ap, sym, subst, get_or, Some, IsTrue}
-use Rattle.std.specs.FinMap as map
-use Rattle.art_parts.specs.Kinds.{larger_kind}
-use Rattle.art_nodes.specs.Nodes.{covers, promises, take_leaf}
-use Rattle.art_model.specs.Promises.{inner_taken, is_covered}
-use Rattle.art_model.specs.Writes.{IsThere}
-use Rattle.art_writing.specs.Inserted.{placed_for}
-use Rattle.art_writing.specs.ParentWrites.{HasChild}
-use Rattle.art_reading.specs.PathSteps.{last_step}
-use Rattle.art_writing.proofs.Applied.{applied, granted, handed_back}
-use Rattle.art_writing.proofs.Entered.{entry, entry_gap, entry_parent}
-use Rattle.art_writing.proofs.LeafAdded.{previous_is_there, next_is_there, room_inserted, full_inserted, has_room, larger_has_room, asked_full, asked_room}
-use Rattle.art_writing.proofs.Reserved.{leaf_promised, inner_promised, after_reserve, is_none, not_granted, not_refused, was_refused}
+use Rattle.std.proofs.Common.{rules, sym}
+use Rattle.art_writing.proofs.Entered.{beside_for}
 use Rattle.art_writing.proofs.insert.InsertPoint.add_child.Goals as goal
 
-pub returns-then-is_err-clause-memory : goal.returns-then-is_err-clause-memory
-returns-then-is_err-clause-memory g c =
-    handed_back (λ covered. not_granted c.reserve.result (sym c.is_err.ensures.value ∙ c.if-is_err.true) c.reserve.ensures.succeeds
-    (subst (λ kind. IsTrue (covers c.args.store.now.promise 1 kind)) (sym c.larger_and_links-larger.ensures.larger)
-    (subst (λ kind. IsTrue (is_covered (placed_for c.args.store.now kind) c.args.store.now.promise)) c.requires.point covered)))
-    c.reserve.ensures.leaves c.reserve.ensures.inners (was_refused c.reserve.result (sym c.is_err.ensures.value ∙ c.if-is_err.true) c.reserve.ensures.refused)
-
-pub place_between-leaf_node_ptr-requires : goal.place_between-leaf_node_ptr-requires
-place_between-leaf_node_ptr-requires g c =
-    let (pairs, layout, by, own) = c.requires.answers in
-    let e = entry c.requires.answers c.requires.point (ap (λ l. get_or l c.args.self.key_bytes_used 0) c.as_bytes-key_bytes.ensures) by in
-    let beside = c.larger_and_links-larger.ensures.beside e.left e.right (entry_gap by e) in
-    let same = sym c.reserve.ensures.leaves in (
-      search rules,
+pub add_child_between-requires : goal.add_child_between-requires
+add_child_between-requires g c = (
+  search rules,
+  (
+    c.requires.point,
+    (
+      c.requires.answers,
       (
-        leaf_promised c.reserve.new.self.promise c.larger_and_links-larger.result.0
-            (not_refused c.reserve.result (sym c.is_err.ensures.value ∙ c.if-is_err.false) c.reserve.ensures.reserved),
-        (
-          subst (λ m. IsThere m c.larger_and_links-larger.result.1.0) same (previous_is_there c.args.self (c.args.key, c.args.value) by e _ _ beside),
-          subst (λ m. IsThere m c.larger_and_links-larger.result.1.1) same (next_is_there c.args.self (c.args.key, c.args.value) by e _ _ beside),
-        ),
+        beside_for c.args.self.key_bytes_used (sym c.as_bytes.ensures) c.links_of_child-links.ensures.beside,
+        c.links_of_child-links.ensures.few,
       ),
-    )
-
-pub put_larger-requires : goal.put_larger-requires
-put_larger-requires g c =
-    let (pairs, layout, by, own) = c.requires.answers in
-    let e = entry c.requires.answers c.requires.point (ap (λ l. get_or l c.args.self.key_bytes_used 0) c.as_bytes-key_bytes.ensures) by in
-    let same = c.place_between-leaf_node_ptr.ensures.inners ∙ c.reserve.ensures.inners in
-    let p = c.args.inner_node_ptr in
-    let known = c.larger_and_links-larger.ensures in
-    let (full, last, asked) = asked_full c.args.self (c.args.key, c.args.value) by e known.few known.larger (sym c.is_some.ensures ∙ c.if-is_some.true) in
-    let covered = not_refused c.reserve.result (sym c.is_err.ensures.value ∙ c.if-is_err.false) c.reserve.ensures.reserved in (
-      search rules,
-      (
-        last,
-        (
-          larger_has_room c.args.self (c.args.key, c.args.value) by e last c.place_between-leaf_node_ptr.new.store.inners same,
-          (
-            subst (λ promise. IsTrue (promises promise.inner (larger_kind p.kind))) (sym c.place_between-leaf_node_ptr.ensures.promise)
-                (inner_promised c.reserve.new.self.promise (larger_kind p.kind) (ap (covers c.reserve.new.self.promise 1) (sym asked) ∙ covered)),
-            subst (λ m. HasChild (map.remove m p) (last_step c.args.self.path)) (sym same) (entry_parent by e),
-          ),
-        ),
-      ),
-    )
-
-pub returns-then-is_some-clause-applied : goal.returns-then-is_some-clause-applied
-returns-then-is_some-clause-applied g c =
-    applied g.K.AsBytes.bytes c.requires.answers (λ pairs layout by.
-    let e = entry c.requires.answers c.requires.point (ap (λ l. get_or l c.args.self.key_bytes_used 0) c.as_bytes-key_bytes.ensures) by in
-    let beside = c.larger_and_links-larger.ensures.beside e.left e.right (entry_gap by e) in
-    let known = c.larger_and_links-larger.ensures in
-    let (full, last, asked) = asked_full c.args.self (c.args.key, c.args.value) by e known.few known.larger (sym c.is_some.ensures ∙ c.if-is_some.true) in
-    full_inserted c.args.self (c.args.key, c.args.value) by e _ _ beside c.reserve.new.self c.place_between-leaf_node_ptr.new.store
-    c.reserve.ensures.leaves c.reserve.ensures.inners c.place_between-leaf_node_ptr.ensures.fresh c.place_between-leaf_node_ptr.ensures.leaves
-    c.place_between-leaf_node_ptr.ensures.inners c.to_opaque-child.ensures c.put_larger.new.store c.put_larger.ensures.leaves full last
-    c.put_larger.result.0 c.put_larger.ensures.kind c.put_larger.ensures.fresh c.put_larger.ensures.inners c.requires.point
-    c.put_larger.ensures.root _ c.new_child.ensures)
-
-pub returns-then-is_some-clause-memory : goal.returns-then-is_some-clause-memory
-returns-then-is_some-clause-memory g c =
-    let (pairs, layout, own, answers) = c.requires.answers in
-    let entered = entry c.requires.answers c.requires.point (ap (λ l. get_or l c.args.self.key_bytes_used 0) c.as_bytes-key_bytes.ensures) own in
-    let known = c.larger_and_links-larger.ensures in
-    let asked = (asked_full c.args.self (c.args.key, c.args.value) own entered known.few known.larger (sym c.is_some.ensures ∙ c.if-is_some.true)).2 in
-    granted
-    (c.put_larger.ensures.promise
-    ∙ ap (λ promise. inner_taken (Some (larger_kind c.args.inner_node_ptr.kind)) promise) c.place_between-leaf_node_ptr.ensures.promise
-    ∙ ap (λ kind. inner_taken kind (take_leaf c.reserve.new.self.promise)) (sym asked)
-    ∙ after_reserve c.args.store.now c.reserve.new.self c.larger_and_links-larger.result.0 c.reserve.result (sym c.is_err.ensures.value ∙ c.if-is_err.false)
-    c.reserve.ensures.covered c.reserve.ensures.granted
-    (ap (λ kind. record { leaves = 1; inner = kind }) c.larger_and_links-larger.ensures.larger ∙ ap (placed_for c.args.store.now) (sym c.requires.point)))
-
-pub write_child-requires : goal.write_child-requires
-write_child-requires g c =
-    let (pairs, layout, by, own) = c.requires.answers in
-    let e = entry c.requires.answers c.requires.point (ap (λ l. get_or l c.args.self.key_bytes_used 0) c.as_bytes-key_bytes.ensures) by in
-    let p = c.args.inner_node_ptr in
-    let same = c.place_between-leaf_node_ptr.ensures.inners ∙ c.reserve.ensures.inners in
-    let room = asked_room c.args.self (c.args.key, c.args.value)
-    by e c.larger_and_links-larger.ensures.few c.larger_and_links-larger.ensures.larger (sym c.is_some.ensures ∙ c.if-is_some.false) in
-    (search rules, has_room c.args.self (c.args.key, c.args.value) by e room c.place_between-leaf_node_ptr.new.store.inners same)
-
-pub returns-clause-applied : goal.returns-clause-applied
-returns-clause-applied g c =
-    applied g.K.AsBytes.bytes c.requires.answers (λ pairs layout by.
-    let e = entry c.requires.answers c.requires.point (ap (λ l. get_or l c.args.self.key_bytes_used 0) c.as_bytes-key_bytes.ensures) by in
-    let beside = c.larger_and_links-larger.ensures.beside e.left e.right (entry_gap by e) in
-    let room = asked_room c.args.self (c.args.key, c.args.value)
-    by e c.larger_and_links-larger.ensures.few c.larger_and_links-larger.ensures.larger (sym c.is_some.ensures ∙ c.if-is_some.false) in
-    room_inserted c.args.self (c.args.key, c.args.value) by e _ _ beside c.reserve.new.self c.place_between-leaf_node_ptr.new.store
-    c.reserve.ensures.leaves c.reserve.ensures.inners c.place_between-leaf_node_ptr.ensures.fresh c.place_between-leaf_node_ptr.ensures.leaves
-    c.place_between-leaf_node_ptr.ensures.inners c.to_opaque-child.ensures c.write_child.new.self c.write_child.ensures.leaves room
-    c.write_child.ensures.inners c.requires.point _ c.new_child-2.ensures)
-
-pub returns-clause-memory : goal.returns-clause-memory
-returns-clause-memory g c =
-    let none = is_none c.larger_and_links-larger.result.0 (sym c.is_some.ensures ∙ c.if-is_some.false) in
-    granted
-    (c.write_child.ensures.promise
-    ∙ c.place_between-leaf_node_ptr.ensures.promise
-    ∙ ap (λ kind. inner_taken kind (take_leaf c.reserve.new.self.promise)) (sym none)
-    ∙ after_reserve c.args.store.now c.reserve.new.self c.larger_and_links-larger.result.0 c.reserve.result
-    (sym c.is_err.ensures.value ∙ c.if-is_err.false) c.reserve.ensures.covered c.reserve.ensures.granted
-    (ap (λ kind. record { leaves = 1; inner = kind }) c.larger_and_links-larger.ensures.larger ∙ ap (placed_for c.args.store.now) (sym c.requires.point)))
+    ),
+  ),
+)

@@ -5,7 +5,7 @@ use Rattle.art_writing.specs.Inserted.{placed_for}
 use Rattle.art_writing.proofs.Applied.{applied, granted, handed_back}
 use Rattle.art_writing.proofs.Branches.{end_parent, previous_is_there, next_is_there, read_for}
 use Rattle.art_writing.proofs.Reserved.{after_reserve, not_granted, was_refused}
-use Rattle.art_writing.proofs.Standing.{tree_stays, answers_to}
+use Rattle.art_writing.proofs.Standing.{tree_stays}
 use Rattle.art_writing.proofs.Splits.{leaf_split}
 use Rattle.art_writing.proofs.insert.InsertPoint.split_leaf.Goals as goal
 
@@ -24,8 +24,7 @@ place_branch-requires g c =
 
 pub returns-clause-applied : goal.returns-clause-applied
 returns-clause-applied g c =
-    applied g.K.AsBytes.bytes c.requires.answers (λ pairs layout by.
-    let at = answers_to c.requires.answers by in
+    applied g.K.AsBytes.bytes c.requires.answers (λ pairs layout by at.
     let is = read_for c.as_bytes.ensures c.branch_at_leaf-branch.ensures pairs layout by at in
     leaf_split by at is c.requires.point c.to_opaque-old.ensures (c.reserve.ensures.leaves, c.reserve.ensures.inners) c.place_branch.ensures.placed)
 

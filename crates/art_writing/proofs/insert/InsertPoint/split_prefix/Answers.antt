@@ -9,7 +9,7 @@ use Rattle.art_writing.specs.Inserted.{placed_for}
 use Rattle.art_writing.proofs.Applied.{applied, granted, handed_back}
 use Rattle.art_writing.proofs.Branches.{previous_is_there, next_is_there, read_for}
 use Rattle.art_writing.proofs.Reserved.{after_reserve, not_granted, was_refused}
-use Rattle.art_writing.proofs.Standing.{tree_stays, answers_to}
+use Rattle.art_writing.proofs.Standing.{tree_stays}
 use Rattle.art_writing.proofs.Splits.{parent_stays, prefix_split}
 use Rattle.art_writing.proofs.insert.InsertPoint.split_prefix.Goals as goal
 
@@ -45,9 +45,8 @@ place_branch-requires g c =
 
 pub returns-clause-applied : goal.returns-clause-applied
 returns-clause-applied g c =
-    applied g.K.AsBytes.bytes c.requires.answers (λ pairs layout by.
+    applied g.K.AsBytes.bytes c.requires.answers (λ pairs layout by at.
     let same : SameNodes c.args.store.now c.reserve.new.self = (c.reserve.ensures.leaves, c.reserve.ensures.inners) in
-    let at = answers_to c.requires.answers by in
     let is = read_for c.as_bytes.ensures c.branch_at_prefix-branch.ensures.branch pairs layout by at in
     prefix_split by at is c.requires.point c.to_opaque-old.ensures (c.set_header.ensures.leaves ∙ c.reserve.ensures.leaves)
     (c.set_header.ensures.inners ∙ ap (λ m. change m c.args.inner_node_ptr (with_header c.trimmed_header-header.result)) c.reserve.ensures.inners)

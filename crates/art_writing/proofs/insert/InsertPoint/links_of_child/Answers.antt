@@ -1,8 +1,7 @@
-use Rattle.std.proofs.Common.{◌∙◌, rules, refl, sym}
+use Rattle.std.proofs.Common.{rules, refl, sym}
 use Rattle.art_writing.proofs.Entered.{entry, entry_gap, entry_inner, entry_met}
 use Rattle.art_writing.proofs.Gaps.{gap_some, gap_absent, beside_full, beside_between}
-use Rattle.art_writing.proofs.LeafAdded.{asked_of}
-use Rattle.art_writing.proofs.insert.InsertPoint.larger_and_links.Goals as goal
+use Rattle.art_writing.proofs.insert.InsertPoint.links_of_child.Goals as goal
 
 pub inner_at-node-requires : goal.inner_at-node-requires
 inner_at-node-requires g c =
@@ -17,19 +16,15 @@ beside-other-requires g c =
     let absent = gap_absent (entry_inner by e) (entry_gap by e) (sym c.inner_at-node.ensures.view) in
     (search rules, (some, absent))
 
-pub links_beside-links-requires : goal.links_beside-links-requires
-links_beside-links-requires g c =
+pub links_beside-requires : goal.links_beside-requires
+links_beside-requires g c =
     let (pairs, layout, by, own) = c.requires.answers in
     let e = entry c.requires.answers c.requires.point refl by in
     (search rules, beside_full (entry_inner by e) (entry_gap by e) (sym c.inner_at-node.ensures.view) c.beside-other.ensures.beside)
-
-pub returns-clause-larger : goal.returns-clause-larger
-returns-clause-larger g c =
-    c.larger_if_full-larger.ensures ∙ asked_of c.args.store.now c.args.name c.inner_at-node.ensures.kind (sym c.inner_at-node.ensures.view)
 
 pub returns-clause-beside : goal.returns-clause-beside
 returns-clause-beside g c left right gap =
     let (pairs, layout, by, own) = c.requires.answers in
     let e = entry c.requires.answers c.requires.point refl by in
     beside_between (entry_inner by e) gap (sym c.inner_at-node.ensures.view) c.beside-other.ensures.beside _ _
-    (rw c.of.ensures at c.links_beside-links.ensures)
+    (rw c.of.ensures at c.links_beside.ensures)

@@ -1,0 +1,2 @@
+-- a tree that is being built
+pub mod Built

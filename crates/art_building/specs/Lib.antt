@@ -1,0 +1,4 @@
+-- what is added to a builder
+pub mod Pushes
+-- a tree that is being built
+pub mod Built
