@@ -13,13 +13,13 @@ use Rattle.art_parts.specs.declared.names.NodeType.TheVariants.{Node4, Node16, N
 use Rattle.art_parts.specs.declared.names.OpaqueNodePtr.{OpaqueNodePtr}
 use Rattle.art_model.specs.Faults.{Reaches}
 use Rattle.art_model.specs.Layouts.{slots_of}
-use Rattle.art_checking.specs.Checked.{AreReached, IsEntered, IsFirstMet, IsLeafAt, IsMetTree, IsPassed, IsStart, IsWalked, NoneFrom}
+use Rattle.art_checking.specs.Checked.{AreReached, IsEntered, IsFirstMet, IsLeafAt, IsMetTree, IsPassed, IsStart, IsWalked, AllBefore}
 use Rattle.art_checking.specs.Meetings.{place_in}
 use Rattle.art_checking.specs.declared.well_formed.check.Above.{Above}
 use Rattle.art_checking.specs.declared.well_formed.seen.Seen.{Seen}
 use Rattle.art_checking.proofs.Passed.{met_tree, passed_all, passed_inner, passed_leaf}
 use Rattle.art_checking.proofs.Turns.{HasTurned, IsTurn, free, none_turned, reached, turn_from, turned}
-use Rattle.art_checking.proofs.Walked.{met_walked, none_below, reach_root, walked_also}
+use Rattle.art_checking.proofs.Walked.{met_walked, none_after, reach_root, walked_also}
 
 module _ {K V : Type 0} (bytes : K × V → List ℕ) (P : ℕ) (s : Nodes K V) where
   -- An inner node was met for the first time, at a place that ends at this depth.
@@ -105,7 +105,7 @@ module _ {K V : Type 0} {bytes : K × V → List ℕ} {P : ℕ} {s : Nodes K V} 
 
   pub entered : {root : OpaqueNodePtr} {above : List Above} {before old : Seen} {place read : List ℕ} {name : InnerPtr} {depth : ℕ}
       {node : Inner} {left : Children} →
-      AreAbove bytes P s root above before place (inner_name name) → NoneFrom (place_in before) place →
+      AreAbove bytes P s root above before place (inner_name name) → AllBefore (place_in before) place →
       IsFirstMet before old (inner_name name) place → name.kind ≢ Leaf →
       map.get s.inners name ≡ Some node → depth ≡ length place → IsEntered bytes P s place read name node left →
       IsAt bytes P s root above old read name depth left
@@ -116,7 +116,7 @@ module _ {K V : Type 0} {bytes : K × V → List ℕ} {P : ℕ} {s : Nodes K V} 
     node = node;
     outer = outer;
     met = record { first = first; proper = proper; there = there; rising = enters.rising; bound = enters.bound; deep = deep };
-    turns = none_turned (sym enters.all) enters.prefix (none_below first.met none);
+    turns = none_turned (sym enters.all) enters.prefix (none_after first.met none);
   }
 
   -- the root is reached
@@ -125,7 +125,7 @@ module _ {K V : Type 0} {bytes : K × V → List ℕ} {P : ℕ} {s : Nodes K V} 
       IsEntered bytes P s place read name node left → IsAt bytes P s (inner_name name) (reverse above) old read name 0 left
   started {above} {start} {old} {place} {read} {name} {node} {left} starts first proper there at none enters =
       subst (λ l. IsAt bytes P s (inner_name name) (reverse l) old read name 0 left) (sym none)
-      (entered {root = inner_name name} {above = []} (starts, refl, refl) (λ n other e front. let h = starts.none n in absurd cc) first proper there refl
+      (entered {root = inner_name name} {above = []} (starts, refl, refl) (λ n other e. let h = starts.none n in absurd cc) first proper there refl
       (subst (λ p. IsEntered bytes P s p read name node left) at enters))
 
   -- ---- a child is next
@@ -139,7 +139,7 @@ module _ {K V : Type 0} {bytes : K × V → List ℕ} {P : ℕ} {s : Nodes K V} 
     pub child_is_reached : Reaches bytes P s root pushed child
     child_is_reached = reached turn_of root (own_reached at)
 
-    pub child_is_free : NoneFrom (place_in now) pushed
+    pub child_is_free : AllBefore (place_in now) pushed
     child_is_free = free turn_of
 
     -- its parent is the innermost node above it

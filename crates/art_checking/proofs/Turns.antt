@@ -10,7 +10,7 @@ use Rattle.art_parts.specs.declared.names.OpaqueNodePtr.{OpaqueNodePtr}
 use Rattle.art_model.specs.Faults.{Reaches}
 use Rattle.art_model.specs.Layouts.{slots_of}
 use Rattle.art_model.specs.Stores.{header_at}
-use Rattle.art_checking.specs.Checked.{IsPassed, IsRead, IsWalked, NoneBelow, NoneFrom}
+use Rattle.art_checking.specs.Checked.{IsPassed, IsRead, IsWalked, NoneAfter, AllBefore}
 use Rattle.art_checking.specs.Meetings.{place_in}
 use Rattle.art_checking.specs.declared.well_formed.seen.Seen.{Seen}
 use Rattle.art_checking.proofs.Passed.{HasPassed, before_last, passed_more, passed_none}
@@ -35,7 +35,7 @@ pub record IsTurn {K V : Type 0} (bytes : K × V → List ℕ) (P : ℕ) (s : No
 module _ {K V : Type 0} {bytes : K × V → List ℕ} {P : ℕ} {s : Nodes K V} {old : Seen} {place whole : List ℕ} {p : InnerPtr} {node : Inner} where
   -- before the first step
   pub none_turned : {left : Children} → node.children ≡ left → IsRead bytes P s place whole (inner_name p) (header_at p.kind node) →
-      NoneBelow (place_in old) place →
+      NoneAfter (place_in old) place →
       HasTurned bytes P s old old place whole p node left
   none_turned all read none = record {
     read = read;
@@ -68,9 +68,9 @@ module _ {K V : Type 0} {bytes : K × V → List ℕ} {P : ℕ} {s : Nodes K V} 
   pub reached : (root : OpaqueNodePtr) → Reaches bytes P s root place (inner_name p) → Reaches bytes P s root pushed child
   reached root reach = subst (λ ps. Reaches bytes P s root ps child) (sym turn.at) (turn.step root reach)
 
-  -- nothing that was met is there or below
-  pub free : NoneFrom (place_in now) pushed
-  free = subst (NoneFrom (place_in now)) (sym turn.at) turn.walked.free.0
+  -- what was met is before it
+  pub free : AllBefore (place_in now) pushed
+  free = subst (AllBefore (place_in now)) (sym turn.at) turn.walked.free.0
 
   -- The step ends once the child and all below it were passed, and the byte was removed: the next child follows.
   pub turned : {new : Seen} {behind rest : List ℕ} {len : ℕ} → IsPassed bytes P s now new pushed child →

@@ -1,5 +1,5 @@
 -- What a check has met is on trails from the root, and below the places that it reached.
-use Rattle.std.proofs.Common.{◌≡◌, ◌≢◌, ℕ, ◌<◌, List, [], ◌∷◌, ◌++◌, length, length-append, append-nil, refl, ap, sym, ◌∙◌, arith, subst, eq-eqb, Option, Some, None, IfSome, ◌⊎◌, inl, inr}
+use Rattle.std.proofs.Common.{◌≡◌, ◌≢◌, ℕ, ◌<◌, List, [], ◌∷◌, ◌++◌, length, append-nil, append_assoc, true, refl, ap, sym, ◌∙◌, arith, subst, eq-eqb, Option, Some, None, IfSome, ◌⊎◌, inl, inr}
 use Rattle.std.proofs.lemmas.Bool.{cases_Bool, ne_eqb, true≢false}
 use Rattle.std.specs.FinMap as map
 use Rattle.std.specs.List.{AllByRecursion as Each}
@@ -12,14 +12,14 @@ use Rattle.art_parts.specs.declared.names.NodeType.TheVariants.{Leaf}
 use Rattle.art_parts.specs.declared.names.LeafPtr.{LeafPtr}
 use Rattle.art_parts.specs.declared.names.OpaqueNodePtr.{OpaqueNodePtr}
 use Rattle.art_model.specs.Faults.{Reaches}
-use Rattle.art_model.specs.Keys.{IsFront}
+use Rattle.art_model.specs.Keys.{IsFront, is_before}
 use Rattle.art_model.specs.Layouts.{Node, inner_node}
 use Rattle.art_model.specs.Stores.{node_at, header_at}
 use Rattle.art_model.specs.Trails.{end_of, HasChild, IsTrail, HasPrefix, IsReadAs}
 use Rattle.art_model.specs.Trees.{NodeHeader}
+use Rattle.art_model.proofs.keys.KeyLaws.{order_is_decided, order_is_strict, order_is_transitive}
 use Rattle.art_model.proofs.lists.Lists.{front_cut}
-use Rattle.art_model.proofs.places.Places.{one_way}
-use Rattle.art_checking.specs.Checked.{IsFirstLeast, IsLeastLeaf, IsRead, IsWalked, NoneBelow, NoneFrom}
+use Rattle.art_checking.specs.Checked.{AllBefore, IsFirstLeast, IsLeastLeaf, IsRead, IsWalked, NoneAfter}
 use Rattle.art_checking.specs.Marks.{same_name}
 use Rattle.art_checking.specs.Meetings.{Places, IsMet}
 use Rattle.art_checking.proofs.Descents.{inner_at, least_below}
@@ -94,13 +94,22 @@ module _ {K V : Type 0} (bytes : K × V → List ℕ) (P : ℕ) (s : Nodes K V) 
 front_self : (p q : List ℕ) → p ≡ q → IsFront p q
 front_self p q e = ([], sym e ∙ sym (append-nil p))
 
-too_long : (place part : List ℕ) (b : ℕ) → IsFront ((place ++ part) ++ b ∷ []) place → ⊥
-too_long place part b (rest, e) =
-    let all = ap length e in
-    let one = length-append ((place ++ part) ++ b ∷ []) rest in
-    let two = length-append (place ++ part) (b ∷ []) in
-    let three = length-append place part in
-    omega arith
+-- a place is before those of its node's children
+before_child : (place part : List ℕ) (b : ℕ) → is_before place ((place ++ part) ++ b ∷ []) ≡ true
+before_child place [] b =
+    (order_is_decided place ((place ++ []) ++ b ∷ [])).1 (inl (b, [], ap (λ xs. xs ++ b ∷ []) (append-nil place)))
+before_child place (x ∷ part) b =
+    (order_is_decided place ((place ++ x ∷ part) ++ b ∷ [])).1 (inl (x, part ++ b ∷ [], append_assoc place (x ∷ part) (b ∷ [])))
+
+-- what is below a child is before the children under greater bytes
+before_next : (front other : List ℕ) (b c : ℕ) → b < c → IsFront (front ++ b ∷ []) other → is_before other (front ++ c ∷ []) ≡ true
+before_next front other b c less (rest, e) =
+    (order_is_decided other (front ++ c ∷ [])).1 (inr (front, b, c, rest, [], e ∙ append_assoc front (b ∷ []) rest, refl, less))
+
+-- a place is not before itself
+pub before_differs : (first later : List ℕ) → is_before first later ≡ true → first ≢ later
+before_differs first later before same =
+    true≢false (sym (subst (λ z. is_before z later ≡ true) same before) ∙ order_is_strict later)
 
 same_some : {X : Type 0} {x y : X} {o : Option X} → o ≡ Some x → o ≡ Some y → y ≡ x
 same_some e f = cc
@@ -113,13 +122,9 @@ met_or_before {old} {new} {name} {place} met n other e = elim (cases_Bool (same_
   | inr h ↦ inr (sym (met.elsewhere n (λ same. true≢false (sym (same_self n) ∙ ap (same_name n) same ∙ h))) ∙ e)
 ]
 
--- nothing else is below the place of a name that was just met
-pub none_below : {old new : Places} {name : OpaqueNodePtr} {place : List ℕ} → IsMet old new name place → NoneFrom old place → NoneBelow new place
-none_below met none n other e front = elim (met_or_before met n other e) [ inl h ↦ h.1 | inr h ↦ absurd (none n other h front) ]
-
--- and a name that was met before is elsewhere
-pub stands_elsewhere : {old : Places} {place : List ℕ} (name : OpaqueNodePtr) → NoneFrom old place → (other : List ℕ) → old name ≡ Some other → other ≢ place
-stands_elsewhere {old} {place} name none other e same = none name other e (front_self place other (sym same))
+-- nothing was met after the place of a name that was just met
+pub none_after : {old new : Places} {name : OpaqueNodePtr} {place : List ℕ} → IsMet old new name place → AllBefore old place → NoneAfter new place
+none_after met all n other e = elim (met_or_before met n other e) [ inl h ↦ inr h.1 | inr h ↦ inl (all n other h) ]
 
 module _ {K V : Type 0} {bytes : K × V → List ℕ} {P : ℕ} {s : Nodes K V} where
   -- ---- a child is met, and then all below it
@@ -141,23 +146,24 @@ module _ {K V : Type 0} {bytes : K × V → List ℕ} {P : ℕ} {s : Nodes K V} 
 
 -- ---- the children of a node, one by one
 
--- All below some children of a node was met, and nothing below the others.
+-- All below some children of a node was met, and nothing after the others.
 pub record HasWalked {K V : Type 0} (bytes : K × V → List ℕ) (P : ℕ) (s : Nodes K V) (old new : Places) (place part : List ℕ)
     (name : OpaqueNodePtr) (left : entries.Children) : Type 0 where
   pub walked : IsWalked bytes P s old new place name
-  pub free : Each (λ step. NoneFrom new ((place ++ part) ++ step.0 ∷ [])) left
+  pub free : Each (λ step. AllBefore new ((place ++ part) ++ step.0 ∷ [])) left
 
 module _ {K V : Type 0} {bytes : K × V → List ℕ} {P : ℕ} {s : Nodes K V} where
-  pub walked_none : {old : Places} {place : List ℕ} (part : List ℕ) (name : OpaqueNodePtr) (left : entries.Children) → NoneBelow old place →
+  pub walked_none : {old : Places} {place : List ℕ} (part : List ℕ) (name : OpaqueNodePtr) (left : entries.Children) → NoneAfter old place →
       HasWalked bytes P s old old place part name left
   walked_none {old} {place} part name left none = record { walked = record { below = λ n other e. inl e; reached = λ root all reach. all }; free = go left }
     where
-      free : (b : ℕ) → NoneFrom old ((place ++ part) ++ b ∷ [])
-      free b n other e front = too_long place part b
-          (subst (IsFront ((place ++ part) ++ b ∷ []))
-          (none n other e (front_cut place part other (front_cut (place ++ part) (b ∷ []) other front))) front)
+      free : (b : ℕ) → AllBefore old ((place ++ part) ++ b ∷ [])
+      free b n other e = elim (none n other e) [
+        | inl before ↦ order_is_transitive other place ((place ++ part) ++ b ∷ []) before (before_child place part b)
+        | inr same ↦ subst (λ z. is_before z ((place ++ part) ++ b ∷ []) ≡ true) (sym same) (before_child place part b)
+      ]
 
-      go : (left : entries.Children) → Each (λ step. NoneFrom old ((place ++ part) ++ step.0 ∷ [])) left
+      go : (left : entries.Children) → Each (λ step. AllBefore old ((place ++ part) ++ step.0 ∷ [])) left
       go [] = tt
       go (step ∷ steps) = (free step.0, go steps)
 
@@ -177,15 +183,11 @@ module _ {K V : Type 0} {bytes : K × V → List ℕ} {P : ℕ} {s : Nodes K V} 
     free = go left rises has.free.1;
   }
     where
-      go : (left : entries.Children) → entries.IsBelow b left → Each (λ step. NoneFrom mid ((place ++ part) ++ step.0 ∷ [])) left →
-          Each (λ step. NoneFrom new ((place ++ part) ++ step.0 ∷ [])) left
+      go : (left : entries.Children) → entries.IsBelow b left → Each (λ step. AllBefore mid ((place ++ part) ++ step.0 ∷ [])) left →
+          Each (λ step. AllBefore new ((place ++ part) ++ step.0 ∷ [])) left
       go [] r h = tt
       go (c ∷ cs) r h = (
-        λ n other e f. elim (walked.below n other e) [
-          | inl m ↦ h.0 n other m f
-          | inr f2 ↦ let l = r.0 in
-              let same = one_way (place ++ part) b c.0 other f2 f in omega arith
-        ],
+        λ n other e. elim (walked.below n other e) [ inl m ↦ h.0 n other m | inr f ↦ before_next (place ++ part) other b c.0 r.0 f ],
         go cs r.1 h.1,
       )
 

@@ -1,5 +1,5 @@
 -- What the steps of a check establish about a store. No public clause cites this module.
-use Rattle.std.specs.Prelude.{◌≡◌, ℕ, ◌+◌, ◌≤◌, ◌⊎◌, List, [], ◌∷◌, ◌++◌, length, map, take, drop, Option, Some, None, IfSome}
+use Rattle.std.specs.Prelude.{◌≡◌, ℕ, ◌+◌, ◌≤◌, ◌⊎◌, List, [], ◌∷◌, ◌++◌, length, map, take, drop, Option, Some, None, true, IfSome}
 use Rattle.std.specs.Borrow.{Bor}
 use Rattle.std.specs.Cmp.Lexicographic.{slice_cmp}
 use Rattle.std.specs.FinMap as finite
@@ -15,7 +15,7 @@ use Rattle.art_parts.specs.declared.names.InnerPtr.{InnerPtr}
 use Rattle.art_parts.specs.declared.names.LeafPtr.{LeafPtr}
 use Rattle.art_parts.specs.declared.names.OpaqueNodePtr.{OpaqueNodePtr}
 use Rattle.art_model.specs.Faults.{Fault, out_of_memory, Reaches, EndsBadly, IsTrueOf}
-use Rattle.art_model.specs.Keys.{IsFront}
+use Rattle.art_model.specs.Keys.{IsFront, is_before}
 use Rattle.art_model.specs.Layouts.{leaf_node, name_of, names_of, leaf_names, AreDistinct, Holds}
 use Rattle.art_model.specs.Radix.{IsRadix}
 use Rattle.art_model.specs.Stores.{header_at, node_at, pair_of}
@@ -26,14 +26,14 @@ use Rattle.art_checking.specs.Meetings.{Places, Meets, IsMet, count_met, leaves_
 use Rattle.art_checking.specs.declared.well_formed.fault.MalformedTreeError.{MalformedTreeError}
 use Rattle.art_checking.specs.declared.well_formed.seen.Seen.{Seen}
 
--- nothing that was met is below the place, except what is there
-abbrev pub NoneBelow : Places → List ℕ → Type 0
-NoneBelow places place =
-    (n : OpaqueNodePtr) (other : List ℕ) → places n ≡ Some other → IsFront place other → other ≡ place
+-- what was met is before the place, or there
+abbrev pub NoneAfter : Places → List ℕ → Type 0
+NoneAfter places place =
+    (n : OpaqueNodePtr) (other : List ℕ) → places n ≡ Some other → (is_before other place ≡ true) ⊎ (other ≡ place)
 
--- nothing that was met is there or below
-abbrev pub NoneFrom : Places → List ℕ → Type 0
-NoneFrom places place = (n : OpaqueNodePtr) (other : List ℕ) → places n ≡ Some other → IsFront place other → ⊥
+-- what was met is before the place
+abbrev pub AllBefore : Places → List ℕ → Type 0
+AllBefore places place = (n : OpaqueNodePtr) (other : List ℕ) → places n ≡ Some other → is_before other place ≡ true
 
 -- so many of the bytes from a depth on
 abbrev pub IsPartOf : ℕ → ℕ → List ℕ → List ℕ → Type 0

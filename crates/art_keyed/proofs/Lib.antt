@@ -13,3 +13,4 @@ pub mod LongestOf
 pub mod Seconds
 pub mod Extracted
 pub mod TextRanges
+pub mod Extends

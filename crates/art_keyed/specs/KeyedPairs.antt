@@ -26,8 +26,8 @@ module _ {K V : Type 0} where
   abbrev pub strings_not_below : (K → List ℕ) → List ℕ → List (K × V) → List (K × V)
   strings_not_below text prefix pairs = filter (λ pair. not (is_front prefix (text pair.0))) pairs
 
-  -- the pairs whose strings are prefixes of this one, or equal to it; if the pairs are sorted, the last one has the
-  -- longest
+  -- the pairs whose strings are prefixes of this one, or equal to it; if the pairs are sorted, the first one has the
+  -- shortest, and the last one the longest
   abbrev pub strings_in_front : (K → List ℕ) → List ℕ → List (K × V) → List (K × V)
   strings_in_front text string pairs = filter (λ pair. is_front (text pair.0) string) pairs
 

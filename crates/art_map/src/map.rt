@@ -83,7 +83,8 @@ pub enum MapInsertError<K, V> {
         value: V,
         error: InsertPrefixError,
     },
-    /// An allocation failed, and no equal key is stored.
+    /// An allocation failed, and no equal key is stored. A conflicting one may be: a `Conflict` needs memory for the bytes
+    /// of the key.
     #[error("memory allocation failed")]
     Memory {
         key: K,
@@ -779,10 +780,11 @@ fn take_bytes<B: KeyBytes + Drop, K: AsBytes + Drop, V: Drop, const P: usize>(
 ) -> Option<(K, V)>
     requires { HoldsPairs (of_key K.bytes) P store.old root.old len.old
         (pairs_at store.old root.old) }
-    ensures { HasTaken K.bytes P
+    ensures taken { HasTaken K.bytes P
         (remove_reply (of_key K.bytes) (B.key bytes.old) (pairs_at store.old root.old))
         (remove_key (of_key K.bytes) (B.key bytes.old) (pairs_at store.old root.old)) result
         store.new root.new len.new }
+    ensures same { B.key bytes.new ≡ B.key bytes.old }
 {
     let Some(name) = *root else {
         return None;

@@ -35,7 +35,8 @@ pub enum SetInsertError<K> {
     /// A stored key conflicts with the key: they are unequal, and one of the two is a prefix of the other.
     #[error("{error}")]
     Conflict { key: K, error: InsertPrefixError },
-    /// An allocation failed, and no equal key is stored.
+    /// An allocation failed, and no equal key is stored. A conflicting one may be: a `Conflict` needs memory for the bytes
+    /// of the key.
     #[error("memory allocation failed")]
     Memory { key: K },
 }
@@ -134,7 +135,8 @@ impl<K: AsBytes + Drop, const P: usize> ByteSet<K, P> {
     /// passed is dropped.
     ///
     /// An error returns the key, and the set is unchanged: `Conflict` if a stored key conflicts with it, `Memory` if an
-    /// allocation fails. It never fails if an equal key is stored. It costs what `insert` of a `ByteMap` does.
+    /// allocation fails, for a new key or for the bytes of a conflicting one. It never fails if an equal key is stored.
+    /// It costs what `insert` of a `ByteMap` does.
     pub fn insert(&mut self, key: K) -> Result<bool, SetInsertError<K>>
         ensures keys { OnOk result (self.new ≡ add_key K.bytes key self.old) }
         ensures added { IfOk result (λ added.

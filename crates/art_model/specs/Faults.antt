@@ -1,5 +1,5 @@
 -- The faults of a store and a root, and when each is true of them.
-use Rattle.std.specs.Prelude.{◌≡◌, ◌≢◌, ℕ, ◌+◌, ◌<◌, ◌⊎◌, List, [], ◌∷◌, ◌++◌, length, take, Some, None, ⊤}
+use Rattle.std.specs.Prelude.{◌≡◌, ◌≢◌, ℕ, ◌+◌, ◌<◌, ◌⊎◌, List, [], ◌∷◌, ◌++◌, length, take, Some, None, true, ⊤}
 use Rattle.std.specs.Cmp.Lexicographic.{slice_cmp}
 use Rattle.std.specs.Ordering.{nat_cmp}
 use Rattle.std.specs.declared.cmp.Ordering.{Ordering}
@@ -8,7 +8,7 @@ use Rattle.art_parts.specs.Kinds.{kind_least}
 use Rattle.art_nodes.specs.Nodes.{Nodes}
 use Rattle.art_parts.specs.declared.names.NodeType.{NodeType}
 use Rattle.art_parts.specs.declared.names.OpaqueNodePtr.{OpaqueNodePtr}
-use Rattle.art_model.specs.Keys.{IsFront}
+use Rattle.art_model.specs.Keys.{IsFront, is_before}
 use Rattle.art_model.specs.Pairs.{first_of, last_of}
 use Rattle.art_model.specs.Trees.{Tree, NodeHeader}
 use Rattle.art_model.specs.Layouts.{leaf_node, inner_node, Links, AreDistinct, leaf_names, IsLayout}
@@ -55,10 +55,11 @@ module _ {K V : Type 0} (bytes : K × V → List ℕ) (P : ℕ) (s : Nodes K V) 
       (links : Links OpaqueNodePtr) × (links_at s leaf ≡ Some links) ×
       (((order ≡ Less) × (links.previous ≡ Some sibling)) ⊎ ((order ≡ Greater) × (links.next ≡ Some sibling)))
 
-  -- two different paths end at the name
+  -- two different paths end at the name, and the first place is before the later one
   abbrev pub IsLoop : OpaqueNodePtr → List ℕ → List ℕ → Type 0
   IsLoop name first later =
-      (one : Reaches first name) × (other : Reaches later name) × (way_of one.steps ≢ way_of other.steps)
+      (one : Reaches first name) × (other : Reaches later name) × (way_of one.steps ≢ way_of other.steps) ×
+      (is_before first later ≡ true)
 
   -- the inner node at the place has so many children, fewer than its kind allows; it never has more than its kind has room for
   abbrev pub HasWrongCount : List ℕ → NodeType → ℕ → Type 0

@@ -1,5 +1,5 @@
 //! The check, node by node.
-ghost use Rattle.std.specs.Prelude.{◌≡◌, ◌≢◌, ◌+◌, ◌<◌, ◌≤◌, ◌++◌, ◌↔◌, ℕ, List, [], length, take, Some, None, IsTrue, IsSome, OnOk, IfOk, IfErr, IfSome, MatchOption};
+ghost use Rattle.std.specs.Prelude.{◌≡◌, ◌≢◌, ◌+◌, ◌<◌, ◌≤◌, ◌++◌, ◌↔◌, ℕ, List, [], length, take, true, Some, None, IsTrue, IsSome, OnOk, IfOk, IfErr, IfSome, MatchOption};
 ghost use Rattle.std.specs.FinMap as map;
 ghost use Rattle.std.specs.List.{AllByRecursion as Each};
 ghost use Rattle.art_inner.specs.Views.{ref_kind, ref_view};
@@ -9,6 +9,7 @@ ghost use Rattle.art_parts.specs.declared.leaf.LeafNode.{LeafNode};
 ghost use Rattle.art_parts.specs.declared.names.NodeType.TheVariants.{Leaf};
 ghost use Rattle.art_parts.specs.declared.names.OpaqueNodePtr.{OpaqueNodePtr};
 ghost use Rattle.art_model.specs.Faults.{HasSibling, IsTrueOf, Reaches, ReachesLeaf, wrong_children_count};
+ghost use Rattle.art_model.specs.Keys.{is_before};
 ghost use Rattle.art_model.specs.Layouts.{AreLinked, IsLayout, leaf_names, leaf_node};
 ghost use Rattle.art_model.specs.Pairs.{of_key};
 ghost use Rattle.art_model.specs.Trees.{Tree};
@@ -188,7 +189,8 @@ fn meet<K: AsBytes + Drop, V: Drop, const P: usize>(
     ensures fault { IfErr result (λ error. (root : OpaqueNodePtr) →
         AreReached (of_key K.bytes) P store.now root (place_in seen.old) →
         Reaches (of_key K.bytes) P store.now root place.now name →
-        ((other : List ℕ) → place_in seen.old name ≡ Some other → other ≢ place.now) →
+        ((other : List ℕ) → place_in seen.old name ≡ Some other →
+        is_before other place.now ≡ true) →
         IsTrueOf (of_key K.bytes) P store.now root (fault_of error)) }
 {
     let alloc = store.alloc();

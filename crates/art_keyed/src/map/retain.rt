@@ -6,8 +6,8 @@ use art_keys::laws::NoPrefixesBytes;
 
 impl<K: NoPrefixesBytes + Drop, V: Drop, const P: usize> TreeMap<K, V, P> {
     /// Keeps the pairs for which the closure returns true, and removes the others. The closure is called once for each
-    /// pair, in the order of the keys. It may change the value in place. It never fails, and costs what `retain` of a
-    /// `ByteMap` does.
+    /// pair, in the order of the keys. It may change the value in place. It is dropped at the end, so only the contract
+    /// of `retain_by_ref` rules out further calls. It never fails, and costs what `retain` of a `ByteMap` does.
     pub fn retain<F: FnMut(&K, &mut V) -> bool>(&mut self, f: F)
         requires { F.IsAlwaysCallable f }
         ensures pairs { RetainsAllPairs F.FnMut f self.old self.new }

@@ -39,7 +39,8 @@ pub enum BothInsertError<K, V, L, W> {
 impl<K: AsBytes + Drop, V: Drop, const P: usize> ByteMap<K, V, P> {
     /// Inserts a pair into this map and another pair into another map, or neither. Each is inserted as by `insert`.
     ///
-    /// The errors are those of `insert`. An error returns both pairs, and both maps are unchanged.
+    /// The errors are those of `insert`: its `Memory` says that the key of its pair is not stored. An error returns both
+    /// pairs, and both maps are unchanged.
     ///
     /// It costs what two insertions do. The memory for the pair of this map is reserved before the other pair is
     /// inserted.

@@ -147,7 +147,8 @@ pub(super) fn leaf_by<B: KeyBytes + Drop, K: AsBytes + Drop, V: Drop, const P: u
 ) -> OptionalLeafPtr
     requires { (len : ℕ) × HoldsPairs (of_key K.bytes) P store.now (Some root) len
         (pairs_at store.now (Some root)) }
-    ensures { IsLeafOfKey K.bytes P store.now root (B.key key.old) result }
+    ensures leaf { IsLeafOfKey K.bytes P store.now root (B.key key.old) result }
+    ensures same { B.key key.new ≡ B.key key.old }
 {
     let point = search_for_delete_point_by(store, root, key)?;
     Some(point.leaf_node_ptr)

@@ -54,6 +54,7 @@ impl<K: AsBytes + Drop, V: Drop, const P: usize> ByteMap<K, V, P> {
         ensures* writes_back { sem 𝓛
             (lends_value K.row V.row P.row K.AsBytes self.entry (B.key bytes.old) result) }
         ensures value { option_copied_mut result ≡ value_at K.bytes (B.key bytes.old) self.old }
+        ensures same { B.key bytes.new ≡ B.key bytes.old }
     {
         let leaf = leaf_by(&self.store, self.root?, bytes)?;
         self.store.value_mut(leaf)
@@ -69,8 +70,9 @@ impl<K: AsBytes + Drop, V: Drop, const P: usize> ByteMap<K, V, P> {
     /// Returns the pair of a key whose bytes need not stand in a slice, or `None` if it is not stored. It is a single
     /// descent, and allocates nothing.
     pub fn get_key_value_by_bytes<B: KeyBytes + Drop>(&self, bytes: &mut B) -> Option<(&K, &V)>
-        ensures { option_map deref_pair result ≡
+        ensures pair { option_map deref_pair result ≡
             first_of (with_key (of_key K.bytes) (B.key bytes.old) self.now) }
+        ensures same { B.key bytes.new ≡ B.key bytes.old }
     {
         let leaf = leaf_by(&self.store, self.root?, bytes)?;
         Some(pair_at(&self.store, leaf))
@@ -91,6 +93,7 @@ impl<K: AsBytes + Drop, V: Drop, const P: usize> ByteMap<K, V, P> {
     pub fn remove_by_bytes<B: KeyBytes + Drop>(&mut self, bytes: &mut B) -> Option<(K, V)>
         ensures pairs { self.new ≡ remove_key (of_key K.bytes) (B.key bytes.old) self.old }
         ensures removed { result ≡ remove_reply (of_key K.bytes) (B.key bytes.old) self.old }
+        ensures same { B.key bytes.new ≡ B.key bytes.old }
     {
         take_bytes(&mut self.store, &mut self.root, &mut self.len, bytes)
     }

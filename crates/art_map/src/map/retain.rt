@@ -15,7 +15,8 @@ use std::ops::Bound;
 
 impl<K: AsBytes + Drop, V: Drop, const P: usize> ByteMap<K, V, P> {
     /// Keeps the pairs for which the closure returns true, and removes the others. The closure is called once for each
-    /// pair, in the order of the keys. It may change the value in place.
+    /// pair, in the order of the keys. It may change the value in place. It is dropped at the end, so only the contract
+    /// of `retain_by_ref` rules out further calls.
     ///
     /// It allocates nothing and never fails. Each pair costs a step of an iteration. One that is removed costs what
     /// `range` and `remove` do besides.

@@ -35,6 +35,7 @@ impl<K: AsBytes + Drop, V: Drop, const P: usize> ByteMap<K, V, P> {
         requires { AreEnded (of_key K.bytes) end self.now }
         ensures pair { option_map deref_pair result ≡
             last_of (texts_in_front (of_key K.bytes) (B.key query.old) self.now) }
+        ensures same { B.key query.new ≡ B.key query.old }
         ensures sorted { IsMap (of_key K.bytes) self.now }
     {
         let leaf = longest_text_by(&self.store, self.root?, query, end)?;

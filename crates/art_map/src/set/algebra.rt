@@ -1,6 +1,7 @@
 //! Union, intersection and difference of two sets. All iterators are in the order of the keys' bytes.
-ghost use Rattle.std.specs.Prelude.{◌≡◌, List, length, drop, IfSome, ⊤, Bool};
-ghost use Rattle.std.specs.Iterator.{at_most};
+ghost use Rattle.std.specs.Prelude.{◌≡◌, List, length, drop, IfSome, IsSome, ⊤, Bool};
+ghost use Rattle.std.specs.Iterator.{UpTo, at_most};
+ghost use Rattle.std.specs.Iterator.SizeHint.{IsWithinCount};
 ghost use Rattle.std.specs.Set.{sorted_merge};
 ghost use Rattle.art_model.specs.Pairs.{has_key};
 ghost use Rattle.art_map.specs.MapItems.{ShowsFirst};
@@ -168,7 +169,11 @@ impl<'a, K, S: Leaves<K, ()>, O: HasKey<K>> Iterator for SelectedOf<'a, K, S, O>
         next_selected(&mut self.keys, self.other, self.wanted)
     }
 
-    fn size_hint(&self) -> (usize, Option<usize>) {
+    fn size_hint(&self) -> (usize, Option<usize>)
+        ensures lower { IsWithinCount result.0 (at_most (length self.now)) }
+        ensures upper { IfSome result.1 (UpTo (at_most (length self.now))) }
+        ensures bounded { IsSome result.1 }
+    {
         (0, Some(self.keys.len()))
     }
 }

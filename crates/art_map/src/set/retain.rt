@@ -8,7 +8,8 @@ use art_nodes::node::AsBytes;
 
 impl<K: AsBytes + Drop, const P: usize> ByteSet<K, P> {
     /// Keeps the keys for which the closure returns true, and removes the others. The closure is called once for each
-    /// key, in ascending order. It never fails. It costs what `retain` of a `ByteMap` does.
+    /// key, in ascending order. It is dropped at the end, so only the contract of `retain_by_ref` rules out further
+    /// calls. It never fails. It costs what `retain` of a `ByteMap` does.
     pub fn retain<F: FnMut(&K) -> bool>(&mut self, mut f: F)
         requires { F.IsAlwaysCallable f }
         ensures keys { RetainsAll (CalledAt F.FnMut) f self.old self.new }

@@ -376,7 +376,7 @@ module _ {K V : Type 0} (bytes : K × V → List ℕ) (P : ℕ) (s : Nodes K V) 
       ]
 
   no_loop : (name : OpaqueNodePtr) (first later : List ℕ) → IsLoop bytes P s root name first later → ⊥
-  no_loop name first later (one, other, off) =
+  no_loop name first later (one, other, off, before) =
       off (one_way (node_at s) bytes P layout [] one.steps other.steps laid.holds laid.radix laid.distinct
       (subst (λ n. IsTrail (node_at s) n one.steps) (sym laid.named) one.is_trail)
       (subst (λ n. IsTrail (node_at s) n other.steps) (sym laid.named) other.is_trail)

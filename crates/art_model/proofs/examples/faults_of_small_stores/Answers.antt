@@ -84,13 +84,13 @@ returns-clause-dead_sibling c =
     )
 
 pub returns-clause-own_child : goal.returns-clause-own_child
-returns-clause-own_child c = (at_root looped (node4 0), at_child looped ((5, node4 0) ∷ []) 5 (node4 0) looped_node refl, no_step)
+returns-clause-own_child c = (at_root looped (node4 0), at_child looped ((5, node4 0) ∷ []) 5 (node4 0) looped_node refl, no_step, refl)
 
 pub returns-clause-shared_leaf : goal.returns-clause-shared_leaf
 returns-clause-shared_leaf c =
     let slots : List (ℕ × OpaqueNodePtr) = (1, leaf_at 0) ∷ (2, leaf_at 0) ∷ [] in
     let there = shown_node (leaf_between 0 None (1 ∷ []) None ∷ []) (node4_over 0 0 [] slots ∷ []) 0 tt in
-    (at_child shared slots 1 (leaf_at 0) there refl, at_child shared slots 2 (leaf_at 0) there refl, one_is_not_two)
+    (at_child shared slots 1 (leaf_at 0) there refl, at_child shared slots 2 (leaf_at 0) there refl, one_is_not_two, refl)
 
 misplaced_node : node_at misplaced (node4 0) ≡ Some (inner_node (of_length 0 []) ((1, leaf_at 0) ∷ []))
 misplaced_node = shown_node (leaf_between 0 None (2 ∷ []) None ∷ []) (node4_over 0 0 [] ((1, leaf_at 0) ∷ []) ∷ []) 0 tt

@@ -1,8 +1,9 @@
-use Rattle.std.proofs.Common.{◌∙◌, ◌≤◌, [], ◌∷◌, length, reverse, is_some, Some, IfSome, ap, sym, refl, subst, rules, arith}
+use Rattle.std.proofs.Common.{◌≡◌, ◌∙◌, ◌≤◌, true, [], ◌∷◌, length, reverse, is_some, Some, IfSome, ap, sym, refl, subst, rules, arith}
 use Rattle.std.specs.FinMap as map
 use Rattle.art_parts.specs.Kinds.{kind_least}
 use Rattle.art_parts.specs.Names.{inner_name}
 use Rattle.art_model.specs.Faults.{Reaches}
+use Rattle.art_model.specs.Keys.{is_before}
 use Rattle.art_model.specs.Pairs.{of_key}
 use Rattle.art_model.specs.Stores.{IsUsed}
 use Rattle.art_checking.specs.Checked.{IsEntered, IsFirstLeast, IsFirstMet, IsLeafAt, IsLeastLeaf}
@@ -14,7 +15,7 @@ use Rattle.art_checking.proofs.Below.{falls_by, falls_in, falls_out, few_left, l
 use Rattle.art_checking.proofs.Below.{parent_goes_on, root_passed, started}
 use Rattle.art_checking.proofs.Faulty.{passed_on}
 use Rattle.art_checking.proofs.Passed.{inner_is_there, less_to_try, no_more_to_try, one_met}
-use Rattle.art_checking.proofs.Walked.{least_known, reach_root, stands_elsewhere}
+use Rattle.art_checking.proofs.Walked.{least_known, reach_root}
 use Rattle.art_checking.proofs.well_formed.check.check_below.Goals as goal
 use Rattle.art_checking.proofs.well_formed.check.check_below.Invariants.{left_to_meet}
 
@@ -89,7 +90,8 @@ returns-in_err-meet-clause-fault g c =
     (c.in_err-meet.ensures.fault root (all_reached at)
     (subst (λ p. Reaches (of_key g.K.AsBytes.bytes) g.row.P c.args.store.now root p child) (sym c.deref.ensures.value)
     (child_is_reached at c.in-Some.ensures.steps c.in_ok-push.ensures.items))
-    (λ other e same. stands_elsewhere child (child_is_free at c.in-Some.ensures.steps c.in_ok-push.ensures.items) other e (same ∙ c.deref.ensures.value)))
+    (λ other e. subst (λ p. is_before other p ≡ true) (sym c.deref.ensures.value)
+    (child_is_free at c.in-Some.ensures.steps c.in_ok-push.ensures.items child other e)))
 
 pub returns-in_err-check_leaf-in-Leaf-clause-fault : goal.returns-in_err-check_leaf-in-Leaf-clause-fault
 returns-in_err-check_leaf-in-Leaf-clause-fault g c =

@@ -19,7 +19,7 @@ returns-in_err-meet-clause-fault g c =
     passed_on _ _ _ c.from_residual.ensures.1
     (c.in_err-meet.ensures.fault root (λ n place e. let h = c.requires.start.none n in absurd cc)
     (subst (λ p. Reaches bytes g.row.P s root p root) (sym (c.deref.ensures.value ∙ c.requires.place)) (reach_root bytes g.row.P s root))
-    (λ other e same. let h = c.requires.start.none root in absurd cc))
+    (λ other e. let h = c.requires.start.none root in absurd cc))
 
 pub check_below-requires : goal.check_below-requires
 check_below-requires g c =

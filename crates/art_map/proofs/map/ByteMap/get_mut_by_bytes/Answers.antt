@@ -14,12 +14,13 @@ returns-in_err-leaf g c =
     let bytes = g.K.AsBytes.bytes in
     let key = g.B.KeyBytes.key c.args.bytes.now in
     let s = c.self.inside.store in
-    let none = subst (λ r. with_key (of_key bytes) key (pairs_at s r) ≡ []) (sym c.in_ok-self.was) c.in_err-leaf.ensures in
+    let none = subst (λ r. with_key (of_key bytes) key (pairs_at s r) ≡ []) (sym c.in_ok-self.was) c.in_err-leaf.ensures.leaf in
     rw c.from_residual-in_err-leaf.ensures (
       ap (λ s. inr s) c.self.view_is,
       record {
         writes_back = tt;
         value = sym (ap (λ xs. option_map (λ x. x.1) (first_of xs)) none) ∙ ap (value_at bytes key) c.self.view_is;
+        same = c.in_err-leaf.ensures.same;
       },
     )
 
@@ -28,7 +29,7 @@ invariant_of-self-lent g c lent =
     let bytes = g.K.AsBytes.bytes in
     let key = g.B.KeyBytes.key c.args.bytes.now in
     let s = c.self.inside.store in
-    let named = subst (λ r. NamesLeafOf bytes g.row.P s r key c.in_ok-leaf.leaf) (sym c.in_ok-self.was) c.in_ok-leaf.ensures in
+    let named = subst (λ r. NamesLeafOf bytes g.row.P s r key c.in_ok-leaf.leaf) (sym c.in_ok-self.was) c.in_ok-leaf.ensures.leaf in
     (λ w. holds (of_key bytes) g.row.P _ (value_written bytes g.row.P key named c.self.invariant w), c.self.invariant)
 
 pub returns : goal.returns
@@ -36,7 +37,7 @@ returns g c =
     let bytes = g.K.AsBytes.bytes in
     let key = g.B.KeyBytes.key c.args.bytes.now in
     let s = c.self.inside.store in
-    let named = subst (λ r. NamesLeafOf bytes g.row.P s r key c.in_ok-leaf.leaf) (sym c.in_ok-self.was) c.in_ok-leaf.ensures in
+    let named = subst (λ r. NamesLeafOf bytes g.row.P s r key c.in_ok-leaf.leaf) (sym c.in_ok-self.was) c.in_ok-leaf.ensures.leaf in
     let left = λ (w : g.row.V.Denot).
     view_of (of_key bytes) g.row.P _ (value_written bytes g.row.P key named c.self.invariant w)
     ∙ ap (with_value_at bytes key w) c.self.view_is in
@@ -44,4 +45,4 @@ returns g c =
     let (r, is) = some_of c.value_mut.result
     (sym (is_some-map (λ x. x.now) c.value_mut.result) ∙ ap is_some lent ∙ is_some-map (λ node. node.value) _
     ∙ is_there bytes g.row.P key named) in
-    rw is (lends_same left, record { writes_back = tt; value = rw is at lent ∙ value_read bytes g.row.P key named c.self.view_is })
+    rw is (lends_same left, record { writes_back = tt; value = rw is at lent ∙ value_read bytes g.row.P key named c.self.view_is; same = c.in_ok-leaf.ensures.same })

@@ -20,10 +20,10 @@ pub returns-in_err-leaf-clause-pair : goal.returns-in_err-leaf-clause-pair
 returns-in_err-leaf-clause-pair g c =
     ap (option_map deref_pair) c.from_residual-in_err-leaf.ensures
     ∙ found_in g.K.AsBytes.bytes g.row.P c.in_ok-self.was c.self.invariant
-    (λ pairs. last_of (texts_in_front (of_key g.K.AsBytes.bytes) (g.B.KeyBytes.key c.args.query.now) pairs)) c.in_err-leaf.ensures.pair c.self.view_is
+    (λ pairs. last_of (texts_in_front (of_key g.K.AsBytes.bytes) (g.B.KeyBytes.key c.args.query.now) pairs)) c.in_err-leaf.ensures.leaf.pair c.self.view_is
 
 pub returns-clause-pair : goal.returns-clause-pair
 returns-clause-pair g c =
     named_pair g.K.AsBytes.bytes g.row.P c.in_ok-self.was c.self.invariant
     (λ pairs. last_of (texts_in_front (of_key g.K.AsBytes.bytes) (g.B.KeyBytes.key c.args.query.now) pairs))
-    c.in_ok-leaf.ensures.leaf c.pair_at.ensures c.self.view_is
+    c.in_ok-leaf.ensures.leaf.leaf c.pair_at.ensures c.self.view_is
