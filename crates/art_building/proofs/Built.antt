@@ -1,5 +1,5 @@
 -- a tree that is being built
-use Rattle.std.proofs.Common.{◌≡◌, ℕ, ◌+◌, ◌<◌, List, [], ◌∷◌, ◌++◌, length, refl, ap, sym, ◌∙◌, subst, arith, length-append, Option, Some, None, Result, Ok, Err, OnOk, OnErr, IfErr}
+use Rattle.std.proofs.Common.{◌≡◌, ℕ, ◌+◌, ◌<◌, List, [], ◌∷◌, ◌++◌, ap, sym, ◌∙◌, subst, arith, length-append, Option, Some, None, Result, Ok, Err, OnOk, OnErr, IfErr}
 use Rattle.std.specs.FinMap as map
 use Rattle.art_building.specs.Built.{HasAppended, HoldsEdge, IsEdgeOf, root_of}
 use Rattle.art_building.specs.Pushes.{IsPushError, IsReasonAfter}
@@ -11,11 +11,9 @@ use Rattle.art_loading.specs.Edges.{IsEdge}
 use Rattle.art_loading.specs.declared.append.Edge.{Edge}
 use Rattle.art_loading.specs.declared.append.AppendError.{AppendError}
 use Rattle.art_loading.specs.declared.append.AppendReason.{AppendReason}
-use Rattle.art_loading.specs.declared.append.AppendReason.TheVariants.{Memory}
 use Rattle.art_loading.specs.NextKeys.{IsReason}
 use Rattle.art_loading.specs.declared.edge.Step.{Step}
 use Rattle.art_loading.proofs.Edges.{edge_last, edge_stays}
-use Rattle.art_model.specs.Canonical.{IsCanonicalTree}
 use Rattle.art_model.specs.Kept.{ChangesInPlace}
 use Rattle.art_model.specs.Pairs.{last_of, of_key}
 use Rattle.art_model.specs.Roots.{ForTree, IsRootOf}

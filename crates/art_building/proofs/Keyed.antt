@@ -1,13 +1,10 @@
 -- keys of a type that are added never conflict
-use Rattle.std.proofs.Common.{◌≡◌, ◌≢◌, ◌⊎◌, inl, inr, ℕ, List, [], ◌∷◌, ◌++◌, Option, Some, None, Result, Ok, Err, OnOk, OnErr, IfErr, refl, sym, subst}
+use Rattle.std.proofs.Common.{◌≡◌, ◌≢◌, inl, inr, ℕ, List, [], ◌∷◌, ◌++◌, Option, Some, None, Result, Ok, Err, OnOk, OnErr, IfErr, refl, sym, subst}
 use Rattle.art_building.specs.Pushes.{IsPushError, IsReasonAfter}
 use Rattle.art_keyed.specs.KeyedPairs.{HaveKeys}
 use Rattle.art_keys.specs.Prefixes.{HasNoPrefixes}
-use Rattle.art_loading.specs.NextKeys.{IsReason}
 use Rattle.art_loading.specs.declared.append.AppendError.{AppendError}
-use Rattle.art_loading.specs.declared.append.AppendReason.{AppendReason}
 use Rattle.art_loading.specs.declared.append.AppendReason.TheVariants.{Conflict}
-use Rattle.art_model.specs.Keys.{IsFront}
 use Rattle.art_model.specs.Pairs.{last_of}
 use Rattle.art_model.proofs.keys.KeyLaws.{relation_is_decided}
 use Rattle.art_model.proofs.lists.Lists.{Each-append}
@@ -30,8 +27,7 @@ module _ {K V : Type 0} (is_key : K → Type 0) (bytes : K → List ℕ) (key : 
   pub never_conflicts : HasNoPrefixes is_key bytes → (pairs : List (K × V)) (result : Result (Unit {0}) (AppendError K V)) →
       IfErr result (IsPushError bytes pairs key value) → is_key key → HaveKeys is_key pairs → IfErr result (λ error. error.reason ≢ Conflict)
   never_conflicts law pairs (Ok done) told own all = tt
-  never_conflicts law pairs (Err error) told own all is =
-      go (last_of pairs) refl (subst (IsReasonAfter bytes (last_of pairs) key) is told.2)
+  never_conflicts law pairs (Err error) told own all = λ is. go (last_of pairs) refl (subst (IsReasonAfter bytes (last_of pairs) key) is told.2)
     where
       go : (o : Option (K × V)) → last_of pairs ≡ o → IsReasonAfter bytes o key Conflict → ⊥
       go None none reason = absurd cc

@@ -1,5 +1,3 @@
-use Rattle.std.proofs.Common.{subst}
-use Rattle.art_building.specs.Pushes.{IsPushError}
 use Rattle.art_building.proofs.Keyed.{keys_after, never_conflicts}
 use Rattle.art_building.proofs.tree_map.TreeMapBuilder.push.Goals as goal
 
