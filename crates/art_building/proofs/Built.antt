@@ -1,5 +1,5 @@
 -- a tree that is being built
-use Rattle.std.proofs.Common.{◌≡◌, ℕ, ◌+◌, ◌<◌, List, [], ◌∷◌, ◌++◌, length, refl, ap, sym, ◌∙◌, subst, arith, length-append, Option, Some, None, Result, Ok, Err, OnOk, OnErr, IfErr}
+use Rattle.std.proofs.Common.{◌≡◌, ℕ, ◌+◌, ◌<◌, List, [], ◌∷◌, ◌++◌, ap, sym, ◌∙◌, subst, arith, length-append, Option, Some, None, Result, Ok, Err, OnOk, OnErr, IfErr}
 use Rattle.std.specs.FinMap as map
 use Rattle.art_building.specs.Built.{HasAppended, HoldsEdge, IsEdgeOf, root_of}
 use Rattle.art_building.specs.Pushes.{IsPushError, IsReasonAfter}
@@ -11,11 +11,9 @@ use Rattle.art_loading.specs.Edges.{IsEdge}
 use Rattle.art_loading.specs.declared.append.Edge.{Edge}
 use Rattle.art_loading.specs.declared.append.AppendError.{AppendError}
 use Rattle.art_loading.specs.declared.append.AppendReason.{AppendReason}
-use Rattle.art_loading.specs.declared.append.AppendReason.TheVariants.{Memory}
-use Rattle.art_loading.specs.Next.{IsReason}
+use Rattle.art_loading.specs.NextKeys.{IsReason}
 use Rattle.art_loading.specs.declared.edge.Step.{Step}
 use Rattle.art_loading.proofs.Edges.{edge_last, edge_stays}
-use Rattle.art_model.specs.Canonical.{IsCanonicalTree}
 use Rattle.art_model.specs.Kept.{ChangesInPlace}
 use Rattle.art_model.specs.Pairs.{last_of, of_key}
 use Rattle.art_model.specs.Roots.{ForTree, IsRootOf}
@@ -90,13 +88,6 @@ module _ {K V : Type 0} (bytes : K → List ℕ) (P : ℕ) where
       go None h = h
       go (Some l) h = absurd h
 
-  -- to no pairs one can be added, where there is memory
-  pub no_reason : {s : Nodes K V} {edge : Option Edge} {len : ℕ} {pairs : List (K × V)} {key : K} → edge ≡ None →
-      HoldsEdge (of_key bytes) P s edge len pairs → IsReasonAfter bytes (last_of pairs) key Memory
-  no_reason {s} {edge} {len} {pairs} {key} none h =
-      subst (λ ps. IsReasonAfter bytes (last_of ps) key Memory)
-      (sym (bare (subst (λ e. HoldsPairs (of_key bytes) P s (root_of e) len pairs) none h.held))) refl
-
   -- a tree is begun
   pub begun_held : {s t : Nodes K V} {edge : Option Edge} {begun : Edge} {len : ℕ} {pairs : List (K × V)} {key : K} {value : V} → edge ≡ None →
       HoldsEdge (of_key bytes) P s edge len pairs → begun.root ≡ leaf_name begun.leaf → IsPlanted s t begun.leaf (key, value) →
@@ -133,8 +124,7 @@ module _ {K V : Type 0} (bytes : K → List ℕ) (P : ℕ) where
       returned (Err error) h = subst (λ ps. IsPushError bytes ps key value error) same h.1
 
 -- the reason is about the last pair
-pub reason_after : {K V : Type 0} {bytes : K → List ℕ} {P : ℕ} {s : Nodes K V} {right : Edge} {pairs : List (K × V)} {key : K} {reason : AppendReason} →
+pub reason_after : {K V : Type 0} (bytes : K → List ℕ) {P : ℕ} {s : Nodes K V} (right : Edge) {pairs : List (K × V)} (key : K) (reason : AppendReason) →
     IsEdge (of_key bytes) P s right.root right.steps.items right.leaf pairs →
     ((last : K × V) → last_of pairs ≡ Some last → IsReason (bytes last.0) (bytes key) reason) → IsReasonAfter bytes (last_of pairs) key reason
-reason_after {bytes = bytes} {key = key} {reason} e told =
-    subst (λ o. IsReasonAfter bytes o key reason) (sym (edge_last e)) (told e.pair (edge_last e))
+reason_after bytes right key reason e told = subst (λ o. IsReasonAfter bytes o key reason) (sym (edge_last e)) (told e.pair (edge_last e))

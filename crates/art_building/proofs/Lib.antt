@@ -1,2 +1,4 @@
 -- a tree that is being built
 pub mod Built
+-- keys of a type that are added
+pub mod Keyed

@@ -1,5 +1,5 @@
 -- A tree that is being built, at its right edge. No public clause cites this module.
-use Rattle.std.specs.Prelude.{◌≡◌, ℕ, List, [], ◌∷◌, ◌++◌, Option, Some, None, Result, Ok, Err, ⊤}
+use Rattle.std.specs.Prelude.{ℕ, List, [], ◌∷◌, ◌++◌, Option, Some, None, Result, Ok, Err, ⊤}
 use Rattle.std.specs.Option.{option_map}
 use Rattle.art_building.specs.Pushes.{IsPushError}
 use Rattle.art_loading.specs.Edges.{IsEdge}

@@ -1,7 +1,7 @@
 -- What was added to a builder, and why a pair was not.
-use Rattle.std.specs.Prelude.{◌≡◌, ℕ, List, [], ◌∷◌, ◌++◌, Option, Some, None}
+use Rattle.std.specs.Prelude.{◌≡◌, ℕ, List, ◌++◌, Option, Some, None}
 use Rattle.std.specs.Iterator.{YieldsThen}
-use Rattle.art_loading.specs.Next.{IsReason}
+use Rattle.art_loading.specs.NextKeys.{IsReason}
 use Rattle.art_loading.specs.declared.append.AppendError.{AppendError}
 use Rattle.art_loading.specs.declared.append.AppendReason.{AppendReason}
 use Rattle.art_loading.specs.declared.append.AppendReason.TheVariants.{Memory}

@@ -116,20 +116,20 @@ impl<K: AsBytes + Drop, V: Drop, const P: usize> MapBuilder<K, V, P> {
         ByteMap::from_tree(self.store, root, self.len)
     }
 
-    /// Returns the map of the pairs of an iterator, whose keys ascend. An error returns the first pair that can't be
-    /// added; the pairs before it are dropped, and the others stay in the iterator.
-    pub fn from_sorted<I: Iterator<Item = (K, V)>>(
-        alloc: Global,
+    /// Adds the pairs of an iterator, and returns the map of all pairs. The error returns the first pair that can't be
+    /// added: the pairs before it are dropped, and the others stay in the iterator.
+    pub fn build<I: Iterator<Item = (K, V)>>(
+        self,
         pairs: &mut I,
     ) -> Result<ByteMap<K, V, P>, AppendError<K, V>>
         requires can { I.can_next pairs.old }
         requires ends { IsFinite (I.remaining pairs.old) }
         ensures all { IfOk result (λ map.
-            BuildsAll I.next_gives pairs.old [] pairs.new map) }
+            BuildsAll I.next_gives pairs.old self pairs.new map) }
         ensures error { IfErr result (λ error. (before : List (K × V)) ×
-            BuildsUntil I.next_gives K.bytes pairs.old [] error pairs.new before) }
+            BuildsUntil I.next_gives K.bytes pairs.old self error pairs.new before) }
     {
-        let mut builder = MapBuilder::new(alloc);
+        let mut builder = self;
         match builder.extend(pairs) {
             Ok(()) => Ok(builder.finish()),
             Err(error) => Err(error),

@@ -11,10 +11,10 @@ use Rattle.art_parts.specs.declared.names.NodeType.TheVariants.{Leaf}
 use Rattle.art_parts.specs.declared.names.OpaqueNodePtr.{OpaqueNodePtr}
 use Rattle.art_nodes.specs.Nodes.{Nodes}
 use Rattle.art_loading.specs.Edges.{EndsIfInto, IsEdge, IsEdgePoint, IsLastPoint, IsLeafIf, IsNewKind}
-use Rattle.art_loading.specs.Next.{IsNext, IsReason}
+use Rattle.art_loading.specs.NextKeys.{IsNextKey, IsReason}
 use Rattle.art_loading.specs.declared.append.AppendReason.{AppendReason}
 use Rattle.art_loading.specs.declared.append.AppendReason.TheVariants.{Memory}
-use Rattle.art_loading.specs.Steps.{IsReach, path_by, step_of, steps_of}
+use Rattle.art_loading.specs.EdgeSteps.{IsReach, path_by, step_of, steps_of}
 use Rattle.art_loading.specs.declared.edge.Step.{Step}
 use Rattle.art_loading.proofs.Next.{next_byte, next_precedes}
 use Rattle.art_loading.proofs.Points.{IsPointAt, leaf_point, into_byte, into_point, mismatch_point, plug_twice, prefix_len}
@@ -111,7 +111,7 @@ module _ {K V : Type 0} {bytes : K × V → List ℕ} {P : ℕ} {s : Nodes K V} 
   edge_cut {shared} {above} {step} reach = cut_at shared e.frames above reach.rest step (sym e.steps_are ∙ reach.whole) reach.beyond
 
   -- the point at the leaf
-  pub leaf_edge : {key : List ℕ} {shared x y : ℕ} (point : InsertPoint) (above : List Step) (depth : ℕ) → IsNext (bytes e.pair) key shared x y →
+  pub leaf_edge : {key : List ℕ} {shared x y : ℕ} (point : InsertPoint) (above : List Step) (depth : ℕ) → IsNextKey (bytes e.pair) key shared x y →
       point ≡ record { path = path_of e.frames; insert_kind = SplitLeaf last shared; key_bytes_used = depth; root = root } →
       above ≡ steps_of e.frames → depth ≡ depth_of e.frames → depth ≤ shared → IsEdgePoint bytes P e.layout last key point above depth
   leaf_edge {key} {shared} point above depth next is above_is depth_is short =
@@ -133,7 +133,7 @@ module _ {K V : Type 0} {bytes : K × V → List ℕ} {P : ℕ} {s : Nodes K V} 
         is_new = subst (λ (z : InsertPoint). IsNewKind z.insert_kind) (sym is) tt;
       }
 
-  pub bare_edge : {key : List ℕ} {shared x y : ℕ} (point : InsertPoint) → IsNext (bytes e.pair) key shared x y →
+  pub bare_edge : {key : List ℕ} {shared x y : ℕ} (point : InsertPoint) → IsNextKey (bytes e.pair) key shared x y →
       Each (λ step. shared < step.depth) steps →
       point ≡ record { path = Root; insert_kind = SplitLeaf last shared; key_bytes_used = 0; root = root } → IsEdgePoint bytes P e.layout last key point [] 0
   bare_edge {shared = shared} point next deep is =
@@ -209,7 +209,7 @@ module _ {K V : Type 0} {bytes : K × V → List ℕ} {P : ℕ} {s : Nodes K V} 
           ends = subst (λ (z : InsertPoint). EndsIfInto z.insert_kind last (get_or key z.key_bytes_used 0) here) (sym is) ends;
         }
 
-    module _ {key : List ℕ} {x y : ℕ} (next : IsNext (bytes e.pair) key shared x y) (within : step.depth ≤ shared) (path : TreePath)
+    module _ {key : List ℕ} {x y : ℕ} (next : IsNextKey (bytes e.pair) key shared x y) (within : step.depth ≤ shared) (path : TreePath)
         (point : InsertPoint) (kept : List Step) (kept_is : kept ≡ above) where
       short : depth_of c.outer ≤ shared
       short = subst (λ (z : Step). z.depth ≤ shared) c.step_is within
@@ -258,7 +258,7 @@ module _ {K V : Type 0} {bytes : K × V → List ℕ} {P : ℕ} {s : Nodes K V} 
           tt tt refl kept kept_is
 
     -- beyond the node's prefix there is only the leaf
-    pub far_edge : {key : List ℕ} {x y : ℕ} → IsNext (bytes e.pair) key shared x y → (point : InsertPoint) (path : TreePath) (len : ℕ) →
+    pub far_edge : {key : List ℕ} {x y : ℕ} → IsNextKey (bytes e.pair) key shared x y → (point : InsertPoint) (path : TreePath) (len : ℕ) →
         len ≡ c.frame.header.length_of → step.depth + len < shared → path ≡ path_by Root steps →
         point ≡ record { path = path; insert_kind = SplitLeaf last shared; key_bytes_used = step.depth + len + 1; root = root } →
         IsEdgePoint bytes P e.layout last key point (take (length steps) steps) (step.depth + len + 1)
@@ -308,12 +308,12 @@ module _ {K V : Type 0} {bytes : K × V → List ℕ} {P : ℕ} {s : Nodes K V} 
   edge_same {shown} there = let (own, met, same) = edge_leaf in let e : shown ≡ own = cc in ap pair_of e ∙ same
 
   pub next_here : {old new key : List ℕ} {shared x y : ℕ} {shown : LeafNode K V} → map.get s.leaves last ≡ Some shown → old ≡ bytes (pair_of shown) →
-      new ≡ key → IsNext old new shared x y → IsNext (bytes e.pair) key shared x y
+      new ≡ key → IsNextKey old new shared x y → IsNextKey (bytes e.pair) key shared x y
   next_here {old} {new} {key} {shared} {x} {y} there old_is new_is next =
-      subst (λ l. IsNext l key shared x y) (old_is ∙ ap bytes (edge_same there)) (subst (λ k. IsNext old k shared x y) new_is next)
+      subst (λ l. IsNextKey l key shared x y) (old_is ∙ ap bytes (edge_same there)) (subst (λ k. IsNextKey old k shared x y) new_is next)
 
   -- for a key after the last one only memory can be missing
-  pub memory_after : {key : List ℕ} {shared x y : ℕ} {own : K × V} {reason : AppendReason} → IsNext (bytes e.pair) key shared x y →
+  pub memory_after : {key : List ℕ} {shared x y : ℕ} {own : K × V} {reason : AppendReason} → IsNextKey (bytes e.pair) key shared x y →
       last_of pairs ≡ Some own → reason ≡ Memory → IsReason (bytes own) key reason
   memory_after {key} {own = own} next is memory =
       let mine = edge_last in

@@ -9,7 +9,7 @@ use Rattle.art_parts.specs.declared.names.InnerPtr.{InnerPtr}
 use Rattle.art_parts.specs.declared.names.LeafPtr.{LeafPtr}
 use Rattle.art_parts.specs.declared.names.OpaqueNodePtr.{OpaqueNodePtr}
 use Rattle.art_nodes.specs.Nodes.{Nodes}
-use Rattle.art_loading.specs.Edges.{EndsBelow, EndsIfInto, IsEdge, IsEdgePoint}
+use Rattle.art_loading.specs.Edges.{EndsUnder, EndsIfInto, IsEdge, IsEdgePoint}
 use Rattle.art_loading.specs.declared.edge.Step.{Step}
 use Rattle.art_loading.proofs.Edges.{edge_leaf}
 use Rattle.art_loading.proofs.Puts.{names_with_last}
@@ -93,7 +93,7 @@ module _ {K V : Type 0} {bytes : K × V → List ℕ} {P : ℕ} {s : Nodes K V} 
     held : Holds (node_at s) p.at.node
     held = (path_holds (node_at s) p.at.path p.at.node whole_held).1
 
-    ends_here : EndsBelow last (get_or key point.key_bytes_used 0) p.at.node
+    ends_here : EndsUnder last (get_or key point.key_bytes_used 0) p.at.node
     ends_here = subst (λ kind. EndsIfInto kind last (get_or key point.key_bytes_used 0) p.at.node) into p.ends
 
     kind_here : IsKindOf bytes P key p.at.node (depth_of p.at.path) point.key_bytes_used (IntoExisting q)
@@ -111,7 +111,7 @@ module _ {K V : Type 0} {bytes : K × V → List ℕ} {P : ℕ} {s : Nodes K V} 
           distinct = hole_distinct (node_at s) (node_at s) p.at.path p.at.node whole_held
               (subst (λ t. AreDistinct (names_of t)) (sym p.at.is_end.whole) e.by.stands.0.distinct);
         }) gap.full.0 in
-        let (others, c, t, whole, less, ends) = subst (EndsBelow last (get_or key point.key_bytes_used 0)) (sym same) ends_here in
+        let (others, c, t, whole, less, ends) = subst (EndsUnder last (get_or key point.key_bytes_used 0)) (sym same) ends_here in
         let none = no_child_after left right others c (get_or key point.key_bytes_used 0) t whole less gap.high in
         inr (others, c, t, sym (join_none left) ∙ ap (join left) (sym none) ∙ whole, (last, ends, refl, next_is_none))
 
@@ -121,7 +121,7 @@ module _ {K V : Type 0} {bytes : K × V → List ℕ} {P : ℕ} {s : Nodes K V} 
         let (at, (h, cs, is, free)) = kind_here in
         let (place, path, own) = radix_plug bytes P p.at.path p.at.node (subst (IsRadix bytes P []) (sym p.at.is_end.whole) (tree_radix e.by).0) in
         let rise = (subst (IsRadix bytes P place) is own).3 in
-        let (others, c, t, whole, less, ends) = subst (EndsBelow last (get_or key point.key_bytes_used 0)) is ends_here in
+        let (others, c, t, whole, less, ends) = subst (EndsUnder last (get_or key point.key_bytes_used 0)) is ends_here in
         let bytes_are = ap bytes_of whole ∙ bytes_of-join others (child c t no_child) in
         let count = rise_from 0 (bytes_of others) c (subst BytesRise bytes_are rise) (all_from_zero (bytes_of others ++ c ∷ [])) in
         let (off, node, got, head, kids) = inner_at s (inner_name q) h (slots_of cs) (subst (Holds (node_at s)) is held).0 in

@@ -2,7 +2,7 @@
 use Rattle.std.proofs.Common.{◌≡◌, ◌≢◌, ℕ, ◌+◌, ◌<◌, ◌≤◌, List, [], ◌∷◌, ◌++◌, length, get_or, refl, ap, ap₂, sym, ◌∙◌, arith, subst, append_assoc, append-nil, length-append, Bool, false, true, ◌||◌, ◌⊎◌, inl, inr}
 use Rattle.std.proofs.lemmas.List.{get_or_at}
 use Rattle.std.proofs.lemmas.Bool.{cases_eq, ne_eqb}
-use Rattle.art_loading.specs.Next.{IsNext, IsReason}
+use Rattle.art_loading.specs.NextKeys.{IsNextKey, IsReason}
 use Rattle.art_loading.specs.declared.append.AppendReason.{AppendReason}
 use Rattle.art_loading.specs.declared.append.AppendReason.TheVariants.{Equal, Conflict}
 use Rattle.art_model.specs.Keys.{IsFront, is_front, are_related, Precedes}
@@ -27,7 +27,7 @@ split_front (x ∷ p) (y ∷ front) t r e h =
 
 -- what the code compares
 pub next_from : (last key : List ℕ) (shared x y : ℕ) → shared ≡ shared_len key last → shared < length last → shared < length key →
-    x ≡ get_or last shared 0 → y ≡ get_or key shared 0 → x < y → IsNext last key shared x y
+    x ≡ get_or last shared 0 → y ≡ get_or key shared 0 → x < y → IsNextKey last key shared x y
 next_from last key shared x y is long within old new less =
     let a = part_where key last (subst (λ n. n < length key) is within) (subst (λ n. n < length last) is long) in
     let count : shared ≡ length a.front = is ∙ ap length (sym a.is_shared) in
@@ -89,7 +89,7 @@ why_before last key shared x y is long within old new most =
     let differ = a.differ in
     precedes_at a.front a.x a.y a.r a.s key last a.a_is a.b_is (omega (arith, differ))
 
-module _ {last key : List ℕ} {shared x y : ℕ} (next : IsNext last key shared x y) where
+module _ {last key : List ℕ} {shared x y : ℕ} (next : IsNextKey last key shared x y) where
   pub next_precedes : Precedes last key
   next_precedes = precedes_at next.front x y next.r next.s last key next.last_is next.key_is next.less
 

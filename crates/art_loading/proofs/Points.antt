@@ -7,7 +7,7 @@ use Rattle.art_parts.specs.Names.{leaf_name}
 use Rattle.art_parts.specs.declared.names.LeafPtr.{LeafPtr}
 use Rattle.art_parts.specs.declared.names.OpaqueNodePtr.{OpaqueNodePtr}
 use Rattle.art_nodes.specs.Nodes.{Nodes}
-use Rattle.art_loading.specs.Next.{IsNext}
+use Rattle.art_loading.specs.NextKeys.{IsNextKey}
 use Rattle.art_loading.proofs.Next.{IsShort, short_place, next_unrelated, next_shared, next_within, next_byte, split_front}
 use Rattle.art_model.specs.Canonical.{IsCanonicalTree}
 use Rattle.art_model.specs.Footprints.{IsIn}
@@ -54,7 +54,7 @@ pub record IsPointAt {A : Type 0} (bytes : A → List ℕ) (P : ℕ) (layout : T
 
 module _ {K V : Type 0} {bytes : K × V → List ℕ} {P : ℕ} {s : Nodes K V} {root : OpaqueNodePtr} {pairs : List (K × V)}
     {layout : Tree OpaqueNodePtr (K × V)} (n : LeafPtr) (pair : K × V) {key : List ℕ} {shared x y : ℕ}
-    (by : IsCanonicalTree bytes P s root pairs layout) (next : IsNext (bytes pair) key shared x y) where
+    (by : IsCanonicalTree bytes P s root pairs layout) (next : IsNextKey (bytes pair) key shared x y) where
   -- the last leaf, where no more bytes lead to it than are shared
   pub leaf_point : (fs : List (Frame OpaqueNodePtr (K × V))) → plug fs (leaf (leaf_name n) pair) ≡ layout → depth_of fs ≤ shared →
       IsPointAt bytes P layout key fs (leaf (leaf_name n) pair) (depth_of fs) (SplitLeaf n shared)

@@ -3,7 +3,7 @@ use Rattle.std.proofs.Common.{◌≡◌, ℕ, ◌<◌, List, [], ◌∷◌, ◌+
 use Rattle.std.specs.List.{AllByRecursion as Each}
 use Rattle.std.proofs.lemmas.List.{same_from_push}
 use Rattle.art_loading.specs.declared.edge.Step.{Step}
-use Rattle.art_loading.specs.Steps.{path_by, step_of, steps_of}
+use Rattle.art_loading.specs.EdgeSteps.{path_by, step_of, steps_of}
 use Rattle.art_model.specs.Paths.{Frame}
 use Rattle.art_model.specs.Places.{depth_of}
 use Rattle.art_model.specs.Writes.{as_inner}

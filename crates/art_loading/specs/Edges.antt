@@ -1,7 +1,7 @@
 -- The right edge of a canonical tree, and where the next key is inserted there.
 use Rattle.std.specs.Prelude.{◌≡◌, ℕ, ◌<◌, ◌≤◌, List, Option, Some, None, get_or, ⊤}
 use Rattle.art_loading.specs.declared.edge.Step.{Step}
-use Rattle.art_loading.specs.Steps.{steps_of, IsRightmost}
+use Rattle.art_loading.specs.EdgeSteps.{steps_of, IsRightmost}
 use Rattle.art_model.specs.Canonical.{IsCanonicalTree}
 use Rattle.art_model.specs.Lookups.{HasFirstLeaf, HasLastLeaf}
 use Rattle.art_model.specs.Paths.{Frame, plug}
@@ -28,15 +28,15 @@ IsNewKind (Exact p) = ⊥
 IsNewKind kind = ⊤
 
 -- the last child of the node is under a lesser byte than this one, and its last leaf has this name
-abbrev pub EndsBelow : {A : Type 0} → LeafPtr → ℕ → Tree OpaqueNodePtr A → Type 0
-EndsBelow last b (leaf n x) = ⊤
-EndsBelow {A} last b (inner n h children) =
+abbrev pub EndsUnder : {A : Type 0} → LeafPtr → ℕ → Tree OpaqueNodePtr A → Type 0
+EndsUnder last b (leaf n x) = ⊤
+EndsUnder {A} last b (inner n h children) =
     (others : Subtrees OpaqueNodePtr A) × (c : ℕ) × (t : Tree OpaqueNodePtr A) × (children ≡ join others (child c t no_child)) ×
     (c < b) × HasLastLeaf t (leaf_name last)
 
 -- it does, where a node gets a further child under this byte
 abbrev pub EndsIfInto : {A : Type 0} → InsertKind → LeafPtr → ℕ → Tree OpaqueNodePtr A → Type 0
-EndsIfInto (IntoExisting p) last b node = EndsBelow last b node
+EndsIfInto (IntoExisting p) last b node = EndsUnder last b node
 EndsIfInto kind last b node = ⊤
 
 module _ {K V : Type 0} (bytes : K × V → List ℕ) (P : ℕ) where

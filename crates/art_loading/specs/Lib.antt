@@ -1,5 +1,5 @@
 -- the steps down a path, and a key after another one
-pub mod Steps
-pub mod Next
+pub mod EdgeSteps
+pub mod NextKeys
 -- the right edge of a tree
 pub mod Edges

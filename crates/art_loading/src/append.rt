@@ -3,11 +3,12 @@ ghost use Rattle.std.specs.Prelude.{◌≡◌, ◌≢◌, ◌++◌, ◌∷◌, [
 ghost use Rattle.art_parts.specs.Names.{inner_name, leaf_name};
 ghost use Rattle.art_parts.specs.declared.names.OpaqueNodePtr.{OpaqueNodePtr};
 ghost use Rattle.art_model.specs.Pairs.{last_of, of_key};
+ghost use Rattle.art_model.specs.Apart.{KeepsApart};
 ghost use Rattle.art_model.specs.Kept.{ChangesInPlace};
 ghost use Rattle.art_model.specs.Roots.{ForTree, IsFullTree};
 ghost use Rattle.art_model.specs.Trees.{Tree};
 ghost use Rattle.art_loading.specs.Edges.{IsEdge, IsEdgePoint, IsLastPoint, IsLeafIf};
-ghost use Rattle.art_loading.specs.Next.{IsNext, IsReason};
+ghost use Rattle.art_loading.specs.NextKeys.{IsNextKey, IsReason};
 ghost use Rattle.art_loading.specs.declared.append.AppendReason.TheVariants as reasons;
 ghost use Rattle.art_writing.specs.Applied.{IsApplied, TakesMemory};
 ghost use Rattle.art_writing.specs.Inserted.{placed_for};
@@ -71,7 +72,9 @@ pub fn begin<K: AsBytes + Drop, V: Drop, const P: usize>(
     ensures root { IfOk result (λ edge. edge.root ≡ leaf_name edge.leaf) }
     ensures planted { IfOk result (λ edge.
         IsPlanted store.old store.new edge.leaf (key, value)) }
-    ensures refused { IfErr result (λ refused.
+    ensures apart { IfOk result (λ edge. KeepsApart (of_key K.bytes) P
+        store.old store.new None (Some edge.root)) }
+    ensures handed_back { IfErr result (λ refused.
         (refused.key ≡ key) × (refused.value ≡ value)) }
     ensures same { OnErr result (store.new ≡ store.old) }
 {
@@ -105,6 +108,8 @@ pub fn append<K: AsBytes + Drop, V: Drop, const P: usize>(
         store.old edge.old.root edge.old.steps.items edge.old.leaf pairs) →
         OnOk result (ForTree (of_key K.bytes) P store.new edge.new.root (λ after new.
         ChangesInPlace (of_key K.bytes) store.old store.new (Some right.layout) (Some new))) }
+    ensures apart { OnOk result (KeepsApart (of_key K.bytes) P
+        store.old store.new (Some edge.old.root) (Some edge.new.root)) }
     ensures handed_back { IfErr result (λ error. (error.key ≡ key) × (error.value ≡ value)) }
     ensures reason { (pairs : List (K × V)) → IsEdge (of_key K.bytes) P
         store.old edge.old.root edge.old.steps.items edge.old.leaf pairs →
@@ -206,7 +211,7 @@ fn without_memory<K, V>(refused: PairRefused<K, V>) -> AppendError<K, V>
 #[inline(always)]
 fn part_after(last: &[u8], key: &[u8]) -> Result<(usize, u8), AppendReason>
     ensures part { IfOk result (λ part. (new_byte : ℕ) ×
-        IsNext last.now key.now part.0 part.1 new_byte) }
+        IsNextKey last.now key.now part.0 part.1 new_byte) }
     ensures reason { IfErr result (IsReason last.now key.now) }
 {
     let mut rest = last;
@@ -249,7 +254,7 @@ fn point_after<K: AsBytes + Drop, V: Drop, const P: usize>(
     ensures { (pairs : List (K × V)) →
         (edge : IsEdge (of_key K.bytes) P store.now root steps.now leaf pairs) →
         (key : List ℕ) → (new_byte : ℕ) →
-        IsNext (of_key K.bytes edge.pair) key shared old_byte new_byte →
+        IsNextKey (of_key K.bytes edge.pair) key shared old_byte new_byte →
         IsEdgePoint (of_key K.bytes) P edge.layout leaf key result.0
         (take result.1 steps.now) result.2 }
 {

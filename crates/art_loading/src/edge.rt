@@ -1,7 +1,7 @@
 //! The right edge of a tree: its last leaf, and the nodes above it.
 ghost use Rattle.std.specs.Prelude.{◌≡◌, ◌<◌, ◌≤◌, List, ◌++◌, ◌∷◌, MatchOption};
 ghost use Rattle.std.specs.List.{AllByRecursion as Each};
-ghost use Rattle.art_loading.specs.Steps.{IsReach, path_by};
+ghost use Rattle.art_loading.specs.EdgeSteps.{IsReach, path_by};
 ghost use Rattle.art_reading.specs.declared.path.TreePath.TheVariants.{Root};
 
 use art_nodes::node::{InnerPtr, LeafPtr};

@@ -30,6 +30,11 @@ pub use Rattle.art_writing.specs.Points
 pub use Rattle.art_writing.specs.Inserted
 pub use Rattle.art_writing.specs.Conflicts
 pub use Rattle.art_writing.specs.Overwritten
+-- appending at the right edge of a tree, and building maps
+pub use Rattle.art_loading.specs.NextKeys
+pub use Rattle.art_loading.specs.EdgeSteps
+pub use Rattle.art_loading.specs.Edges
+pub use Rattle.art_building.specs.Pushes
 -- deletion
 pub use Rattle.art_writing.specs.Deleted
 pub use Rattle.art_writing.specs.Subtrees

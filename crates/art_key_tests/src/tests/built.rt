@@ -153,7 +153,9 @@ fn words(alloc: Global, texts: [&[u8]; 4]) -> Option<Vec<(Terminated, u32)>> {
 // The value of the longest of four sorted words that a text starts with.
 fn longest(alloc: Global) -> Option<u32> {
     let mut sorted = words(alloc, [b"car", b"cart", b"do", b"dot"])?.into_iter();
-    let map = TreeMapBuilder::<_, _, 4>::from_sorted(alloc, &mut sorted).ok()?;
+    let map = TreeMapBuilder::<_, _, 4>::new(alloc)
+        .build(&mut sorted)
+        .ok()?;
     let (_, value) = map.longest_match(b"carton")?;
     Some(*value)
 }

@@ -1,5 +1,5 @@
 use Rattle.std.proofs.Common.{rules}
-use Rattle.art_building.proofs.Built.{begun_held, edge_at, fits, more_held, still_held}
+use Rattle.art_building.proofs.Built.{begun_held, edge_at, fits, more_held, reason_after, still_held}
 use Rattle.art_building.proofs.byte_map.append_in.Goals as goal
 
 pub returns-in-Ok : goal.returns-in-Ok
@@ -21,5 +21,5 @@ returns-in-Err-append g c =
     let e = edge_at c.in-Some.is c.requires in
     let told = c.in-Err-append.ensures in (
       still_held c.in-Some.is c.requires told.leaves told.inners told.root told.steps told.leaf,
-      (told.refused.0, told.refused.1, λ last is after. told.after _ e last is after),
+      (told.handed_back.0, told.handed_back.1, reason_after g.K.AsBytes.bytes c.in-Some.right c.args.key c.in-Err-append.error.reason e (told.reason _ e)),
     )

@@ -1,9 +1,10 @@
 use Rattle.std.proofs.Common.{◌≡◌, Some, rules, ap, sym, ◌∙◌, subst, List, [], ◌∷◌, ◌++◌, take}
 use Rattle.art_loading.specs.declared.edge.Step.{Step}
 use Rattle.art_loading.specs.Edges.{IsEdge}
-use Rattle.art_loading.specs.Next.{IsReason}
+use Rattle.art_loading.specs.NextKeys.{IsReason}
 use Rattle.art_loading.specs.declared.append.AppendError.{AppendError}
 use Rattle.art_model.specs.Kept.{ChangesInPlace}
+use Rattle.art_model.specs.Apart.{KeepsApart}
 use Rattle.art_model.specs.Pairs.{of_key}
 use Rattle.art_loading.proofs.Edges.{at_deref, edge_after, edge_at, edge_last, edge_same, last_point, leaf_met, memory_after, next_here, not_kept}
 use Rattle.art_loading.proofs.Next.{next_precedes}
@@ -74,3 +75,13 @@ returns-in-Ok-push-clause-kept g c pairs old after new by =
     let p = c.point_after-above.ensures pairs e.0 (g.K.AsBytes.bytes c.args.key) y next in
     subst (λ l. ChangesInPlace (of_key g.K.AsBytes.bytes) c.args.store.now c.apply_last.new.store (Some l) (Some new)) e.1
     (c.in-Ok-apply_last.ensures.applied.kept pairs e.0.layout (edge_at e.0 p) after new by)
+
+pub returns-in-Ok-push-clause-apart : goal.returns-in-Ok-push-clause-apart
+returns-in-Ok-push-clause-apart g c =
+    let (pairs, old) = c.requires in
+    let e = at_deref old c.deref.ensures.value in
+    let (y, read) = c.in-Ok.ensures.part in
+    let next = next_here e.0 c.leaf_at-last.ensures c.as_bytes.ensures c.as_bytes-2.ensures read in
+    let p = c.point_after-above.ensures pairs e.0 (g.K.AsBytes.bytes c.args.key) y next in
+    subst (λ root. KeepsApart (of_key g.K.AsBytes.bytes) g.row.P c.args.store.now c.apply_last.new.store (Some root) (Some c.in-Ok-apply_last.done.new_root))
+    (p.at.root_is ∙ e.0.by.stands.0.named) c.in-Ok-apply_last.ensures.applied.apart

@@ -1,8 +1,6 @@
 use Rattle.std.proofs.Common.{Some, [], ◌∷◌, ◌++◌, ap, ap₂, append-nil, append_assoc, sym, subst, ◌∙◌}
 use Rattle.std.specs.Iterator.{YieldsThen}
 use Rattle.std.proofs.iter.Next as it
-use Rattle.art_building.specs.Pushes.{IsReasonAfter}
-use Rattle.art_model.specs.Pairs.{last_of}
 use Rattle.art_building.proofs.byte_map.MapBuilder.extend.Goals as goal
 
 pub loop-key-init : goal.loop-key-init

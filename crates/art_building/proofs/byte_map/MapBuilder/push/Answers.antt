@@ -10,5 +10,5 @@ returns-clause-pushed g c = pushed g.K.AsBytes.bytes g.row.P c.append_in.new.sto
 pub returns-clause-kept : goal.returns-clause-kept
 returns-clause-kept g c = unchanged g.K.AsBytes.bytes g.row.P c.append_in.new.store c.append_in.new.edge c.append_in.new.len _ c.args.key c.args.value c.self.view_is c.append_in.result c.append_in.ensures
 
-pub returns-clause-error : goal.returns-clause-refused
+pub returns-clause-error : goal.returns-clause-error
 returns-clause-error g c = returned g.K.AsBytes.bytes g.row.P c.append_in.new.store c.append_in.new.edge c.append_in.new.len _ c.args.key c.args.value c.self.view_is c.append_in.result c.append_in.ensures

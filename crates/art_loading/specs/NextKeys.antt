@@ -5,7 +5,7 @@ use Rattle.art_loading.specs.declared.append.AppendReason.TheVariants.{Before, E
 use Rattle.art_model.specs.Keys.{Precedes, are_related}
 
 -- After so many shared bytes the last key has one byte, and the next key a greater one.
-pub record IsNext (last key : List ℕ) (shared x y : ℕ) : Type 0 where
+pub record IsNextKey (last key : List ℕ) (shared x y : ℕ) : Type 0 where
   pub front : List ℕ
   pub r : List ℕ
   pub s : List ℕ
