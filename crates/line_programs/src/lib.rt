@@ -1,0 +1,6 @@
+//! Programs that read a table from the lines of a file and answer the lines of standard input.
+#![tactic(auto)]
+
+pub mod entries;
+pub mod line_tables;
+pub mod running;
