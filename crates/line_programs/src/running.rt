@@ -21,6 +21,11 @@ pub const ERROR: u8 = 2;
 // The exit status of a program whose output was closed, as a shell has it of one that SIGPIPE ended.
 const CLOSED: u8 = 141;
 
+/// The end of the help of a program that looks nothing up.
+pub const STATUS_OF_ERRORS: &str = "Exit status:
+  0  all was read and written
+  2  an error: an invalid line, command line or file";
+
 const STATUSES: &str = "Exit status:
   0  something was found for each line
   1  nothing was found for a line
@@ -93,6 +98,7 @@ fn command(alloc: Global, texts: Texts<'_>) -> Result<Command<'_>, AllocError> {
         .action(ArgAction::SetTrue)
         .help("Stop at the first line that asks for nothing");
     Command::new(alloc, texts.name)
+        .bin_name(texts.name)?
         .version(VERSION)
         .about(texts.about)
         .long_about(texts.details)
