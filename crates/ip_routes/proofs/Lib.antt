@@ -1,0 +1,4 @@
+pub mod ResultLemmas
+pub mod WrittenLemmas
+pub mod SourceLemmas
+pub mod AnswerLemmas
