@@ -8,8 +8,11 @@ pub fn trimmed_entry(line: &[u8]) -> Option<&[u8]>
     ensures { option_map (λ entry. entry.now) result ≡ trimmed_entry line.now }
 {
     let entry = line.trim_ascii();
-    match entry.first() {
-        None | Some(b'#') => None,
-        Some(_) => Some(entry),
+    let Some(first) = entry.first() else {
+        return None;
+    };
+    if *first == b'#' {
+        return None;
     }
+    Some(entry)
 }

@@ -3,4 +3,6 @@
 
 pub mod entries;
 pub mod line_tables;
-pub mod running;
+pub mod messages;
+pub mod reading;
+pub mod serving;

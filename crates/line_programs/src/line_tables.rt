@@ -1,27 +1,12 @@
 //! Tables that are read from the lines of a text, and that answer those of another.
-ghost use Rattle.std.specs.Prelude.{◌≡◌, ◌↔◌, [], false, IfErr, IfOk, IfSome, OnErr, OnOk, ℕ, List, Option, ◌∷◌, ◌++◌};
-ghost use Rattle.std.specs.Io.Buffered.{reader_remaining, writer_buffer, writer_contents};
+ghost use Rattle.std.specs.Prelude.{◌≡◌, ◌↔◌, [], false, IfErr, IfOk, OnErr, OnOk, ℕ, List, Option, ◌∷◌, ◌++◌};
 ghost use Rattle.std.specs.Option.{option_map};
-ghost use Rattle.text_lines.specs.Lines.{lines};
-ghost use Rattle.line_programs.specs.Entries.{entries};
-ghost use Rattle.line_programs.specs.LineTables.{AreAnswered, IsFaultIn, IsRefusedFor, IsTried};
+ghost use Rattle.line_programs.specs.LineTables.{IsFaultIn, IsTried};
+ghost use Rattle.line_programs.specs.Outcomes.{status, worse};
 
 use std::alloc::Global;
-use std::fmt::Display;
 use std::io;
-use std::io::{BufRead, BufReader, BufWriter, ErrorKind, Read, Write};
-use text_lines::lines::{next_line, write_out};
-use thiserror::Error;
-
-/// Why there is no table.
-#[derive(Debug, Drop, Error)]
-#[error_bound(F: Display)]
-pub enum ReadError<F> {
-    #[error("line {0}: {1}")]
-    Line(u64, F),
-    #[error("{0}")]
-    Input(io::Error),
-}
+use std::io::Write;
 
 /// How a line was answered.
 #[derive(Clone, Copy, PartialEq, Eq, Debug, Drop)]
@@ -32,6 +17,30 @@ pub enum Outcome {
     NotFound,
     /// The line asks for nothing, and gets no reply.
     Invalid,
+}
+
+impl Outcome {
+    /// Returns the worse of two outcomes: `Invalid` is worse than `NotFound`, and that is worse than `Found`.
+    pub fn worse(self, other: Outcome) -> Outcome
+        ensures { result ≡ worse self other }
+    {
+        match (self, other) {
+            (Outcome::Found, _) => other,
+            (Outcome::NotFound, Outcome::Invalid) | (Outcome::Invalid, _) => Outcome::Invalid,
+            (Outcome::NotFound, _) => Outcome::NotFound,
+        }
+    }
+
+    /// Returns the exit status of a program whose worst outcome is this one, as of `grep`.
+    pub fn status(self) -> u8
+        ensures { result ≡ status self }
+    {
+        match self {
+            Outcome::Found => 0,
+            Outcome::NotFound => 1,
+            Outcome::Invalid => 2,
+        }
+    }
 }
 
 /// A table that is read from the lines of a text, and that answers those of another.
@@ -99,91 +108,4 @@ pub trait LineTable {
     /// Returns whether an entry is at fault, and not an allocation.
     fn is_of_line(fault: &Self::Fault) -> bool
         ensures { (result ≡ false) ↔ IsOutOfMemory fault.now };
-}
-
-/// Reads a table to the end of its text.
-pub fn read<T: LineTable + Drop, R: BufRead>(
-    alloc: Global,
-    input: &mut R,
-) -> Result<T, ReadError<T::Fault>>
-    ensures table { IfOk result (λ table. IfSome (R.remaining input.old) (λ text.
-        T.IsRead table (entries T.entry_of 1 (lines text)))) }
-    ensures refused { IfErr result (λ error. IfSome (R.remaining input.old) (λ text.
-        IsRefusedFor T.IsFaultAfter T.IsOutOfMemory (entries T.entry_of 1 (lines text)) error)) }
-{
-    let mut table = T::start(alloc);
-    let mut line = Vec::new(alloc);
-    for number in 1..u64::MAX {
-        match next_line(input, &mut line) {
-            Ok(true) => {}
-            Ok(false) => return finished(alloc, table),
-            Err(error) => return Err(ReadError::Input(error)),
-        }
-        if let Some(entry) = T::entry(&line) {
-            match table.add(alloc, entry, number) {
-                Ok(()) => {}
-                Err(fault) => return Err(ReadError::Line(number, fault)),
-            }
-        }
-    }
-    Err(ReadError::Input(io::Error::from(ErrorKind::FileTooLarge)))
-}
-
-// Returns the table once it is ready to answer lines.
-fn finished<T: LineTable + Drop>(alloc: Global, mut table: T) -> Result<T, ReadError<T::Fault>>
-    ensures table { IfOk result (λ finished. (added : List (ℕ × List ℕ)) →
-        T.HasLines table.entry added → T.IsRead finished added) }
-    ensures refused { IfErr result (λ error. (added : List (ℕ × List ℕ)) →
-        T.HasLines table.entry added → IsRefusedFor T.IsFaultAfter T.IsOutOfMemory added error) }
-{
-    match table.finish(alloc) {
-        Ok(()) => Ok(table),
-        Err((number, fault)) => Err(ReadError::Line(number, fault)),
-    }
-}
-
-/// Answers each line of the input. At a line that asks for nothing it stops, and returns the number of that line.
-///
-/// Replies are written out before it waits for a line. While the next line is already available they are collected in
-/// the output, which has a buffer for that.
-pub fn answer_lines<T: LineTable, R: Read, W: Write>(
-    alloc: Global,
-    table: &T,
-    input: &mut BufReader<R>,
-    output: &mut W,
-) -> io::Result<Option<u64>>
-    ensures { IfOk result (λ refused. IfSome (reader_remaining R.remaining input.old) (λ text.
-        AreAnswered (T.IsReplyTo table.now) T.AsksForNothing (lines text) refused
-        (W.contents output.old) (W.contents output.new))) }
-{
-    let mut line = Vec::new(alloc);
-    for number in 1..u64::MAX {
-        if !next_line(input, &mut line)? {
-            return Ok(None);
-        }
-        match table.answer(&line, output)? {
-            Outcome::Found | Outcome::NotFound => {}
-            Outcome::Invalid => return Ok(Some(number)),
-        }
-        write_out(input, output)?;
-    }
-    Err(io::Error::from(ErrorKind::FileTooLarge))
-}
-
-/// Does what `answer_lines` does, and flushes the output.
-pub fn serve<T: LineTable, R: Read, W: Write + Drop>(
-    alloc: Global,
-    table: &T,
-    input: &mut BufReader<R>,
-    output: &mut BufWriter<W>,
-) -> io::Result<Option<u64>>
-    ensures answered { IfOk result (λ refused.
-        IfSome (reader_remaining R.remaining input.old) (λ text.
-        AreAnswered (T.IsReplyTo table.now) T.AsksForNothing (lines text) refused
-        (writer_contents W.contents output.old) (writer_contents W.contents output.new))) }
-    ensures flushed { OnOk result (writer_buffer output.new ≡ []) }
-{
-    let refused = answer_lines(alloc, table, input, output)?;
-    output.flush()?;
-    Ok(refused)
 }
