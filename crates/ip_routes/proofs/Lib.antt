@@ -2,3 +2,4 @@ pub mod ResultLemmas
 pub mod WrittenLemmas
 pub mod SourceLemmas
 pub mod AnswerLemmas
+pub mod EntryLemmas

@@ -48,3 +48,10 @@ IsRefusal routes number (Why.Twice earlier) = IsRepeated routes number earlier
 IsRefusal routes number Why.NoMemory = ⊤
 IsRefusal routes number (Why.Route error) = ⊥
 IsRefusal routes number Why.TooLong = ⊥
+
+-- the fault is that an allocation failed
+abbrev pub IsOutOfMemory : LineError → Type 0
+IsOutOfMemory Why.NoMemory = ⊤
+IsOutOfMemory (Why.Route error) = ⊥
+IsOutOfMemory (Why.Twice earlier) = ⊥
+IsOutOfMemory Why.TooLong = ⊥

@@ -6,3 +6,7 @@ pub mod Routes
 pub mod Sources
 -- why there is no table
 pub mod Faults
+-- what is written in reply to addresses
+pub mod Replies
+-- what a table has of the entries of a text
+pub mod RouteTables
