@@ -1,5 +1,5 @@
 -- Lines that are answered one after another.
-use Rattle.std.proofs.Common.{◌≡◌, ◌≢◌, ℕ, ◌+◌, Bool, true, false, List, [], ◌∷◌, ◌++◌, length, map, flat_map, Option, Some, None, IfSome, refl, ap, sym, ◌∙◌, subst, arith, append-nil, append_assoc, inl, inr}
+use Rattle.std.proofs.Common.{◌≡◌, ◌≢◌, ℕ, zero, suc, ◌+◌, ◌<◌, take, drop, slice_index_or, Bor, Bool, true, false, List, [], ◌∷◌, ◌++◌, length, map, flat_map, Option, Some, None, IfSome, refl, ap, sym, ◌∙◌, subst, arith, append-nil, append_assoc, inl, inr}
 use Rattle.std.specs.List.{AllByRecursion as Each}
 use Rattle.std.specs.Io.KnownBytes.{Appends, Keeps}
 use Rattle.std.proofs.lemmas.List.{map-append, length-map}
@@ -181,3 +181,31 @@ module _ (IsReply : List ℕ → List ℕ → Type 0) (Finds AsksForNothing : Li
     written = appends_kept old now new _ h.written keeps;
     told = appends_kept old_errors now_errors new_errors _ h.told keeps_errors;
   }
+
+-- ---- words
+
+abbrev texts : List (Bor (List ℕ)) → List (List ℕ)
+texts = map (λ word. word.now)
+
+pub words_before : (words : List (Bor (List ℕ))) (i : ℕ) → i < length words → length (take i (texts words)) ≡ i
+words_before [] i less = absurd (omega arith)
+words_before (w ∷ words) zero less = refl
+words_before (w ∷ words) (suc i) less = ap suc (words_before words i (omega arith))
+
+-- the words before one, that word, and those after it
+pub words_around : (words : List (Bor (List ℕ))) (i : ℕ) (none : Bor (List ℕ)) → i < length words →
+    texts words ≡ take i (texts words) ++ (slice_index_or words i none).now ∷ drop (suc i) (texts words)
+words_around [] i none less = absurd (omega arith)
+words_around (w ∷ words) zero none less = refl
+words_around (w ∷ words) (suc i) none less = ap (λ ls. w.now ∷ ls) (words_around words i none (omega arith))
+
+-- one more word
+up_to : (words : List (Bor (List ℕ))) (i : ℕ) (none : Bor (List ℕ)) → i < length words →
+    take (suc i) (texts words) ≡ take i (texts words) ++ (slice_index_or words i none).now ∷ []
+up_to [] i none less = absurd (omega arith)
+up_to (w ∷ words) zero none less = refl
+up_to (w ∷ words) (suc i) none less = ap (λ ls. w.now ∷ ls) (up_to words i none (omega arith))
+
+pub words_to : (words : List (Bor (List ℕ))) (i : ℕ) (none : Bor (List ℕ)) → i < length words →
+    take (i + 1) (texts words) ≡ take i (texts words) ++ (slice_index_or words i none).now ∷ []
+words_to words i none less = let k : i + 1 ≡ suc i = omega arith in ap (λ n. take n (texts words)) k ∙ up_to words i none less

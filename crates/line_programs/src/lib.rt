@@ -5,4 +5,5 @@ pub mod entries;
 pub mod line_tables;
 pub mod messages;
 pub mod reading;
+pub mod running;
 pub mod serving;

@@ -1,5 +1,5 @@
 //! Answers the lines of an input from a table.
-ghost use Rattle.std.specs.Prelude.{◌≡◌, ◌≢◌, [], IfOk, IfSome, OnOk, true, false};
+ghost use Rattle.std.specs.Prelude.{◌≡◌, ◌≢◌, [], IfOk, IfSome, OnOk, map, true, false};
 ghost use Rattle.std.specs.Io.Buffered.{reader_remaining, writer_buffer, writer_contents};
 ghost use Rattle.text_lines.specs.Lines.{lines};
 ghost use Rattle.line_programs.specs.declared.line_tables.Outcome.TheVariants.{Invalid};
@@ -83,6 +83,30 @@ pub fn answer_lines<T: LineTable, R: Read, W: Write, E: Write>(
     Err(ServeError::Read(io::Error::from(ErrorKind::FileTooLarge)))
 }
 
+/// Answers each word as a line, and writes a message about each that asks for nothing. Returns the worst outcome.
+pub fn answer_words<T: LineTable, W: Write, E: Write>(
+    table: &T,
+    rules: Rules<'_>,
+    words: &[&str],
+    output: &mut W,
+    errors: &mut E,
+) -> Result<Outcome, ServeError>
+    ensures { IfOk result (λ worst. AreAnswered (T.IsReplyTo table.now) (T.Finds table.now) T.AsksForNothing
+        rules.entry (map (λ word. word.now) words.now) worst
+        (W.contents output.old) (W.contents output.new) (E.contents errors.old) (E.contents errors.new)) }
+{
+    let mut worst = Outcome::Found;
+    for (index, word) in words.iter().enumerate() {
+        let number = index as u64 + 1;
+        let outcome = answer_line(table, rules, number, word.as_bytes(), output, errors)?;
+        worst = worst.worse(outcome);
+        if rules.end_at(outcome) {
+            return Ok(worst);
+        }
+    }
+    Ok(worst)
+}
+
 // Answers a line, or writes a message about it.
 fn answer_line<T: LineTable, W: Write, E: Write>(
     table: &T,
@@ -122,6 +146,27 @@ pub fn serve<T: LineTable, R: Read, W: Write + Drop, E: Write + Drop>(
     ensures told { OnOk result (writer_buffer errors.new ≡ []) }
 {
     let worst = answer_lines(alloc, table, rules, input, output, errors)?;
+    output.flush()?;
+    errors.flush()?;
+    Ok(worst)
+}
+
+/// Does what `answer_words` does, and flushes both outputs.
+pub fn serve_words<T: LineTable, W: Write + Drop, E: Write + Drop>(
+    table: &T,
+    rules: Rules<'_>,
+    words: &[&str],
+    output: &mut BufWriter<W>,
+    errors: &mut BufWriter<E>,
+) -> Result<Outcome, ServeError>
+    ensures answered { IfOk result (λ worst. AreAnswered (T.IsReplyTo table.now) (T.Finds table.now) T.AsksForNothing
+        rules.entry (map (λ word. word.now) words.now) worst
+        (writer_contents W.contents output.old) (writer_contents W.contents output.new)
+        (writer_contents E.contents errors.old) (writer_contents E.contents errors.new)) }
+    ensures flushed { OnOk result (writer_buffer output.new ≡ []) }
+    ensures told { OnOk result (writer_buffer errors.new ≡ []) }
+{
+    let worst = answer_words(table, rules, words, output, errors)?;
     output.flush()?;
     errors.flush()?;
     Ok(worst)
