@@ -237,3 +237,12 @@ pub fn report_unwritten(rt: &HostRuntime, program: &str, error: io::Error) -> u8
     }
     report(rt, program, "write error", error)
 }
+
+/// Prints what went wrong in reading or writing, unless the output was closed. Returns the exit status.
+pub fn report_failed(rt: &HostRuntime, program: &str, error: io::Error) -> u8 {
+    if error.kind() == ErrorKind::BrokenPipe {
+        return CLOSED;
+    }
+    let _ = eprintln!(rt; "{program}: {error}");
+    ERROR
+}

@@ -52,17 +52,16 @@ fn command<'a>(alloc: Global) -> Result<Command<'a>, AllocError> {
         .arg(files)
 }
 
-// Counts the words of all files, and prints the counts. A file that can't be read is reported, and the others are counted.
+// Counts the words of all files, and prints the counts if all could be read.
 fn status_of(rt: &HostRuntime, matches: &ArgMatches<'_>) -> u8 {
     let mut counts = Counts::new(rt.alloc());
-    let mut status = 0;
     for path in matches.get_strs("files").unwrap_or(["-"].as_slice()) {
         if let Err(error) = count_file(rt, &mut counts, path) {
-            status = report(rt, NAME, source_of(path), error);
+            return report(rt, NAME, source_of(path), error);
         }
     }
     match print_counts(rt, &counts) {
-        Ok(()) => status,
+        Ok(()) => 0,
         Err(error) => report_unwritten(rt, NAME, error),
     }
 }
