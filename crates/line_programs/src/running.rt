@@ -1,6 +1,7 @@
 //! Runs a program that reads a table from a file, and answers the words of its command line or the lines of standard
 //! input.
 
+use crate::checking::check;
 use crate::line_tables::{LineTable, Outcome};
 use crate::messages::{Place, write_message};
 use crate::reading::{ReadError, read};
@@ -8,7 +9,7 @@ use crate::serving::{Rules, ServeError, serve, serve_words};
 use clap::{Arg, ArgAction, ArgMatches, Command};
 use std::alloc::{AllocError, Global};
 use std::fmt::Display;
-use std::io::{BufReader, BufWriter, ErrorKind, Read};
+use std::io::{BufReader, BufWriter, ErrorKind, Read, Stderr, Write};
 use std::process::ExitCode;
 use std::{env, fs, io};
 
@@ -97,6 +98,12 @@ fn command(alloc: Global, texts: Texts<'_>) -> Result<Command<'_>, AllocError> {
         .long("strict")
         .action(ArgAction::SetTrue)
         .help("Stop at the first line that asks for nothing");
+    let check = Arg::new(alloc, "check")
+        .long("check")
+        .action(ArgAction::SetTrue)
+        .conflicts_with("queries")?
+        .conflicts_with("strict")?
+        .help("Report each invalid line of the table, and answer nothing");
     Command::new(alloc, texts.name)
         .bin_name(texts.name)?
         .version(VERSION)
@@ -105,7 +112,8 @@ fn command(alloc: Global, texts: Texts<'_>) -> Result<Command<'_>, AllocError> {
         .after_help(STATUSES)
         .arg(table)?
         .arg(queries)?
-        .arg(strict)
+        .arg(strict)?
+        .arg(check)
 }
 
 /// Prints what is wrong with a command line, or its help or version. Returns the exit status.
@@ -124,8 +132,14 @@ where
 {
     let path = matches.get_str("table").unwrap_or("-");
     let queries = matches.get_strs("queries");
+    if matches.get_flag("check") {
+        return check_table::<T>(rt, texts.name, path);
+    }
     if path == "-" && queries.is_none() {
-        let _ = eprintln!(rt; "{}: {} and the lines can't both be standard input", texts.name, texts.table);
+        let _ = eprintln!(rt;
+            "{}: {} and the lines can't both be standard input",
+            texts.name, texts.table
+        );
         return ERROR;
     }
     let table = match read_table::<T>(rt, texts.name, path) {
@@ -138,6 +152,60 @@ where
         Err(ServeError::Read(error)) => report(rt, texts.name, "standard input", error),
         Err(ServeError::Write(error)) => report_unwritten(rt, texts.name, error),
     }
+}
+
+// Checks the table of a file, or of standard input if that is `-`.
+fn check_table<T>(rt: &HostRuntime, program: &str, path: &str) -> u8
+where
+    T: LineTable + Drop,
+    T::Fault: Display + Drop,
+{
+    let source = source_of(path);
+    match check_file::<T>(rt, Place { program, source }, path) {
+        Ok(true) => 0,
+        Ok(false) => ERROR,
+        Err(ServeError::Read(error)) => report(rt, program, source, error),
+        Err(ServeError::Write(error)) => report_unwritten(rt, program, error),
+    }
+}
+
+fn check_file<T>(rt: &HostRuntime, place: Place<'_>, path: &str) -> Result<bool, ServeError>
+where
+    T: LineTable + Drop,
+    T::Fault: Display + Drop,
+{
+    let alloc = rt.alloc();
+    if path == "-" {
+        return check_opened::<T, _>(rt, place, BufReader::new(alloc, rt.reader()));
+    }
+    let opened = fs::open(rt, path).and_then(|file| BufReader::new(alloc, file));
+    check_opened::<T, _>(rt, place, opened)
+}
+
+fn check_opened<T, R>(
+    rt: &HostRuntime,
+    place: Place<'_>,
+    opened: io::Result<BufReader<R>>,
+) -> Result<bool, ServeError>
+where
+    T: LineTable + Drop,
+    T::Fault: Display + Drop,
+    R: Read + Drop,
+{
+    let alloc = rt.alloc();
+    let mut input = match opened {
+        Ok(input) => input,
+        Err(error) => return Err(ServeError::Read(error)),
+    };
+    let mut errors = BufWriter::new(alloc, rt.stderr())?;
+    let is_whole = check::<T, BufReader<R>, BufWriter<Stderr>>(
+        alloc,
+        place,
+        &mut input,
+        &mut errors,
+    )?;
+    errors.flush()?;
+    Ok(is_whole)
 }
 
 // Reads the table of a file, or of standard input if that is `-`.
@@ -166,10 +234,16 @@ where
     if path == "-" {
         return read_opened(alloc, BufReader::new(alloc, rt.reader()));
     }
-    read_opened(alloc, fs::open(rt, path).and_then(|file| BufReader::new(alloc, file)))
+    read_opened(
+        alloc,
+        fs::open(rt, path).and_then(|file| BufReader::new(alloc, file)),
+    )
 }
 
-fn read_opened<T, R>(alloc: Global, opened: io::Result<BufReader<R>>) -> Result<T, ReadError<T::Fault>>
+fn read_opened<T, R>(
+    alloc: Global,
+    opened: io::Result<BufReader<R>>,
+) -> Result<T, ReadError<T::Fault>>
 where
     T: LineTable + Drop,
     T::Fault: Drop,
@@ -209,9 +283,16 @@ fn answer<T: LineTable>(
     let alloc = rt.alloc();
     let mut output = BufWriter::new(alloc, io::writer(rt))?;
     let mut errors = BufWriter::new(alloc, rt.stderr())?;
-    let source = if queries.is_some() { "argument" } else { "standard input" };
+    let source = if queries.is_some() {
+        "argument"
+    } else {
+        "standard input"
+    };
     let rules = Rules {
-        place: Place { program: texts.name, source },
+        place: Place {
+            program: texts.name,
+            source,
+        },
         fault: texts.fault,
         is_strict,
     };
