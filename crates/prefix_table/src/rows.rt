@@ -62,6 +62,16 @@ impl Model for Rows {
 }
 
 impl Rows {
+    /// Returns no row, without an allocation.
+    pub fn new(alloc: Global) -> Self
+        ensures { result ≡ [] }
+    {
+        Rows {
+            starts: Starts::new(alloc),
+            rests: Vec::new(alloc),
+        }
+    }
+
     /// Returns these rows.
     pub fn from_slice(alloc: Global, rows: &[Row]) -> Result<Self, AllocError>
         requires few { length rows.now < 2 ^ 32 }

@@ -30,6 +30,18 @@ impl Model for Starts {
 }
 
 impl Starts {
+    /// Returns no address, without an allocation.
+    pub fn new(alloc: Global) -> Self
+        ensures { result ≡ [] }
+    {
+        Starts {
+            four: Vec::new(alloc),
+            six: Vec::new(alloc),
+            guesses_four: Guesses::none(alloc),
+            guesses_six: Guesses::none(alloc),
+        }
+    }
+
     /// Returns no address, with room for so many of both versions.
     pub fn with_capacity(alloc: Global, four: usize, six: usize) -> Result<Self, AllocError>
         ensures { IfOk result (λ starts. starts ≡ []) }

@@ -1,5 +1,5 @@
 //! A table of networks with values, which is built once.
-ghost use Rattle.std.specs.Prelude.{◌≡◌, ℕ, ◌^◌, ◌<◌, ◌≤◌, ◌==◌, length, vec_len, All, AllPairs, Contains, IfErr, IfNone, IfOk, IfSome, filter, reverse, slice_index_or, ◌≢◌};
+ghost use Rattle.std.specs.Prelude.{◌≡◌, [], ℕ, ◌^◌, ◌<◌, ◌≤◌, ◌==◌, length, vec_len, All, AllPairs, Contains, IfErr, IfNone, IfOk, IfSome, filter, reverse, slice_index_or, ◌≢◌};
 ghost use Rattle.std.specs.List.{zip};
 ghost use Rattle.std.specs.List.Sorted.{IsPermutation};
 ghost use Rattle.std.specs.Option.{option_map};
@@ -60,6 +60,16 @@ impl<V> Model for PrefixTable<V> {
 }
 
 impl<V> PrefixTable<V> {
+    /// Returns a table without a network, without an allocation.
+    pub fn new(alloc: Global) -> Self
+        ensures { result ≡ [] }
+    {
+        PrefixTable {
+            rows: Rows::new(alloc),
+            values: Vec::new(alloc),
+        }
+    }
+
     /// Builds the table of these networks, in any order, each with the value at its place. An error returns the values.
     pub fn build(alloc: Global, networks: &[Network], values: Vec<V>) -> Result<Self, BuildError<V>>
         requires networks { All IsNetwork networks.now }

@@ -5,81 +5,80 @@ use Rattle.std.specs.Io.BufRead.{DropsThrough, take_through, drop_through}
 use Rattle.std.specs.Io.KnownBytes.{IsAtEnd}
 use Rattle.std.proofs.lemmas.Bool.{eqb-false, false≢true}
 use Rattle.std.specs.Prelude.{◌↔◌, IsTrue}
-use Rattle.text_lines.specs.Lines.{IsLineRead, lines, without_empty_end}
+use Rattle.text_lines.specs.Lines.{IsLineRead, lines, lines_of, without_return}
 
 abbrev parts : List ℕ → List (List ℕ)
 parts = slice_split (λ b. eqb b 10)
 
--- a first empty part stays, since there are parts
-front_stays : (bs : List ℕ) → without_empty_end ([] ∷ parts bs) ≡ [] ∷ without_empty_end (parts bs)
-front_stays [] = refl
-front_stays (b ∷ bs) = go (eqb b 10) (parts bs)
+-- a first part before others is a line
+first_stays : (line bs : List ℕ) → lines_of (line ∷ parts bs) ≡ without_return line ∷ lines_of (parts bs)
+first_stays line [] = refl
+first_stays line (b ∷ bs) = go (eqb b 10) (parts bs)
   where
-    go : (t : Bool) (ps : List (List ℕ)) → without_empty_end ([] ∷ cond t ([] ∷ ps) (onto_first b ps))
-        ≡ [] ∷ without_empty_end (cond t ([] ∷ ps) (onto_first b ps))
+    go : (t : Bool) (ps : List (List ℕ)) → lines_of (line ∷ cond t ([] ∷ ps) (onto_first b ps))
+        ≡ without_return line ∷ lines_of (cond t ([] ∷ ps) (onto_first b ps))
     go true ps = refl
     go false [] = refl
     go false (p ∷ ps) = refl
 
--- a byte is added to the first part
-onto_more : (x : ℕ) (ps : List (List ℕ)) (front : List ℕ) (rest : List (List ℕ)) → without_empty_end ps ≡ front ∷ rest →
-    without_empty_end (onto_first x ps) ≡ (x ∷ front) ∷ rest
-onto_more x [] front rest e = absurd cc
-onto_more x (p ∷ []) front rest e = ap (λ t. cond t [] ((x ∷ p) ∷ [])) (ne_eqb (length (x ∷ p)) 0 (λ z. omega arith)) ∙ go (eqb (length p) 0) e
-  where
-    go : (t : Bool) → cond t [] (p ∷ []) ≡ front ∷ rest → (x ∷ p) ∷ [] ≡ (x ∷ front) ∷ rest
-    go true h = absurd cc
-    go false h = cc
-onto_more x (p ∷ q ∷ ps) front rest e = cc
+-- a byte is put before the first of some parts
+onto_more : (x : ℕ) (ps : List (List ℕ)) (front : List ℕ) (rest : List (List ℕ)) → ps ≡ front ∷ rest → onto_first x ps ≡ (x ∷ front) ∷ rest
+onto_more x ps front rest e = ap (onto_first x) e
 
--- a line that a line feed ends comes first
-ended_line : (text line : List ℕ) → take_through 10 text ≡ line ++ 10 ∷ [] → lines text ≡ line ∷ lines (drop_through 10 text)
-ended_line [] line e = absurd (let l = ap length e in omega (arith, simp length-append at l))
-ended_line (x ∷ xs) line e = go (eqb x 10) refl line e (ended_line xs)
+-- a part that a line feed ends comes first
+ended_part : (text line : List ℕ) → take_through 10 text ≡ line ++ 10 ∷ [] → parts text ≡ line ∷ parts (drop_through 10 text)
+ended_part [] line e = absurd (let l = ap length e in omega (arith, simp length-append at l))
+ended_part (x ∷ xs) line e = go (eqb x 10) refl line e (ended_part xs)
   where
     go : (t : Bool) → eqb x 10 ≡ t → (line : List ℕ) → cond t (x ∷ []) (x ∷ take_through 10 xs) ≡ line ++ 10 ∷ [] →
-        ((line : List ℕ) → take_through 10 xs ≡ line ++ 10 ∷ [] → lines xs ≡ line ∷ lines (drop_through 10 xs)) →
-        without_empty_end (cond t ([] ∷ parts xs) (onto_first x (parts xs))) ≡ line ∷ lines (cond t xs (drop_through 10 xs))
-    go true b [] h ih = front_stays xs
+        ((line : List ℕ) → take_through 10 xs ≡ line ++ 10 ∷ [] → parts xs ≡ line ∷ parts (drop_through 10 xs)) →
+        cond t ([] ∷ parts xs) (onto_first x (parts xs)) ≡ line ∷ parts (cond t xs (drop_through 10 xs))
+    go true b [] h ih = refl
     go true b (y ∷ line) h ih = absurd (let l = ap length h in omega (arith, simp length-append at l))
     go false b [] h ih = let is : x ≡ 10 = cc in absurd (eqb-false x 10 b is)
     go false b (y ∷ line) h ih =
         let same : x ≡ y = cc in
         let rest : take_through 10 xs ≡ line ++ 10 ∷ [] = cc in
-        onto_more x (parts xs) line (lines (drop_through 10 xs)) (ih line rest) ∙ ap (λ z. (z ∷ line) ∷ lines (drop_through 10 xs)) same
+        onto_more x (parts xs) line (parts (drop_through 10 xs)) (ih line rest) ∙ ap (λ z. (z ∷ line) ∷ parts (drop_through 10 xs)) same
+
+-- a line that a line feed ends comes first
+ended_line : (text line : List ℕ) → take_through 10 text ≡ line ++ 10 ∷ [] → lines text ≡ without_return line ∷ lines (drop_through 10 text)
+ended_line text line e = ap lines_of (ended_part text line e) ∙ first_stays line (drop_through 10 text)
+
+-- what no line feed ends is the only part
+last_part : (text : List ℕ) → ((line : List ℕ) → take_through 10 text ≡ line ++ 10 ∷ [] → ⊥) →
+    (parts text ≡ take_through 10 text ∷ []) × (drop_through 10 text ≡ [])
+last_part [] unended = (refl, refl)
+last_part (x ∷ xs) unended = go (eqb x 10) refl unended (last_part xs)
+  where
+    go : (t : Bool) → eqb x 10 ≡ t → ((line : List ℕ) → cond t (x ∷ []) (x ∷ take_through 10 xs) ≡ line ++ 10 ∷ [] → ⊥) →
+        (((line : List ℕ) → take_through 10 xs ≡ line ++ 10 ∷ [] → ⊥) → (parts xs ≡ take_through 10 xs ∷ []) × (drop_through 10 xs ≡ [])) →
+        (cond t ([] ∷ parts xs) (onto_first x (parts xs)) ≡ cond t (x ∷ []) (x ∷ take_through 10 xs) ∷ []) × (cond t xs (drop_through 10 xs) ≡ [])
+    go true b h ih = absurd (h [] (ap (λ z. z ∷ []) (eqb-true x 10 b)))
+    go false b h ih =
+        let rest = ih (λ line e. h (x ∷ line) (ap (λ bs. x ∷ bs) e)) in
+        (onto_more x (parts xs) (take_through 10 xs) [] rest.0, rest.1)
 
 -- the last line, which no line feed ends, comes alone
 last_line : (text : List ℕ) → 0 < length (take_through 10 text) → ((line : List ℕ) → take_through 10 text ≡ line ++ 10 ∷ [] → ⊥) →
     lines text ≡ take_through 10 text ∷ lines (drop_through 10 text)
-last_line [] some unended = absurd (omega arith)
-last_line (x ∷ []) some unended = go (eqb x 10) refl unended
-  where
-    go : (t : Bool) → eqb x 10 ≡ t → ((line : List ℕ) → cond t (x ∷ []) (x ∷ []) ≡ line ++ 10 ∷ [] → ⊥) →
-        without_empty_end (cond t ([] ∷ ([] ∷ [])) ((x ∷ []) ∷ [])) ≡ cond t (x ∷ []) (x ∷ []) ∷ lines (cond t [] [])
-    go true b h = absurd (h [] (ap (λ z. z ∷ []) (eqb-true x 10 b)))
-    go false b h = refl
-last_line (x ∷ y ∷ xs) some unended = go (eqb x 10) refl unended (last_line (y ∷ xs) (long y xs))
-  where
-    long : (y : ℕ) (xs : List ℕ) → 0 < length (take_through 10 (y ∷ xs))
-    long y xs = more (eqb y 10)
-      where
-        more : (t : Bool) → 0 < length (cond t (y ∷ []) (y ∷ take_through 10 xs))
-        more true = omega arith
-        more false = omega arith
-
-    go : (t : Bool) → eqb x 10 ≡ t → ((line : List ℕ) → cond t (x ∷ []) (x ∷ take_through 10 (y ∷ xs)) ≡ line ++ 10 ∷ [] → ⊥) →
-        (((line : List ℕ) → take_through 10 (y ∷ xs) ≡ line ++ 10 ∷ [] → ⊥) → lines (y ∷ xs) ≡ take_through 10 (y ∷ xs) ∷ lines (drop_through 10 (y ∷ xs))) →
-        without_empty_end (cond t ([] ∷ parts (y ∷ xs)) (onto_first x (parts (y ∷ xs))))
-        ≡ cond t (x ∷ []) (x ∷ take_through 10 (y ∷ xs)) ∷ lines (cond t (y ∷ xs) (drop_through 10 (y ∷ xs)))
-    go true b h ih = absurd (h [] (ap (λ z. z ∷ []) (eqb-true x 10 b)))
-    go false b h ih = onto_more x (parts (y ∷ xs)) _ _ (ih (λ line e. h (x ∷ line) (ap (λ bs. x ∷ bs) e)))
+last_line text some unended =
+    let alone = last_part text unended in
+    ap lines_of alone.0
+    ∙ ap (λ t. cond t [] (take_through 10 text ∷ [])) (ne_eqb (length (take_through 10 text)) 0 (λ z. omega arith))
+    ∙ ap (λ bs. take_through 10 text ∷ lines bs) (sym alone.1)
 
 -- what ends with a byte is what is before it, and the byte
-pub ends : (got : List ℕ) (k : ℕ) → slice_get got k ≡ Some 10 → length got ≡ suc k → got ≡ take k got ++ 10 ∷ []
-ends [] k e l = absurd cc
-ends (x ∷ []) zero e l = let is : x ≡ 10 = cc in ap (λ z. z ∷ []) is
-ends (x ∷ y ∷ xs) zero e l = absurd (omega arith)
-ends (x ∷ xs) (suc k) e l = ap (λ bs. x ∷ bs) (ends xs k e (omega arith))
+pub ends : (end : ℕ) (got : List ℕ) (k : ℕ) → slice_get got k ≡ Some end → length got ≡ suc k → got ≡ take k got ++ end ∷ []
+ends end [] k e l = absurd cc
+ends end (x ∷ []) zero e l = let is : x ≡ end = cc in ap (λ z. z ∷ []) is
+ends end (x ∷ y ∷ xs) zero e l = absurd (omega arith)
+ends end (x ∷ xs) (suc k) e l = ap (λ bs. x ∷ bs) (ends end xs k e (omega arith))
+
+-- where there is a last byte, there are bytes
+pub filled : (end : ℕ) (got : List ℕ) → slice_get got (length got - 1) ≡ Some end → 0 < length got
+filled end [] e = absurd cc
+filled end (x ∷ xs) e = omega arith
 
 ends_not : (line : List ℕ) (k : ℕ) → length (line ++ 10 ∷ []) ≡ suc k → slice_get (line ++ 10 ∷ []) k ≡ Some 10
 ends_not [] zero l = refl
@@ -89,10 +88,28 @@ ends_not (x ∷ line) (suc k) l = ends_not line k (omega arith)
 
 -- what was read is a line that a line feed ends
 pub read_ended : (old new : Option (List ℕ)) (empty got line : List ℕ) → empty ≡ [] → IfSome old (λ xs. got ≡ empty ++ take_through 10 xs) →
-    DropsThrough old new 10 → got ≡ line ++ 10 ∷ [] → IfSome old (λ text. IsLineRead true text line new)
+    DropsThrough old new 10 → got ≡ line ++ 10 ∷ [] → IfSome old (λ text. IsLineRead true text (without_return line) new)
 read_ended None new empty got line z is drops e = tt
 read_ended (Some text) new empty got line z is drops e =
     (drop_through 10 text, drops, ended_line text line (sym (is ∙ ap (λ bs. bs ++ take_through 10 text) z) ∙ e))
+
+-- ---- carriage returns
+
+-- a line that a carriage return ends
+pub return_dropped : (line : List ℕ) → without_return (line ++ 13 ∷ []) ≡ line
+return_dropped [] = refl
+return_dropped (x ∷ []) = refl
+return_dropped (x ∷ y ∷ line) = ap (λ bs. x ∷ bs) (return_dropped (y ∷ line))
+
+-- and one that none ends
+pub return_absent : (line : List ℕ) → (slice_get line (length line - 1) ≡ Some 13 → ⊥) → without_return line ≡ line
+return_absent [] h = refl
+return_absent (x ∷ []) h = ap (λ t. cond t [] (x ∷ [])) (ne_eqb x 13 (λ is. h (ap Some is)))
+return_absent (x ∷ y ∷ line) h = ap (λ bs. x ∷ bs) (return_absent (y ∷ line) (λ is. h (later x (y ∷ line) is)))
+  where
+    later : (x : ℕ) (line : List ℕ) → slice_get line (length line - 1) ≡ Some 13 → slice_get (x ∷ line) (length (x ∷ line) - 1) ≡ Some 13
+    later x [] e = absurd cc
+    later x (y ∷ line) e = let k : length (x ∷ y ∷ line) - 1 ≡ suc (length (y ∷ line) - 1) = omega arith in ap (slice_get (x ∷ y ∷ line)) k ∙ e
 
 -- or the last one, which none ends
 pub read_last : (old new : Option (List ℕ)) (empty got : List ℕ) → empty ≡ [] → IfSome old (λ xs. got ≡ empty ++ take_through 10 xs) →
@@ -118,11 +135,11 @@ pub read_as : (old new : Option (List ℕ)) (line : List ℕ) (m n : Bool) → m
 read_as old new line m n e h = subst (λ t. IfSome old (λ text. IsLineRead t text line new)) e h
 
 -- the test of the last byte
-pub ended_some : (b : ℕ) (o : Option ℕ) → Some b ≡ o → IsTrue (eqb b 10) ↔ (o ≡ Some 10)
-ended_some b o e = ((λ t. sym e ∙ ap Some (eqb-true b 10 t)), (λ h. eq-eqb b 10 cc))
+pub ended_some : (b end : ℕ) (o : Option ℕ) → Some b ≡ o → IsTrue (eqb b end) ↔ (o ≡ Some end)
+ended_some b end o e = ((λ t. sym e ∙ ap Some (eqb-true b end t)), (λ h. eq-eqb b end cc))
 
-pub ended_none : (o : Option ℕ) → None ≡ o → IsTrue false ↔ (o ≡ Some 10)
-ended_none o e = ((λ t. absurd (false≢true t)), (λ h. absurd cc))
+pub ended_none : (end : ℕ) (o : Option ℕ) → None ≡ o → IsTrue false ↔ (o ≡ Some end)
+ended_none end o e = ((λ t. absurd (false≢true t)), (λ h. absurd cc))
 
 -- where some bytes were read, there are some
 pub some_read : (n old new : ℕ) {seen : ℕ} (got : List ℕ) → seen ≡ length got → seen ≡ new → new ≡ old + n → (n ≡ 0 → ⊥) → 0 < length got

@@ -1,7 +1,8 @@
-use Rattle.std.proofs.Common.{◌≡◌, ◌-◌, ◌<◌, ◌++◌, ◌∷◌, [], refl, Some, length, take, vec_len, ap, sym, ◌∙◌, subst, arith}
+use Rattle.std.proofs.Common.{◌≡◌, ◌-◌, ◌<◌, ◌++◌, ◌∷◌, [], IfSome, refl, true, Some, length, take, vec_len, ap, sym, ◌∙◌, subst, arith}
 use Rattle.std.specs.List.{slice_get}
 use Rattle.std.proofs.lemmas.Bool.{false≢true}
-use Rattle.text_lines.proofs.LineParts.{ends, read_ended, read_last, read_none, some_read}
+use Rattle.text_lines.specs.Lines.{IsLineRead}
+use Rattle.text_lines.proofs.LineParts.{ends, filled, read_ended, read_last, read_none, some_read}
 use Rattle.text_lines.proofs.lines.next_line.Goals as goal
 
 pub returns-then-branch-eq0 : goal.returns-then-branch-eq0
@@ -9,24 +10,26 @@ returns-then-branch-eq0 g c =
     read_none (g.R.Read.remaining c.args.input.now) (g.R.Read.remaining c.read_until.new.self) c.read_until.new.buf.items
     (c.in_ok-read_until.ensures.end c.if-branch-eq0.true)
 
-pub returns-then-not-is_ended : goal.returns-then-not-is_ended
-returns-then-not-is_ended g c =
+pub returns-else-ends_with : goal.returns-else-ends_with
+returns-else-ends_with g c =
     let some : 0 < length c.read_until.new.buf.items =
     some_read (c.in_ok-read_until.field-0) _ _ c.read_until.new.buf.items
     (ap length c.deref.ensures.value) c.deref.ensures.len c.in_ok-read_until.ensures.ok c.if-branch-eq0.false in
     read_last (g.R.Read.remaining c.args.input.now)
     (g.R.Read.remaining c.read_until.new.self) c.clear.new.self.items c.read_until.new.buf.items c.clear.ensures.items
     c.in_ok-read_until.ensures.bytes c.in_ok-read_until.ensures.rest some
-    (λ e. false≢true (c.if-not-is_ended.ensures.1 (subst (λ bs. slice_get bs (length bs - 1) ≡ Some 10) (sym c.deref.ensures.value) e)))
+    (λ e. false≢true (c.if-ends_with.ensures.1 (subst (λ bs. slice_get bs (length bs - 1) ≡ Some 10) (sym c.deref.ensures.value) e)))
 
-pub returns : goal.returns
-returns g c =
+pub returns-then-ends_with : goal.returns-then-ends_with
+returns-then-ends_with g c =
     let got = c.read_until.new.buf.items in
     let len : length got ≡ vec_len c.read_until.new.buf = sym (ap length c.deref.ensures.value) ∙ c.deref.ensures.len in
-    let some : 0 < length got =
-    some_read (c.in_ok-read_until.field-0) _ _ got (ap length c.deref.ensures.value) c.deref.ensures.len c.in_ok-read_until.ensures.ok c.if-branch-eq0.false in
     let last : slice_get got (length got - 1) ≡ Some 10 =
-    subst (λ bs. slice_get bs (length bs - 1) ≡ Some 10) c.deref.ensures.value (c.if-not-is_ended.ensures.0 refl) in
-    read_ended (g.R.Read.remaining c.args.input.now) (g.R.Read.remaining c.read_until.new.self) c.clear.new.self.items got _ c.clear.ensures.items
+    subst (λ bs. slice_get bs (length bs - 1) ≡ Some 10) c.deref.ensures.value (c.if-ends_with.ensures.0 refl) in
+    let some : 0 < length got = filled 10 got last in
+    subst (λ line. IfSome (g.R.Read.remaining c.args.input.now) (λ text. IsLineRead true text line (g.R.Read.remaining c.read_until.new.self)))
+    (sym c.drop_return.ensures)
+    (read_ended (g.R.Read.remaining c.args.input.now) (g.R.Read.remaining c.read_until.new.self) c.clear.new.self.items got _ c.clear.ensures.items
     c.in_ok-read_until.ensures.bytes c.in_ok-read_until.ensures.rest
-    (ends got (length got - 1) last (omega arith) ∙ ap (λ n. take (n - 1) got ++ 10 ∷ []) len ∙ ap (λ bs. bs ++ 10 ∷ []) (sym c.pop.ensures.rest))
+    (ends 10 got (length got - 1) last (omega arith)
+    ∙ ap (λ n. take (n - 1) got ++ 10 ∷ []) len ∙ ap (λ bs. bs ++ 10 ∷ []) (sym c.pop.ensures.rest)))

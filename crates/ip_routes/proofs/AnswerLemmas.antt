@@ -1,0 +1,47 @@
+-- What networks with places answer, and what their lines do.
+use Rattle.std.proofs.Common.{◌≡◌, ◌≤◌, None, true, false, ℕ, ◌<◌, List, ap, sym, ◌∙◌, subst}
+use Rattle.std.specs.List.{All}
+use Rattle.std.specs.declared.net.ip_addr.IpAddr.{IpAddr}
+use Rattle.std.proofs.lemmas.List.{get_or-map, length-map}
+use Rattle.std.proofs.NetLemmas.Theorems.{IsIpText_unique}
+use Rattle.std.specs.Net.Grammar.{IsIpText}
+use Rattle.std.proofs.lemmas.Bool.{false≢true}
+use Rattle.std.proofs.lemmas.List.Elements.{All-contains, All-map}
+use Rattle.prefix_table.specs.declared.network.Network.{Network}
+use Rattle.prefix_table.specs.Networks.{covers}
+use Rattle.prefix_table.specs.Entries.{IsLongest}
+use Rattle.ip_routes.specs.declared.lines.Place.{Place}
+use Rattle.ip_routes.specs.Replies.{HasAnswer}
+use Rattle.ip_routes.specs.Routes.{IsAnswer}
+use Rattle.ip_routes.specs.Sources.{answers_of, line_at}
+
+module _ (text : List ℕ) (entries : List (Network × Place)) (address : IpAddr) where
+  -- a network with its line
+  abbrev shown : Network × Place → Network × List ℕ
+  shown entry = (entry.0, line_at text entry.1)
+
+  pub line_is_longest : (network : Network) (place : Place) (line : List ℕ) → line ≡ line_at text place →
+      IsLongest entries address (network, place) → IsLongest (answers_of text entries) address (network, line)
+  line_is_longest network place line is h =
+      let (k, below, at) = h.there in
+      record {
+        there = (
+          k,
+          subst (λ n. k < n) (sym (length-map entries shown)) below,
+          get_or-map shown entries k (network, place) (network, line) below ∙ ap shown at ∙ ap (λ l. (network, l)) (sym is),
+        );
+        it_covers = h.it_covers;
+        longest = All-map (λ other. covers other.0 address ≡ true → other.0.length ≤ network.length) shown entries h.longest;
+      }
+
+  pub no_line : All (λ entry. covers entry.0 address ≡ false) entries → All (λ entry. covers entry.0 address ≡ false) (answers_of text entries)
+  no_line h = All-map (λ entry. covers entry.0 address ≡ false) shown entries h
+
+-- an address that no network covers gets no line, however it is written
+pub no_answer : (answers : List (Network × List ℕ)) (line : List ℕ) (address : IpAddr) → IsIpText line address → IsAnswer answers address None →
+    ¬ HasAnswer answers line
+no_answer answers line address is none (other, found, is', (network, longest)) =
+    let same = IsIpText_unique line other address is' is in
+    false≢true
+    (sym (All-contains (λ answer. covers answer.0 address ≡ false) answers (network, found) none longest.there)
+    ∙ ap (covers network) (sym same) ∙ longest.it_covers)

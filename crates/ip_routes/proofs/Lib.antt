@@ -1,0 +1,5 @@
+pub mod ResultLemmas
+pub mod WrittenLemmas
+pub mod SourceLemmas
+pub mod AnswerLemmas
+pub mod EntryLemmas

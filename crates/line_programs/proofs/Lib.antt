@@ -1,0 +1,4 @@
+mod EntryLemmas
+mod ReadLemmas
+mod ServeLemmas
+mod CheckLemmas

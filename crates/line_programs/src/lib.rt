@@ -1,0 +1,10 @@
+//! Programs that read a table from the lines of a file and answer the lines of standard input.
+#![tactic(auto)]
+
+pub mod checking;
+pub mod entries;
+pub mod line_tables;
+pub mod messages;
+pub mod reading;
+pub mod running;
+pub mod serving;
