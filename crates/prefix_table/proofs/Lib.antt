@@ -8,6 +8,7 @@ pub mod RowLemmas
 pub mod SortingLemmas
 -- rows in order
 pub mod OrderLemmas
+mod ArrangeLemmas
 -- tables of rows and values
 pub mod TableLemmas
 -- parts of tables

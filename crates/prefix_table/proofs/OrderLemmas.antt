@@ -1,21 +1,22 @@
 -- Sorted rows are in order, and which two of them are the first with one network.
-use Rattle.std.proofs.Common.{◌≡◌, ◌≢◌, ℕ, zero, suc, ◌+◌, ◌-◌, ◌<◌, ◌≤◌, ◌⊎◌, inl, inr, List, length, None, refl, ap, ap₂, sym, ◌∙◌, subst, arith}
+use Rattle.std.proofs.Common.{◌≡◌, ◌≢◌, ℕ, zero, suc, ◌+◌, ◌-◌, ◌<◌, ◌≤◌, ◌⊎◌, inl, inr, List, length, map, None, refl, ap, ap₂, sym, ◌∙◌, subst, arith, slice_index}
 use Rattle.std.specs.List.{All, Contains, swap}
 use Rattle.std.specs.List.Sorted.{IsPermutation}
 use Rattle.std.proofs.lemmas.Bool.{cases_lt}
-use Rattle.std.proofs.lemmas.List.{get_or_read}
+use Rattle.std.proofs.lemmas.List.{get_or-map, get_or_read, length-map}
 use Rattle.std.proofs.lemmas.List.Edits.{length-swap, swapped_from_swap}
 use Rattle.std.proofs.lemmas.List.Sorted.{All-permutation, Contains-permutation, IsPermutation-keeps, length_permutation}
 use Rattle.prefix_table.specs.declared.network.Network.{Network}
 use Rattle.prefix_table.specs.declared.rows.Row.{Row}
 use Rattle.prefix_table.specs.Networks.{IsNetwork, Precedes}
 use Rattle.prefix_table.specs.Rows.{AreInOrder, network_of, row_at}
-use Rattle.prefix_table.specs.Sorting.{AreSame, AreSorted, IsFirstPair, IsFirstPairOf, IsUpToRow, numbered, row_with}
+use Rattle.prefix_table.specs.Sorting.{AreSame, AreSorted, IsFirstPair, IsFirstPairOf, IsUpToRow, in_order, numbered, place_of, row_with}
+use Rattle.prefix_table.specs.Arranging.{AreIndexes}
 use Rattle.prefix_table.specs.Entries.{IsRepeat, at_place}
 use Rattle.prefix_table.proofs.RowLemmas.{no_row}
 use Rattle.prefix_table.proofs.SortingLemmas.{at_numbered, length-numbered}
 
-equal_or_not : (m n : ℕ) → (m ≡ n) ⊎ (m ≢ n)
+pub equal_or_not : (m n : ℕ) → (m ≡ n) ⊎ (m ≢ n)
 equal_or_not m n =
     elim (cases_lt m n) [
       | inl less ↦ inr (λ e. omega arith)
@@ -115,6 +116,34 @@ far_before rows next j (suc k) below fits =
 abbrev pub no_network : Network
 no_network = record { number = 0; version = 0; length = 0 }
 
+-- rows with their indexes as places
+module _ (rows : List Row) where
+  pub length-in_order : length (in_order rows) ≡ length rows
+  length-in_order = length-numbered 0 (map network_of rows) ∙ length-map rows network_of
+
+  at_in_order : (k : ℕ) → k < length rows → row_at (in_order rows) k ≡ row_with (0 + k) (network_of (row_at rows k))
+  at_in_order k h =
+      let many = length-map rows network_of in
+      at_numbered 0 (map network_of rows) k no_network no_row (omega arith)
+      ∙ ap (row_with (0 + k)) (get_or-map network_of rows k no_row no_network h)
+
+  pub in_order_network : (k : ℕ) → k < length rows → network_of (row_at (in_order rows) k) ≡ network_of (row_at rows k)
+  in_order_network k h = ap network_of (at_in_order k h)
+
+  pub in_order_place : (k : ℕ) → k < length rows → (row_at (in_order rows) k).place ≡ k
+  in_order_place k h = ap (λ (row : Row). row.place) (at_in_order k h) ∙ (let none : 0 + k ≡ k = omega arith in none)
+
+  pub still_in_order : AreInOrder rows → AreInOrder (in_order rows)
+  still_in_order order = record {
+    networks = λ k h.
+        let many = length-in_order in
+        subst IsNetwork (sym (in_order_network k (omega arith))) (order.networks k (omega arith));
+    sorted = λ j k below h.
+        let many = length-in_order in
+        subst (λ n. Precedes n (network_of (row_at (in_order rows) k))) (sym (in_order_network j (omega arith)))
+        (subst (Precedes (network_of (row_at rows j))) (sym (in_order_network k (omega arith))) (order.sorted j k below (omega arith)));
+  }
+
 -- no two rows have one place
 abbrev HaveOwnPlaces : List Row → Type 0
 HaveOwnPlaces xs = (i j : ℕ) → i < length xs → j < length xs → (row_at xs i).place ≡ (row_at xs j).place → i ≡ j
@@ -160,7 +189,7 @@ module _ (l : List Row) (i j : ℕ) (h : i < length l) (k : j < length l) where
       (own x y xfits yfits (ap (λ row. row.place) (sym xis) ∙ e ∙ ap (λ row. row.place) yis))
 
 module _ (networks : List Network) (rows : List Row) (same : IsPermutation (numbered 0 networks) rows) where
-  length_rows : length rows ≡ length networks
+  pub length_rows : length rows ≡ length networks
   length_rows = length_permutation (numbered 0 networks) rows same ∙ length-numbered 0 networks
 
   abbrev IsOwn : Row → Type 0
@@ -245,3 +274,16 @@ module _ (networks : List Network) (rows : List Row) (same : IsPermutation (numb
 
   pub places_fit : (k : ℕ) → k < length rows → (row_at rows k).place < length networks
   places_fit k h = (at_own_place k h).0
+
+  place_at : (k : ℕ) → k < length rows → slice_index (map place_of rows) k ≡ (row_at rows k).place
+  place_at k h = get_or-map place_of rows k no_row 0 h
+
+  -- the places are those of all networks
+  pub places_are : AreIndexes (map place_of rows)
+  places_are =
+      let many = length-map rows place_of in
+      let all = length_rows in
+      record {
+        fits = λ k h. let at = place_at k (omega arith) in let fits = places_fit k (omega arith) in omega arith;
+        own = λ i j h k e. own_places i j (omega arith) (omega arith) (sym (place_at i (omega arith)) ∙ e ∙ place_at j (omega arith));
+      }

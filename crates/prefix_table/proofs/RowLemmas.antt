@@ -12,7 +12,7 @@ use Rattle.prefix_table.specs.Networks.{IsNetwork, IsUpTo, Precedes, covers_at, 
 use Rattle.prefix_table.specs.declared.rows.Row.{Row}
 use Rattle.prefix_table.specs.Starts.{AreUpwards, IsCount, start_at}
 use Rattle.prefix_table.specs.Rows.{AreInOrder, IsLast, IsNestedIn, IsRowCount, network_of, row_at}
-use Rattle.prefix_table.specs.Columns.{AreRows, IsLastOf, IsNested, network_at, rest_at, row_from, rows_of}
+use Rattle.prefix_table.specs.Columns.{AreRows, IsLastOf, IsNested, network_at, rest_at, row_from, rows_from, rows_of}
 use Rattle.prefix_table.proofs.CoverLemmas.{covers_between, covers_own_start, covers_through, later_is_longer}
 
 is_false : (b : Bool) → (b ≡ true → ⊥) → b ≡ false
@@ -61,27 +61,48 @@ abbrev pub no_start : Address
 no_start = record { number = 0; version = 0 }
 
 abbrev pub no_rest : Rest
-no_rest = record { around = 0; place = 0; length = 0 }
+no_rest = record { around = 0; length = 0 }
+
+length-rows_from : (place : ℕ) (starts : List Address) (rests : List Rest) → length starts ≡ length rests →
+    length (rows_from place starts rests) ≡ length rests
+length-rows_from place [] rests e = e
+length-rows_from place (s ∷ ss) [] e = absurd (omega (arith, e))
+length-rows_from place (s ∷ ss) (r ∷ rs) e = let ih = length-rows_from (place + 1) ss rs (omega (arith, e)) in omega arith
 
 pub length-rows : (starts : List Address) (rests : List Rest) → length starts ≡ length rests → length (rows_of starts rests) ≡ length rests
-length-rows [] rests e = e
-length-rows (s ∷ ss) [] e = absurd (omega (arith, e))
-length-rows (s ∷ ss) (r ∷ rs) e = let ih = length-rows ss rs (omega (arith, e)) in omega arith
+length-rows starts rests e = length-rows_from 0 starts rests e
+
+at_rows_from : (place : ℕ) (starts : List Address) (rests : List Rest) (k : ℕ) → length starts ≡ length rests → k < length rests →
+    row_at (rows_from place starts rests) k ≡ row_from (place + k) (start_at starts k) (rest_at rests k)
+at_rows_from place [] [] k e h = absurd (omega arith)
+at_rows_from place [] (r ∷ rs) k e h = absurd (omega (arith, e))
+at_rows_from place (s ∷ ss) [] k e h = absurd (omega arith)
+at_rows_from place (s ∷ ss) (r ∷ rs) zero e h = let same : place ≡ place + 0 = omega arith in ap (λ p. row_from p s r) same
+at_rows_from place (s ∷ ss) (r ∷ rs) (suc k) e h =
+    let same : place + 1 + k ≡ place + suc k = omega arith in
+    at_rows_from (place + 1) ss rs k (omega (arith, e)) (omega arith) ∙ ap (λ p. row_from p (start_at ss k) (rest_at rs k)) same
 
 pub at_rows : (starts : List Address) (rests : List Rest) (k : ℕ) → length starts ≡ length rests → k < length rests →
-    row_at (rows_of starts rests) k ≡ row_from (start_at starts k) (rest_at rests k)
-at_rows [] [] k e h = absurd (omega arith)
-at_rows [] (r ∷ rs) k e h = absurd (omega (arith, e))
-at_rows (s ∷ ss) [] k e h = absurd (omega arith)
-at_rows (s ∷ ss) (r ∷ rs) zero e h = refl
-at_rows (s ∷ ss) (r ∷ rs) (suc k) e h = at_rows ss rs k (omega (arith, e)) (omega arith)
+    row_at (rows_of starts rests) k ≡ row_from k (start_at starts k) (rest_at rests k)
+at_rows starts rests k e h =
+    let same : 0 + k ≡ k = omega arith in
+    at_rows_from 0 starts rests k e h ∙ ap (λ p. row_from p (start_at starts k) (rest_at rests k)) same
+
+rows_from-push : (place : ℕ) (starts : List Address) (rests : List Rest) (s : Address) (r : Rest) → length starts ≡ length rests →
+    rows_from place (starts ++ s ∷ []) (rests ++ r ∷ []) ≡ rows_from place starts rests ++ row_from (place + length rests) s r ∷ []
+rows_from-push place [] [] s r e = let same : place ≡ place + 0 = omega arith in ap (λ p. row_from p s r ∷ []) same
+rows_from-push place [] (x ∷ rs) s r e = absurd (omega (arith, e))
+rows_from-push place (x ∷ ss) [] s r e = absurd (omega (arith, e))
+rows_from-push place (x ∷ ss) (y ∷ rs) s r e =
+    let same : place + 1 + length rs ≡ place + length (y ∷ rs) = omega arith in
+    ap (λ rows. row_from place x y ∷ rows)
+    (rows_from-push (place + 1) ss rs s r (omega (arith, e)) ∙ ap (λ p. rows_from (place + 1) ss rs ++ row_from p s r ∷ []) same)
 
 pub rows-push : (starts : List Address) (rests : List Rest) (s : Address) (r : Rest) → length starts ≡ length rests →
-    rows_of (starts ++ s ∷ []) (rests ++ r ∷ []) ≡ rows_of starts rests ++ row_from s r ∷ []
-rows-push [] [] s r e = refl
-rows-push [] (x ∷ rs) s r e = absurd (omega (arith, e))
-rows-push (x ∷ ss) [] s r e = absurd (omega (arith, e))
-rows-push (x ∷ ss) (y ∷ rs) s r e = ap (λ rows. row_from x y ∷ rows) (rows-push ss rs s r (omega (arith, e)))
+    rows_of (starts ++ s ∷ []) (rests ++ r ∷ []) ≡ rows_of starts rests ++ row_from (length rests) s r ∷ []
+rows-push starts rests s r e =
+    let same : 0 + length rests ≡ length rests = omega arith in
+    rows_from-push 0 starts rests s r e ∙ ap (λ p. rows_of starts rests ++ row_from p s r ∷ []) same
 
 module _ (starts : List Address) (rests : List Rest) (rows : AreRows starts rests) where
   pub network_at_rows : (k : ℕ) → k < length rests → network_of (row_at (rows_of starts rests) k) ≡ network_at starts rests k
@@ -232,15 +253,16 @@ module _ (starts : List Address) (rests : List Rest) (rows : AreRows starts rest
 
     -- what the row at `i` has beside its start
     abbrev pub rest_with : ℕ → Rest
-    rest_with around = record { around = around; place = (row_at all i).place; length = (row_at all i).length }
+    rest_with around = record { around = around; length = (row_at all i).length }
 
     abbrev pub this_start : Address
     this_start = start_of (network_of (row_at all i))
 
-    pub next_made : (around : ℕ) → rows_of (starts ++ this_start ∷ []) (rests ++ rest_with around ∷ []) ≡ take (i + 1) all
-    next_made around =
+    pub next_made : (row_at all i).place ≡ i → (around : ℕ) → rows_of (starts ++ this_start ∷ []) (rests ++ rest_with around ∷ []) ≡ take (i + 1) all
+    next_made own around =
         let next : suc i ≡ i + 1 = omega arith in
         rows-push starts rests this_start (rest_with around) rows.lengths
+        ∙ ap (λ p. rows_of starts rests ++ row_from p this_start (rest_with around) ∷ []) (so_many ∙ sym own)
         ∙ ap (λ xs. xs ++ row_at all i ∷ []) made
         ∙ sym (take-suc all i no_row fits)
         ∙ ap (λ n. take n all) next

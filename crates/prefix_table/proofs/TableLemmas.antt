@@ -4,19 +4,20 @@ use Rattle.std.specs.List.{All, AllPairs, zip}
 use Rattle.std.specs.List.Sorted.{IsPermutation}
 use Rattle.std.specs.declared.net.ip_addr.IpAddr.{IpAddr}
 use Rattle.std.proofs.lemmas.Bool.{cases_lt, false≢true}
-use Rattle.std.proofs.lemmas.List.{get_or-map, length-map}
+use Rattle.std.proofs.lemmas.List.{get_or-map, length-map, same_lists}
 use Rattle.std.proofs.lemmas.List.Sorted.{IsPermutation-map, IsPermutation-refl}
 use Rattle.prefix_table.specs.declared.network.Address.{Address}
 use Rattle.prefix_table.specs.declared.network.Network.{Network}
 use Rattle.prefix_table.specs.declared.rows.Row.{Row}
 use Rattle.prefix_table.specs.Networks.{IsNetwork, Precedes, address_of, covers, covers_at}
 use Rattle.prefix_table.specs.Rows.{AreInOrder, IsLast, IsRowCount, network_of, row_at}
-use Rattle.prefix_table.specs.Sorting.{numbered}
-use Rattle.prefix_table.specs.Tables.{IsTable, entries_of, entry_of}
+use Rattle.prefix_table.specs.Arranging.{AreArranged}
+use Rattle.prefix_table.specs.Sorting.{in_order, numbered, place_of}
+use Rattle.prefix_table.specs.Tables.{IsOrderedTable, IsTable, entries_of, entry_of}
 use Rattle.prefix_table.specs.Entries.{IsLongest}
 use Rattle.prefix_table.proofs.CoverLemmas.{later_is_longer, starts_up_to}
 use Rattle.prefix_table.proofs.RowLemmas.{no_row}
-use Rattle.prefix_table.proofs.OrderLemmas.{places_fit}
+use Rattle.prefix_table.proofs.OrderLemmas.{in_order_network, in_order_place, length-in_order, places_fit, still_in_order}
 
 module _ {V : Type 0} where
   any_default : (xs : List V) (i : ℕ) (d e : V) → i < length xs → slice_index_or xs i d ≡ slice_index_or xs i e
@@ -135,3 +136,40 @@ module _ {V : Type 0} where
                       ]
                 ]));
           }
+
+-- ---- values in the order of their rows
+
+module _ {V : Type 0} (rows : List Row) (values arranged : List V) (table : IsTable rows values) (as_many : length values ≡ length rows)
+    (moved : AreArranged (map place_of rows) values arranged) where
+  pub arranged_table : IsOrderedTable (in_order rows) arranged
+  arranged_table = record {
+    table = record {
+      order = still_in_order rows table.order;
+      places = λ k h.
+          let many = length-in_order rows in
+          let place = in_order_place rows k (omega arith) in
+          let same = moved.as_many in
+          omega arith;
+    };
+    own = λ k h. let many = length-in_order rows in in_order_place rows k (omega arith);
+  }
+
+  value_is : (k : ℕ) (d : V) → k < length rows →
+      slice_index_or arranged (row_at (in_order rows) k).place d ≡ slice_index_or values (row_at rows k).place d
+  value_is k d h =
+      let many = length-map rows place_of in
+      ap (λ p. slice_index_or arranged p d) (in_order_place rows k h) ∙ moved.moved k d (omega arith)
+      ∙ ap (λ p. slice_index_or values p d) (get_or-map place_of rows k no_row 0 h)
+
+  -- the entries stay the same
+  pub entries_arranged : entries_of rows values ≡ entries_of (in_order rows) arranged
+  entries_arranged =
+      let many = length-in_order rows in
+      let here = length-entries rows values table in
+      let there = length-entries (in_order rows) arranged arranged_table.table in
+      same_lists (entries_of rows values) (entries_of (in_order rows) arranged) (omega arith)
+      (λ k d h.
+      let fits : k < length rows = omega arith in
+      at_entries rows values table k d fits
+      ∙ ap₂ (λ n v. (n, v)) (sym (in_order_network rows k fits)) (sym (value_is k d.1 fits))
+      ∙ sym (at_entries (in_order rows) arranged arranged_table.table k d (omega arith)))

@@ -1,5 +1,5 @@
--- Rows in two columns: where networks start, and what else a row has.
-use Rattle.std.specs.Prelude.{◌≡◌, ℕ, ◌-◌, ◌<◌, ◌≤◌, ◌^◌, true, false, List, [], ◌∷◌, length, count_by, slice_index_or, take}
+-- Rows in two columns: where networks start, and what else a row has. The place of a row is its index.
+use Rattle.std.specs.Prelude.{◌≡◌, ℕ, ◌+◌, ◌-◌, ◌<◌, ◌≤◌, ◌^◌, true, false, List, [], ◌∷◌, length, count_by, slice_index_or, take}
 use Rattle.prefix_table.specs.declared.network.Address.{Address}
 use Rattle.prefix_table.specs.declared.network.Network.{Network}
 use Rattle.prefix_table.specs.declared.rows.Rest.{Rest}
@@ -8,18 +8,21 @@ use Rattle.prefix_table.specs.Networks.{IsNetwork, Precedes, covers_at}
 use Rattle.prefix_table.specs.Rows.{network_of}
 use Rattle.prefix_table.specs.Starts.{start_at}
 
-abbrev pub row_from : Address → Rest → Row
-row_from start rest =
-    record { number = start.number; place = rest.place; version = start.version; length = rest.length }
+abbrev pub row_from : ℕ → Address → Rest → Row
+row_from place start rest =
+    record { number = start.number; place = place; version = start.version; length = rest.length }
 
--- the rows of two columns
+-- the rows of two columns, the places counted from this one
+abbrev pub rows_from : ℕ → List Address → List Rest → List Row
+rows_from place [] rests = []
+rows_from place (start ∷ starts) [] = []
+rows_from place (start ∷ starts) (rest ∷ rests) = row_from place start rest ∷ rows_from (place + 1) starts rests
+
 abbrev pub rows_of : List Address → List Rest → List Row
-rows_of [] rests = []
-rows_of (start ∷ starts) [] = []
-rows_of (start ∷ starts) (rest ∷ rests) = row_from start rest ∷ rows_of starts rests
+rows_of starts rests = rows_from 0 starts rests
 
 abbrev pub rest_at : List Rest → ℕ → Rest
-rest_at rests k = slice_index_or rests k (record { around = 0; place = 0; length = 0 })
+rest_at rests k = slice_index_or rests k (record { around = 0; length = 0 })
 
 abbrev pub network_at : List Address → List Rest → ℕ → Network
 network_at starts rests k =

@@ -8,6 +8,8 @@ pub mod Rows
 pub mod Columns
 -- rows in order
 pub mod Sorting
+-- values in the order of networks
+pub mod Arranging
 -- tables as rows and values
 pub mod Tables
 -- parts of tables

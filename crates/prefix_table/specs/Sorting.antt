@@ -1,5 +1,5 @@
 -- Networks in order, and one that occurs twice.
-use Rattle.std.specs.Prelude.{◌≡◌, ℕ, ◌+◌, ◌<◌, ◌≤◌, List, [], ◌∷◌, length, nat_le, if◌then◌else◌, Option, Some, None}
+use Rattle.std.specs.Prelude.{◌≡◌, ℕ, ◌+◌, ◌<◌, ◌≤◌, List, [], ◌∷◌, length, map, nat_le, if◌then◌else◌, Option, Some, None}
 use Rattle.prefix_table.specs.declared.network.Network.{Network}
 use Rattle.prefix_table.specs.declared.rows.Row.{Row}
 use Rattle.prefix_table.specs.Rows.{network_of, row_at}
@@ -12,6 +12,13 @@ row_with place network =
 abbrev pub numbered : ℕ → List Network → List Row
 numbered place [] = []
 numbered place (network ∷ networks) = row_with place network ∷ numbered (place + 1) networks
+
+abbrev pub place_of : Row → ℕ
+place_of row = row.place
+
+-- the networks of rows, each with its index as its place
+abbrev pub in_order : List Row → List Row
+in_order rows = numbered 0 (map network_of rows)
 
 -- A row is not after another one: by version, number, length, and then by place.
 pub record IsUpToRow (a b : Row) : Type 0 where

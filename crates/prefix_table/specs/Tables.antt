@@ -1,5 +1,5 @@
 -- A table as rows and values.
-use Rattle.std.specs.Prelude.{ℕ, ◌<◌, List, [], ◌∷◌, length, map, slice_index_or}
+use Rattle.std.specs.Prelude.{◌≡◌, ℕ, ◌<◌, List, [], ◌∷◌, length, map, slice_index_or}
 use Rattle.prefix_table.specs.declared.network.Network.{Network}
 use Rattle.prefix_table.specs.declared.rows.Row.{Row}
 use Rattle.prefix_table.specs.Rows.{AreInOrder, network_of, row_at}
@@ -17,3 +17,8 @@ entries_of rows (value ∷ values) = map (entry_of (value ∷ values) value) row
 pub record IsTable {V : Type 0} (rows : List Row) (values : List V) : Type 0 where
   pub order : AreInOrder rows
   pub places : (k : ℕ) → k < length rows → (row_at rows k).place < length values
+
+-- And the values are in the order of the rows.
+pub record IsOrderedTable {V : Type 0} (rows : List Row) (values : List V) : Type 0 where
+  pub table : IsTable rows values
+  pub own : (k : ℕ) → k < length rows → (row_at rows k).place ≡ k

@@ -1,6 +1,7 @@
 //! Tables of IP networks that are built once and then find the longest network of an address.
 #![tactic(auto)]
 
+mod arranging;
 mod guesses;
 pub mod iteration;
 pub mod network;

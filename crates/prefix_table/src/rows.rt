@@ -2,6 +2,7 @@
 ghost use Rattle.std.specs.Prelude.{◌≡◌, ℕ, ◌+◌, ◌^◌, ◌<◌, ◌≤◌, length, IfOk, ◌++◌, ◌∷◌, [], true};
 ghost use Rattle.prefix_table.specs.Networks.{IsAddress, IsNetwork, IsUpTo, Precedes, start_of};
 ghost use Rattle.prefix_table.specs.Rows.{AreInOrder, IsLast, IsNestedIn, IsPosition, IsRowCount, network_of, row_at};
+ghost use Rattle.prefix_table.specs.Sorting.{in_order};
 ghost use Rattle.prefix_table.specs.Columns.{AreRows, IsLastOf, IsNested, network_at, rest_at, rows_of};
 ghost use Rattle.prefix_table.specs.Starts.{start_at};
 
@@ -35,13 +36,11 @@ pub fn network_of(row: Row) -> Network
 pub struct Rest {
     /// How many rows there are up to that of the next longer network around this one, 0 if there is none.
     pub around: u32,
-    /// The place of the network's value.
-    pub place: u32,
     /// The length of the network.
     pub length: u8,
 }
 
-/// Networks in order, each with the place of its value. Contracts see the list of the rows.
+/// Networks in order. Contracts see the list of the rows, each with its index as its place.
 #[derive(Drop)]
 pub struct Rows {
     starts: Starts,
@@ -54,6 +53,7 @@ impl Model for Rows {
 
     ghost Value = { List Row };
 
+    ghost use Rattle.prefix_table.specs.Sorting.{in_order};
     ghost use Rattle.prefix_table.specs.Columns.{AreRows, rows_of};
 
     ghost view = { λ r. rows_of r.starts r.rests.items };
@@ -72,11 +72,11 @@ impl Rows {
         }
     }
 
-    /// Returns these rows.
+    /// Returns these rows, each with its index as its place.
     pub fn from_slice(alloc: Global, rows: &[Row]) -> Result<Self, AllocError>
         requires few { length rows.now < 2 ^ 32 }
         requires order { AreInOrder rows.now }
-        ensures { IfOk result (λ made. made ≡ rows.now) }
+        ensures { IfOk result (λ made. made ≡ in_order rows.now) }
     {
         let four = rows.partition_point(|row| row.version == 4);
         let mut starts = Starts::with_capacity(alloc, four, rows.len() - four)?;
@@ -88,7 +88,6 @@ impl Rows {
             starts.push(start)?;
             rests.push(Rest {
                 around: found.upto as u32,
-                place: row.place,
                 length: row.length,
             })?;
         }
@@ -113,7 +112,7 @@ impl Rows {
         let rest = self.rests[index];
         Row {
             number: start.number,
-            place: rest.place,
+            place: index as u32,
             version: start.version,
             length: rest.length,
         }

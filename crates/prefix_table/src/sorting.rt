@@ -1,7 +1,7 @@
 //! Networks in order, and the first one that occurs twice.
-ghost use Rattle.std.specs.Prelude.{◌≡◌, ◌^◌, ◌<◌, length, IfOk};
+ghost use Rattle.std.specs.Prelude.{◌≡◌, ◌^◌, ◌<◌, length, map, IfOk};
 ghost use Rattle.std.specs.List.Sorted.{IsPermutation};
-ghost use Rattle.prefix_table.specs.Sorting.{AreSorted, IsFirstPairOf, nearer, numbered};
+ghost use Rattle.prefix_table.specs.Sorting.{AreSorted, IsFirstPairOf, nearer, numbered, place_of};
 
 use crate::network::Network;
 use crate::rows::{Row, network_of};
@@ -41,6 +41,13 @@ fn sort(rows: &mut [Row])
     ensures order { AreSorted rows.new }
 {
     rows.sort_unstable_by_key(|row| (row.version, row.number, row.length, row.place));
+}
+
+/// Returns the places of rows.
+pub fn places_of(alloc: Global, rows: &[Row]) -> Result<Vec<u32>, AllocError>
+    ensures { IfOk result (λ places. places.items ≡ map place_of rows.now) }
+{
+    rows.iter().map(|row| row.place).collect(alloc)
 }
 
 /// Returns the places of a network that occurs twice, the first of which that follows an equal one.

@@ -1,19 +1,21 @@
 //! A table of networks with values, which is built once.
-ghost use Rattle.std.specs.Prelude.{◌≡◌, [], ℕ, ◌^◌, ◌<◌, ◌≤◌, ◌==◌, length, vec_len, All, AllPairs, Contains, IfErr, IfNone, IfOk, IfSome, filter, reverse, slice_index_or, ◌≢◌};
+ghost use Rattle.std.specs.Prelude.{◌≡◌, [], ℕ, ◌^◌, ◌<◌, ◌≤◌, ◌==◌, length, vec_len, All, AllPairs, Contains, IfErr, IfNone, IfOk, IfSome, OnErr, OnOk, filter, map, reverse, slice_index_or, ◌≢◌};
 ghost use Rattle.std.specs.List.{zip};
 ghost use Rattle.std.specs.List.Sorted.{IsPermutation};
 ghost use Rattle.std.specs.Option.{option_map};
 ghost use Rattle.prefix_table.specs.Networks.{IsAddress, IsNetwork, IsUpTo, Precedes, covers, start_of};
 ghost use Rattle.prefix_table.specs.Rows.{AreInOrder};
-ghost use Rattle.prefix_table.specs.Sorting.{numbered};
+ghost use Rattle.prefix_table.specs.Arranging.{AreArranged, AreIndexes};
+ghost use Rattle.prefix_table.specs.Sorting.{in_order, numbered, place_of};
 ghost use Rattle.prefix_table.specs.Parts.{AreStarted, IsLastEntry, IsPositionIn, is_inside, network_in};
 ghost use Rattle.prefix_table.specs.Entries.{IsBuildFault, IsLongestMatch, nesting, shown};
 
+use crate::arranging::arrange;
 use crate::iteration::{Entries, Matches};
 use crate::network::{Address, Network, address_of, last_of};
-use crate::rows::{Rows, network_of, position};
-use crate::sorting::{first_pair, sorted_rows};
-use std::alloc::Global;
+use crate::rows::{Row, Rows, network_of, position};
+use crate::sorting::{first_pair, places_of, sorted_rows};
+use std::alloc::{AllocError, Global};
 use std::marker::Model;
 use std::net::IpAddr;
 use thiserror::Error;
@@ -50,13 +52,13 @@ pub struct PrefixTable<V> {
 impl<V> Model for PrefixTable<V> {
     ghost use Rattle.std.specs.Prelude.{List};
     ghost use Rattle.prefix_table.specs.declared.network.Network.{Network};
-    ghost use Rattle.prefix_table.specs.Tables.{IsTable, entries_of};
+    ghost use Rattle.prefix_table.specs.Tables.{IsOrderedTable, entries_of};
 
     ghost Value = { List (Network × V) };
 
     ghost view = { λ t. entries_of t.rows t.values.items };
 
-    ghost invariant = { λ t. IsTable t.rows t.values.items };
+    ghost invariant = { λ t. IsOrderedTable t.rows t.values.items };
 }
 
 impl<V> PrefixTable<V> {
@@ -71,7 +73,11 @@ impl<V> PrefixTable<V> {
     }
 
     /// Builds the table of these networks, in any order, each with the value at its place. An error returns the values.
-    pub fn build(alloc: Global, networks: &[Network], values: Vec<V>) -> Result<Self, BuildError<V>>
+    pub fn build(
+        alloc: Global,
+        networks: &[Network],
+        mut values: Vec<V>,
+    ) -> Result<Self, BuildError<V>>
         requires networks { All IsNetwork networks.now }
         requires values { vec_len values ≡ length networks.now }
         // It has each network with its value, in order.
@@ -81,9 +87,16 @@ impl<V> PrefixTable<V> {
         ensures fault { IfErr result (λ error. IsBuildFault networks.now error.fault) }
         ensures kept { IfErr result (λ error. error.values.items ≡ values.items) }
     {
-        match ordered_rows(alloc, networks) {
+        let sorted = match ordered_rows(alloc, networks) {
+            Ok(sorted) => sorted,
+            Err(fault) => return Err(BuildError { fault, values }),
+        };
+        match arranged_rows(alloc, &sorted, &mut values) {
             Ok(rows) => Ok(PrefixTable { rows, values }),
-            Err(fault) => Err(BuildError { fault, values }),
+            Err(AllocError) => Err(BuildError {
+                fault: BuildFault::NoMemory,
+                values,
+            }),
         }
     }
 
@@ -108,7 +121,7 @@ impl<V> PrefixTable<V> {
         ensures { shown result ≡ slice_index_or self.now index (shown result) }
     {
         let row = self.rows.get(index);
-        (network_of(row), &self.values[row.place as usize])
+        (network_of(row), &self.values[index])
     }
 
     // Returns how many entries start at an address or before it.
@@ -202,19 +215,18 @@ impl<V> PrefixTable<V> {
         if found.upto == 0 {
             return (None, found.looked);
         }
-        let row = self.rows.get(found.upto - 1);
-        (
-            Some((network_of(row), &self.values[row.place as usize])),
-            found.looked,
-        )
+        let index = found.upto - 1;
+        let row = self.rows.get(index);
+        (Some((network_of(row), &self.values[index])), found.looked)
     }
 }
 
 // Returns networks in order, with their places.
-fn ordered_rows(alloc: Global, networks: &[Network]) -> Result<Rows, BuildFault>
+fn ordered_rows(alloc: Global, networks: &[Network]) -> Result<Vec<Row>, BuildFault>
     requires { All IsNetwork networks.now }
-    ensures rows { IfOk result (λ rows. IsPermutation (numbered 0 networks.now) rows) }
-    ensures order { IfOk result AreInOrder }
+    ensures rows { IfOk result (λ rows. IsPermutation (numbered 0 networks.now) rows.items) }
+    ensures order { IfOk result (λ rows. AreInOrder rows.items) }
+    ensures few { IfOk result (λ rows. length rows.items < 2 ^ 32) }
     ensures fault { IfErr result (IsBuildFault networks.now) }
 {
     if networks.len() > u32::MAX as usize {
@@ -226,8 +238,21 @@ fn ordered_rows(alloc: Global, networks: &[Network]) -> Result<Rows, BuildFault>
     if let Some((first, second)) = first_pair(&rows) {
         return Err(BuildFault::Twice(first as usize, second as usize));
     }
-    let Ok(rows) = Rows::from_slice(alloc, &rows) else {
-        return Err(BuildFault::NoMemory);
-    };
     Ok(rows)
+}
+
+// Returns the columns of rows, and moves the values into their order. On an error the values stay where they are.
+fn arranged_rows<V>(alloc: Global, rows: &[Row], values: &mut [V]) -> Result<Rows, AllocError>
+    requires order { AreInOrder rows.now }
+    requires places { AreIndexes (map place_of rows.now) }
+    requires values { length values.old ≡ length rows.now }
+    requires few { length rows.now < 2 ^ 32 }
+    ensures rows { IfOk result (λ made. made ≡ in_order rows.now) }
+    ensures arranged { OnOk result (AreArranged (map place_of rows.now) values.old values.new) }
+    ensures kept { OnErr result (values.new ≡ values.old) }
+{
+    let columns = Rows::from_slice(alloc, rows)?;
+    let places = places_of(alloc, rows)?;
+    arrange(alloc, &places, values)?;
+    Ok(columns)
 }

@@ -1,43 +1,68 @@
-use Rattle.std.proofs.Common.{◌≡◌, ◌<◌, ap, ap₂, sym, ◌∙◌, length, subst, arith, ◌++◌, ◌∷◌, []}
+use Rattle.std.proofs.Common.{◌≡◌, ◌<◌, ap, ap₂, sym, ◌∙◌, length, List, subst, arith, ◌++◌, ◌∷◌, []}
+use Rattle.std.proofs.lemmas.List.{take_all}
 use Rattle.prefix_table.specs.declared.network.Address.{Address}
+use Rattle.prefix_table.specs.declared.network.Network.{Network}
 use Rattle.prefix_table.specs.Columns.{AreRows, rows_of}
 use Rattle.prefix_table.specs.Networks.{IsUpTo, start_of}
+use Rattle.prefix_table.specs.Sorting.{in_order}
 use Rattle.prefix_table.specs.Starts.{start_at}
+use Rattle.prefix_table.proofs.OrderLemmas.{in_order_network, in_order_place, length-in_order, still_in_order}
 use Rattle.prefix_table.proofs.RowLemmas.{all_up_to, last_is, next_are, next_made, this_start}
 use Rattle.prefix_table.proofs.rows.Rows.from_slice.Goals as goal
 
 pub last_covering-found-requires-clause-started : goal.last_covering-found-requires-clause-started
 last_covering-found-requires-clause-started c k h =
     let l = c.loop-row in
-    subst (IsUpTo (start_at l.starts k)) (sym (c.start_of-start.ensures ∙ ap start_of c.network_of-network.ensures))
-    (all_up_to l.starts l.rests.items l.invariant.are c.args.rows.now l.row-index (omega arith) l.invariant.made c.requires.order k
-    (omega (arith, c.len.ensures, l.rests.ok.0)))
+    let rows = c.args.rows.now in
+    let many = length-in_order rows in
+    let start = c.start_of-start.ensures ∙ ap start_of (c.network_of-network.ensures ∙ sym (in_order_network rows l.row-index (omega arith))) in
+    subst (IsUpTo (start_at l.starts k)) (sym start)
+    (all_up_to l.starts l.rests.items l.invariant.are (in_order rows) l.row-index (omega arith) l.invariant.made
+    (still_in_order rows c.requires.order) k (omega (arith, c.len.ensures, l.rests.ok.0)))
 
 pub push-requires-clause-order : goal.push-requires-clause-order
 push-requires-clause-order c k h =
     let l = c.loop-row in
-    subst (IsUpTo (start_at l.starts k)) (sym (c.start_of-start.ensures ∙ ap start_of c.network_of-network.ensures))
-    (all_up_to l.starts l.rests.items l.invariant.are c.args.rows.now l.row-index (omega arith) l.invariant.made c.requires.order k
-    (omega (arith, l.invariant.are.lengths)))
+    let rows = c.args.rows.now in
+    let many = length-in_order rows in
+    let start = c.start_of-start.ensures ∙ ap start_of (c.network_of-network.ensures ∙ sym (in_order_network rows l.row-index (omega arith))) in
+    subst (IsUpTo (start_at l.starts k)) (sym start)
+    (all_up_to l.starts l.rests.items l.invariant.are (in_order rows) l.row-index (omega arith) l.invariant.made
+    (still_in_order rows c.requires.order) k (omega (arith, l.invariant.are.lengths)))
 
 pub loop-row-preserved : goal.loop-row-preserved
 loop-row-preserved c =
     let l = c.loop-row in
-    let all = c.args.rows.now in
+    let rows = c.args.rows.now in
+    let all = in_order rows in
+    let as_many = length-in_order rows in
+    let here : l.row-index < length rows = omega arith in
     let fits : l.row-index < length all = omega arith in
-    let start = c.start_of-start.ensures ∙ ap start_of c.network_of-network.ensures in
+    let network = in_order_network rows l.row-index here in
+    let start = c.start_of-start.ensures ∙ ap start_of (c.network_of-network.ensures ∙ sym network) in
     let starts : c.push.new.self ≡ l.starts ++ this_start l.starts l.rests.items l.invariant.are all l.row-index fits l.invariant.made ∷ [] =
     c.in_ok-push.ensures ∙ ap (λ (s : Address). l.starts ++ s ∷ []) start in
-    let rests = c.in_ok-push-2.ensures.items in
+    let rests =
+    c.in_ok-push-2.ensures.items
+    ∙ ap (λ (n : Network). l.rests.items ++ record { around = c.last_covering-found.result.upto; length = n.length } ∷ []) (sym network) in
     let many : c.len.result ≡ length l.rests.items = omega (arith, c.len.ensures, l.rests.ok.0) in
     let around =
     last_is l.starts l.rests.items l.invariant.are all l.row-index fits l.invariant.made c.start_of-start.result c.deref.result.now c.len.result
     c.last_covering-found.result.upto start c.deref.ensures.value many c.last_covering-found.ensures.last in
     record {
-      made = ap₂ rows_of starts rests ∙ next_made l.starts l.rests.items l.invariant.are all l.row-index fits l.invariant.made c.last_covering-found.result.upto;
+      made = ap₂ rows_of starts rests
+          ∙ next_made l.starts l.rests.items l.invariant.are all l.row-index fits l.invariant.made (in_order_place rows l.row-index here)
+          c.last_covering-found.result.upto;
       are =
           subst (λ ss. AreRows ss c.push-in-loop-row.new.self.items) (sym starts)
           (subst (AreRows (l.starts ++ this_start l.starts l.rests.items l.invariant.are all l.row-index fits l.invariant.made ∷ [])) (sym rests)
-          (next_are l.starts l.rests.items l.invariant.are all l.row-index fits l.invariant.made c.requires.order c.requires.few
-          c.last_covering-found.result.upto around));
+          (next_are l.starts l.rests.items l.invariant.are all l.row-index fits l.invariant.made (still_in_order rows c.requires.order)
+          (let few = c.requires.few in omega arith) c.last_covering-found.result.upto around));
     }
+
+pub returns : goal.returns
+returns c =
+    let l = c.loop-row in
+    let many = length-in_order c.args.rows.now in
+    ap (λ (ss : List Address). rows_of ss l.rests.items) c.guess.ensures ∙ l.invariant.made
+    ∙ take_all l.row-index (in_order c.args.rows.now) (omega arith)

@@ -22,6 +22,12 @@ returns c =
     let many = length-rows c.self.inside.starts c.self.inside.rests.items c.self.invariant.lengths in
     let seen = ap length c.self.view_is in
     let fits : c.args.index < length c.self.inside.rests.items = omega (arith, many, seen, c.requires) in
-    ap₂ row_from c.get-start.ensures (get_or_read c.self.inside.rests.items _ _ fits c.index-rest.ensures no_rest)
+    ap₂ (row_from c.args.index) c.get-start.ensures (get_or_read c.self.inside.rests.items _ _ fits c.index-rest.ensures no_rest)
     ∙ sym (at_rows c.self.inside.starts c.self.inside.rests.items c.args.index c.self.invariant.lengths fits)
     ∙ ap (λ rows. row_at rows c.args.index) c.self.view_is
+
+pub overflow_cast-result : goal.overflow_cast-result
+overflow_cast-result c =
+    let many = length-rows c.self.inside.starts c.self.inside.rests.items c.self.invariant.lengths in
+    let seen = ap length c.self.view_is in
+    omega (arith, many, seen, c.requires, c.self.invariant.few)
