@@ -4,6 +4,7 @@
 //! Arguments: SHAPE COUNT RUNS warm|cold|brief MAP..; brief ends after the look-ups; `levels` in the place of a map prints how deep its tree is.
 
 mod btree;
+mod hashed;
 mod heap;
 mod keys;
 mod linked;
@@ -22,6 +23,8 @@ fn run(map: &str, work: &Work) {
         "store" => proved::store(work),
         "texts" => proved::text_map(work),
         "strings" => strings::run(work),
+        "hinted" => proved::hinted_map(work),
+        "hashed" => hashed::run(work),
         "btree" => btree::run(work),
         "linked" => linked::run_linked(work),
         "plain" => linked::run_plain(work),

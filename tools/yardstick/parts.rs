@@ -4,7 +4,7 @@ use crate::heap;
 use std::hint::black_box;
 use std::ptr::addr_of_mut;
 
-pub const NAMES: [&str; 22] = [
+pub const NAMES: [&str; 24] = [
     "insert",
     "get",
     "get_mut",
@@ -26,6 +26,8 @@ pub const NAMES: [&str; 22] = [
     "store_get",
     "store_remove",
     "range",
+    "count",
+    "shorter",
     "rest",
 ];
 
@@ -43,7 +45,9 @@ pub const REMOVE: usize = 10;
 pub const AGAIN: usize = 11;
 pub const CLEAR: usize = 12;
 pub const RANGE: usize = 20;
-pub const REST: usize = 21;
+pub const COUNT: usize = 21;
+pub const SHORTER: usize = 22;
+pub const REST: usize = 23;
 
 /// What is written between two parts where caches are to be cold.
 const EVICTED: usize = 96 << 20;

@@ -62,6 +62,18 @@ unsafe extern "C" {
         counts: &mut Counts,
     );
 
+    fn bench_hinted_map(
+        texts: *const u8,
+        texts_len: usize,
+        ends: *const u64,
+        ends_len: usize,
+        asked: *const u8,
+        asked_len: usize,
+        asked_ends: *const u64,
+        asked_ends_len: usize,
+        counts: &mut Counts,
+    );
+
     fn bench_store(
         keys: *const u8,
         keys_len: usize,
@@ -144,11 +156,31 @@ pub fn store(work: &Work) {
     assert_eq!([counts.stored, counts.found, counts.taken], [keys.count() as u64; 3]);
 }
 
+type TextCalls = unsafe extern "C" fn(
+    *const u8,
+    usize,
+    *const u64,
+    usize,
+    *const u8,
+    usize,
+    *const u64,
+    usize,
+    &mut Counts,
+);
+
 pub fn text_map(work: &Work) {
+    texts(work, bench_text_map);
+}
+
+pub fn hinted_map(work: &Work) {
+    texts(work, bench_hinted_map);
+}
+
+fn texts(work: &Work, calls: TextCalls) {
     let mut counts = Counts::default();
     let (texts, asked) = (work.keys.texts(), work.asked.texts());
     unsafe {
-        bench_text_map(
+        calls(
             texts.bytes.as_ptr(),
             texts.bytes.len(),
             texts.ends.as_ptr(),
@@ -160,6 +192,7 @@ pub fn text_map(work: &Work) {
             &mut counts,
         );
     }
-    let told = [counts.stored, counts.found, counts.matched, counts.taken, counts.again, counts.more];
-    assert_eq!(told, [texts.count() as u64; 6]);
+    let count = texts.count() as u64;
+    let told = [counts.stored, counts.found, counts.matched, counts.written, counts.taken, counts.again, counts.more];
+    assert_eq!(told, [count; 7]);
 }

@@ -19,6 +19,10 @@ pub fn run(work: &Work) {
     assert_eq!(get_all(&map, &asked), count);
     begin(MATCH);
     assert_eq!(match_all(&map, &asked), count);
+    begin(COUNT);
+    count_all(&mut map, &asked);
+    begin(SHORTER);
+    black_box(get_shorter(&map, &asked));
     begin(REMOVE);
     assert_eq!(remove_all(&mut map, &asked), count);
     begin(REST);
@@ -27,7 +31,7 @@ pub fn run(work: &Work) {
 }
 
 /// The texts one after another. Their keys were made of UTF-8.
-fn iter(texts: &Keys) -> impl Iterator<Item = &str> {
+pub fn iter(texts: &Keys) -> impl Iterator<Item = &str> {
     texts.iter().map(|text| unsafe { str::from_utf8_unchecked(text) })
 }
 
@@ -40,6 +44,26 @@ fn insert_all(map: &mut Map, texts: &Keys) -> u64 {
 #[inline(never)]
 fn get_all(map: &Map, asked: &Keys) -> u64 {
     iter(asked).filter(|text| map.get(*text).is_some()).count() as u64
+}
+
+#[inline(never)]
+fn get_shorter(map: &Map, asked: &Keys) -> u64 {
+    iter(asked).filter(|text| map.get(shorter(text)).is_some()).count() as u64
+}
+
+/// The text without its last byte, which need not be a letter: a map compares bytes alone.
+pub fn shorter(text: &str) -> &str {
+    unsafe { str::from_utf8_unchecked(&text.as_bytes()[..text.len() - 1]) }
+}
+
+#[inline(never)]
+fn count_all(map: &mut Map, asked: &Keys) {
+    for text in iter(asked) {
+        match map.get_mut(text) {
+            Some(count) => *count += 1,
+            None => drop(map.insert(text.to_string(), 1)),
+        }
+    }
 }
 
 #[inline(never)]

@@ -2,7 +2,12 @@
 //! a map that is measured has several callers here, as it has in programs.
 #![tactic(auto)]
 
+use art_operations::hinted_map::HintedMap;
+use art_operations::tree_map::TreeMap;
 use std::alloc::Global;
+use std::hash::RandomState;
+use std::io;
+use std::random::RandomSource;
 
 mod byte_map;
 mod kit_map;
@@ -90,5 +95,35 @@ pub extern "C" fn bench_text_map(
     asked_ends: &[u64],
     counts: &mut Counts,
 ) {
-    text_map::work(alloc, texts, ends, asked, asked_ends, counts);
+    let mut map = TreeMap::new(alloc);
+    text_map::work(&mut map, alloc, texts, ends, asked, asked_ends, counts);
+}
+
+/// Works on such a map with hints.
+#[unsafe(no_mangle)]
+pub extern "C" fn bench_hinted_map(
+    alloc: Global,
+    texts: &[u8],
+    ends: &[u64],
+    asked: &[u8],
+    asked_ends: &[u64],
+    counts: &mut Counts,
+) {
+    let Ok(state) = RandomState::new(&Fixed) else {
+        return;
+    };
+    let mut map = HintedMap::new(alloc, state);
+    text_map::work(&mut map, alloc, texts, ends, asked, asked_ends, counts);
+}
+
+// The same keys of a hash at each run.
+struct Fixed;
+
+impl RandomSource for Fixed {
+    fn fill_bytes(&self, buf: &mut [u8]) -> io::Result<()> {
+        for byte in buf {
+            *byte = 0xA5;
+        }
+        Ok(())
+    }
 }

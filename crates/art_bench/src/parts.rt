@@ -45,7 +45,11 @@ pub const STORE_REMOVE: usize = 19;
 
 pub const RANGE: usize = 20;
 
-pub const REST: usize = 21;
+pub const COUNT: usize = 21;
+
+pub const SHORTER: usize = 22;
+
+pub const REST: usize = 23;
 
 /// Reports to the heap that a part begins, by a request that none can meet.
 #[inline(never)]

@@ -19,6 +19,7 @@ use std::hash::RandomState;
 use std::marker::Model;
 
 mod copies;
+mod escaped_texts;
 mod texts;
 
 /// A `TreeMap` with a table of *hints*: by the hash of a key the name of its leaf. A call of a stored key reads the leaf

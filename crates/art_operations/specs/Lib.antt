@@ -66,6 +66,9 @@ pub use Rattle.art_keyed.specs.KeyedValues
 pub use Rattle.art_keyed.specs.SetClones
 pub use Rattle.art_keyed.specs.KeyedLends
 pub use Rattle.art_keyed.specs.Matches
+-- maps with hints
+pub use Rattle.art_hinted.specs.HintedLends
+pub use Rattle.art_hinted.specs.HintedTexts
 -- runs of commands
 pub use Rattle.art_running.specs.Answers
 pub use Rattle.art_running.specs.Needs

@@ -2,6 +2,7 @@
 //! memory meanwhile, so that hints are missing and wrong.
 use super::short::{COUNT, Short};
 use art_hinted::map::HintedMap;
+use art_keys::escaped::Escaped;
 use art_keys::terminated::Terminated;
 use art_node_support::expected::same;
 use art_node_support::numbers::Numbers;
@@ -122,4 +123,72 @@ fn drawn_calls_of_a_hinted_map_return_what_those_of_a_btree_map_do(
     let mut model = BTreeMap::new(alloc);
     let differ = differ_at(&mut map, &mut model, alloc, 4_000);
     same((differ, agree_on_all(&map, &model, alloc)), (None, true))
+}
+
+type AnyMap = HintedMap<Escaped, usize, 2>;
+
+// Two of these are escaped.
+const WORDS: [&[u8]; 6] = [
+    b"",
+    b"a",
+    b"a\0",
+    b"ab",
+    b"\x01b",
+    b"a longer word than stands in a leaf",
+];
+
+// Counts each word, and whether that succeeds.
+fn count_words(map: &mut AnyMap, alloc: Global) -> bool {
+    for word in WORDS {
+        let Ok(count) = map.get_text_or_insert(alloc, word, 0) else {
+            return false;
+        };
+        *count = count.wrapping_add(1);
+    }
+    true
+}
+
+// The count of each word, 0 where it is not stored.
+fn counts(map: &AnyMap) -> [usize; 6] {
+    let mut counts = [0; 6];
+    for place in 0..6 {
+        if map.contains_text(WORDS[place]) {
+            counts[place] = map.get_text(WORDS[place]).copied().unwrap_or(9);
+        }
+    }
+    counts
+}
+
+// The counts after each change: of a map, of what a clone without two words gets by the pairs of the map, and of a map of
+// the pairs.
+fn counted_and_copied(alloc: Global, state: RandomState) -> Option<[[usize; 6]; 4]> {
+    let mut map = AnyMap::new(alloc, state);
+    if !count_words(&mut map, alloc) || !count_words(&mut map, alloc) {
+        return None;
+    }
+    let mut copy = map.clone().ok()?;
+    *copy.get_text_mut(b"ab")? = 7;
+    let (_, first) = copy.remove_text(b"a\0")?;
+    let (_, second) = copy.remove_text(b"a")?;
+    let changed = counts(&copy);
+    let before = counts(&map);
+    let tree = map.into_tree_map();
+    copy.extend(tree.clone().ok()?).ok()?;
+    let mut again = HintedMap::from_tree_map(tree, state);
+    *again.get_text_mut(b"\x01b")? = first + second;
+    Some([before, changed, counts(&copy), counts(&again)])
+}
+
+#[test]
+fn words_of_any_bytes_are_counted_with_hints(rt: HostRuntime) -> Result<(), Fail> {
+    let state = RandomState::new(&rt)?;
+    same(
+        counted_and_copied(rt.alloc(), state),
+        Some([
+            [2, 2, 2, 2, 2, 2],
+            [2, 0, 0, 7, 2, 2],
+            [2, 2, 2, 2, 2, 2],
+            [2, 2, 2, 2, 4, 2],
+        ]),
+    )
 }

@@ -1,0 +1,2 @@
+//! An ordered map with a hash table's lookups.
+pub use art_hinted::map::HintedMap;
