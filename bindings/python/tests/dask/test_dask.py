@@ -28,6 +28,7 @@ PROJECT = pathlib.Path(__file__).resolve().parents[4]
 # What the program reads and writes.
 READ, WRITTEN = ((PROJECT / "crates/word_count" / name).read_bytes() for name in ("stdin", "stdout"))
 EXAMPLES = PROJECT / "bindings/python/examples"
+PAGE = (PROJECT / "bindings/DASK.md").read_text()
 
 
 def cluster_of(workers):
@@ -212,9 +213,18 @@ class Workers(Files):
             (["index_lines.py", "/etc/host", one, other], f"/etc/host.conf: {one} at 11\n/etc/hosts: {one} at 0, {other} at 9\n"),
             (["match_addresses.py", routes, addresses], "ten and one\nten\n-\ntexts\n"),
         ):
-            environment = os.environ | {"DASK_SCHEDULER_ADDRESS": self.cluster.scheduler_address}
-            ran = subprocess.run([sys.executable, EXAMPLES / words[0], *words[1:]], env=environment, capture_output=True, text=True)
-            self.assertEqual((ran.returncode, ran.stdout), (0, wanted), ran.stderr)
+            self.prints([EXAMPLES / words[0], *words[1:]], wanted)
+
+    def test_the_program_of_the_page(self):
+        (self.folder / "one.txt").write_text("to be or")
+        (self.folder / "other.txt").write_text("not to be")
+        program, printed = re.search(r"```python\n(.*?)```\n\nIt prints (.*?) of files", PAGE, re.S).groups()
+        self.prints(["-c", program], "".join(f"{line}\n" for line in re.findall("`(.*?)`", printed)))
+
+    def prints(self, words, wanted):
+        environment = os.environ | {"DASK_SCHEDULER_ADDRESS": self.cluster.scheduler_address}
+        ran = subprocess.run([sys.executable, *words], cwd=self.folder, env=environment, capture_output=True, text=True)
+        self.assertEqual((ran.returncode, ran.stdout), (0, wanted), ran.stderr)
 
 
 class Sizes(unittest.TestCase):
