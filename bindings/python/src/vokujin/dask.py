@@ -173,10 +173,9 @@ class PrefixIndex:
 
     def prefix(self, prefix):
         """Returns a list of the lines that start with a prefix, in the order of bytes, each with its places."""
-        first, last = self._part_of(prefix), len(self.parts) - 1
-        while last > first and self.starts[last] > prefix and not self.starts[last].startswith(prefix):
-            last -= 1
-        return list(itertools.chain(*self._ask(range(first, last + 1), _with_prefix, prefix)))
+        most = prefix.rstrip(b"\xff")
+        end = bisect.bisect_left(self.starts, most[:-1] + bytes([most[-1] + 1])) if most else len(self.starts)
+        return list(itertools.chain(*self._ask(range(self._part_of(prefix), end), _with_prefix, prefix)))
 
     def longest_match(self, query):
         """Returns the longest line that is a prefix of the query, with its places, or None."""

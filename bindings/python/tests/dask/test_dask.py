@@ -99,9 +99,8 @@ class Parts(Files):
         for file, text in zip(files, texts):
             for line in re.finditer(rb"[^\n]+", text):
                 wanted[line[0]].append((file, line.start()))
-        for part_bytes in 1, 6, 100, 1 << 24:
-            for parts in 1, 2, 7, 50, None:
-                self.answers_as(index_lines(Here(), files, parts, part_bytes), wanted)
+        for part_bytes, parts in (1, 7), (6, 1), (6, 50), (100, 2), (1 << 24, None):
+            self.answers_as(index_lines(Here(), files, parts, part_bytes), wanted)
         self.answers_as(index_lines(Here(), []), {})
         self.answers_as(index_lines(Here(), [files[0]], 100), {line: [place for place in places if place[0] == files[0]] for line, places in wanted.items() if files[0] in dict(places)})
 
@@ -122,10 +121,10 @@ class Parts(Files):
                 asked.append(arguments[0])
                 return call(*arguments)
 
-        starts = [b"", b"b", b"ba", b"bc", b"c"]
+        starts = [b"", b"b", b"ba", b"bc", b"c", b"\xff", b"\xff\xff\1"]
         parts = [Map({start or b"a": [start]}).freeze() for start in starts]
         index = PrefixIndex(Noting(), starts, parts)
-        for query, wanted in {b"": [0, 1, 2, 3, 4], b"a": [0], b"b": [1, 2, 3], b"ba": [2], b"bb": [2], b"c": [4], b"d": [4]}.items():
+        for query, wanted in {b"": [0, 1, 2, 3, 4, 5, 6], b"a": [0], b"b": [1, 2, 3], b"ba": [2], b"bb": [2], b"c": [4], b"d": [4], b"b\xff": [3], b"\xff\xff": [5, 6]}.items():
             asked.clear()
             index.prefix(query)
             self.assertEqual([parts.index(it) for it in asked], wanted, query)
