@@ -1,5 +1,6 @@
-// What tools/fuzz runs: the bytes of an input are calls of the map, each of which is compared with the same on a sorted array.
-// An allocation fails where the input says so. At the end all pairs are compared, forward and backward.
+// What tools/fuzz runs: the bytes of an input are calls of a map and of two handles of frozen maps, each of which is compared
+// with the same on a sorted array. An allocation fails where the input says so. At the end all pairs are compared, forward and
+// backward.
 #include "vokujin.h"
 
 #include <stdio.h>
@@ -20,9 +21,21 @@ typedef struct {
     uint64_t value;
 } entry;
 
-static entry model[MOST_PAIRS];
-static size_t count;
+// What a map has. One that is freed has no pairs.
+typedef struct {
+    entry pairs[MOST_PAIRS];
+    size_t count;
+    bool is_freed;
+} array;
+
+// The map and its array; then the handles, and theirs.
 static vokujin_map map;
+static array model;
+static vokujin_frozen handles[2];
+static array frozen[2];
+// What calls read: the map, or a handle.
+static const vokujin_frozen *handle;
+static array *now = &model;
 
 // The input that is left.
 static const uint8_t *input;
@@ -52,8 +65,8 @@ void *fuzz_realloc(void *block, size_t size) {
 static text next_text(void) {
     text it = {.len = next_byte()};
     // Some texts start as a stored key does.
-    if (it.len & 0x80 && count > 0) {
-        entry *stored = &model[next_byte() % count];
+    if (it.len & 0x80 && now->count > 0) {
+        entry *stored = &now->pairs[next_byte() % now->count];
         size_t shared = it.len & 0x3f;
         it = stored->key;
         if (shared < it.len) it.len = shared;
@@ -78,12 +91,17 @@ static int starts_with(const text *whole, const text *start) {
 // The place of a key in the array, or where it belongs.
 static size_t place_of(const text *key) {
     size_t at = 0;
-    while (at < count && compare(&model[at].key, key) < 0) at++;
+    while (at < now->count && compare(&now->pairs[at].key, key) < 0) at++;
     return at;
 }
 
 static int is_at(size_t at, const text *key) {
-    return at < count && compare(&model[at].key, key) == 0;
+    return at < now->count && compare(&now->pairs[at].key, key) == 0;
+}
+
+// The code of a call that looks something up.
+static uint32_t code_of(int is_found) {
+    return now->is_freed ? VOKUJIN_FREED : is_found ? VOKUJIN_DONE : VOKUJIN_ABSENT;
 }
 
 static void insert(void) {
@@ -91,17 +109,17 @@ static void insert(void) {
     uint64_t value = next_byte(), replaced = 7777;
     size_t at = place_of(&key);
     int stored = is_at(at, &key);
-    if (!stored && count == MOST_PAIRS) return;
+    if (!stored && now->count == MOST_PAIRS) return;
     uint32_t code = vokujin_insert(&map, key.bytes, key.len, value, &replaced);
     if (code == VOKUJIN_NO_MEMORY) return;
     CHECK(code == (stored ? VOKUJIN_DONE : VOKUJIN_ABSENT));
-    CHECK(replaced == (stored ? model[at].value : 7777));
+    CHECK(replaced == (stored ? now->pairs[at].value : 7777));
     if (!stored) {
-        memmove(&model[at + 1], &model[at], (count - at) * sizeof *model);
-        model[at].key = key;
-        count++;
+        memmove(&now->pairs[at + 1], &now->pairs[at], (now->count - at) * sizeof *now->pairs);
+        now->pairs[at].key = key;
+        now->count++;
     }
-    model[at].value = value;
+    now->pairs[at].value = value;
 }
 
 static void remove_key(void) {
@@ -112,8 +130,8 @@ static void remove_key(void) {
     uint32_t code = vokujin_remove(&map, key.bytes, key.len, &value);
     if (code == VOKUJIN_NO_MEMORY) return;
     CHECK(code == (stored ? VOKUJIN_DONE : VOKUJIN_ABSENT));
-    CHECK(value == (stored ? model[at].value : 7777));
-    if (stored) memmove(&model[at], &model[at + 1], (--count - at) * sizeof *model);
+    CHECK(value == (stored ? now->pairs[at].value : 7777));
+    if (stored) memmove(&now->pairs[at], &now->pairs[at + 1], (--now->count - at) * sizeof *now->pairs);
 }
 
 static void get(void) {
@@ -121,21 +139,19 @@ static void get(void) {
     uint64_t value = 7777;
     size_t at = place_of(&key);
     int stored = is_at(at, &key);
-    uint32_t code = vokujin_get(&map, key.bytes, key.len, &value);
-    if (code == VOKUJIN_NO_MEMORY) return;
-    CHECK(code == (stored ? VOKUJIN_DONE : VOKUJIN_ABSENT));
-    CHECK(value == (stored ? model[at].value : 7777));
+    uint32_t code = handle ? vokujin_frozen_get(handle, key.bytes, key.len, &value) : vokujin_get(&map, key.bytes, key.len, &value);
+    CHECK(code == code_of(stored));
+    CHECK(value == (stored ? now->pairs[at].value : 7777));
 }
 
 static void longest_match(void) {
     text query = next_text();
     vokujin_pair pair = {7777, 7777};
     entry *longest = NULL;
-    for (size_t at = 0; at < count; at++)
-        if (starts_with(&query, &model[at].key)) longest = &model[at];
-    uint32_t code = vokujin_longest_match(&map, query.bytes, query.len, &pair);
-    if (code == VOKUJIN_NO_MEMORY) return;
-    CHECK(code == (longest ? VOKUJIN_DONE : VOKUJIN_ABSENT));
+    for (size_t at = 0; at < now->count; at++)
+        if (starts_with(&query, &now->pairs[at].key)) longest = &now->pairs[at];
+    uint32_t code = handle ? vokujin_frozen_longest_match(handle, query.bytes, query.len, &pair) : vokujin_longest_match(&map, query.bytes, query.len, &pair);
+    CHECK(code == code_of(longest != NULL));
     CHECK(pair.key_len == (longest ? longest->key.len : 7777) && pair.value == (longest ? longest->value : 7777));
 }
 
@@ -143,9 +159,9 @@ static void count_prefix(void) {
     text prefix = next_text(), end = prefix;
     size_t seen = 7777, expected = 0, in_range = 0;
     end.len = vokujin_prefix_end(end.bytes, end.len);
-    for (size_t at = 0; at < count; at++) {
-        expected += starts_with(&model[at].key, &prefix);
-        in_range += compare(&model[at].key, &prefix) >= 0 && (end.len == 0 || compare(&model[at].key, &end) < 0);
+    for (size_t at = 0; at < now->count; at++) {
+        expected += starts_with(&now->pairs[at].key, &prefix);
+        in_range += compare(&now->pairs[at].key, &prefix) >= 0 && (end.len == 0 || compare(&now->pairs[at].key, &end) < 0);
     }
     CHECK(expected == in_range);
     if (vokujin_count_prefix(&map, prefix.bytes, prefix.len, &seen) != VOKUJIN_NO_MEMORY) CHECK(seen == expected);
@@ -156,11 +172,11 @@ static void at_end(int is_last) {
     vokujin_pair pair = {7777, 7777};
     size_t space = next_byte() % (MOST_BYTES + 1);
     uint32_t code = is_last ? vokujin_last(&map, buffer, space, &pair) : vokujin_first(&map, buffer, space, &pair);
-    if (count == 0) {
+    if (now->count == 0) {
         CHECK(code == VOKUJIN_ABSENT && pair.value == 7777);
         return;
     }
-    entry *it = &model[is_last ? count - 1 : 0];
+    entry *it = &now->pairs[is_last ? now->count - 1 : 0];
     CHECK(pair.key_len == it->key.len && pair.value == it->value);
     CHECK(code == (it->key.len > space ? VOKUJIN_TOO_LONG : VOKUJIN_DONE));
     if (code == VOKUJIN_DONE) CHECK(!memcmp(buffer, it->key.bytes, it->key.len));
@@ -177,11 +193,15 @@ static void give(text from, uint32_t from_kind, text to, uint32_t to_kind, bool 
     static uint8_t buffer[MOST_PAIRS * MOST_BYTES];
     static vokujin_pair pairs[MOST_PAIRS + 1];
     vokujin_given given = {7777, 7777};
-    uint32_t code = vokujin_next_pairs(&map, from.bytes, from.len, from_kind, to.bytes, to.len, to_kind, is_backward, buffer, space, pairs, most, &given);
-    if (code == VOKUJIN_NO_MEMORY) return;
+    uint32_t code = handle ? vokujin_frozen_next_pairs(handle, from.bytes, from.len, from_kind, to.bytes, to.len, to_kind, is_backward, buffer, space, pairs, most, &given)
+                           : vokujin_next_pairs(&map, from.bytes, from.len, from_kind, to.bytes, to.len, to_kind, is_backward, buffer, space, pairs, most, &given);
+    if (now->is_freed) {
+        CHECK(code == VOKUJIN_FREED);
+        return;
+    }
     size_t written = 0, used = 0;
-    for (size_t at = 0; at < count; at++) {
-        entry *it = &model[is_backward ? count - 1 - at : at];
+    for (size_t at = 0; at < now->count; at++) {
+        entry *it = &now->pairs[is_backward ? now->count - 1 - at : at];
         if (!is_inside(&it->key, &from, from_kind, &to, to_kind)) continue;
         if (written == given.count) {
             CHECK(code != VOKUJIN_DONE);
@@ -208,17 +228,63 @@ static void whole(void) {
     text none = {.len = 0};
     size_t len = 7777;
     fails_at = 0;
-    CHECK(vokujin_len(&map, &len) == VOKUJIN_DONE && len == count);
+    CHECK((handle ? vokujin_frozen_len(handle, &len) : vokujin_len(&map, &len)) == code_of(1));
+    CHECK(len == (now->is_freed ? 7777 : now->count));
     for (int is_backward = 0; is_backward < 2; is_backward++)
         give(none, VOKUJIN_UNBOUNDED, none, VOKUJIN_UNBOUNDED, is_backward, MOST_PAIRS * MOST_BYTES, MOST_PAIRS + 1);
+}
+
+static void freeze(int at) {
+    uint32_t code = vokujin_freeze(&map, &handles[at]);
+    if (code == VOKUJIN_NO_MEMORY) return;
+    CHECK(code == VOKUJIN_DONE);
+    frozen[at] = model;
+    model.count = 0;
+}
+
+static void share(int from, int to) {
+    uint32_t code = vokujin_frozen_share(&handles[from], &handles[to]);
+    CHECK(code == (frozen[from].is_freed ? VOKUJIN_FREED : VOKUJIN_DONE));
+    if (code == VOKUJIN_DONE) frozen[to] = frozen[from];
+}
+
+static void free_handle(int at) {
+    CHECK(vokujin_frozen_free(&handles[at]) == (frozen[at].is_freed ? VOKUJIN_FREED : VOKUJIN_DONE));
+    frozen[at].is_freed = true;
+    frozen[at].count = 0;
+}
+
+static void one_frozen_call(void) {
+    uint8_t kind = next_byte();
+    int at = kind & 1;
+    handle = &handles[at];
+    now = &frozen[at];
+    switch (kind >> 1 & 15) {
+    case 0: freeze(at); break;
+    case 1: share(!at, at); break;
+    case 2: free_handle(at); break;
+    case 3: {
+        vokujin_frozen moved = handles[at];
+        memset(&handles[at], 0xff, sizeof moved);
+        handles[at] = moved;
+        break;
+    }
+    case 4 ... 7: get(); break;
+    case 8 ... 10: longest_match(); break;
+    case 11 ... 14: next_pairs(); break;
+    default: whole();
+    }
+    handle = NULL;
+    now = &model;
 }
 
 static void one_call(void) {
     uint8_t kind = next_byte();
     fails_at = kind & 0x80 ? next_byte() % 4 + 1 : 0;
     switch (kind & 0x7f) {
-    case 0 ... 55: insert(); break;
-    case 56 ... 75: remove_key(); break;
+    case 0 ... 50: insert(); break;
+    case 51 ... 65: remove_key(); break;
+    case 66 ... 75: one_frozen_call(); break;
     case 76 ... 85: get(); break;
     case 86 ... 95: longest_match(); break;
     case 96 ... 105: next_pairs(); break;
@@ -232,11 +298,11 @@ static void one_call(void) {
         map = moved;
         break;
     }
-    case 123: CHECK(vokujin_clear(&map) == VOKUJIN_DONE); count = 0; break;
+    case 123: CHECK(vokujin_clear(&map) == VOKUJIN_DONE); now->count = 0; break;
     case 124:
         CHECK(vokujin_free(&map) == VOKUJIN_DONE && vokujin_free(&map) == VOKUJIN_FREED && vokujin_clear(&map) == VOKUJIN_FREED);
         vokujin_new(&map);
-        count = 0;
+        now->count = 0;
         break;
     default: whole();
     }
@@ -245,10 +311,23 @@ static void one_call(void) {
 int LLVMFuzzerTestOneInput(const uint8_t *data, size_t size) {
     input = data;
     left = size;
-    count = 0;
+    model.count = 0;
     vokujin_new(&map);
+    for (int at = 0; at < 2; at++) {
+        vokujin_frozen_new(&handles[at]);
+        frozen[at].is_freed = true;
+        free_handle(at);
+    }
     while (left > 0) one_call();
     whole();
+    for (int at = 0; at < 2; at++) {
+        handle = &handles[at];
+        now = &frozen[at];
+        whole();
+        free_handle(at);
+    }
+    handle = NULL;
+    now = &model;
     CHECK(vokujin_free(&map) == VOKUJIN_DONE);
     return 0;
 }

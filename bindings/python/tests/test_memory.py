@@ -1,6 +1,7 @@
 """References, the garbage collector, ends of values that change a map, threads, and allocations that fail."""
 
 import contextlib
+import copy
 import gc
 import pathlib
 import random
@@ -138,6 +139,13 @@ class References(unittest.TestCase):
                     del here[key * 7]
                 with contextlib.suppress(TypeError):
                     here[None] = 1
+                here.add_all({key * 2: 1, key * 5: 2})
+            frozen = here.freeze()
+            frozen.get_many([key, key * 2], []), frozen.longest_match_many([key * 9, key[:0]]), frozen.matches(key * 3)
+            frozen.count_prefix(key), frozen.first(), list(frozen.items()), copy.deepcopy(frozen), frozen.get(key)
+            for call in frozen.get_many, frozen.count_prefix, type(here)()._freeze:
+                with contextlib.suppress(TypeError):
+                    call([key, None])
 
         def blocks(turns):
             for _ in range(turns):

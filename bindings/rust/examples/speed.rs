@@ -1,12 +1,14 @@
 //! Calls through the boundary beside std's `BTreeMap<Vec<u8>, u64>`, in one process: `speed [KEYS [COUNT [PART]]]`. KEYS is a
 //! file with a key a line, or `random` for 8 random bytes each; COUNT is 100,000. It prints nanoseconds. With PART, as
-//! `get here` or `get std`, only that is done, once, for a count of instructions.
+//! `get here` or `get std`, only that is done, once, for a count of instructions. With `threads` it prints how many million
+//! keys a second threads look up in one map.
 
 use std::collections::BTreeMap;
 use std::env::args;
 use std::hint::black_box;
+use std::thread;
 use std::time::Instant;
-use vokujin::Map;
+use vokujin::{Frozen, Map};
 
 struct Random(u64);
 
@@ -118,6 +120,27 @@ fn least(count: usize, mut work: impl FnMut()) -> f64 {
     (0..7).map(|_| turn()).fold(f64::INFINITY, f64::min)
 }
 
+/// The most million keys a second of seven turns, in which each thread looks up all keys.
+fn throughput(threads: usize, keys: &[Vec<u8>], get: impl Fn(&[u8]) -> u64 + Sync) -> f64 {
+    let read = |at: usize| {
+        let (after, before) = keys.split_at(keys.len() * at / threads);
+        black_box(before.iter().chain(after).map(|key| get(key)).fold(0, u64::wrapping_add));
+    };
+    let seconds = least(1, || thread::scope(|scope| (0..threads).for_each(|at| _ = scope.spawn(move || read(at))))) / 1e9;
+    (threads * keys.len()) as f64 / seconds / 1e6
+}
+
+fn by_threads(map: Map<u64>, model: &Model, keys: &[Vec<u8>]) {
+    let here = [1, 2, 4].map(|threads| throughput(threads, keys, |key| *map.get(key).unwrap()));
+    let map: Frozen<u64> = map.freeze();
+    println!("threads: millions a second of Map, of Frozen, of BTreeMap");
+    for (threads, here) in [1, 2, 4].into_iter().zip(here) {
+        let frozen = throughput(threads, keys, |key| *map.get(key).unwrap());
+        let std = throughput(threads, keys, |key| *model.get(key).unwrap());
+        println!("{threads} {here:6.1} {frozen:6.1} {std:6.1}");
+    }
+}
+
 fn main() {
     let words: Vec<String> = args().skip(1).collect();
     let file = words.first().map_or("random", |it| it);
@@ -129,6 +152,9 @@ fn main() {
     let (mut here, mut model) = (fill_here(&keys), fill_std(&keys));
     here.compact().unwrap();
     let mut buffer = vec![0; keys.iter().map(Vec::len).max().unwrap_or(0)];
+    if words.get(2).is_some_and(|it| it == "threads") {
+        return by_threads(here, &model, &asked);
+    }
     if let [_, _, part @ ..] = words.as_slice() {
         if !part.is_empty() {
             return one_part(&part.join(" "), &mut here, &mut model, &keys, &asked);

@@ -13,7 +13,8 @@ StrMap({'be': 2, 'not': 1, 'or': 1, 'to': 2})
 [('be', 2)]
 
 A map is changed by one thread at a time, since each call holds the interpreter's lock. A build without that lock turns it on
-when it imports this module. After os.fork each process has a map of its own.
+when it imports this module. A frozen map looks up many keys at once without that lock: see Map.freeze. After os.fork each
+process has a map of its own.
 """
 
 import copyreg
@@ -25,7 +26,7 @@ from reprlib import recursive_repr
 from vokujin import _core
 from vokujin._core import ITEMS, KEYS, VALUES
 
-__all__ = ["Map", "StrMap"]
+__all__ = ["FrozenMap", "FrozenStrMap", "Map", "StrMap"]
 __version__ = "0.1.0"
 
 
@@ -59,13 +60,19 @@ class _Items(ItemsView):
         return self._mapping._all(ITEMS, reverse=True)
 
 
-class _Ordered(MutableMapping):
-    """What maps of all kinds of keys have in common, over the calls of their core."""
+def _pairs_of(pairs):
+    """Returns the pairs of a mapping, or of an iterable of pairs."""
+    if isinstance(pairs, Mapping):
+        return pairs.items()
+    if hasattr(pairs, "keys"):
+        return [(key, pairs[key]) for key in pairs.keys()]
+    return pairs
+
+
+class _Ordered(Mapping):
+    """What maps of all kinds of keys have in common, frozen ones too, over the calls of their core."""
 
     __slots__ = ()
-
-    def __init__(self, pairs=(), /, **named):
-        self.update(pairs, **named)
 
     @classmethod
     def fromkeys(cls, keys, value=None, /):
@@ -76,49 +83,17 @@ class _Ordered(MutableMapping):
         """
         return cls((key, value) for key in keys)
 
-    def update(self, pairs=(), /, **named):
-        """Inserts the pairs of a mapping, or of an iterable of pairs. Keys that are inserted in their order stand in memory as
-        after compact, which makes iterations faster.
-
-        >>> ages = Map({b"ann": 31})
-        >>> ages.update([(b"ann", 32), (b"bob", 27)])
-        >>> ages
-        Map({b'ann': 32, b'bob': 27})
-        """
-        if isinstance(pairs, Mapping):
-            pairs = pairs.items()
-        elif hasattr(pairs, "keys"):
-            pairs = [(key, pairs[key]) for key in pairs.keys()]
-        for key, value in itertools.chain(pairs, named.items()):
-            self[key] = value
-
-    def copy(self):
-        """Returns a map of the same pairs, whose values are the same objects."""
-        return type(self)(self)
-
     def first(self):
         """Returns the pair with the first key, or None if the map is empty.
 
         >>> Map({b"b": 1, b"a": 2}).first()
         (b'a', 2)
         """
-        return self._end(False, False)
+        return self._end(False)
 
     def last(self):
         """Returns the pair with the last key, or None if the map is empty."""
-        return self._end(True, False)
-
-    def popitem(self, last=True):
-        """Removes the pair with the last key, or with the first one, and returns it. An empty map raises KeyError.
-
-        >>> jobs = StrMap({"mow": 3, "dig": 1, "sow": 2})
-        >>> jobs.popitem(), jobs.popitem(last=False), jobs
-        (('sow', 2), ('dig', 1), StrMap({'mow': 3}))
-        """
-        pair = self._end(bool(last), True)
-        if pair is None:
-            raise KeyError("the map is empty")
-        return pair
+        return self._end(True)
 
     def range(self, start=None, end=None, reverse=False):
         """Returns an iterator of the pairs with start <= key < end, in the order of their keys. None is no bound.
@@ -175,6 +150,71 @@ class _Ordered(MutableMapping):
             return len(self) == len(other) and all(map(operator.eq, self.items(), other.items()))
         return super().__eq__(other)
 
+    @recursive_repr()
+    def __repr__(self):
+        return f"{type(self).__name__}({{{', '.join(f'{key!r}: {value!r}' for key, value in self.items())}}})"
+
+
+class _Changed(_Ordered, MutableMapping):
+    """What maps that may be changed have beside that."""
+
+    __slots__ = ()
+
+    def __init__(self, pairs=(), /, **named):
+        self.update(pairs, **named)
+
+    def update(self, pairs=(), /, **named):
+        """Inserts the pairs of a mapping, or of an iterable of pairs. Keys that are inserted in their order stand in memory as
+        after compact, which makes iterations faster.
+
+        >>> ages = Map({b"ann": 31})
+        >>> ages.update([(b"ann", 32), (b"bob", 27)])
+        >>> ages
+        Map({b'ann': 32, b'bob': 27})
+        """
+        for key, value in itertools.chain(_pairs_of(pairs), named.items()):
+            self[key] = value
+
+    def add_all(self, pairs=(), /):
+        """Adds the numbers of a mapping, or of an iterable of pairs, each to the value of its key.
+
+        >>> counts = StrMap(be=1, to=2)
+        >>> counts.add_all({"be": 3, "or": 1})
+        >>> counts
+        StrMap({'be': 4, 'or': 1, 'to': 2})
+        """
+        for key, number in _pairs_of(pairs):
+            self.add(key, number)
+
+    def copy(self):
+        """Returns a map of the same pairs, whose values are the same objects."""
+        return type(self)(self)
+
+    def popitem(self, last=True):
+        """Removes the pair with the last key, or with the first one, and returns it. An empty map raises KeyError.
+
+        >>> jobs = StrMap({"mow": 3, "dig": 1, "sow": 2})
+        >>> jobs.popitem(), jobs.popitem(last=False), jobs
+        (('sow', 2), ('dig', 1), StrMap({'mow': 3}))
+        """
+        pair = self._take_end(bool(last))
+        if pair is None:
+            raise KeyError("the map is empty")
+        return pair
+
+    def freeze(self):
+        """Moves the pairs to a frozen map, which no call changes, and returns it. This map is empty then.
+
+        >>> routes = Map({b"10": "east", b"10.1": "west"})
+        >>> frozen = routes.freeze()
+        >>> frozen.longest_match_many([b"10.1.7", b"10.2", b"11"]), routes
+        ([(b'10.1', 'west'), (b'10', 'east'), None], Map({}))
+
+        It takes the same time for any number of pairs. If an allocation fails, it raises MemoryError, and this map is
+        unchanged.
+        """
+        return self._freeze(self._frozen)
+
     def __or__(self, other):
         if not isinstance(other, Mapping):
             return NotImplemented
@@ -193,16 +233,53 @@ class _Ordered(MutableMapping):
         self.update(other)
         return self
 
-    @recursive_repr()
-    def __repr__(self):
-        return f"{type(self).__name__}({{{', '.join(f'{key!r}: {value!r}' for key, value in self.items())}}})"
-
     def __reduce__(self):
         # The pairs are inserted after the map is made, so that they may refer to it.
         return copyreg.__newobj__, (type(self),), getattr(self, "__dict__", None) or None, None, iter(self.items())
 
 
-class Map(_core.BytesCore, _Ordered):
+class _Frozen(_Ordered):
+    """What frozen maps have beside that."""
+
+    __slots__ = ()
+
+    def __new__(cls, pairs=(), /, **named):
+        return cls._map(pairs, **named)._freeze(cls)
+
+    def __copy__(self):
+        return self
+
+    def __reduce__(self):
+        return type(self), (list(self.items()),), getattr(self, "__dict__", None) or None
+
+
+class FrozenMap(_core.FrozenCore, _Frozen):
+    """A map that is not changed: what Map.freeze returns, or a map of the pairs of a mapping or an iterable of pairs.
+
+    >>> FrozenMap({b"b": 2, b"a": 1})
+    FrozenMap({b'a': 1, b'b': 2})
+
+    It has the calls of Map that change nothing, and two that look up many keys. While they do that other threads run, and may
+    look up keys in the same map; the lock is held while keys are taken from Python's objects, and results made of them.
+
+    >>> FrozenMap({b"b": 2, b"a": 1}).get_many([b"a", b"c", b"b"], 0)
+    [1, 0, 2]
+    """
+
+    __slots__ = ("__weakref__",)
+
+
+class FrozenStrMap(_core.FrozenCore, _Frozen):
+    """A StrMap that is not changed: what StrMap.freeze returns. It has the calls of FrozenMap.
+
+    >>> FrozenStrMap(car=1, cart=2).longest_match_many(["carton", "dog"])
+    [('cart', 2), None]
+    """
+
+    __slots__ = ("__weakref__",)
+
+
+class Map(_core.BytesCore, _Changed):
     """An ordered map whose keys are bytes, and whose values are any objects.
 
     >>> codes = Map({b"car": 1, b"cart": 2, b"dog": 3})
@@ -226,9 +303,10 @@ class Map(_core.BytesCore, _Ordered):
     """
 
     __slots__ = ("__weakref__",)
+    _frozen = FrozenMap
 
 
-class StrMap(_core.TextCore, _Ordered):
+class StrMap(_core.TextCore, _Changed):
     """An ordered map whose keys are strings, and whose values are any objects.
 
     It has the calls of Map. Keys are stored as UTF-8, so their order is that of their code points, which is that of Python's
@@ -240,3 +318,7 @@ class StrMap(_core.TextCore, _Ordered):
     """
 
     __slots__ = ("__weakref__",)
+    _frozen = FrozenStrMap
+
+
+FrozenMap._map, FrozenStrMap._map = Map, StrMap

@@ -4,7 +4,8 @@
  * the garbage collector reads that array, and allocates nothing.
  * The interpreter's lock is held during a call, and the library calls nothing of Python. Whatever may run other code (the
  * conversion of a key, the allocation of a container, the end of a value) stands before a call or after the map is whole
- * again, and no slot is used after it. */
+ * again, and no slot is used after it. Only lookups of many keys in a frozen map release the lock: pairs and values of that
+ * map do not change, and each such lookup has a handle of its own. */
 #define PY_SSIZE_T_CLEAN
 #include <Python.h>
 #include <stdbool.h>
@@ -70,15 +71,18 @@ static void values_drop(Values values) {
 
 typedef struct {
     PyObject_HEAD
-    vokujin_map map;
+    union {
+        vokujin_map map;
+        vokujin_frozen frozen;
+    };
     Values values;
     /* How often keys were inserted or removed, and how often a key was given another slot. */
     uint64_t changes, moves;
-    bool is_text;
+    bool is_text, is_frozen;
 } Core;
 
 typedef struct {
-    PyTypeObject *pairs_type;
+    PyTypeObject *pairs_type, *frozen_type;
 } State;
 
 #define CORE(object) ((Core *)(object))
@@ -134,6 +138,32 @@ static int answer(uint32_t code) {
     return -1;
 }
 
+/* The calls that both a map and a frozen one have --------------------------------------------------------------------- */
+
+static uint32_t read_len(const Core *self, size_t *len) {
+    return self->is_frozen ? vokujin_frozen_len(&self->frozen, len) : vokujin_len(&self->map, len);
+}
+
+static uint32_t read_get(const Core *self, const char *key, size_t len, uint64_t *slot) {
+    return self->is_frozen ? vokujin_frozen_get(&self->frozen, key, len, slot) : vokujin_get(&self->map, key, len, slot);
+}
+
+static uint32_t read_longest_match(const Core *self, const char *query, size_t len, vokujin_pair *pair) {
+    return self->is_frozen ? vokujin_frozen_longest_match(&self->frozen, query, len, pair) : vokujin_longest_match(&self->map, query, len, pair);
+}
+
+/* Writes the pair at an end, as vokujin_first and vokujin_last do. */
+static uint32_t read_end(const Core *self, bool is_last, char *buffer, size_t len, vokujin_pair *pair) {
+    vokujin_given given = {0, 0};
+    if (!self->is_frozen) return (is_last ? vokujin_last : vokujin_first)(&self->map, buffer, len, pair);
+    uint32_t code = vokujin_frozen_next_pairs(&self->frozen, "", 0, VOKUJIN_UNBOUNDED, "", 0, VOKUJIN_UNBOUNDED, is_last, buffer, len, pair, 1, &given);
+    if (given.count == 1) return VOKUJIN_DONE;
+    if (code == VOKUJIN_TOO_LONG) pair->key_len = given.key_len;
+    return code == VOKUJIN_DONE ? VOKUJIN_ABSENT : code;
+}
+
+/* Changes of a map ---------------------------------------------------------------------------------------------------- */
+
 /* Inserts a pair, or replaces the value of its key. Returns 0, or -1 with an error. */
 static int store(Core *self, const Key *key, PyObject *value) {
     uint64_t replaced;
@@ -152,7 +182,7 @@ static int store(Core *self, const Key *key, PyObject *value) {
 /* Looks up a key, and writes a new reference to its value. Returns as answer does. */
 static int look_up(const Core *self, const Key *key, PyObject **value) {
     uint64_t slot;
-    int found = answer(vokujin_get(&self->map, key->bytes, (size_t)key->len, &slot));
+    int found = answer(read_get(self, key->bytes, (size_t)key->len, &slot));
     if (found == 1) *value = values_get(&self->values, slot);
     return found;
 }
@@ -202,8 +232,16 @@ static int core_traverse(PyObject *self, visitproc visit, void *arg) {
     return 0;
 }
 
+/* Calls on a frozen map raise RuntimeError from then on. */
+static void drop_frozen(Core *self) {
+    Values values = self->values;
+    self->values = (Values){.unused = NO_SLOT};
+    vokujin_frozen_free(&self->frozen);
+    values_drop(values);
+}
+
 static int core_clear(PyObject *self) {
-    drop_pairs(CORE(self));
+    (CORE(self)->is_frozen ? drop_frozen : drop_pairs)(CORE(self));
     return 0;
 }
 
@@ -211,7 +249,8 @@ static void core_dealloc(PyObject *self) {
     PyTypeObject *type = Py_TYPE(self);
     freefunc release = (freefunc)PyType_GetSlot(type, Py_tp_free);
     PyObject_GC_UnTrack(self);
-    vokujin_free(&CORE(self)->map);
+    if (CORE(self)->is_frozen) vokujin_frozen_free(&CORE(self)->frozen);
+    else vokujin_free(&CORE(self)->map);
     values_drop(CORE(self)->values);
     release(self);
     Py_DECREF(type);
@@ -221,14 +260,14 @@ static void core_dealloc(PyObject *self) {
 
 static Py_ssize_t core_len(PyObject *self) {
     size_t len;
-    return answer(vokujin_len(&CORE(self)->map, &len)) == 1 ? (Py_ssize_t)len : -1;
+    return answer(read_len(CORE(self), &len)) == 1 ? (Py_ssize_t)len : -1;
 }
 
 static int core_contains(PyObject *self, PyObject *object) {
     Key key;
     uint64_t slot;
     if (!key_of(CORE(self), object, &key)) return -1;
-    uint32_t code = vokujin_get(&CORE(self)->map, key.bytes, (size_t)key.len, &slot);
+    uint32_t code = read_get(CORE(self), key.bytes, (size_t)key.len, &slot);
     Py_DECREF(key.owner);
     return answer(code);
 }
@@ -335,7 +374,7 @@ static PyObject *core_count_prefix(PyObject *self, PyObject *object) {
 /* Writes the pair with the longest key that is a prefix of `len` bytes of the query, and its key's length. Returns as answer does. */
 static int longest_match(const Core *self, const Key *query, size_t len, PyObject **pair, size_t *key_len) {
     vokujin_pair found;
-    int status = answer(vokujin_longest_match(&self->map, query->bytes, len, &found));
+    int status = answer(read_longest_match(self, query->bytes, len, &found));
     if (status != 1) return status;
     PyObject *value = values_get(&self->values, found.value);
     *pair = pair_object(key_object(self->is_text, query->bytes, found.key_len), value);
@@ -378,14 +417,13 @@ static PyObject *core_matches(PyObject *self, PyObject *object) {
 
 /* Writes the pair at an end to a tuple, and removes it from the map if asked to. Returns as answer does. */
 static int end_pair(Core *self, bool is_last, bool removes, PyObject *tuple) {
-    uint32_t (*end)(const vokujin_map *, void *, size_t, vokujin_pair *) = is_last ? vokujin_last : vokujin_first;
     char few[256], *bytes = few;
     vokujin_pair pair;
     PyObject *key, *value = NULL;
-    uint32_t code = end(&self->map, few, sizeof few, &pair);
+    uint32_t code = read_end(self, is_last, few, sizeof few, &pair);
     if (code == VOKUJIN_TOO_LONG) {
         bytes = PyMem_Malloc(pair.key_len);
-        code = bytes ? end(&self->map, bytes, pair.key_len, &pair) : VOKUJIN_NO_MEMORY;
+        code = bytes ? read_end(self, is_last, bytes, pair.key_len, &pair) : VOKUJIN_NO_MEMORY;
     }
     int found = answer(code);
     if (found == 1 && (key = key_object(self->is_text, bytes, pair.key_len))) {
@@ -401,14 +439,21 @@ static int end_pair(Core *self, bool is_last, bool removes, PyObject *tuple) {
 }
 
 /* Returns the pair at an end, or None. Its tuple is allocated first, so that nothing stands between lookup and removal. */
-static PyObject *core_end(PyObject *self, PyObject *const *args, Py_ssize_t count) {
-    if (!takes(count, 2, 2)) return NULL;
+static PyObject *end_or_none(PyObject *self, bool is_last, bool removes) {
     PyObject *tuple = PyTuple_New(2);
     if (!tuple) return NULL;
-    int found = end_pair(CORE(self), args[0] == Py_True, args[1] == Py_True, tuple);
+    int found = end_pair(CORE(self), is_last, removes, tuple);
     if (found == 1) return tuple;
     Py_DECREF(tuple);
     return found == 0 ? Py_NewRef(Py_None) : NULL;
+}
+
+static PyObject *core_end(PyObject *self, PyObject *is_last) {
+    return end_or_none(self, is_last == Py_True, false);
+}
+
+static PyObject *core_take_end(PyObject *self, PyObject *is_last) {
+    return end_or_none(self, is_last == Py_True, true);
 }
 
 /* Iterations ---------------------------------------------------------------------------------------------------------- */
@@ -480,16 +525,23 @@ static bool pairs_continue(Pairs *self) {
     return true;
 }
 
+static uint32_t pairs_read(Pairs *self, vokujin_given *given) {
+    const Bound *from = &self->from, *to = &self->to;
+    if (self->map->is_frozen)
+        return vokujin_frozen_next_pairs(&self->map->frozen, from->bytes, from->len, from->kind, to->bytes, to->len, to->kind, self->is_backward,
+                                         self->keys, self->keys_room, self->pairs, self->pairs_room, given);
+    return vokujin_next_pairs(&self->map->map, from->bytes, from->len, from->kind, to->bytes, to->len, to->kind, self->is_backward,
+                              self->keys, self->keys_room, self->pairs, self->pairs_room, given);
+}
+
 /* Has the library write the next pairs. The second time there is room for the next key. */
 static bool pairs_fill(Pairs *self) {
-    const Bound *from = &self->from, *to = &self->to;
     if (!pairs_continue(self)) return false;
     vokujin_given given = {0, 0};
     uint32_t code;
     do {
         if (!pairs_grow(self)) return false;
-        code = vokujin_next_pairs(&self->map->map, from->bytes, from->len, from->kind, to->bytes, to->len, to->kind, self->is_backward,
-                                  self->keys, self->keys_room, self->pairs, self->pairs_room, &given);
+        code = pairs_read(self, &given);
         self->key_len = given.key_len;
     } while (code == VOKUJIN_TOO_LONG && given.count == 0);
     if (code != VOKUJIN_DONE && code != VOKUJIN_FULL && code != VOKUJIN_TOO_LONG) {
@@ -507,7 +559,7 @@ static bool pairs_value(const Pairs *self, const char *key, PyObject **value) {
     const vokujin_pair *pair = &self->pairs[self->next];
     uint64_t slot = pair->value;
     if (self->kind == KEYS) return true;
-    if (self->moves != self->map->moves && answer(vokujin_get(&self->map->map, key, pair->key_len, &slot)) != 1) return false;
+    if (self->moves != self->map->moves && answer(read_get(self->map, key, pair->key_len, &slot)) != 1) return false;
     *value = values_get(&self->map->values, slot);
     return true;
 }
@@ -635,82 +687,243 @@ static PyObject *core_remove_prefix(PyObject *self, PyTypeObject *definer, PyObj
     return removed;
 }
 
+/* Frozen maps --------------------------------------------------------------------------------------------------------- */
+
+/* Moves the pairs to a frozen map of a class, and returns that. The map is empty then. */
+static PyObject *core_freeze(PyObject *self, PyTypeObject *definer, PyObject *const *args, Py_ssize_t count, PyObject *Py_UNUSED(names)) {
+    State *state = PyType_GetModuleState(definer);
+    if (!takes(count, 1, 1)) return NULL;
+    PyTypeObject *type = (PyTypeObject *)args[0];
+    if (!PyType_Check(args[0]) || !PyType_IsSubtype(type, state->frozen_type)) return PyErr_Format(PyExc_TypeError, "%R is no frozen map", args[0]);
+    allocfunc alloc = (allocfunc)PyType_GetSlot(type, Py_tp_alloc);
+    Core *made = CORE(alloc(type, 0));
+    if (!made) return NULL;
+    vokujin_frozen_new(&made->frozen);
+    made->is_frozen = true;
+    made->is_text = CORE(self)->is_text;
+    made->values.unused = NO_SLOT;
+    if (answer(vokujin_freeze(&CORE(self)->map, &made->frozen)) == 1) {
+        made->values = CORE(self)->values;
+        CORE(self)->values = (Values){.unused = NO_SLOT};
+        CORE(self)->changes++;
+        return (PyObject *)made;
+    }
+    Py_DECREF(made);
+    return NULL;
+}
+
+static PyObject *frozen_count_prefix(PyObject *self, PyTypeObject *definer, PyObject *const *args, Py_ssize_t count, PyObject *Py_UNUSED(names)) {
+    if (!takes(count, 1, 1)) return NULL;
+    Pairs *pairs = pairs_new(self, definer, KEYS, false);
+    if (!pairs) return NULL;
+    bool is_counted = bounds_of_prefix(pairs, args[0]);
+    size_t found = 0;
+    while (is_counted && pairs->is_more && (is_counted = pairs_fill(pairs))) {
+        found += pairs->count;
+        for (size_t at = 0; at < pairs->count; at++) pairs->at += pairs->pairs[at].key_len;
+    }
+    Py_DECREF(pairs);
+    return is_counted ? PyLong_FromSize_t(found) : NULL;
+}
+
+/* One of many keys that are looked up, or of many queries, and what is found: a slot, or NO_SLOT, and the length of its key. */
+typedef struct {
+    Key key;
+    uint64_t slot;
+    size_t key_len;
+} Query;
+
+/* Some queries, which own what they refer to. */
+typedef struct {
+    Query *all;
+    Py_ssize_t count;
+} Queries;
+
+static void queries_drop(Queries queries) {
+    while (queries.count > 0) Py_DECREF(queries.all[--queries.count].key.owner);
+    PyMem_Free(queries.all);
+}
+
+/* Writes the queries of a tuple of keys. */
+static bool queries_of(const Core *self, PyObject *tuple, Queries *queries) {
+    Py_ssize_t count = PyTuple_Size(tuple);
+    *queries = (Queries){PyMem_Malloc((size_t)count * sizeof(Query)), 0};
+    if (!queries->all) PyErr_NoMemory();
+    while (queries->all && queries->count < count) {
+        Query *query = &queries->all[queries->count];
+        if (!key_of(self, PyTuple_GetItem(tuple, queries->count), &query->key)) break;
+        query->slot = NO_SLOT;
+        queries->count++;
+    }
+    if (queries->all && queries->count == count) return true;
+    queries_drop(*queries);
+    return false;
+}
+
+static uint32_t query_get(const vokujin_frozen *frozen, Query *query) {
+    return vokujin_frozen_get(frozen, query->key.bytes, (size_t)query->key.len, &query->slot);
+}
+
+static uint32_t query_longest_match(const vokujin_frozen *frozen, Query *query) {
+    vokujin_pair found = {NO_SLOT, 0};
+    uint32_t code = vokujin_frozen_longest_match(frozen, query->key.bytes, (size_t)query->key.len, &found);
+    query->slot = found.value;
+    query->key_len = found.key_len;
+    return code;
+}
+
+/* Answers the queries by a handle of their own, without the interpreter's lock. Returns false with an error. */
+static bool queries_answer(const Core *self, Queries queries, uint32_t (*call)(const vokujin_frozen *, Query *)) {
+    vokujin_frozen frozen;
+    vokujin_frozen_new(&frozen);
+    if (answer(vokujin_frozen_share(&self->frozen, &frozen)) != 1) return false;
+    uint32_t code = VOKUJIN_DONE;
+    Py_BEGIN_ALLOW_THREADS
+    for (Py_ssize_t at = 0; at < queries.count && code <= VOKUJIN_ABSENT; at++) code = call(&frozen, &queries.all[at]);
+    vokujin_frozen_free(&frozen);
+    Py_END_ALLOW_THREADS
+    return answer(code) >= 0;
+}
+
+/* Returns what is found for a query: its value, or the pair, or without one `other`. */
+static PyObject *query_result(const Core *self, const Query *query, bool is_pair, PyObject *other) {
+    if (query->slot == NO_SLOT) return Py_NewRef(other);
+    PyObject *value = values_get(&self->values, query->slot);
+    return is_pair ? pair_object(key_object(self->is_text, query->key.bytes, query->key_len), value) : value;
+}
+
+/* Returns a list of what is found for each of the keys, which are in an iterable. */
+static PyObject *found_of_all(const Core *self, PyObject *keys, bool is_pair, PyObject *other) {
+    Queries queries = {NULL, 0};
+    PyObject *tuple = PySequence_Tuple(keys), *list = NULL, *found;
+    if (tuple && queries_of(self, tuple, &queries)) {
+        if (queries_answer(self, queries, is_pair ? query_longest_match : query_get)) list = PyList_New(queries.count);
+        for (Py_ssize_t at = 0; list && at < queries.count; at++) {
+            if ((found = query_result(self, &queries.all[at], is_pair, other))) PyList_SetItem(list, at, found);
+            else Py_CLEAR(list);
+        }
+        queries_drop(queries);
+    }
+    Py_XDECREF(tuple);
+    return list;
+}
+
+static PyObject *frozen_get_many(PyObject *self, PyObject *const *args, Py_ssize_t count) {
+    return takes(count, 1, 2) ? found_of_all(CORE(self), args[0], false, count == 2 ? args[1] : Py_None) : NULL;
+}
+
+static PyObject *frozen_longest_match_many(PyObject *self, PyObject *queries) {
+    return found_of_all(CORE(self), queries, true, Py_None);
+}
+
 /* The module ---------------------------------------------------------------------------------------------------------- */
 
-#define CALL(name) ((PyCFunction)(void (*)(void))core_##name)
-#define ENTRY(name, flags, signature, text) {#name, CALL(name), flags, #name signature "\n--\n\n" text}
-#define PRIVATE(name) {"_" #name, CALL(name), METH_METHOD | METH_FASTCALL | METH_KEYWORDS, NULL}
+#define CALL(name) ((PyCFunction)(void (*)(void))name)
+#define ENTRY(kind, name, flags, signature, text) {#name, CALL(kind##_##name), flags, #name signature "\n--\n\n" text}
+#define PRIVATE(name, flags) {"_" #name, CALL(core_##name), flags, NULL}
+/* The flags of a call that needs the type that defines it. */
+#define METH_DEFINED (METH_METHOD | METH_FASTCALL | METH_KEYWORDS)
+#define COUNT_PREFIX "Returns how many keys start with a prefix, in time in proportion to that number."
 
-static PyMethodDef core_methods[] = {
-    ENTRY(get, METH_FASTCALL, "($self, key, default=None, /)", "Returns the value of a key, or the default if the key is absent."),
-    ENTRY(pop, METH_FASTCALL, "($self, key, default=<no default>, /)",
-          "Removes a key and returns its value. If the key is absent it returns the default, or raises KeyError without one."),
-    ENTRY(setdefault, METH_FASTCALL, "($self, key, default=None, /)", "Returns the value of a key. If the key is absent, the default is inserted first."),
-    ENTRY(add, METH_FASTCALL, "($self, key, number=1, /)",
-          "Adds a number to the value of a key and returns the sum. If the key is absent, the number is inserted."),
-    ENTRY(compact, METH_NOARGS, "($self, /)",
-          "Moves the pairs into the order of their keys in memory, which makes iterations faster. If an allocation fails, it\n"
-          "raises MemoryError and the map is unchanged."),
-    ENTRY(count_prefix, METH_O, "($self, prefix, /)", "Returns how many keys start with a prefix, in time in proportion to that number."),
-    ENTRY(longest_match, METH_O, "($self, query, /)", "Returns the pair with the longest key that is a prefix of the query, or None."),
-    ENTRY(matches, METH_O, "($self, query, /)",
+/* What a map and a frozen one have in common. */
+static PyMethodDef read_methods[] = {
+    ENTRY(core, get, METH_FASTCALL, "($self, key, default=None, /)", "Returns the value of a key, or the default if the key is absent."),
+    ENTRY(core, longest_match, METH_O, "($self, query, /)", "Returns the pair with the longest key that is a prefix of the query, or None."),
+    ENTRY(core, matches, METH_O, "($self, query, /)",
           "Returns a list of the pairs whose keys are prefixes of the query, the shortest first, by one lookup for each and one more."),
-    ENTRY(remove_prefix, METH_METHOD | METH_FASTCALL | METH_KEYWORDS, "($self, prefix, /)",
-          "Removes the pairs whose keys start with a prefix, and returns their number. It copies their keys, then makes a\n"
-          "removal for each. If an allocation fails, it raises MemoryError and the map is unchanged."),
-    {"clear", core_clear_call, METH_NOARGS, "clear($self, /)\n--\n\nRemoves all pairs."},
-    {"_end", CALL(end), METH_FASTCALL, NULL},
-    PRIVATE(range),
-    PRIVATE(prefix),
+    PRIVATE(end, METH_O),
+    PRIVATE(range, METH_DEFINED),
+    PRIVATE(prefix, METH_DEFINED),
     {NULL, NULL, 0, NULL},
 };
 
-static PyType_Slot core_slots[] = {
-    {Py_tp_new, core_new},
+static PyMethodDef core_methods[] = {
+    ENTRY(core, pop, METH_FASTCALL, "($self, key, default=<no default>, /)",
+          "Removes a key and returns its value. If the key is absent it returns the default, or raises KeyError without one."),
+    ENTRY(core, setdefault, METH_FASTCALL, "($self, key, default=None, /)", "Returns the value of a key. If the key is absent, the default is inserted first."),
+    ENTRY(core, add, METH_FASTCALL, "($self, key, number=1, /)",
+          "Adds a number to the value of a key and returns the sum. If the key is absent, the number is inserted."),
+    ENTRY(core, compact, METH_NOARGS, "($self, /)",
+          "Moves the pairs into the order of their keys in memory, which makes iterations faster. If an allocation fails, it\n"
+          "raises MemoryError and the map is unchanged."),
+    ENTRY(core, count_prefix, METH_O, "($self, prefix, /)", COUNT_PREFIX),
+    ENTRY(core, remove_prefix, METH_DEFINED, "($self, prefix, /)",
+          "Removes the pairs whose keys start with a prefix, and returns their number. It copies their keys, then makes a\n"
+          "removal for each. If an allocation fails, it raises MemoryError and the map is unchanged."),
+    {"clear", core_clear_call, METH_NOARGS, "clear($self, /)\n--\n\nRemoves all pairs."},
+    PRIVATE(take_end, METH_O),
+    PRIVATE(freeze, METH_DEFINED),
+    {NULL, NULL, 0, NULL},
+};
+
+static PyMethodDef frozen_methods[] = {
+    ENTRY(frozen, count_prefix, METH_DEFINED, "($self, prefix, /)", COUNT_PREFIX),
+    ENTRY(frozen, get_many, METH_FASTCALL, "($self, keys, default=None, /)",
+          "Returns a list of the values of these keys, with the default for those that are absent. Other threads run while the\n"
+          "keys are looked up."),
+    ENTRY(frozen, longest_match_many, METH_O, "($self, queries, /)",
+          "Returns a list of the longest_match of each query. Other threads run while they are looked up."),
+    {NULL, NULL, 0, NULL},
+};
+
+static PyType_Slot read_slots[] = {
     {Py_tp_dealloc, core_dealloc},
     {Py_tp_traverse, core_traverse},
     {Py_tp_clear, core_clear},
-    {Py_tp_methods, core_methods},
+    {Py_tp_methods, read_methods},
     {Py_mp_length, core_len},
     {Py_mp_subscript, core_subscript},
-    {Py_mp_ass_subscript, core_ass_subscript},
     {Py_sq_contains, core_contains},
     {0, NULL},
 };
 
-static PyType_Slot text_slots[] = {
-    {Py_tp_new, text_new}, {Py_tp_dealloc, core_dealloc}, {Py_tp_traverse, core_traverse}, {Py_tp_clear, core_clear}, {0, NULL},
+#define SAME_MEMORY {Py_tp_dealloc, core_dealloc}, {Py_tp_traverse, core_traverse}, {Py_tp_clear, core_clear}
+static PyType_Slot core_slots[] = {
+    SAME_MEMORY, {Py_tp_new, core_new}, {Py_tp_methods, core_methods}, {Py_mp_ass_subscript, core_ass_subscript}, {0, NULL},
 };
+static PyType_Slot text_slots[] = {SAME_MEMORY, {Py_tp_new, text_new}, {0, NULL}};
+static PyType_Slot frozen_slots[] = {SAME_MEMORY, {Py_tp_methods, frozen_methods}, {0, NULL}};
 
 static PyType_Slot pairs_slots[] = {
     {Py_tp_dealloc, pairs_dealloc}, {Py_tp_traverse, pairs_traverse}, {Py_tp_iter, PyObject_SelfIter}, {Py_tp_iternext, pairs_next}, {0, NULL},
 };
 
-static PyType_Spec core_spec = {"vokujin._core.BytesCore", sizeof(Core), 0, Py_TPFLAGS_DEFAULT | Py_TPFLAGS_BASETYPE | Py_TPFLAGS_HAVE_GC, core_slots};
-static PyType_Spec text_spec = {"vokujin._core.TextCore", sizeof(Core), 0, Py_TPFLAGS_DEFAULT | Py_TPFLAGS_BASETYPE | Py_TPFLAGS_HAVE_GC, text_slots};
-static PyType_Spec pairs_spec = {"vokujin._core.Pairs", sizeof(Pairs), 0, Py_TPFLAGS_DEFAULT | Py_TPFLAGS_HAVE_GC | Py_TPFLAGS_DISALLOW_INSTANTIATION, pairs_slots};
+#define OF_PAIRS (Py_TPFLAGS_DEFAULT | Py_TPFLAGS_HAVE_GC)
+static PyType_Spec read_spec = {"vokujin._core.ReadCore", sizeof(Core), 0, OF_PAIRS | Py_TPFLAGS_BASETYPE | Py_TPFLAGS_DISALLOW_INSTANTIATION, read_slots};
+static PyType_Spec core_spec = {"vokujin._core.BytesCore", sizeof(Core), 0, OF_PAIRS | Py_TPFLAGS_BASETYPE, core_slots};
+static PyType_Spec text_spec = {"vokujin._core.TextCore", sizeof(Core), 0, OF_PAIRS | Py_TPFLAGS_BASETYPE, text_slots};
+static PyType_Spec frozen_spec = {"vokujin._core.FrozenCore", sizeof(Core), 0, OF_PAIRS | Py_TPFLAGS_BASETYPE | Py_TPFLAGS_DISALLOW_INSTANTIATION, frozen_slots};
+static PyType_Spec pairs_spec = {"vokujin._core.Pairs", sizeof(Pairs), 0, OF_PAIRS | Py_TPFLAGS_DISALLOW_INSTANTIATION, pairs_slots};
 
-/* Adds the types of maps, of which the second one derives from the first. */
-static int add_maps(PyObject *module) {
-    PyObject *core = PyType_FromModuleAndSpec(module, &core_spec, NULL);
-    PyObject *bases = core ? PyTuple_Pack(1, core) : NULL;
-    PyObject *text = bases ? PyType_FromModuleAndSpec(module, &text_spec, bases) : NULL;
-    int status = text ? PyModule_AddType(module, (PyTypeObject *)core) : -1;
-    if (status == 0) status = PyModule_AddType(module, (PyTypeObject *)text);
-    Py_XDECREF(core);
+/* Adds a type that derives from another, if there is one, and returns it. */
+static PyTypeObject *add_type(PyObject *module, PyType_Spec *spec, PyTypeObject *base) {
+    PyObject *bases = base ? PyTuple_Pack(1, base) : NULL;
+    PyObject *type = base && !bases ? NULL : PyType_FromModuleAndSpec(module, spec, bases);
     Py_XDECREF(bases);
+    if (type && PyModule_AddType(module, (PyTypeObject *)type) < 0) Py_CLEAR(type);
+    return (PyTypeObject *)type;
+}
+
+/* Adds the types of maps: what is read, from which maps and frozen ones derive, and from maps of bytes those of strings. */
+static int add_maps(PyObject *module, State *state) {
+    PyTypeObject *read = add_type(module, &read_spec, NULL);
+    PyTypeObject *core = read ? add_type(module, &core_spec, read) : NULL;
+    PyTypeObject *text = core ? add_type(module, &text_spec, core) : NULL;
+    state->frozen_type = text ? add_type(module, &frozen_spec, read) : NULL;
+    Py_XDECREF(read);
+    Py_XDECREF(core);
     Py_XDECREF(text);
-    return status;
+    return state->frozen_type ? 0 : -1;
 }
 
 static int module_exec(PyObject *module) {
     State *state = PyModule_GetState(module);
-    if (vokujin_size() != sizeof(vokujin_map)) {
+    if (vokujin_size() != sizeof(vokujin_map) || vokujin_frozen_size() != sizeof(vokujin_frozen)) {
         PyErr_SetString(PyExc_ImportError, "the library and the header that this module was built from differ");
         return -1;
     }
     state->pairs_type = (PyTypeObject *)PyType_FromModuleAndSpec(module, &pairs_spec, NULL);
-    if (!state->pairs_type || add_maps(module) < 0) return -1;
+    if (!state->pairs_type || add_maps(module, state) < 0) return -1;
     if (PyModule_AddIntMacro(module, KEYS) < 0 || PyModule_AddIntMacro(module, VALUES) < 0) return -1;
     return PyModule_AddIntMacro(module, ITEMS);
 }
@@ -718,12 +931,14 @@ static int module_exec(PyObject *module) {
 static int module_traverse(PyObject *module, visitproc visit, void *arg) {
     State *state = PyModule_GetState(module);
     Py_VISIT(state->pairs_type);
+    Py_VISIT(state->frozen_type);
     return 0;
 }
 
 static int module_clear(PyObject *module) {
     State *state = PyModule_GetState(module);
     Py_CLEAR(state->pairs_type);
+    Py_CLEAR(state->frozen_type);
     return 0;
 }
 
