@@ -3,3 +3,4 @@ pub use art_keyed::map::{
     BothRefused, Matches, MatchesOf, Nested, PairRefused, TextRefused, TreeEntry, TreeEntryOf,
     TreeExtractPrefix, TreeExtractPrefixOf, TreeExtractRange, TreeExtractRangeOf, TreeMap,
 };
+pub use art_map::map::SplitRefused;
