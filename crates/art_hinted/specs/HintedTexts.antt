@@ -1,5 +1,5 @@
 -- The final state of a map of strings with hints, from which a `&mut` to a value is borrowed by a text.
-use Rattle.std.specs.Prelude.{ℕ, List, Option, Result}
+use Rattle.std.specs.Prelude.{ℕ, List, Option, Result, ⊤}
 use Rattle.std.specs.Borrow.{Fml, RattleType, MutBor}
 use Rattle.art_keys.specs.Ended.{HasNoZero, ended}
 use Rattle.art_keys.specs.Escapes.{escape}

@@ -9,7 +9,10 @@ ghost use Rattle.art_map.specs.MapItems.{deref_pair};
 ghost use Rattle.art_hinted.specs.HintedTexts.{lends_escaped, lends_escaped_put};
 
 use super::HintedMap;
+use crate::hints::Hints;
+use art_keyed::map::TreeMap;
 use art_keys::escaped::Escaped;
+use art_nodes::node::LeafPtr;
 use art_reading::lookup::EndedQuery;
 use std::alloc::{AllocFailed, Global};
 
@@ -76,10 +79,7 @@ impl<V: Drop, const P: usize> HintedMap<Escaped, V, P> {
         ensures refused { OnErr result
             (has_key (of_key escape) (escape text.now) self.old ≡ false) }
     {
-        let near = match plain_query(text) {
-            Some(query) => self.hints.foresee(&self.map, query),
-            None => None,
-        };
+        let near = foresee_plain(&mut self.hints, &self.map, text);
         match self.map.get_text_or_insert_near(near, alloc, text, value) {
             Ok(lent) => Ok(lent),
             Err(refused) => Err(refused),
@@ -104,8 +104,19 @@ impl<V: Drop, const P: usize> HintedMap<Escaped, V, P> {
 fn plain_query(text: &[u8]) -> Option<EndedQuery<'_>>
     ensures { IfSome result (λ query. query.text.now ++ query.end ∷ [] ≡ escape text.now) }
 {
-    if !Escaped::is_plain(text) {
-        return None;
+    if Escaped::is_plain(text) {
+        return Some(EndedQuery { text, end: 0 });
     }
-    Some(EndedQuery { text, end: 0 })
+    None
+}
+
+// The name that a hint has of a text's leaf, if no byte of the text is escaped.
+#[inline]
+fn foresee_plain<V: Drop, const P: usize>(
+    hints: &mut Hints,
+    map: &TreeMap<Escaped, V, P>,
+    text: &[u8],
+) -> Option<LeafPtr> {
+    let query = plain_query(text)?;
+    hints.foresee(map, query)
 }
