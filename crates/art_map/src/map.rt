@@ -83,8 +83,8 @@ pub enum MapInsertError<K, V> {
         value: V,
         error: InsertPrefixError,
     },
-    /// An allocation failed, and no equal key is stored. A conflicting one may be: a `Conflict` needs memory for the bytes
-    /// of the key.
+    /// An allocation failed, and no equal key is stored. A conflicting one may be: a `Conflict` needs memory for the
+    /// bytes of the key.
     #[error("memory allocation failed")]
     Memory {
         key: K,

@@ -35,8 +35,8 @@ pub enum SetInsertError<K> {
     /// A stored key conflicts with the key: they are unequal, and one of the two is a prefix of the other.
     #[error("{error}")]
     Conflict { key: K, error: InsertPrefixError },
-    /// An allocation failed, and no equal key is stored. A conflicting one may be: a `Conflict` needs memory for the bytes
-    /// of the key.
+    /// An allocation failed, and no equal key is stored. A conflicting one may be: a `Conflict` needs memory for the
+    /// bytes of the key.
     #[error("memory allocation failed")]
     Memory { key: K },
 }

@@ -7,8 +7,8 @@ use art_keys::laws::NoPrefixesBytes;
 
 impl<K: NoPrefixesBytes + Drop, const P: usize> TreeSet<K, P> {
     /// Keeps the keys for which the closure returns true, and removes the others. The closure is called once for each
-    /// key, in their order. It is dropped at the end, so only the contract of `retain_by_ref` rules out further calls. It
-    /// never fails.
+    /// key, in their order. It is dropped at the end, so only the contract of `retain_by_ref` rules out further calls.
+    /// It never fails.
     pub fn retain<F: FnMut(&K) -> bool>(&mut self, f: F)
         requires { F.IsAlwaysCallable f }
         ensures keys { RetainsAll (CalledAt F.FnMut) f self.old self.new }

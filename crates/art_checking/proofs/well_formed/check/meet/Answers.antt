@@ -16,6 +16,10 @@ returns-in-Some-clause-fault g c root reached reach before =
     let first = c.in-Some.first.now in
     let at : place_in c.args.seen.now name ≡ Some first = sym c.in-Some.ensures in
     let one = reached name first at in
-    said bytes g.row.P s root c.loop_found.result c.loop_found.ensures
-    (one, reach, other_way (node_at s) bytes g.row.P root name name first c.args.place.now one reach
-    (before_differs first c.args.place.now (before first at)), before first at)
+    said bytes g.row.P s root c.loop_found.result c.loop_found.ensures (
+      one,
+      reach,
+      other_way (node_at s) bytes g.row.P root name name first c.args.place.now one reach
+          (before_differs first c.args.place.now (before first at)),
+      before first at,
+    )
