@@ -12,11 +12,7 @@ use Rattle.art_reading.proofs.ShortTexts.{IsShortWay, over_all, short_begins, sh
 use Rattle.art_reading.proofs.lookup.shortest.walk_to_first.Goals as goal
 
 pub down-init : goal.down-init
-down-init g c = record {
-  within = omega arith;
-  readings = record { number = 0; counted = omega arith; is_number = (omega arith, λ pairs layout by. read_begins (take c.args.at_least c.args.query.now) by) };
-  way = λ pairs layout by. short_begins by c.args.end c.args.query.now c.args.at_least;
-}
+down-init g c = record { within = omega arith; readings = record { number = 0; counted = omega arith; is_number = (omega arith, λ pairs layout by. read_begins (take c.args.at_least c.args.query.now) by) }; way = λ pairs layout by. short_begins by c.args.end c.args.query.now c.args.at_least }
 
 pub returns-in-Leaf-clause-ends : goal.returns-in-Leaf-clause-ends
 returns-in-Leaf-clause-ends g c pairs layout by =

@@ -13,11 +13,7 @@ use Rattle.art_reading.specs.declared.lookup.texts.TextEnd.TheVariants.{Passed, 
 use Rattle.art_reading.proofs.lookup.texts.walk_to_text.Goals as goal
 
 pub down-init : goal.down-init
-down-init g c = record {
-  within = omega arith;
-  readings = record { number = 0; counted = omega arith; is_number = (omega arith, λ pairs layout by. read_begins c.args.query.now by) };
-  way = λ pairs layout by. way_begins by c.args.end c.args.query.now;
-}
+down-init g c = record { within = omega arith; readings = record { number = 0; counted = omega arith; is_number = (omega arith, λ pairs layout by. read_begins c.args.query.now by) }; way = λ pairs layout by. way_begins by c.args.end c.args.query.now }
 
 pub leaf_at-node-requires : goal.leaf_at-node-requires
 leaf_at-node-requires g c =
