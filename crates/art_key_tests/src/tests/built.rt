@@ -1,4 +1,6 @@
 //! Maps and sets that are built from sorted pairs.
+ghost use Rattle.std.specs.Prelude.{◌<◌};
+
 use art_building::byte_map::{AppendReason, MapBuilder};
 use art_building::tree_map::TreeMapBuilder;
 use art_keys::terminated::Terminated;
@@ -28,7 +30,9 @@ fn draw(alloc: Global, seed: u64) -> Result<Model, AllocError> {
     Ok(model)
 }
 
-fn build<const P: usize>(alloc: Global, model: &Model) -> Option<ByteMap<[u8; 4], u32, P>> {
+fn build<const P: usize>(alloc: Global, model: &Model) -> Option<ByteMap<[u8; 4], u32, P>>
+    requires { P < 256 }
+{
     let mut builder = MapBuilder::new(alloc);
     for (key, value) in model.iter() {
         builder.push(*key, *value).ok()?;
