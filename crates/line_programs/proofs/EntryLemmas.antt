@@ -16,7 +16,7 @@ entries-append entry_of n [] after = let k : n ≡ n + 0 = omega arith in ap (λ
 entries-append entry_of n (line ∷ before) after =
     let k : n + 1 + length before ≡ n + length (line ∷ before) = omega arith in
     ap (with_entry n (entry_of line)) (entries-append entry_of (n + 1) before after
-        ∙ ap (λ m. entries entry_of (n + 1) before ++ entries entry_of m after) k)
+    ∙ ap (λ m. entries entry_of (n + 1) before ++ entries entry_of m after) k)
     ∙ onto n (entry_of line) (entries entry_of (n + 1) before) _
   where
     onto : (n : ℕ) (e : Option (List ℕ)) (xs ys : List (ℕ × List ℕ)) → with_entry n e (xs ++ ys) ≡ with_entry n e xs ++ ys

@@ -1,3 +1,4 @@
 mod EntryLemmas
 mod ReadLemmas
 mod ServeLemmas
+mod CheckLemmas

@@ -12,8 +12,8 @@ module _ (entry_of : List ℕ → Option (List ℕ)) where
   one_line_more Has Then number line seen e more before n h =
       let k : number ≡ 1 + length before = omega arith in
       subst Then (ap (λ l. entries entry_of 1 before ++ entries entry_of number (l ∷ [])) e
-          ∙ ap (λ m. entries entry_of 1 before ++ entries entry_of m (line ∷ [])) k
-          ∙ sym (entries-append entry_of 1 before (line ∷ [])))
+      ∙ ap (λ m. entries entry_of 1 before ++ entries entry_of m (line ∷ [])) k
+      ∙ sym (entries-append entry_of 1 before (line ∷ [])))
       (more (entries entry_of 1 before) h)
 
   -- the entry of a line has a fault after those of the lines before it

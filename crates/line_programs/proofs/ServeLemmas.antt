@@ -42,7 +42,7 @@ messages_of_more rules number [] last =
 messages_of_more rules number (a ∷ rest) last =
     let k : number + 1 + length rest ≡ number + length (a ∷ rest) = omega arith in
     ap (λ bs. message_for rules number a.line a.outcome ++ bs) (messages_of_more rules (number + 1) rest last
-        ∙ ap (λ n. messages rules (number + 1) rest ++ message_for rules n last.line last.outcome) k)
+    ∙ ap (λ n. messages rules (number + 1) rest ++ message_for rules n last.line last.outcome) k)
     ∙ sym (append_assoc (message_for rules number a.line a.outcome) (messages rules (number + 1) rest) _)
 
 -- ---- lines that are answered
@@ -108,7 +108,7 @@ module _ (IsReply : List ℕ → List ℕ → Type 0) (Finds AsksForNothing : Li
     written_then =
         subst (Appends old new)
         (sym (flat_map-append (λ answer. answer.reply) h.answers (Last ∷ [])
-            ∙ ap (λ bs. flat_map (λ answer. answer.reply) h.answers ++ bs) (append-nil answered.0)))
+        ∙ ap (λ bs. flat_map (λ answer. answer.reply) h.answers ++ bs) (append-nil answered.0)))
         (appends_more old now new _ _ h.written answered.2)
 
     told_then : Appends old_errors new_errors (messages rules 1 (h.answers ++ Last ∷ []))

@@ -5,4 +5,5 @@ pub mod LineTables
 -- what is written about the lines of an input
 pub mod Outcomes
 pub mod Messages
+pub mod Checked
 pub mod Served

@@ -1,7 +1,7 @@
 //! Messages about lines.
 ghost use Rattle.std.specs.Prelude.{IfSome, OnOk};
 ghost use Rattle.std.specs.Io.KnownBytes.{Appends};
-ghost use Rattle.line_programs.specs.Messages.{message};
+ghost use Rattle.line_programs.specs.Messages.{message, quoted};
 
 use std::fmt::Display;
 use std::io;
@@ -16,7 +16,7 @@ pub struct Place<'a> {
     pub source: &'a str,
 }
 
-/// Writes that something is wrong with the line of a number.
+/// Writes that something is wrong with the line of a number. A line that is empty is not quoted.
 pub fn write_message<W: Write, D: Display + Drop>(
     output: &mut W,
     place: Place<'_>,
@@ -27,7 +27,23 @@ pub fn write_message<W: Write, D: Display + Drop>(
     ensures { OnOk result (IfSome (D.output fault) (λ fault.
         Appends (W.contents output.old) (W.contents output.new) (message place.entry number fault line.now))) }
 {
-    write!(output, "{}: {}:{number}: {fault}: '", place.program, place.source)?;
+    write!(
+        output,
+        "{}: {}:{number}: {fault}",
+        place.program, place.source
+    )?;
+    write_quoted(output, line)?;
+    output.write_all(b"\n")
+}
+
+// Writes a line in quotes, unless it is empty.
+fn write_quoted<W: Write>(output: &mut W, line: &[u8]) -> io::Result<()>
+    ensures { OnOk result (Appends (W.contents output.old) (W.contents output.new) (quoted line.now)) }
+{
+    if line.is_empty() {
+        return Ok(());
+    }
+    output.write_all(b": '")?;
     output.write_all(line)?;
-    output.write_all(b"'\n")
+    output.write_all(b"'")
 }

@@ -1,6 +1,7 @@
 //! Runs a program that reads a table from a file, and answers the words of its command line or the lines of standard
 //! input.
 
+use crate::checking::check;
 use crate::line_tables::{LineTable, Outcome};
 use crate::messages::{Place, write_message};
 use crate::reading::{ReadError, read};
@@ -8,7 +9,7 @@ use crate::serving::{Rules, ServeError, serve, serve_words};
 use clap::{Arg, ArgAction, ArgMatches, Command};
 use std::alloc::{AllocError, Global};
 use std::fmt::Display;
-use std::io::{BufReader, BufWriter, ErrorKind, Read};
+use std::io::{BufReader, BufWriter, ErrorKind, Read, Stderr, Write};
 use std::process::ExitCode;
 use std::{env, fs, io};
 
@@ -20,6 +21,11 @@ pub const ERROR: u8 = 2;
 
 // The exit status of a program whose output was closed, as a shell has it of one that SIGPIPE ended.
 const CLOSED: u8 = 141;
+
+/// The end of the help of a program that looks nothing up.
+pub const STATUS_OF_ERRORS: &str = "Exit status:
+  0  all was read and written
+  2  an error: an invalid line, command line or file";
 
 const STATUSES: &str = "Exit status:
   0  something was found for each line
@@ -92,14 +98,22 @@ fn command(alloc: Global, texts: Texts<'_>) -> Result<Command<'_>, AllocError> {
         .long("strict")
         .action(ArgAction::SetTrue)
         .help("Stop at the first line that asks for nothing");
+    let check = Arg::new(alloc, "check")
+        .long("check")
+        .action(ArgAction::SetTrue)
+        .conflicts_with("queries")?
+        .conflicts_with("strict")?
+        .help("Report each invalid line of the table, and answer nothing");
     Command::new(alloc, texts.name)
+        .bin_name(texts.name)?
         .version(VERSION)
         .about(texts.about)
         .long_about(texts.details)
         .after_help(STATUSES)
         .arg(table)?
         .arg(queries)?
-        .arg(strict)
+        .arg(strict)?
+        .arg(check)
 }
 
 /// Prints what is wrong with a command line, or its help or version. Returns the exit status.
@@ -118,8 +132,14 @@ where
 {
     let path = matches.get_str("table").unwrap_or("-");
     let queries = matches.get_strs("queries");
+    if matches.get_flag("check") {
+        return check_table::<T>(rt, texts.name, path);
+    }
     if path == "-" && queries.is_none() {
-        let _ = eprintln!(rt; "{}: {} and the lines can't both be standard input", texts.name, texts.table);
+        let _ = eprintln!(rt;
+            "{}: {} and the lines can't both be standard input",
+            texts.name, texts.table
+        );
         return ERROR;
     }
     let table = match read_table::<T>(rt, texts.name, path) {
@@ -132,6 +152,60 @@ where
         Err(ServeError::Read(error)) => report(rt, texts.name, "standard input", error),
         Err(ServeError::Write(error)) => report_unwritten(rt, texts.name, error),
     }
+}
+
+// Checks the table of a file, or of standard input if that is `-`.
+fn check_table<T>(rt: &HostRuntime, program: &str, path: &str) -> u8
+where
+    T: LineTable + Drop,
+    T::Fault: Display + Drop,
+{
+    let source = source_of(path);
+    match check_file::<T>(rt, Place { program, source }, path) {
+        Ok(true) => 0,
+        Ok(false) => ERROR,
+        Err(ServeError::Read(error)) => report(rt, program, source, error),
+        Err(ServeError::Write(error)) => report_unwritten(rt, program, error),
+    }
+}
+
+fn check_file<T>(rt: &HostRuntime, place: Place<'_>, path: &str) -> Result<bool, ServeError>
+where
+    T: LineTable + Drop,
+    T::Fault: Display + Drop,
+{
+    let alloc = rt.alloc();
+    if path == "-" {
+        return check_opened::<T, _>(rt, place, BufReader::new(alloc, rt.reader()));
+    }
+    let opened = fs::open(rt, path).and_then(|file| BufReader::new(alloc, file));
+    check_opened::<T, _>(rt, place, opened)
+}
+
+fn check_opened<T, R>(
+    rt: &HostRuntime,
+    place: Place<'_>,
+    opened: io::Result<BufReader<R>>,
+) -> Result<bool, ServeError>
+where
+    T: LineTable + Drop,
+    T::Fault: Display + Drop,
+    R: Read + Drop,
+{
+    let alloc = rt.alloc();
+    let mut input = match opened {
+        Ok(input) => input,
+        Err(error) => return Err(ServeError::Read(error)),
+    };
+    let mut errors = BufWriter::new(alloc, rt.stderr())?;
+    let is_whole = check::<T, BufReader<R>, BufWriter<Stderr>>(
+        alloc,
+        place,
+        &mut input,
+        &mut errors,
+    )?;
+    errors.flush()?;
+    Ok(is_whole)
 }
 
 // Reads the table of a file, or of standard input if that is `-`.
@@ -160,10 +234,16 @@ where
     if path == "-" {
         return read_opened(alloc, BufReader::new(alloc, rt.reader()));
     }
-    read_opened(alloc, fs::open(rt, path).and_then(|file| BufReader::new(alloc, file)))
+    read_opened(
+        alloc,
+        fs::open(rt, path).and_then(|file| BufReader::new(alloc, file)),
+    )
 }
 
-fn read_opened<T, R>(alloc: Global, opened: io::Result<BufReader<R>>) -> Result<T, ReadError<T::Fault>>
+fn read_opened<T, R>(
+    alloc: Global,
+    opened: io::Result<BufReader<R>>,
+) -> Result<T, ReadError<T::Fault>>
 where
     T: LineTable + Drop,
     T::Fault: Drop,
@@ -203,9 +283,16 @@ fn answer<T: LineTable>(
     let alloc = rt.alloc();
     let mut output = BufWriter::new(alloc, io::writer(rt))?;
     let mut errors = BufWriter::new(alloc, rt.stderr())?;
-    let source = if queries.is_some() { "argument" } else { "standard input" };
+    let source = if queries.is_some() {
+        "argument"
+    } else {
+        "standard input"
+    };
     let rules = Rules {
-        place: Place { program: texts.name, source },
+        place: Place {
+            program: texts.name,
+            source,
+        },
         fault: texts.fault,
         is_strict,
     };
@@ -230,4 +317,13 @@ pub fn report_unwritten(rt: &HostRuntime, program: &str, error: io::Error) -> u8
         return CLOSED;
     }
     report(rt, program, "write error", error)
+}
+
+/// Prints what went wrong in reading or writing, unless the output was closed. Returns the exit status.
+pub fn report_failed(rt: &HostRuntime, program: &str, error: io::Error) -> u8 {
+    if error.kind() == ErrorKind::BrokenPipe {
+        return CLOSED;
+    }
+    let _ = eprintln!(rt; "{program}: {error}");
+    ERROR
 }

@@ -1,22 +1,36 @@
-//! Answers lines of standard input about the paths that a file has, a line each.
+//! Answers requests about the paths that a file has, a line each.
 #![tactic(auto)]
 
+use line_programs::running::{Texts, run};
 use std::process::ExitCode;
-use text_programs::path_indexes::index::Index;
-use text_programs::running::{Texts, run};
+use text_programs::path_indexes::answers::PathIndex;
 
-const LINES: &str = "FILE has paths, a line each. Lines of standard input ask for them:
-  under PREFIX    the paths that begin with PREFIX
+const DETAILS: &str = "For each request path_index prints what it asks for of the paths of FILE, in the order of their bytes.
+
+A line of FILE is a path, with the spaces that are on it. A carriage return before the line feed is not part of the path.
+
+Requests:
+  under PREFIX    the paths that start with PREFIX
   count PREFIX    how many these are
-  at PATH         whether PATH is one of them
+  at PATH         'yes' if PATH is one of the paths, or else 'no'
   between A B     the paths from A up to but without B; A has no space
-  first, last     the first, the last path in the order of bytes";
+  first, last     the first, the last path; nothing if there is none
+
+Example:
+  $ find /etc | path_index - 'under /etc/ssh/'
+  /etc/ssh/ssh_config
+  /etc/ssh/sshd_config";
 
 fn main(rt: HostRuntime) -> ExitCode {
     let texts = Texts {
-        usage: "usage: path_index FILE",
-        lines: LINES,
-        refused: "asks for nothing that there is",
+        name: "path_index",
+        about: "Answers requests about a list of paths",
+        details: DETAILS,
+        table: "FILE",
+        table_help: "The paths, a line each; '-' is standard input",
+        query: "REQUEST",
+        query_help: "A request, in place of the lines of standard input",
+        fault: "not a request",
     };
-    run::<Index, HostRuntime>(&rt, texts)
+    run::<PathIndex>(&rt, texts)
 }

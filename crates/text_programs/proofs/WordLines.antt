@@ -50,22 +50,35 @@ part_plain text word k below is =
     Each-weaker (λ b. is_gap b ≡ false) (λ b. b ≢ 0) (λ b e z. false≢true (sym e ∙ ap is_gap z)) word
     (subst IsWhole (sym is) (each_at IsWhole (slice_split is_gap text) (whole_parts text) k word below))
 
-pub no_words : (counts : List (List ℕ × ℕ)) → counts ≡ [] → HasTimes (flat_map words []) counts
-no_words counts e = subst (HasTimes []) (sym e) (record { each = λ word. refl })
+-- ---- the words of lines, beside those that were counted before
+
+-- the words of a text are counted beside others
+abbrev pub AreCounted : List (List ℕ × ℕ) → List (List ℕ × ℕ) → List (List ℕ) → Type 0
+AreCounted old new ws = (before : List (List ℕ)) → HasTimes before old → HasTimes (before ++ ws) new
+
+pub none_counted : (counts : List (List ℕ × ℕ)) → AreCounted counts counts (flat_map words [])
+none_counted counts before h = subst (λ ws. HasTimes ws counts) (sym (append-nil before)) h
 
 -- with the words of one more line
-pub one_line_more : (counts others : List (List ℕ × ℕ)) (number : ℕ) (line seen : List ℕ) → seen ≡ line →
-    ((ws : List (List ℕ)) → HasTimes ws counts → HasTimes (ws ++ words seen) others) → (before : List (List ℕ)) → number ≡ length before + 1 →
-    HasTimes (flat_map words before) counts → HasTimes (flat_map words (before ++ line ∷ [])) others
-one_line_more counts others number line seen e more before n h =
-    subst (λ ws. HasTimes ws others) (ap (λ l. flat_map words before ++ words l) e
-    ∙ sym (flat_map-append words before (line ∷ []) ∙ ap (λ ws. flat_map words before ++ ws) (append-nil (words line))))
-    (more (flat_map words before) h)
+pub one_line_more : (old counts others : List (List ℕ × ℕ)) (number : ℕ) (line seen : List ℕ) → seen ≡ line → AreCounted counts others (words seen) →
+    (before : List (List ℕ)) → number ≡ length before + 1 →
+    AreCounted old counts (flat_map words before) → AreCounted old others (flat_map words (before ++ line ∷ []))
+one_line_more old counts others number line seen e more before n h earlier k =
+    subst (λ ws. HasTimes ws others) (append_assoc earlier (flat_map words before) (words seen)
+    ∙ ap (λ ws. earlier ++ ws) (ap (λ l. flat_map words before ++ words l) e
+    ∙ sym (flat_map-append words before (line ∷ []) ∙ ap (λ ws. flat_map words before ++ ws) (append-nil (words line)))))
+    (more (earlier ++ flat_map words before) (h earlier k))
 
-pub count_is : (text : Option (List ℕ)) (counts : List (List ℕ × ℕ)) → Pairwise (λ x y. is_before x.0 y.0 ≡ true) counts →
-    IfSome text (λ bs. HasTimes (flat_map words (lines bs)) counts) → IfSome text (λ bs. IsCountOf (words bs) counts)
-count_is None counts rising h = tt
-count_is (Some bs) counts rising h = record { rising = rising; numbers = subst (λ ws. HasTimes ws counts) (words_of_lines bs) h }
+pub text_counted : (text : Option (List ℕ)) (old new : List (List ℕ × ℕ)) → IfSome text (λ bs. AreCounted old new (flat_map words (lines bs))) →
+    IfSome text (λ bs. AreCounted old new (words bs))
+text_counted None old new h = tt
+text_counted (Some bs) old new h = subst (AreCounted old new) (words_of_lines bs) h
+
+pub count_is : (text : Option (List ℕ)) (none counts : List (List ℕ × ℕ)) → none ≡ [] → Pairwise (λ x y. is_before x.0 y.0 ≡ true) counts →
+    IfSome text (λ bs. AreCounted none counts (words bs)) → IfSome text (λ bs. IsCountOf (words bs) counts)
+count_is None none counts e rising h = tt
+count_is (Some bs) none counts e rising h =
+    record { rising = rising; numbers = h [] (subst (HasTimes []) (sym e) (record { each = λ word. refl })) }
 
 pub reported : {E : Type 0} (counts : List (List ℕ × ℕ)) (text old now next : Option (List ℕ)) (r : Result (Unit {0}) E) →
     IfSome text (λ bs. IsCountOf (words bs) counts) →

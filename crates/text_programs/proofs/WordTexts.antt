@@ -1,8 +1,8 @@
 -- The words of a text that is read line by line.
-use Rattle.std.proofs.Common.{◌≡◌, ℕ, Bool, true, false, cond, eqb, eqb-true, ne_eqb, List, [], ◌∷◌, ◌++◌, length, filter, flat_map, refl, ap, ap₂, sym, ◌∙◌, subst, arith, append_assoc, append-nil}
+use Rattle.std.proofs.Common.{◌≡◌, ℕ, Bool, true, false, cond, eqb, eqb-true, ne_eqb, List, [], ◌∷◌, ◌++◌, length, filter, flat_map, inl, inr, ◌⊎◌, refl, ap, ap₂, sym, ◌∙◌, subst, arith, append_assoc, append-nil}
 use Rattle.std.specs.List.{AllByRecursion as Each, slice_split, onto_first}
 use Rattle.std.proofs.lemmas.List.Elements.{filter-append}
-use Rattle.text_lines.specs.Lines.{lines, without_empty_end}
+use Rattle.text_lines.specs.Lines.{lines, lines_of, without_return}
 use Rattle.text_programs.specs.Words.{EndsWord, GapsAreNoWords, IsWord, WordsAreRuns, is_gap, is_filled, words}
 
 abbrev parts : List ℕ → List (List ℕ)
@@ -65,11 +65,34 @@ words_between front (b ∷ bs) = go (eqb b 10) refl (feeds bs) refl (words_betwe
     go false e ps is here more =
         ap words (sym (append_assoc front (b ∷ []) bs)) ∙ more ∙ ap (λ qs. flat_map words (before_first (front ++ b ∷ []) qs)) is ∙ moved ps
 
-empty_end : (ps : List (List ℕ)) → flat_map words (without_empty_end ps) ≡ flat_map words ps
+-- a line has a carriage return at its end, or has none
+returned : (line : List ℕ) → (without_return line ≡ line) ⊎ (line ≡ without_return line ++ 13 ∷ [])
+returned [] = inl refl
+returned (b ∷ []) = go (eqb b 13) refl
+  where
+    go : (t : Bool) → eqb b 13 ≡ t → (cond t [] (b ∷ []) ≡ b ∷ []) ⊎ (b ∷ [] ≡ cond t [] (b ∷ []) ++ 13 ∷ [])
+    go true e = inr (ap (λ c. c ∷ []) (eqb-true b 13 e))
+    go false e = inl refl
+returned (b ∷ c ∷ line) = go (returned (c ∷ line))
+  where
+    go : (without_return (c ∷ line) ≡ c ∷ line) ⊎ (c ∷ line ≡ without_return (c ∷ line) ++ 13 ∷ []) →
+        (b ∷ without_return (c ∷ line) ≡ b ∷ c ∷ line) ⊎ (b ∷ c ∷ line ≡ b ∷ (without_return (c ∷ line) ++ 13 ∷ []))
+    go (inl e) = inl (ap (λ bs. b ∷ bs) e)
+    go (inr e) = inr (ap (λ bs. b ∷ bs) e)
+
+-- which is in no word
+words_returned : (line : List ℕ) → words (without_return line) ≡ words line
+words_returned line = go (returned line)
+  where
+    go : (without_return line ≡ line) ⊎ (line ≡ without_return line ++ 13 ∷ []) → words (without_return line) ≡ words line
+    go (inl e) = ap words e
+    go (inr e) = sym (ap words e ∙ words_around (without_return line) 13 [] refl ∙ append-nil (words (without_return line)))
+
+empty_end : (ps : List (List ℕ)) → flat_map words (lines_of ps) ≡ flat_map words ps
 empty_end [] = refl
 empty_end ([] ∷ []) = refl
 empty_end ((b ∷ p) ∷ []) = ap (λ t. flat_map words (cond t [] ((b ∷ p) ∷ []))) (ne_eqb (length (b ∷ p)) 0 (λ z. omega arith))
-empty_end (p ∷ q ∷ ps) = ap (λ ws. words p ++ ws) (empty_end (q ∷ ps))
+empty_end (p ∷ q ∷ ps) = ap₂ (λ us vs. us ++ vs) (words_returned p) (empty_end (q ∷ ps))
 
 -- the words of a text are those of its lines
 pub words_of_lines : (text : List ℕ) → flat_map words (lines text) ≡ words text

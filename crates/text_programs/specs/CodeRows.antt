@@ -1,5 +1,5 @@
 -- Rows: entries with the numbers of their lines.
-use Rattle.std.specs.Prelude.{◌≡◌, ◌≢◌, ℕ, ◌+◌, Bool, true, ◌&&◌, ◌==◌, List, [], ◌∷◌, map, ⊤}
+use Rattle.std.specs.Prelude.{◌≡◌, ◌≢◌, ℕ, Bool, true, ◌&&◌, ◌==◌, List, ◌∷◌, map, ⊤}
 use Rattle.std.specs.List.{list_any}
 use Rattle.std.specs.List.Sorted.{IsPermutation}
 use Rattle.art_model.specs.Keys.{are_same}
@@ -8,10 +8,13 @@ use Rattle.text_programs.specs.declared.dial_codes.table.LineError.{LineError}
 use Rattle.text_programs.specs.declared.dial_codes.table.LineError.TheVariants.{NoEntry, Repeated, NoMemory}
 use Rattle.text_programs.specs.declared.dial_codes.table.Named.{Named}
 
--- entries with the numbers of their lines, from this number on
-abbrev pub numbered : ℕ → List (List ℕ × List ℕ) → List (List ℕ × List ℕ × ℕ)
-numbered number [] = []
-numbered number (entry ∷ entries) = (entry.0, entry.1, number) ∷ numbered (number + 1) entries
+-- the line of a row, with its number
+abbrev pub numbered_line : List ℕ × List ℕ × ℕ → ℕ × List ℕ
+numbered_line row = (row.2, line_of (row.0, row.1))
+
+-- the entry of a row
+abbrev pub entry_of_row : List ℕ × List ℕ × ℕ → List ℕ × List ℕ
+entry_of_row row = (row.0, row.1)
 
 -- the rows of pairs of a code and its name, as bytes
 abbrev pub rows_of : List (List ℕ × Named) → List (List ℕ × List ℕ × ℕ)

@@ -1,5 +1,3 @@
--- tables that are read from lines, and that answer lines
-pub mod LineTables
 -- the words of a text, and how often each occurs
 pub mod Words
 pub mod Counts
@@ -12,11 +10,3 @@ pub mod CodeReplies
 pub mod Paths
 pub mod Requests
 pub mod PathReplies
--- routes, and the longest one that covers an address
-pub mod Addresses
-pub mod Written
-pub mod Bits
-pub mod Routes
-pub mod Strings
-pub mod RouteTables
-pub mod RouteReplies

@@ -1,5 +1,5 @@
 -- Lists of paths, and how the lines of a text become one.
-use Rattle.std.specs.Prelude.{◌≡◌, ℕ, Bool, true, not, ◌&&◌, ◌||◌, List, filter, ⊤}
+use Rattle.std.specs.Prelude.{◌≡◌, ℕ, Bool, true, not, ◌&&◌, ◌||◌, List, filter, map, ⊤}
 use Rattle.std.specs.List.{AllByRecursion as Each, list_any}
 use Rattle.art_operations.specs.Ended.{HasNoZero}
 use Rattle.art_operations.specs.Keys.{are_same, is_before, is_front}
@@ -18,6 +18,10 @@ below prefix paths = filter (λ path. is_front prefix path) paths
 -- the paths from one up to but without another
 abbrev pub between : List ℕ → List ℕ → List (List ℕ) → List (List ℕ)
 between from to paths = filter (λ path. not (is_before path from) && is_before path to) paths
+
+-- the lines of numbered lines
+abbrev pub lines_of : List (ℕ × List ℕ) → List (List ℕ)
+lines_of numbered = map (λ line. line.1) numbered
 
 -- The paths are those of the lines, of which none has a zero.
 pub record ArePathsOf (paths ls : List (List ℕ)) : Type 0 where

@@ -2,8 +2,5 @@
 #![tactic(auto)]
 
 pub mod dial_codes;
-pub mod ip_routes;
-pub mod line_tables;
 pub mod path_indexes;
-pub mod running;
 pub mod word_counts;

@@ -50,14 +50,24 @@ pub fn count_words<R: BufRead>(alloc: Global, input: &mut R) -> io::Result<Count
         IsCountOf (words text) counts)) }
 {
     let mut counts = TreeMap::new(alloc);
+    count_text(&mut counts, alloc, input)?;
+    // `rises` says that the words rise.
+    counts.rises();
+    Ok(counts)
+}
+
+/// Counts each word of a text, which is read to its end, once more. If it fails, the words before are counted.
+pub fn count_text<R: BufRead>(counts: &mut Counts, alloc: Global, input: &mut R) -> io::Result<()>
+    ensures { OnOk result (IfSome (R.remaining input.old) (λ text.
+        (before : List (List ℕ)) → HasTimes before counts.old →
+        HasTimes (before ++ words text) counts.new)) }
+{
     let mut line = Vec::new(alloc);
     for _number in 1..u64::MAX {
         if !next_line(input, &mut line)? {
-            // `rises` says that the words rise.
-            counts.rises();
-            return Ok(counts);
+            return Ok(());
         }
-        count_line(&mut counts, alloc, &line)?;
+        count_line(counts, alloc, &line)?;
     }
     Err(io::Error::from(ErrorKind::FileTooLarge))
 }

@@ -1,6 +1,6 @@
-use Rattle.std.proofs.Common.{true, false}
+use Rattle.std.proofs.Common.{true}
 use Rattle.text_lines.proofs.LineParts.{read_as}
-use Rattle.text_lines.proofs.Reading.{begins, ends, goes_on, stops}
+use Rattle.text_lines.proofs.Reading.{begins, goes_on, stops}
 use Rattle.line_programs.specs.Entries.{entries}
 use Rattle.line_programs.specs.LineTables.{IsFaultIn}
 use Rattle.line_programs.proofs.ReadLemmas.{one_line_more, refused_at}

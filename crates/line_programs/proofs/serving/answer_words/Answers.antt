@@ -1,7 +1,7 @@
-use Rattle.std.proofs.Common.{◌≡◌, ◌+◌, ◌++◌, ◌∷◌, suc, take, drop, map, slice_index_or, ap, sym, ◌∙◌, subst, refl, arith}
+use Rattle.std.proofs.Common.{◌+◌, suc, take, drop, map, ap, sym, subst}
 use Rattle.text_lines.proofs.Writing.{keeps_itself}
 use Rattle.line_programs.specs.Served.{AreAnswered}
-use Rattle.line_programs.proofs.ServeLemmas.{AreAnsweredSoFar, all_answered, none_so_far, one_more, the_last, words_around, words_before, words_to}
+use Rattle.line_programs.proofs.ServeLemmas.{AreAnsweredSoFar, none_so_far, one_more, the_last, words_around, words_before, words_to}
 use Rattle.line_programs.proofs.serving.answer_words.Goals as goal
 
 pub loop-index-init : goal.loop-index-init

@@ -1,6 +1,0 @@
-use Rattle.text_programs.proofs.CodeTableLemmas.{table_is}
-use Rattle.text_programs.proofs.EntryLemmas.{entries_rise}
-use Rattle.text_programs.proofs.dial_codes.answers.TableLineTable.finish.Goals as goal
-
-pub returns : goal.returns
-returns c ls h = (table_is c.args.self.now ls h, entries_rise c.args.self.now c.rises.ensures)

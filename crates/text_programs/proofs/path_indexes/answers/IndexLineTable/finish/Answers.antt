@@ -1,5 +1,0 @@
-use Rattle.text_programs.proofs.PathParts.{keys_rise}
-use Rattle.text_programs.proofs.path_indexes.answers.IndexLineTable.finish.Goals as goal
-
-pub returns : goal.returns
-returns c ls h = record { plain = h.plain; rising = keys_rise c.args.self.now c.rises.ensures; same = h.same }
