@@ -5,7 +5,9 @@ use art_engine::engine::answer_lines;
 use art_engine::keeping::status::Ending;
 use art_engine::keeping::tree::KeptTree;
 use clap::Command;
-use line_programs::running::{ERROR, STATUS_OF_ERRORS, VERSION, print_usage, report, report_failed, words};
+use line_programs::running::{
+    ERROR, STATUS_OF_ERRORS, VERSION, print_usage, report, report_failed, words,
+};
 use std::alloc::{AllocError, Global};
 use std::io;
 use std::io::{BufReader, BufWriter, Write};
@@ -13,7 +15,8 @@ use std::process::ExitCode;
 
 const NAME: &str = "artrun";
 
-const DETAILS: &str = "artrun carries out the lines of standard input on one tree, and prints the reply to each.
+const DETAILS: &str =
+    "artrun carries out the lines of standard input on one tree, and prints the reply to each.
 
 A KEY is '-', the empty key, or its bytes in decimal joined by dots. A VALUE is a number up to 4294967295.
 

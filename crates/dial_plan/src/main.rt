@@ -5,7 +5,8 @@ use line_programs::running::{Texts, run};
 use std::process::ExitCode;
 use text_programs::dial_codes::answers::CodeTable;
 
-const DETAILS: &str = "For each number dial_plan prints the line of TABLE with the longest code that the number starts with, or 'none'.
+const DETAILS: &str =
+    "For each number dial_plan prints the line of TABLE with the longest code that the number starts with, or 'none'.
 
 A line of TABLE is a code of decimal digits, a space and a name, as '44 United Kingdom'. No two lines have the same code.
 Blank lines and lines that start with '#' are passed over.

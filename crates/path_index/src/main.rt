@@ -5,7 +5,8 @@ use line_programs::running::{Texts, run};
 use std::process::ExitCode;
 use text_programs::path_indexes::answers::PathIndex;
 
-const DETAILS: &str = "For each request path_index prints what it asks for of the paths of FILE, in the order of their bytes.
+const DETAILS: &str =
+    "For each request path_index prints what it asks for of the paths of FILE, in the order of their bytes.
 
 A line of FILE is a path, with the spaces that are on it. A carriage return before the line feed is not part of the path.
 

@@ -2,7 +2,9 @@
 #![tactic(auto)]
 
 use clap::{Arg, ArgMatches, Command};
-use line_programs::running::{ERROR, STATUS_OF_ERRORS, VERSION, print_usage, report, report_unwritten, source_of, words};
+use line_programs::running::{
+    ERROR, STATUS_OF_ERRORS, VERSION, print_usage, report, report_unwritten, source_of, words,
+};
 use std::alloc::{AllocError, Global};
 use std::io::{BufRead, BufReader, BufWriter, Write};
 use std::process::ExitCode;
@@ -11,7 +13,8 @@ use text_programs::word_counts::counts::{Counts, count_text, write_counts};
 
 const NAME: &str = "word_count";
 
-const DETAILS: &str = "word_count prints each word of all FILEs together with how often it occurs, a line each, in the order of bytes.
+const DETAILS: &str =
+    "word_count prints each word of all FILEs together with how often it occurs, a line each, in the order of bytes.
 
 Words are separated by white space and zero bytes.
 
