@@ -4,6 +4,8 @@ pub mod CoverLemmas
 pub mod StartLemmas
 -- rows in order
 pub mod RowLemmas
+-- columns of what else networks have
+mod RestLemmas
 -- rows that are sorted
 pub mod SortingLemmas
 -- rows in order

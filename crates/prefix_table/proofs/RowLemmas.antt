@@ -7,7 +7,7 @@ use Rattle.std.proofs.lemmas.List.Sums.{count_by_more_yes, sum_by_more}
 use Rattle.std.proofs.lemmas.Bool.{cases_lt, false≢true}
 use Rattle.prefix_table.specs.declared.network.Address.{Address}
 use Rattle.prefix_table.specs.declared.network.Network.{Network}
-use Rattle.prefix_table.specs.declared.rows.Rest.{Rest}
+use Rattle.prefix_table.specs.declared.rests.Rest.{Rest}
 use Rattle.prefix_table.specs.Networks.{IsNetwork, IsUpTo, Precedes, covers_at, start_of}
 use Rattle.prefix_table.specs.declared.rows.Row.{Row}
 use Rattle.prefix_table.specs.Starts.{AreUpwards, IsCount, start_at}

@@ -2,7 +2,7 @@
 use Rattle.std.specs.Prelude.{◌≡◌, ℕ, ◌+◌, ◌-◌, ◌<◌, ◌≤◌, ◌^◌, true, false, List, [], ◌∷◌, length, count_by, slice_index_or, take}
 use Rattle.prefix_table.specs.declared.network.Address.{Address}
 use Rattle.prefix_table.specs.declared.network.Network.{Network}
-use Rattle.prefix_table.specs.declared.rows.Rest.{Rest}
+use Rattle.prefix_table.specs.declared.rests.Rest.{Rest}
 use Rattle.prefix_table.specs.declared.rows.Row.{Row}
 use Rattle.prefix_table.specs.Networks.{IsNetwork, Precedes, covers_at}
 use Rattle.prefix_table.specs.Rows.{network_of}

@@ -4,6 +4,8 @@ pub mod Networks
 pub mod Starts
 -- networks in order, each with the place of its value
 pub mod Rows
+-- what else they have
+pub mod Rests
 -- these in columns
 pub mod Columns
 -- rows in order

@@ -5,6 +5,7 @@ mod arranging;
 mod guesses;
 pub mod iteration;
 pub mod network;
+mod rests;
 mod rows;
 mod sorting;
 mod starts;

@@ -7,6 +7,7 @@ ghost use Rattle.prefix_table.specs.Columns.{AreRows, IsLastOf, IsNested, networ
 ghost use Rattle.prefix_table.specs.Starts.{start_at};
 
 use crate::network::{Address, Network, covers, precedes, start_of};
+use crate::rests::{Rest, Rests};
 use crate::starts::Starts;
 use std::alloc::{AllocError, Global};
 use std::marker::Model;
@@ -31,20 +32,11 @@ pub fn network_of(row: Row) -> Network
     }
 }
 
-/// What a row has beside where its network starts.
-#[derive(Clone, Copy)]
-pub struct Rest {
-    /// How many rows there are up to that of the next longer network around this one, 0 if there is none.
-    pub around: u32,
-    /// The length of the network.
-    pub length: u8,
-}
-
 /// Networks in order. Contracts see the list of the rows, each with its index as its place.
 #[derive(Drop)]
 pub struct Rows {
     starts: Starts,
-    rests: Vec<Rest>,
+    rests: Rests,
 }
 
 impl Model for Rows {
@@ -56,9 +48,9 @@ impl Model for Rows {
     ghost use Rattle.prefix_table.specs.Sorting.{in_order};
     ghost use Rattle.prefix_table.specs.Columns.{AreRows, rows_of};
 
-    ghost view = { λ r. rows_of r.starts r.rests.items };
+    ghost view = { λ r. rows_of r.starts r.rests };
 
-    ghost invariant = { λ r. AreRows r.starts r.rests.items };
+    ghost invariant = { λ r. AreRows r.starts r.rests };
 }
 
 impl Rows {
@@ -68,7 +60,7 @@ impl Rows {
     {
         Rows {
             starts: Starts::new(alloc),
-            rests: Vec::new(alloc),
+            rests: Rests::new(alloc),
         }
     }
 
@@ -80,7 +72,7 @@ impl Rows {
     {
         let four = rows.partition_point(|row| row.version == 4);
         let mut starts = Starts::with_capacity(alloc, four, rows.len() - four)?;
-        let mut rests = Vec::with_capacity(alloc, rows.len())?;
+        let mut rests = Rests::with_capacity(alloc, rows.len())?;
         for row in rows {
             let network = network_of(*row);
             let start = start_of(network);
@@ -109,12 +101,11 @@ impl Rows {
         ensures { result ≡ row_at self.now index }
     {
         let start = self.starts.get(index);
-        let rest = self.rests[index];
         Row {
             number: start.number,
             place: index as u32,
             version: start.version,
-            length: rest.length,
+            length: self.rests.length(index),
         }
     }
 
@@ -155,7 +146,7 @@ pub fn position(rows: &Rows, network: Network) -> usize
 }
 
 // Returns the network at an index of both columns.
-fn network_at(starts: &Starts, rests: &[Rest], index: usize) -> Network
+fn network_at(starts: &Starts, rests: &Rests, index: usize) -> Network
     requires starts { index < length starts.now }
     requires rests { index < length rests.now }
     ensures { result ≡ network_at starts.now rests.now index }
@@ -164,7 +155,7 @@ fn network_at(starts: &Starts, rests: &[Rest], index: usize) -> Network
     Network {
         number: start.number,
         version: start.version,
-        length: rests[index].length,
+        length: rests.length(index),
     }
 }
 
@@ -178,7 +169,7 @@ pub struct Found {
 }
 
 // Finds the last one of the first `upto` rows that covers an address.
-fn last_covering(starts: &Starts, rests: &[Rest], upto: usize, address: Address) -> Found
+fn last_covering(starts: &Starts, rests: &Rests, upto: usize, address: Address) -> Found
     requires rows { AreRows starts.now rests.now }
     requires within { upto ≤ length rests.now }
     requires started { (k : ℕ) → k < upto → IsUpTo (start_at starts.now k) address }
@@ -195,7 +186,7 @@ fn last_covering(starts: &Starts, rests: &[Rest], upto: usize, address: Address)
                 looked,
             };
         }
-        found = rests[found - 1].around as usize;
+        found = rests.around(found - 1) as usize;
     }
     Found { upto: 0, looked }
 }

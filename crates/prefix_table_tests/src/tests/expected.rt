@@ -169,8 +169,7 @@ fn networks_come_in_order(rt: HostRuntime) -> Result<(), Fail> {
 }
 
 // What an empty table has.
-fn nothing(alloc: Global) -> Option<(bool, bool, bool, bool)> {
-    let table = table_of(alloc, &[])?;
+fn nothing(table: &PrefixTable<usize>) -> Option<(bool, bool, bool, bool)> {
     let Ok(address) = "10.0.0.1".parse::<IpAddr>() else {
         return None;
     };
@@ -184,7 +183,9 @@ fn nothing(alloc: Global) -> Option<(bool, bool, bool, bool)> {
 
 #[test]
 fn an_empty_table_has_nothing(rt: HostRuntime) -> Result<(), Fail> {
-    assert_eq!(rt; nothing(rt.alloc()), Some((true, true, true, true)));
+    let built = table_of(rt.alloc(), &[]).ok_or("no table")?;
+    let seen = (nothing(&built), nothing(&PrefixTable::new(rt.alloc())));
+    assert_eq!(rt; seen, (Some((true, true, true, true)), Some((true, true, true, true))));
     Ok(())
 }
 

@@ -1,4 +1,4 @@
-use Rattle.std.proofs.Common.{◌≡◌, ◌<◌, ap, ap₂, sym, ◌∙◌, length, List, subst, arith, ◌++◌, ◌∷◌, []}
+use Rattle.std.proofs.Common.{◌≡◌, ◌<◌, ap, ap₂, sym, ◌∙◌, length, List, refl, subst, arith, ◌++◌, ◌∷◌, []}
 use Rattle.std.proofs.lemmas.List.{take_all}
 use Rattle.prefix_table.specs.declared.network.Address.{Address}
 use Rattle.prefix_table.specs.declared.network.Network.{Network}
@@ -17,8 +17,8 @@ last_covering-found-requires-clause-started c k h =
     let many = length-in_order rows in
     let start = c.start_of-start.ensures ∙ ap start_of (c.network_of-network.ensures ∙ sym (in_order_network rows l.row-index (omega arith))) in
     subst (IsUpTo (start_at l.starts k)) (sym start)
-    (all_up_to l.starts l.rests.items l.invariant.are (in_order rows) l.row-index (omega arith) l.invariant.made
-    (still_in_order rows c.requires.order) k (omega (arith, c.len.ensures, l.rests.ok.0)))
+    (all_up_to l.starts l.rests l.invariant.are (in_order rows) l.row-index (omega arith) l.invariant.made
+    (still_in_order rows c.requires.order) k (omega (arith, c.len.ensures)))
 
 pub push-requires-clause-order : goal.push-requires-clause-order
 push-requires-clause-order c k h =
@@ -27,7 +27,7 @@ push-requires-clause-order c k h =
     let many = length-in_order rows in
     let start = c.start_of-start.ensures ∙ ap start_of (c.network_of-network.ensures ∙ sym (in_order_network rows l.row-index (omega arith))) in
     subst (IsUpTo (start_at l.starts k)) (sym start)
-    (all_up_to l.starts l.rests.items l.invariant.are (in_order rows) l.row-index (omega arith) l.invariant.made
+    (all_up_to l.starts l.rests l.invariant.are (in_order rows) l.row-index (omega arith) l.invariant.made
     (still_in_order rows c.requires.order) k (omega (arith, l.invariant.are.lengths)))
 
 pub loop-row-preserved : goal.loop-row-preserved
@@ -40,23 +40,23 @@ loop-row-preserved c =
     let fits : l.row-index < length all = omega arith in
     let network = in_order_network rows l.row-index here in
     let start = c.start_of-start.ensures ∙ ap start_of (c.network_of-network.ensures ∙ sym network) in
-    let starts : c.push.new.self ≡ l.starts ++ this_start l.starts l.rests.items l.invariant.are all l.row-index fits l.invariant.made ∷ [] =
+    let starts : c.push.new.self ≡ l.starts ++ this_start l.starts l.rests l.invariant.are all l.row-index fits l.invariant.made ∷ [] =
     c.in_ok-push.ensures ∙ ap (λ (s : Address). l.starts ++ s ∷ []) start in
     let rests =
-    c.in_ok-push-2.ensures.items
-    ∙ ap (λ (n : Network). l.rests.items ++ record { around = c.last_covering-found.result.upto; length = n.length } ∷ []) (sym network) in
-    let many : c.len.result ≡ length l.rests.items = omega (arith, c.len.ensures, l.rests.ok.0) in
+    c.in_ok-push-2.ensures
+    ∙ ap (λ (n : Network). l.rests ++ record { around = c.last_covering-found.result.upto; length = n.length } ∷ []) (sym network) in
+    let many : c.len.result ≡ length l.rests = omega (arith, c.len.ensures) in
     let around =
-    last_is l.starts l.rests.items l.invariant.are all l.row-index fits l.invariant.made c.start_of-start.result c.deref.result.now c.len.result
-    c.last_covering-found.result.upto start c.deref.ensures.value many c.last_covering-found.ensures.last in
+    last_is l.starts l.rests l.invariant.are all l.row-index fits l.invariant.made c.start_of-start.result l.rests c.len.result
+    c.last_covering-found.result.upto start refl many c.last_covering-found.ensures.last in
     record {
       made = ap₂ rows_of starts rests
-          ∙ next_made l.starts l.rests.items l.invariant.are all l.row-index fits l.invariant.made (in_order_place rows l.row-index here)
+          ∙ next_made l.starts l.rests l.invariant.are all l.row-index fits l.invariant.made (in_order_place rows l.row-index here)
           c.last_covering-found.result.upto;
       are =
-          subst (λ ss. AreRows ss c.push-in-loop-row.new.self.items) (sym starts)
-          (subst (AreRows (l.starts ++ this_start l.starts l.rests.items l.invariant.are all l.row-index fits l.invariant.made ∷ [])) (sym rests)
-          (next_are l.starts l.rests.items l.invariant.are all l.row-index fits l.invariant.made (still_in_order rows c.requires.order)
+          subst (λ ss. AreRows ss c.push-in-loop-row.new.self) (sym starts)
+          (subst (AreRows (l.starts ++ this_start l.starts l.rests l.invariant.are all l.row-index fits l.invariant.made ∷ [])) (sym rests)
+          (next_are l.starts l.rests l.invariant.are all l.row-index fits l.invariant.made (still_in_order rows c.requires.order)
           (let few = c.requires.few in omega arith) c.last_covering-found.result.upto around));
     }
 
@@ -64,5 +64,5 @@ pub returns : goal.returns
 returns c =
     let l = c.loop-row in
     let many = length-in_order c.args.rows.now in
-    ap (λ (ss : List Address). rows_of ss l.rests.items) c.guess.ensures ∙ l.invariant.made
+    ap (λ (ss : List Address). rows_of ss l.rests) c.guess.ensures ∙ l.invariant.made
     ∙ take_all l.row-index (in_order c.args.rows.now) (omega arith)

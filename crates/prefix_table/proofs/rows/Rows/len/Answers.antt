@@ -4,6 +4,6 @@ use Rattle.prefix_table.proofs.rows.Rows.len.Goals as goal
 
 pub returns : goal.returns
 returns c =
-    let many = length-rows c.self.inside.starts c.self.inside.rests.items c.self.invariant.lengths in
+    let many = length-rows c.self.inside.starts c.self.inside.rests c.self.invariant.lengths in
     let seen = ap length c.self.view_is in
-    omega (arith, c.len.ensures, c.self.inside.rests.ok.0, many, seen)
+    omega (arith, c.len.ensures, many, seen)
