@@ -1,7 +1,7 @@
 //! What `route_table` does, as one writes it in Rust with nothing proved: `routes trie FILE` with a Patricia trie by
-//! bits, `routes maps FILE` with a hash map for each length, `routes none FILE` with neither, which prints `none` for each
-//! address; and `routes make N M FOLDER`, which writes N routes and M addresses. How long the table and the replies took,
-//! and the bytes of the heap for each route, come on standard error.
+//! bits, `routes maps FILE` with a hash map for each length, `routes poptrie FILE` with a poptrie, `routes none FILE` with
+//! none of them, which prints `none` for each address; and `routes make N M FOLDER`, which writes N routes and M
+//! addresses. How long the table and the replies took, and the bytes of the heap for each route, come on standard error.
 
 use std::alloc::{GlobalAlloc, Layout, System};
 use std::collections::HashMap;
@@ -58,6 +58,8 @@ fn prefix(bits: u128, length: u32) -> u128 {
 trait Table: Default {
     /// Adds a line, unless the network has one.
     fn add(&mut self, family: usize, bits: u128, length: u32, line: Vec<u8>) -> bool;
+    /// Called once, when all lines are added.
+    fn done(&mut self) {}
     /// The line of the longest network with these bits.
     fn find(&self, family: usize, bits: u128) -> Option<&[u8]>;
 }
@@ -156,6 +158,150 @@ impl Table for Maps {
     }
 }
 
+#[derive(Clone, Copy, Default)]
+struct Branch {
+    /// Which of its 64 slots have a node, and at which of the others the line is not that of the one before.
+    children: u64,
+    changes: u64,
+    first_child: u32,
+    first_leaf: u32,
+}
+
+/// The routes of a family: bits, length, and the number of the line.
+type Routes = [(u128, u32, u32)];
+
+/// A poptrie of a family: what the first 16 bits lead to, a line or a node, and nodes by 6 bits each.
+#[derive(Default)]
+struct Slots {
+    tops: Vec<u32>,
+    nodes: Vec<Branch>,
+    leaves: Vec<u32>,
+}
+
+const NO_LINE: u32 = u32::MAX;
+const LEAF: u32 = 1 << 31;
+const TOP_BITS: u32 = 16;
+const NODE_BITS: u32 = 6;
+
+/// The bits from a depth on, as many as are wanted and zeros after the last.
+fn slot_of(bits: u128, depth: u32, width: u32) -> usize {
+    (bits.checked_shl(depth).unwrap_or(0) >> (128 - width)) as usize
+}
+
+impl Slots {
+    /// For each slot below a prefix its line, and the longer routes in it. The routes are sorted, and inside the prefix.
+    fn split(routes: &Routes, depth: u32, width: u32, around: u32) -> Vec<(u32, &Routes)> {
+        let mut slots = vec![(around, &routes[..0]); 1 << width];
+        let mut at = 0;
+        while at < routes.len() {
+            let (bits, length, line) = routes[at];
+            let slot = slot_of(bits, depth, width);
+            if length <= depth + width {
+                for below in &mut slots[slot..slot + (1 << (depth + width - length))] {
+                    below.0 = line;
+                }
+                at += 1;
+            } else {
+                let inside = routes[at..].partition_point(|it| slot_of(it.0, depth, width) == slot);
+                slots[slot].1 = &routes[at..at + inside];
+                at += inside;
+            }
+        }
+        slots
+    }
+
+    fn fill(&mut self, at: usize, routes: &Routes, depth: u32, around: u32) {
+        let mut node = Branch { first_leaf: self.leaves.len() as u32, ..Branch::default() };
+        let mut longer = Vec::new();
+        let mut last = None;
+        for (slot, (line, inside)) in Self::split(routes, depth, NODE_BITS, around).into_iter().enumerate() {
+            if !inside.is_empty() {
+                node.children |= 1 << slot;
+                longer.push((line, inside));
+            } else if last != Some(line) {
+                node.changes |= 1 << slot;
+                self.leaves.push(line);
+                last = Some(line);
+            }
+        }
+        node.first_child = self.nodes.len() as u32;
+        self.nodes.resize(self.nodes.len() + longer.len(), Branch::default());
+        self.nodes[at] = node;
+        for (child, (line, inside)) in longer.into_iter().enumerate() {
+            self.fill(node.first_child as usize + child, inside, depth + NODE_BITS, line);
+        }
+    }
+
+    fn of(routes: &Routes) -> Self {
+        let mut slots = Slots::default();
+        for (line, inside) in Self::split(routes, 0, TOP_BITS, NO_LINE) {
+            if inside.is_empty() {
+                slots.tops.push(line | LEAF);
+            } else {
+                slots.tops.push(slots.nodes.len() as u32);
+                slots.nodes.push(Branch::default());
+                slots.fill(slots.nodes.len() - 1, inside, TOP_BITS, line);
+            }
+        }
+        slots.nodes.shrink_to_fit();
+        slots.leaves.shrink_to_fit();
+        slots
+    }
+
+    fn find(&self, bits: u128) -> Option<usize> {
+        let top = self.tops[slot_of(bits, 0, TOP_BITS)];
+        if top & LEAF != 0 {
+            return (top != NO_LINE).then_some((top & !LEAF) as usize);
+        }
+        let mut node = &self.nodes[top as usize];
+        let mut depth = TOP_BITS;
+        loop {
+            let bit = 1u64 << slot_of(bits, depth, NODE_BITS);
+            if node.children & bit == 0 {
+                let leaf = node.first_leaf + (node.changes & (bit | (bit - 1))).count_ones() - 1;
+                let line = self.leaves[leaf as usize];
+                return (line != NO_LINE).then_some(line as usize);
+            }
+            node = &self.nodes[(node.first_child + (node.children & (bit - 1)).count_ones()) as usize];
+            depth += NODE_BITS;
+        }
+    }
+}
+
+/// A poptrie (Asai and Ohara, 2015) for each family, over the lines in one text.
+#[derive(Default)]
+struct Poptrie {
+    text: Vec<u8>,
+    ends: Vec<u32>,
+    loaded: [Vec<(u128, u32, u32)>; 2],
+    families: [Slots; 2],
+}
+
+impl Table for Poptrie {
+    fn add(&mut self, family: usize, bits: u128, length: u32, line: Vec<u8>) -> bool {
+        self.loaded[family].push((bits, length, self.ends.len() as u32));
+        self.text.extend_from_slice(&line);
+        self.ends.push(self.text.len() as u32);
+        true
+    }
+
+    fn done(&mut self) {
+        self.text.shrink_to_fit();
+        for (family, slots) in self.families.iter_mut().enumerate() {
+            let mut routes = std::mem::take(&mut self.loaded[family]);
+            routes.sort_unstable();
+            assert!(routes.windows(2).all(|two| (two[0].0, two[0].1) != (two[1].0, two[1].1)), "comes twice");
+            *slots = Slots::of(&routes);
+        }
+    }
+
+    fn find(&self, family: usize, bits: u128) -> Option<&[u8]> {
+        let line = self.families[family].find(bits)?;
+        let from = line.checked_sub(1).map_or(0, |before| self.ends[before]);
+        Some(&self.text[from as usize..self.ends[line] as usize])
+    }
+}
+
 #[derive(Default)]
 struct Nothing;
 
@@ -183,6 +329,7 @@ fn read<T: Table>(path: &str) -> (T, usize) {
         assert!(table.add(family, bits, length, line), "comes twice");
         count += 1;
     }
+    table.done();
     (table, count)
 }
 
@@ -273,8 +420,9 @@ fn main() {
     match words[1..] {
         ["trie", path] => run::<Trie>(path),
         ["maps", path] => run::<Maps>(path),
+        ["poptrie", path] => run::<Poptrie>(path),
         ["none", path] => run::<Nothing>(path),
         ["make", routes, addresses, folder] => make(routes.parse().unwrap(), addresses.parse().unwrap(), folder),
-        _ => panic!("usage: routes trie|maps|none FILE < ADDRESSES, or routes make N M FOLDER"),
+        _ => panic!("usage: routes trie|maps|poptrie|none FILE < ADDRESSES, or routes make N M FOLDER"),
     }
 }

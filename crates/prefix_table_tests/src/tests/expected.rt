@@ -185,7 +185,13 @@ fn nothing(table: &PrefixTable<usize>) -> Option<(bool, bool, bool, bool)> {
 fn an_empty_table_has_nothing(rt: HostRuntime) -> Result<(), Fail> {
     let built = table_of(rt.alloc(), &[]).ok_or("no table")?;
     let seen = (nothing(&built), nothing(&PrefixTable::new(rt.alloc())));
-    assert_eq!(rt; seen, (Some((true, true, true, true)), Some((true, true, true, true))));
+    assert_eq!(rt;
+        seen,
+        (
+            Some((true, true, true, true)),
+            Some((true, true, true, true))
+        )
+    );
     Ok(())
 }
 
