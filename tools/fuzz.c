@@ -112,7 +112,7 @@ static void insert(void) {
     if (!stored && now->count == MOST_PAIRS) return;
     uint32_t code = vokujin_insert(&map, key.bytes, key.len, value, &replaced);
     if (code == VOKUJIN_NO_MEMORY) return;
-    CHECK(code == (stored ? VOKUJIN_DONE : VOKUJIN_ABSENT));
+    CHECK(code == (stored ? VOKUJIN_REPLACED : VOKUJIN_DONE));
     CHECK(replaced == (stored ? now->pairs[at].value : 7777));
     if (!stored) {
         memmove(&now->pairs[at + 1], &now->pairs[at], (now->count - at) * sizeof *now->pairs);

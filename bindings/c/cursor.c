@@ -62,7 +62,7 @@ static void fill(vokujin_map *map) {
     vokujin_new(map);
     for (unsigned at = 0; at < KEYS; at++) {
         unsigned key = at * 7 % KEYS;
-        CHECK(vokujin_insert(map, keys[key], lens[key], fresh(key), &value) == VOKUJIN_ABSENT);
+        CHECK(vokujin_insert(map, keys[key], lens[key], fresh(key), &value) == VOKUJIN_DONE);
     }
 }
 
@@ -111,7 +111,7 @@ static void changes(vokujin_map *map) {
     CHECK(vokujin_cursor_prefix(&pairs, map, "", 0) == VOKUJIN_DONE);
     for (; vokujin_cursor_next(&pairs) == VOKUJIN_DONE; count++) {
         CHECK(vokujin_remove(map, pairs.key, pairs.key_len, &value) == VOKUJIN_DONE && value == pairs.value);
-        if (count % 2) CHECK(vokujin_insert(map, pairs.key, pairs.key_len, pairs.value, &value) == VOKUJIN_ABSENT);
+        if (count % 2) CHECK(vokujin_insert(map, pairs.key, pairs.key_len, pairs.value, &value) == VOKUJIN_DONE);
         else free((void *)(uintptr_t)value);
     }
     CHECK(count == KEYS);
@@ -131,7 +131,7 @@ static void removals(void) {
     char key[8];
     size_t count = 9;
     vokujin_new(&map);
-    for (unsigned at = 0; at < KEYS; at++) CHECK(vokujin_insert(&map, keys[at], lens[at], at, &value) == VOKUJIN_ABSENT);
+    for (unsigned at = 0; at < KEYS; at++) CHECK(vokujin_insert(&map, keys[at], lens[at], at, &value) == VOKUJIN_DONE);
     CHECK(vokujin_remove_prefix(&map, "12", 2, &count) == VOKUJIN_DONE && count == 10);
     CHECK(vokujin_remove_prefix(&map, "12", 2, &count) == VOKUJIN_DONE && count == 0);
     CHECK(vokujin_pop_first(&map, key, 2, &pair) == VOKUJIN_TOO_LONG && pair.key_len == 3);
@@ -160,9 +160,9 @@ static void keys_that_are_prefixes(void) {
     size_t count;
     vokujin_new(&map);
     for (int turn = 0; turn < 2; turn++) {
-        CHECK(vokujin_insert(&map, "", 0, 1, &value) == (turn ? VOKUJIN_DONE : VOKUJIN_ABSENT));
-        CHECK(vokujin_insert(&map, "k", 1, 1, &value) == VOKUJIN_ABSENT);
-        for (int at = 0; at < 100; at++) CHECK(vokujin_insert(&map, key, (size_t)sprintf(key, "k%d", at), 1, &value) == VOKUJIN_ABSENT);
+        CHECK(vokujin_insert(&map, "", 0, 1, &value) == (turn ? VOKUJIN_REPLACED : VOKUJIN_DONE));
+        CHECK(vokujin_insert(&map, "k", 1, 1, &value) == VOKUJIN_DONE);
+        for (int at = 0; at < 100; at++) CHECK(vokujin_insert(&map, key, (size_t)sprintf(key, "k%d", at), 1, &value) == VOKUJIN_DONE);
         if (!turn) CHECK(vokujin_remove_prefix(&map, "k", 1, &count) == VOKUJIN_DONE && count == 101);
     }
     destroyed = 0;

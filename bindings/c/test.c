@@ -26,14 +26,14 @@ static void each_call(void) {
     CHECK(vokujin_size() == sizeof map);
     vokujin_new(&first);
     CHECK(vokujin_first(&first, keys, sizeof keys, &pair) == VOKUJIN_ABSENT && pair.value == 9);
-    CHECK(vokujin_insert(&first, TEXT("car"), 1, &value) == VOKUJIN_ABSENT && value == 9);
+    CHECK(vokujin_insert(&first, TEXT("car"), 1, &value) == VOKUJIN_DONE && value == 9);
     /* A map may be moved. */
     map = first;
     memset(&first, 0xff, sizeof first);
-    CHECK(vokujin_insert(&map, TEXT("cart"), 2, &value) == VOKUJIN_ABSENT);
-    CHECK(vokujin_insert(&map, TEXT(""), 3, &value) == VOKUJIN_ABSENT);
-    CHECK(vokujin_insert(&map, TEXT("\0\1\2"), 4, &value) == VOKUJIN_ABSENT);
-    CHECK(vokujin_insert(&map, TEXT("car"), 5, &value) == VOKUJIN_DONE && value == 1);
+    CHECK(vokujin_insert(&map, TEXT("cart"), 2, &value) == VOKUJIN_DONE);
+    CHECK(vokujin_insert(&map, TEXT(""), 3, &value) == VOKUJIN_DONE);
+    CHECK(vokujin_insert(&map, TEXT("\0\1\2"), 4, &value) == VOKUJIN_DONE);
+    CHECK(vokujin_insert(&map, TEXT("car"), 5, &value) == VOKUJIN_REPLACED && value == 1);
     CHECK(vokujin_len(&map, &count) == VOKUJIN_DONE && count == 4);
     CHECK(vokujin_get(&map, TEXT("cart"), &value) == VOKUJIN_DONE && value == 2);
     CHECK(vokujin_get(&map, TEXT("ca"), &value) == VOKUJIN_ABSENT && value == 2);

@@ -96,11 +96,11 @@ static void each_call(void) {
     vokujin_frozen_new(&frozen);
     vokujin_frozen_new(&other);
     CHECK(vokujin_frozen_len(&frozen, &count) == VOKUJIN_FREED && vokujin_frozen_free(&frozen) == VOKUJIN_FREED);
-    CHECK(vokujin_insert(&map, TEXT("car"), 1, &value) == VOKUJIN_ABSENT);
+    CHECK(vokujin_insert(&map, TEXT("car"), 1, &value) == VOKUJIN_DONE);
     CHECK(vokujin_freeze(&map, &frozen) == VOKUJIN_DONE);
     /* The map is empty, and may be used again. */
     CHECK(vokujin_len(&map, &count) == VOKUJIN_DONE && count == 0);
-    CHECK(vokujin_insert(&map, TEXT("dog"), 2, &value) == VOKUJIN_ABSENT);
+    CHECK(vokujin_insert(&map, TEXT("dog"), 2, &value) == VOKUJIN_DONE);
     CHECK(vokujin_frozen_get(&frozen, TEXT("car"), &value) == VOKUJIN_DONE && value == 1);
     CHECK(vokujin_frozen_get(&frozen, TEXT("dog"), &value) == VOKUJIN_ABSENT);
     CHECK(vokujin_frozen_share(&frozen, &other) == VOKUJIN_DONE);
@@ -128,7 +128,7 @@ int main(int count, char **arguments) {
     each_call();
     vokujin_new(&map);
     for (unsigned number = 0; number < keys_count; number++) {
-        CHECK(vokujin_insert(&map, key, write_key(key, number), number * 3, &value) == VOKUJIN_ABSENT);
+        CHECK(vokujin_insert(&map, key, write_key(key, number), number * 3, &value) == VOKUJIN_DONE);
         sum += number * 3;
     }
     for (unsigned at = 0; at < THREADS; at++) {

@@ -52,7 +52,7 @@ typedef struct {
 enum {
     /* The call succeeded. If it looks something up, that was found and is written. */
     VOKUJIN_DONE = 0,
-    /* What was looked up is not stored. An insertion has inserted a new pair. */
+    /* What was looked up is not stored. */
     VOKUJIN_ABSENT = 1,
     /* An allocation failed, and the map is unchanged. */
     VOKUJIN_NO_MEMORY = 2,
@@ -62,6 +62,8 @@ enum {
     VOKUJIN_FULL = 4,
     /* The map has been freed. */
     VOKUJIN_FREED = 5,
+    /* An insertion has replaced the value of a stored key, and has written it. */
+    VOKUJIN_REPLACED = 6,
     /* The range has no bound on this side. */
     VOKUJIN_UNBOUNDED = 0,
     /* The bound is a key of the range, if it is stored. */
@@ -91,7 +93,7 @@ uint32_t vokujin_compact(vokujin_map *map);
 /* Looks up a key, and writes its value. */
 uint32_t vokujin_get(const vokujin_map *map, const void *key, size_t key_len, uint64_t *value);
 
-/* Inserts a pair, and writes the value that it replaced. */
+/* Inserts a pair. If its key is stored it returns VOKUJIN_REPLACED, and writes the value that is replaced. */
 uint32_t vokujin_insert(vokujin_map *map, const void *key, size_t key_len, uint64_t value, uint64_t *replaced);
 
 /* Removes the pair of a key, and writes its value. */

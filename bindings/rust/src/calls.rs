@@ -33,6 +33,7 @@ pub const NO_MEMORY: u32 = 2;
 pub const TOO_LONG: u32 = 3;
 pub const FULL: u32 = 4;
 pub const FREED: u32 = 5;
+pub const REPLACED: u32 = 6;
 pub const UNBOUNDED: u32 = 0;
 pub const INCLUDED: u32 = 1;
 pub const EXCLUDED: u32 = 2;

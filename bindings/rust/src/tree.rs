@@ -5,7 +5,7 @@ use std::ops::Bound;
 
 use crate::OutOfMemory;
 use crate::calls::{
-    self, ABSENT, DONE, EXCLUDED, FrozenPlace, Given, INCLUDED, NO_MEMORY, Pair, Place, TOO_LONG, UNBOUNDED,
+    self, DONE, EXCLUDED, FrozenPlace, Given, INCLUDED, NO_MEMORY, Pair, Place, REPLACED, TOO_LONG, UNBOUNDED,
 };
 
 /// A tree that may be changed.
@@ -27,11 +27,10 @@ pub(crate) struct FrozenTree {
 unsafe impl Send for FrozenTree {}
 unsafe impl Sync for FrozenTree {}
 
-/// What a code reports of something that is looked up.
-fn found<T>(code: u32, it: T) -> Result<Option<T>, OutOfMemory> {
+/// What a call did that finds nothing and may allocate.
+fn done<T>(code: u32, it: T) -> Result<T, OutOfMemory> {
     match code {
-        DONE => Ok(Some(it)),
-        ABSENT => Ok(None),
+        DONE => Ok(it),
         NO_MEMORY => Err(OutOfMemory),
         _ => unreachable!("code {code}"),
     }
@@ -67,7 +66,7 @@ impl Tree {
     pub fn insert(&mut self, key: &[u8], value: u64) -> Result<Option<u64>, OutOfMemory> {
         let mut replaced = 0;
         let code = unsafe { calls::vokujin_insert(&mut self.place, key.as_ptr(), key.len(), value, &mut replaced) };
-        found(code, replaced)
+        if code == REPLACED { Ok(Some(replaced)) } else { done(code, None) }
     }
 
     pub fn remove(&mut self, key: &[u8]) -> Option<u64> {
@@ -80,7 +79,7 @@ impl Tree {
     }
 
     pub fn compact(&mut self) -> Result<(), OutOfMemory> {
-        found(unsafe { calls::vokujin_compact(&mut self.place) }, ()).map(|_| ())
+        done(unsafe { calls::vokujin_compact(&mut self.place) }, ())
     }
 
     pub fn first(&self) -> Option<(Vec<u8>, u64)> {
@@ -118,7 +117,7 @@ impl Tree {
     pub fn freeze(&mut self) -> Result<FrozenTree, OutOfMemory> {
         let mut frozen = FrozenTree::none();
         let code = unsafe { calls::vokujin_freeze(&mut self.place, &mut frozen.place) };
-        found(code, frozen).map(|it| it.expect("a tree that is not freed"))
+        done(code, frozen)
     }
 }
 
@@ -141,7 +140,7 @@ impl FrozenTree {
     pub fn share(&self) -> Result<FrozenTree, OutOfMemory> {
         let mut other = FrozenTree::none();
         let code = unsafe { calls::vokujin_frozen_share(&self.place, &mut other.place) };
-        found(code, other).map(|it| it.expect("a handle that is not freed"))
+        done(code, other)
     }
 
     pub fn len(&self) -> usize {

@@ -13,8 +13,8 @@ ghost use Rattle.std.specs.Option.{option_map};
 ghost use Rattle.std.specs.Ptr.{lies_at, room_at};
 ghost use Rattle.art_keyed.specs.KeyedPairs.{strings_below, strings_in_front};
 ghost use Rattle.art_keys.specs.Escapes.{escape};
-ghost use Rattle.art_model.specs.Pairs.{first_of, last_of, of_key, put, remove_key};
-ghost use Rattle.string_map.specs.Calls.{Answers, Changes, code_of, done, freed, no_memory, value_of};
+ghost use Rattle.art_model.specs.Pairs.{first_of, last_of, of_key, remove_key};
+ghost use Rattle.string_map.specs.Calls.{Answers, Changes, Inserts, code_of, done, freed, no_memory, value_of};
 ghost use Rattle.string_map.specs.Frozen.{Freezes, Shares};
 ghost use Rattle.string_map.specs.Given.{GivesPairs, bound_at, wanted_of};
 ghost use Rattle.string_map.specs.PrefixEnds.{IsPrefixEnd};
@@ -100,7 +100,7 @@ pub unsafe extern "C" fn vokujin_get(map: *const u8, key: &[u8], value: &mut u64
     string_map::calls::get(&*(map as *const StringMap), key, value)
 }
 
-/// Inserts a pair, and writes the value that it replaced.
+/// Inserts a pair. If its key is stored it returns VOKUJIN_REPLACED, and writes the value that is replaced.
 #[unsafe(no_mangle)]
 pub unsafe extern "C" fn vokujin_insert(
     map: *mut u8,
@@ -111,8 +111,7 @@ pub unsafe extern "C" fn vokujin_insert(
     ghost pairs: { Option (List (List ℕ × ℕ)) }
     requires* { sem 𝓛 (lies_at MapRow full_share map pairs) }
     ensures* { ∃ₛ λ (now : Option (List (List ℕ × ℕ))). sem 𝓛 (lies_at MapRow full_share map now) ∗
-        ⌜ Answers pairs (value_of key.now) result replaced.old replaced.new ×
-        Changes pairs (put (of_key escape) (key.now, value)) result now ⌝ }
+        ⌜ Inserts key.now value pairs result now replaced.old replaced.new ⌝ }
 {
     string_map::calls::insert(&mut *(map as *mut StringMap), key, value, replaced)
 }

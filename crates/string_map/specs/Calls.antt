@@ -3,6 +3,7 @@ use Rattle.std.specs.Prelude.{◌≡◌, ◌≢◌, ◌<◌, ◌≤◌, ℕ, Lis
 use Rattle.std.specs.Option.{option_map}
 use Rattle.art_keys.specs.Escapes.{escape}
 use Rattle.art_map.specs.MapAnswers.{value_at}
+use Rattle.art_model.specs.Pairs.{of_key, put}
 
 -- the codes
 abbrev pub done : ℕ
@@ -22,6 +23,9 @@ full = 4
 
 abbrev pub freed : ℕ
 freed = 5
+
+abbrev pub has_replaced : ℕ
+has_replaced = 6
 
 -- the code of a call that can fail only on a map that was freed
 abbrev pub code_of : Option (List (List ℕ × ℕ)) → ℕ
@@ -46,3 +50,15 @@ pub record Changes (before : Option (List (List ℕ × ℕ))) (change : List (Li
     (after : Option (List (List ℕ × ℕ))) : Type 0 where
   pub changed : code < no_memory → after ≡ option_map change before
   pub kept : no_memory ≤ code → after ≡ before
+
+-- the code reports whether a value is replaced, and if so it is written
+abbrev pub Replaces : Option ℕ → ℕ → ℕ → Type 0
+Replaces stored code written = MatchOption stored (code ≡ done) (λ it. (code ≡ has_replaced) × (written ≡ it))
+
+-- A call inserts a pair. If it fails, the pairs are unchanged.
+pub record Inserts (key : List ℕ) (value : ℕ) (before : Option (List (List ℕ × ℕ))) (code : ℕ)
+    (after : Option (List (List ℕ × ℕ))) (unwritten written : ℕ) : Type 0 where
+  pub tells : MatchOption before (code ≡ freed) (λ pairs. code ≢ no_memory → Replaces (value_of key pairs) code written)
+  pub stays : code ≢ has_replaced → written ≡ unwritten
+  pub inserted : code ≢ no_memory → after ≡ option_map (put (of_key escape) (key, value)) before
+  pub kept : code ≡ no_memory → after ≡ before

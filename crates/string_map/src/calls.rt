@@ -1,16 +1,16 @@
 //! Calls for one key, and for the whole map. All but `new` return a code; on a map that was freed they return `FREED`
 //! and do nothing.
-ghost use Rattle.std.specs.Prelude.{◌≡◌, ◌≢◌, ◌<◌, ◌≤◌, [], length, None, Some};
+ghost use Rattle.std.specs.Prelude.{◌≡◌, ◌≢◌, [], length, None, Some};
 ghost use Rattle.std.specs.Option.{option_map};
 ghost use Rattle.art_keyed.specs.KeyedPairs.{strings_below, strings_in_front};
 ghost use Rattle.art_keys.specs.Escapes.{escape};
 ghost use Rattle.art_model.specs.Pairs.{first_of, last_of, of_key, put, remove_key};
-ghost use Rattle.string_map.specs.Calls.{Answers, Changes, Tells, code_of, done, no_memory, value_of};
+ghost use Rattle.string_map.specs.Calls.{Answers, Changes, Inserts, Replaces, code_of, has_replaced, no_memory, value_of};
 ghost use Rattle.art_map.specs.MapItems.{deref_pair};
 ghost use Rattle.string_map.specs.Shown.{Shows, ShowsPair, pair_of};
 
 use super::StringMap;
-use super::codes::{ABSENT, DONE, FREED, NO_MEMORY, TOO_LONG};
+use super::codes::{ABSENT, DONE, FREED, NO_MEMORY, REPLACED, TOO_LONG};
 use super::pairs::Pair;
 use art_keyed::map::TreeMap;
 use art_keys::escaped::Escaped;
@@ -90,11 +90,10 @@ pub fn get(map: &StringMap, key: &[u8], value: &mut u64) -> u32
     }
 }
 
-/// Inserts a pair, and writes the value that it replaced. Returns `DONE`, `ABSENT` if the key is new, or `NO_MEMORY` if
-/// an allocation fails; then the map is unchanged.
+/// Inserts a pair. Returns `DONE` if the key is new, `REPLACED` if its value is replaced, which is written, or
+/// `NO_MEMORY` if an allocation fails; then the map is unchanged.
 pub fn insert(map: &mut StringMap, key: &[u8], value: u64, replaced: &mut u64) -> u32
-    ensures { Answers map.old (value_of key.now) result replaced.old replaced.new ×
-        Changes map.old (put (of_key escape) (key.now, value)) result map.new }
+    ensures { Inserts key.now value map.old result map.new replaced.old replaced.new }
 {
     let Some(pairs) = &mut map.pairs else {
         return FREED;
@@ -105,24 +104,24 @@ pub fn insert(map: &mut StringMap, key: &[u8], value: u64, replaced: &mut u64) -
     insert_key(pairs, key, value, replaced)
 }
 
-// Inserts the pair of a key, and writes the value that it replaced.
+// Inserts the pair of a key, and writes the value that is replaced.
 fn insert_key(
     pairs: &mut TreeMap<Escaped, u64, 16>,
     key: Escaped,
     value: u64,
-    replaced: &mut u64,
+    written: &mut u64,
 ) -> u32
-    ensures tells { result ≢ no_memory → Tells (value_of key pairs.old) result replaced.new }
-    ensures stays { result ≢ done → replaced.new ≡ replaced.old }
-    ensures changed { result < no_memory → pairs.new ≡ put (of_key escape) (key, value) pairs.old }
-    ensures kept { no_memory ≤ result → pairs.new ≡ pairs.old }
+    ensures tells { result ≢ no_memory → Replaces (value_of key pairs.old) result written.new }
+    ensures stays { result ≢ has_replaced → written.new ≡ written.old }
+    ensures inserted { result ≢ no_memory → pairs.new ≡ put (of_key escape) (key, value) pairs.old }
+    ensures kept { result ≡ no_memory → pairs.new ≡ pairs.old }
 {
     match pairs.insert(key, value) {
         Ok(Some((_, old))) => {
-            *replaced = old;
-            DONE
+            *written = old;
+            REPLACED
         }
-        Ok(None) => ABSENT,
+        Ok(None) => DONE,
         Err(_) => NO_MEMORY,
     }
 }

@@ -2,7 +2,7 @@
 
 /// The call succeeded. If it looks something up, that was found and is written.
 pub const DONE: u32 = 0;
-/// What was looked up is not stored. An insertion has inserted a new pair.
+/// What was looked up is not stored.
 pub const ABSENT: u32 = 1;
 /// An allocation failed, and the map is unchanged.
 pub const NO_MEMORY: u32 = 2;
@@ -12,6 +12,8 @@ pub const TOO_LONG: u32 = 3;
 pub const FULL: u32 = 4;
 /// The map has been freed.
 pub const FREED: u32 = 5;
+/// An insertion has replaced the value of a stored key, and has written it.
+pub const REPLACED: u32 = 6;
 
 /// The range has no bound on this side.
 pub const UNBOUNDED: u32 = 0;

@@ -170,13 +170,13 @@ static int store(Core *self, const Key *key, PyObject *value) {
     size_t slot = values_insert(&self->values, value);
     if (slot == NO_SLOT) return answer(VOKUJIN_NO_MEMORY);
     uint32_t code = vokujin_insert(&self->map, key->bytes, (size_t)key->len, slot, &replaced);
-    if (code == VOKUJIN_ABSENT) {
+    if (code == VOKUJIN_DONE) {
         self->changes++;
         return 0;
     }
-    if (code == VOKUJIN_DONE) self->moves++;
-    Py_DECREF(values_take(&self->values, code == VOKUJIN_DONE ? replaced : slot));
-    return code == VOKUJIN_DONE ? 0 : answer(code);
+    if (code == VOKUJIN_REPLACED) self->moves++;
+    Py_DECREF(values_take(&self->values, code == VOKUJIN_REPLACED ? replaced : slot));
+    return code == VOKUJIN_REPLACED ? 0 : answer(code);
 }
 
 /* Looks up a key, and writes a new reference to its value. Returns as answer does. */

@@ -1,8 +1,6 @@
 -- The memory of the map is borrowed for the call, and is the caller's again after it.
 use Rattle.art_c.proofs.Steps.{ℕ, List, [], ◌∷◌, ◌++◌, refl, w32, w64, MutBor, proved, full_share, id⊢, sep, Lft, flft, flent, named, Val, vptr, fact, tables, WpFn, sem, Body, ‵, raw, ◌⊛◌, some, later, prop, ◌$◌, ◌∵◌, !, qed, done, move, drop, use1, use2, use3, split, join, fsplit, pick, await, regoal, suffices, frame, group, show, enter, of_opd, addr, stop, no_more, and_then, returns, alloc_all, pass_all, free_all, look_at, get, through, sets, lands_as, env, lft_new, lft_end, u8, u32, u64, yes, Is, shows, uint_vals, uint_Tells, uint_Lawful, owns, Ptr, RawPtr, block_ptr, lies_at, in_a_block, rawptr_vals, rawptr_Tells, MutRef, mut_vals, mut_Tells, ShrSlice, shr_slice_vals, shr_slice_Tells, part_at, mem, lends_ref, ref_back, plain, shr_slice_of, nothing, heard, peeks, calls_at, lasts, alive, triple_of, Stays, walk_of, says, stay_dropped, gave_ref, Goes-dropped, Goes-gave_ref, ends_at, framed}
-use Rattle.art_keys.specs.Escapes.{escape}
-use Rattle.art_model.specs.Pairs.{of_key, put}
-use Rattle.string_map.specs.Calls.{Answers, Changes, value_of}
+use Rattle.string_map.specs.Calls.{Inserts}
 use Rattle.string_map.specs.contracts.StringMap.{the_row as R}
 use Rattle.string_map.specs.contracts.calls.insert as g
 use Rattle.string_map.proofs.calls.insert.Met.{met}
@@ -39,7 +37,7 @@ vokujin_insert_spec 𝓤 𝓛 𝓜 𝓡 wired =
     calls_at ! (framed 𝓤 𝓛.H 𝓜 (tables 𝓤 𝓛.H 𝓜 𝓡 𝓡.env)) G (met 𝓤 𝓛 𝓜 𝓡 (code.calls-string_map::calls::insert 𝓡.env wired)) z
     (and_then ! (get ! refl) (and_then ! (get ! refl) (and_then ! (get ! refl) (and_then ! (get ! refl) (no_more !))))) (λ v.
     use1 𝓛 (later (some (λ (r : ℕ). ((‵ (flft κ full_share) ⊛ raw T) ⊛ ‵ (u32.own_val r (v ∷ []))) ⊛
-    some (λ (ws : _). ‵ (lasts g.ended z.0.0 z.0.3 ws) ⊛ raw (fact 𝓤 (Answers m (value_of a.1.0.now) r a.1.1.1.0.now ws.1.1.1.0 × Changes m (put (of_key escape) (a.1.0.now, a.1.1.0)) r ws.0)))))) (id⊢ 𝓤 _) $
+    some (λ (ws : _). ‵ (lasts g.ended z.0.0 z.0.3 ws) ⊛ raw (fact 𝓤 (Inserts a.1.0.now a.1.1.0 m r ws.0 a.1.1.1.0.now ws.1.1.1.0)))))) (id⊢ 𝓤 _) $
     await ! tt $ pick ! (λ r. split ! $ split ! $ split ! $ lft_end ! tt $
     move ! (3 ∷ []) $ pick ! (λ ws. split ! $ fsplit ! $ fsplit ! $
     move ! (3 ∷ []) $ heard ! _ (λ told.
@@ -51,4 +49,4 @@ vokujin_insert_spec 𝓤 𝓛 𝓜 𝓡 wired =
     returns ! (look_at ! 0 refl) $ free_all ! refl $
     suffices ! _ (ends_at 𝓛 f.ended stayed c (y (block_ptr b o)) v r (tt, ws.1) (tt, (tt, (tt, (tt, tt))))) $
     nothing ! $ move ! (0 ∷ 3 ∷ []) $ join ! $ move ! (3 ∷ 0 ∷ 1 ∷ []) $ group ! 3 $ frame ! $
-    show ! (λ (w : R.Denot). sep 𝓤 (sem 𝓛 (lies_at R full_share (block_ptr b o) w)) (fact 𝓤 (Answers m (value_of a.1.0.now) r a.1.1.1.0.now ws.1.1.1.0 × Changes m (put (of_key escape) (a.1.0.now, a.1.1.0)) r w))) ws.0 $ says ! told $ done !))))))))))
+    show ! (λ (w : R.Denot). sep 𝓤 (sem 𝓛 (lies_at R full_share (block_ptr b o) w)) (fact 𝓤 (Inserts a.1.0.now a.1.1.0 m r w a.1.1.1.0.now ws.1.1.1.0))) ws.0 $ says ! told $ done !))))))))))
