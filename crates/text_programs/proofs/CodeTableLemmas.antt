@@ -1,14 +1,15 @@
 -- A table of codes that is read line by line.
-use Rattle.std.proofs.Common.{◌≡◌, ℕ, ◌+◌, true, ◌&&◌, eqb, eqb-true, List, [], ◌∷◌, ◌++◌, length, map, refl, ap, sym, ◌∙◌, subst, arith, ◌⊎◌, inl, inr}
-use Rattle.std.specs.List.{list_any}
+use Rattle.std.proofs.Common.{◌≡◌, ◌≢◌, ℕ, ◌+◌, true, false, ◌&&◌, eqb, eqb-true, List, [], ◌∷◌, ◌++◌, length, map, refl, ap, sym, ◌∙◌, subst, arith, ◌⊎◌, inl, inr}
+use Rattle.std.specs.List.{AllByRecursion as Each, list_any}
 use Rattle.std.specs.List.Sorted.{IsPermutation}
-use Rattle.std.proofs.lemmas.Bool.{and_parts, false≢true, or_cases}
+use Rattle.std.proofs.lemmas.Bool.{and_parts, false≢true, or_cases, or_parts}
 use Rattle.std.proofs.lemmas.List.{length-map, map-append}
 use Rattle.std.proofs.lemmas.List.Sorted.{IsPermutation-map, IsPermutation-push_more}
 use Rattle.std.proofs.lemmas.List.Sorted.{list_any-IsPermutation}
 use Rattle.art_model.specs.Keys.{are_same}
-use Rattle.art_model.proofs.keys.Keys.{same_equal}
+use Rattle.art_model.proofs.keys.Keys.{front_same, same_equal}
 use Rattle.art_model.proofs.lists.Lists.{Each-append}
+use Rattle.art_model.proofs.lists.Pairwises.{Pairwise-append}
 use Rattle.text_programs.specs.declared.dial_codes.table.LineError.{LineError}
 use Rattle.text_programs.specs.declared.dial_codes.table.LineError.TheVariants.{NoEntry, Repeated, NoMemory}
 use Rattle.text_programs.specs.declared.dial_codes.table.Named.{Named}
@@ -23,6 +24,16 @@ numbered-append n (x ∷ entries) e =
     let k : n + 1 + length entries ≡ n + length (x ∷ entries) = omega arith in
     ap (λ rows. (x.0, x.1, n) ∷ rows) (numbered-append (n + 1) entries e ∙ ap (λ m. numbered (n + 1) entries ++ (e.0, e.1, m) ∷ []) k)
 
+-- a code that no row has is none of the entries'
+own_code : (e : List ℕ × List ℕ) (n : ℕ) (entries : List (List ℕ × List ℕ)) →
+    list_any (λ row. are_same (code_of e) row.0) (numbered n entries) ≡ false → Each (λ x. Each (λ y. code_of x ≢ code_of y) (e ∷ [])) entries
+own_code e n [] h = tt
+own_code e n (x ∷ entries) h =
+    let parts = or_parts (are_same (code_of e) x.0) (list_any (λ row. are_same (code_of e) row.0) (numbered (n + 1) entries)) h in (
+      (λ same. false≢true (sym parts.0 ∙ ap (are_same (code_of e)) same ∙ front_same (code_of e)), tt),
+      own_code e (n + 1) entries parts.1,
+    )
+
 -- with the entry of one more line
 pub one_entry_more : (rows others : List (List ℕ × List ℕ × ℕ)) (number : ℕ) (line : List ℕ) → HasLine line number rows others →
     (before : List (List ℕ)) → number ≡ length before + 1 → IsFilledBy rows before → IsFilledBy others (before ++ line ∷ [])
@@ -36,6 +47,8 @@ one_entry_more rows others number line has before n h =
             ∙ sym (map-append line_of h.entries (has.entry ∷ []));
         codes = Each-append (λ entry. is_code (code_of entry) ≡ true) h.entries (has.entry ∷ []) h.lines_are.codes (has.code, tt);
       };
+      differ = Pairwise-append (λ x y. code_of x ≢ code_of y) h.entries (has.entry ∷ []) h.differ (tt, tt) (own_code has.entry 1 h.entries
+          (list_any-IsPermutation (λ row. are_same (code_of has.entry) row.0) (numbered 1 h.entries) rows h.same ∙ has.unused));
       same = subst (λ rs. IsPermutation rs others)
           (sym (numbered-append 1 h.entries has.entry ∙ ap (λ m. numbered 1 h.entries ++ (has.entry.0, has.entry.1, m) ∷ []) last))
           (IsPermutation-push_more (numbered 1 h.entries) rows others (has.entry.0, has.entry.1, number) h.same has.came);
@@ -98,4 +111,4 @@ fault_is line entries rows NoMemory same h = tt
 
 pub code_fault : (rows : List (List ℕ × List ℕ × ℕ)) (line : List ℕ) (fault : LineError) → IsFaultBeside line rows fault →
     (before : List (List ℕ)) → IsFilledBy rows before → IsCodeFault before line fault
-code_fault rows line fault is before h = (h.entries, h.lines_are, fault_is line h.entries rows fault h.same is)
+code_fault rows line fault is before h = (h.entries, h.lines_are, h.differ, fault_is line h.entries rows fault h.same is)

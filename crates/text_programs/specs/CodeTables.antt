@@ -2,6 +2,7 @@
 use Rattle.std.specs.Prelude.{◌≡◌, ◌≢◌, ℕ, ◌+◌, true, List, ◌∷◌, ◌++◌, length, map, ⊤}
 use Rattle.std.specs.List.{AllByRecursion as Each}
 use Rattle.std.specs.List.Sorted.{IsPermutation}
+use Rattle.art_model.specs.Pairs.{Pairwise}
 use Rattle.text_programs.specs.CodeRows.{numbered}
 use Rattle.text_programs.specs.Entries.{code_of, is_code, line_of}
 use Rattle.text_programs.specs.declared.dial_codes.table.LineError.{LineError}
@@ -18,10 +19,15 @@ pub record IsTableOf (ls : List (List ℕ)) (table : List (List ℕ × List ℕ)
   pub lines_are : AreLinesOf ls entries
   pub same : IsPermutation entries table
 
--- The lines are those of entries, and the rows of a table are these with their numbers.
+-- no two of the entries have the same code
+abbrev pub HaveOwnCodes : List (List ℕ × List ℕ) → Type 0
+HaveOwnCodes entries = Pairwise (λ x y. code_of x ≢ code_of y) entries
+
+-- The lines are those of entries with different codes, and the rows of a table are these with their numbers.
 pub record IsFilledBy (rows : List (List ℕ × List ℕ × ℕ)) (ls : List (List ℕ)) : Type 0 where
   pub entries : List (List ℕ × List ℕ)
   pub lines_are : AreLinesOf ls entries
+  pub differ : HaveOwnCodes entries
   pub same : IsPermutation (numbered 1 entries) rows
 
 -- The entry of the line of this number has this code.
@@ -39,6 +45,7 @@ IsFaultOf line entries NoEntry = (code name : List ℕ) → is_code code ≡ tru
 IsFaultOf line entries (Repeated earlier) = (code name : List ℕ) × (line ≡ line_of (code, name)) × IsRepeatedAt code earlier entries
 IsFaultOf line entries NoMemory = ⊤
 
--- the lines before this one are those of entries, and it has this fault
+-- the lines before this one are those of entries with different codes, and it has this fault: it is the first line with one
 abbrev pub IsCodeFault : List (List ℕ) → List ℕ → LineError → Type 0
-IsCodeFault before line fault = (entries : List (List ℕ × List ℕ)) × AreLinesOf before entries × IsFaultOf line entries fault
+IsCodeFault before line fault =
+    (entries : List (List ℕ × List ℕ)) × AreLinesOf before entries × HaveOwnCodes entries × IsFaultOf line entries fault
