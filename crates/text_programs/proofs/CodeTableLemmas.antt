@@ -1,20 +1,31 @@
 -- A table of codes that is read line by line.
-use Rattle.std.proofs.Common.{◌≡◌, ℕ, true, ◌&&◌, eqb, eqb-true, List, [], ◌∷◌, ◌++◌, map, Result, Ok, Err, IfErr, OnErr, OnOk, refl, ap, sym, ◌∙◌, subst, ◌⊎◌, inl, inr}
-use Rattle.std.specs.List.{list_any}
+use Rattle.std.proofs.Common.{◌≡◌, ◌≢◌, ℕ, true, false, ◌&&◌, eqb, eqb-true, List, [], ◌∷◌, ◌++◌, map, Result, Ok, Err, IfErr, OnErr, OnOk, refl, ap, sym, ◌∙◌, subst, ◌⊎◌, inl, inr}
+use Rattle.std.specs.List.{AllByRecursion as Each, list_any}
 use Rattle.std.specs.List.Sorted.{IsPermutation}
-use Rattle.std.proofs.lemmas.Bool.{and_parts, false≢true, or_cases}
+use Rattle.std.proofs.lemmas.Bool.{and_parts, false≢true, or_cases, or_parts}
 use Rattle.std.proofs.lemmas.List.{map-append}
 use Rattle.std.proofs.lemmas.List.Sorted.{IsPermutation-map, IsPermutation-push_more}
 use Rattle.std.proofs.lemmas.List.Sorted.{list_any-IsPermutation}
 use Rattle.art_model.specs.Keys.{are_same}
-use Rattle.art_model.proofs.keys.Keys.{same_equal}
+use Rattle.art_model.proofs.keys.Keys.{front_same, same_equal}
 use Rattle.art_model.proofs.lists.Lists.{Each-append}
+use Rattle.art_model.proofs.lists.Pairwises.{Pairwise-append}
 use Rattle.text_programs.specs.declared.dial_codes.table.LineError.{LineError}
 use Rattle.text_programs.specs.declared.dial_codes.table.LineError.TheVariants.{NoEntry, Repeated, NoMemory}
 use Rattle.text_programs.specs.declared.dial_codes.table.Named.{Named}
 use Rattle.text_programs.specs.Entries.{entries_of, is_code}
 use Rattle.text_programs.specs.CodeRows.{HasLine, IsFaultBeside, entry_of_row, numbered_line, rows_of}
 use Rattle.text_programs.specs.CodeTables.{IsCodeFault, IsFaultOf, IsFilledBy, IsRepeatedAt, IsTableOf}
+
+-- no row has this code
+own_code : (new : List ℕ × List ℕ × ℕ) (rows : List (List ℕ × List ℕ × ℕ)) →
+    list_any (λ row. are_same new.0 row.0) rows ≡ false → Each (λ x. Each (λ y. x.0 ≢ y.0) (new ∷ [])) rows
+own_code new [] h = tt
+own_code new (x ∷ rows) h =
+    let parts = or_parts (are_same new.0 x.0) (list_any (λ row. are_same new.0 row.0) rows) h in (
+      (λ same. false≢true (sym parts.0 ∙ ap (are_same new.0) same ∙ front_same new.0), tt),
+      own_code new rows parts.1,
+    )
 
 -- with the entry of one more line
 pub one_entry_more : (table others : List (List ℕ × List ℕ × ℕ)) (number : ℕ) (line : List ℕ) → HasLine line number table others →
@@ -28,6 +39,8 @@ one_entry_more table others number line has before h =
             ∙ sym (map-append numbered_line h.rows (row ∷ []));
         codes = Each-append (λ row. is_code row.0 ≡ true) h.rows (row ∷ []) h.lines_are.codes (has.code, tt);
       };
+      differ = Pairwise-append (λ x y. x.0 ≢ y.0) h.rows (row ∷ []) h.differ (tt, tt)
+          (own_code row h.rows (list_any-IsPermutation (λ r. are_same has.entry.0 r.0) h.rows table h.same ∙ has.unused));
       same = IsPermutation-push_more h.rows table others row h.same has.came;
     }
 
@@ -68,7 +81,7 @@ fault_is line rows table NoMemory same h = tt
 
 pub code_fault : (table : List (List ℕ × List ℕ × ℕ)) (line : List ℕ) (fault : LineError) → IsFaultBeside line table fault →
     (before : List (ℕ × List ℕ)) → IsFilledBy table before → IsCodeFault before line fault
-code_fault table line fault is before h = (h.rows, h.lines_are, fault_is line h.rows table fault h.same is)
+code_fault table line fault is before h = (h.rows, h.lines_are, h.differ, fault_is line h.rows table fault h.same is)
 
 -- ---- what follows from a success or a failure
 

@@ -1,11 +1,11 @@
 -- Where the code of a line ends, and entries as a map stores them.
 use Rattle.std.proofs.Common.{◌≡◌, ◌≢◌, ◌≤◌, ℕ, Bool, true, false, not, cond, eqb, eq-eqb, ◌&&◌, ◌||◌, List, [], ◌∷◌, ◌++◌, length, map}
 use Rattle.std.proofs.Common.{filter, Option, Some, None, is_some, refl, ap, ap₂, sym, ◌∙◌, subst, arith, ◌⊎◌, inl, inr}
-use Rattle.std.specs.List.{AllByRecursion as Each, list_all}
+use Rattle.std.specs.List.{AllByRecursion as Each, list_all, list_any}
 use Rattle.std.specs.List.Sorted.{IsPermutation}
 use Rattle.std.specs.Option.{option_map}
 use Rattle.std.specs.Char.{is_ascii_digit}
-use Rattle.std.proofs.lemmas.Bool.{and_from, and_parts, or_left, or_right, false≢true}
+use Rattle.std.proofs.lemmas.Bool.{and_from, and_parts, or_left, or_parts, or_right, false≢true}
 use Rattle.std.proofs.lemmas.List.Elements.{All-cons}
 use Rattle.std.proofs.lemmas.List.Sorted.{IsPermutation-refl, IsPermutation-sym, IsPermutation-cons, IsPermutation-trans, IsPermutation-middle, IsPermutation-map}
 use Rattle.std.specs.Cmp.Lexicographic.{slice_cmp}
@@ -103,6 +103,20 @@ none_stored new pairs h = go (first_of (with_key (of_key ended) (ended new.0) pa
     go None e = refl
     go (Some x) e = absurd (false≢true (sym e))
 
+-- no row has a code that is not stored
+no_row : (code : List ℕ) (pairs : List (List ℕ × Named)) → has_key (of_key ended) (ended code) pairs ≡ false →
+    list_any (λ row. are_same code row.0) (rows_of pairs) ≡ false
+no_row code [] h = refl
+no_row code (x ∷ xs) h = go (are_same code x.0) refl (or_parts _ _ h) (no_row code xs)
+  where
+    go : (t : Bool) → are_same code x.0 ≡ t →
+        (are_same (ended code) (ended x.0) ≡ false) × (has_key (of_key ended) (ended code) xs ≡ false) →
+        (has_key (of_key ended) (ended code) xs ≡ false → list_any (λ row. are_same code row.0) (rows_of xs) ≡ false) →
+        (t || list_any (λ row. are_same code row.0) (rows_of xs)) ≡ false
+    go true e (off, rest) ih =
+        absurd (false≢true (sym off ∙ ap (λ z. are_same (ended code) (ended z)) (same_equal code x.0 e) ∙ front_same (ended code)))
+    go false e (off, rest) ih = ih rest
+
 -- where no key is equal a pair is added to the others
 pair_comes : (key : List ℕ) (value : Named) (pairs : List (List ℕ × Named)) → has_key (of_key ended) (ended key) pairs ≡ false →
     IsPermutation ((key, value.name.items, value.line) ∷ rows_of pairs) (rows_of (put (of_key ended) (key, value) pairs))
@@ -119,6 +133,7 @@ line_comes line code name number key value pairs is h k v n none = record {
   entry = (key, value.name.items);
   code = ap is_code k ∙ h;
   is = is ∙ ap₂ (λ a b. a ++ 32 ∷ b) (sym k) (sym v);
+  unused = no_row key pairs (ap (λ bs. has_key (of_key ended) (ended bs) pairs) k ∙ none);
   came = subst (λ l. IsPermutation ((key, value.name.items, l) ∷ rows_of pairs) (rows_of (put (of_key ended) (key, value) pairs))) n
       (pair_comes key value pairs (ap (λ bs. has_key (of_key ended) (ended bs) pairs) k ∙ none));
 }

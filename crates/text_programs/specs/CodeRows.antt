@@ -1,5 +1,5 @@
 -- Rows: entries with the numbers of their lines.
-use Rattle.std.specs.Prelude.{◌≡◌, ◌≢◌, ℕ, Bool, true, ◌&&◌, ◌==◌, List, ◌∷◌, map, ⊤}
+use Rattle.std.specs.Prelude.{◌≡◌, ◌≢◌, ℕ, Bool, true, false, ◌&&◌, ◌==◌, List, ◌∷◌, map, ⊤}
 use Rattle.std.specs.List.{list_any}
 use Rattle.std.specs.List.Sorted.{IsPermutation}
 use Rattle.art_model.specs.Keys.{are_same}
@@ -24,11 +24,12 @@ rows_of pairs = map (λ x. (x.0, x.1.name.items, x.1.line)) pairs
 abbrev pub has_code_at : ℕ → List ℕ → List (List ℕ × List ℕ × ℕ) → Bool
 has_code_at line code rows = list_any (λ row. are_same code row.0 && row.2 == line) rows
 
--- The line is that of an entry, which was added to the others with the line's number.
+-- The line is that of an entry whose code no row has, which was added to the others with the line's number.
 pub record HasLine (line : List ℕ) (number : ℕ) (old new : List (List ℕ × List ℕ × ℕ)) : Type 0 where
   pub entry : List ℕ × List ℕ
   pub code : is_code (code_of entry) ≡ true
   pub is : line ≡ line_of entry
+  pub unused : list_any (λ row. are_same (code_of entry) row.0) old ≡ false
   pub came : IsPermutation ((entry.0, entry.1, number) ∷ old) new
 
 -- why a line was not added to these rows: it is none of an entry, or the row of this line has its code

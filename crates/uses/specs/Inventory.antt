@@ -1,5 +1,5 @@
 -- What a stock has of each good, by its code.
-use Rattle.std.specs.Prelude.{◌≡◌, ◌≢◌, ◌<◌, ◌≤◌, ◌+◌, ◌^◌, ℕ, List, sum_by}
+use Rattle.std.specs.Prelude.{◌≡◌, ◌≢◌, ◌<◌, ◌≤◌, ◌+◌, ◌^◌, ◌==◌, if◌then◌else◌, ℕ, List, Option, Some, None, sum_by}
 use Rattle.std.specs.Option.{unwrap_or}
 use Rattle.art_operations.specs.MapAnswers.{value_at}
 use Rattle.uses.specs.declared.inventory.AddError.{AddError}
@@ -19,10 +19,15 @@ quantity code stock = unwrap_or (value_at (λ code. code) code stock) 0
 abbrev pub total_of : Goods → ℕ
 total_of stock = sum_by (λ good. good.1) stock
 
--- there are so many of this good now, and of every other as many as before
-abbrev pub ChangesTo : List ℕ → ℕ → Goods → Goods → Type 0
+-- so many are found under this code now, or nothing if there are none, and under every other what was there before
+abbrev pub ChangesTo : List ℕ → Option ℕ → Goods → Goods → Type 0
 ChangesTo code count old new =
-    (quantity code new ≡ count) × ((other : List ℕ) → other ≢ code → quantity other new ≡ quantity other old)
+    (value_at (λ code. code) code new ≡ count) × ((other : List ℕ) → other ≢ code →
+    value_at (λ code. code) other new ≡ value_at (λ code. code) other old)
+
+-- so many, or nothing if there are none
+abbrev pub if_more : ℕ → Option ℕ
+if_more count = if count == 0 then None else Some count
 
 -- there would be more than can be counted, or an allocation failed and there is none yet
 abbrev pub IsAddRefusal : List ℕ → ℕ → Goods → AddError → Type 0

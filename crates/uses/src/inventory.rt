@@ -1,6 +1,6 @@
 //! A stock of goods by codes of four bytes. The contracts state how many there are of each.
-ghost use Rattle.std.specs.Prelude.{◌≡◌, ◌+◌, ◌≤◌, ◌^◌, length, IfErr, IfOk, OnErr, OnOk};
-ghost use Rattle.uses.specs.Inventory.{ChangesTo, IsAddRefusal, IsTakeRefusal, quantity, total_of};
+ghost use Rattle.std.specs.Prelude.{◌≡◌, ◌+◌, ◌≤◌, ◌^◌, length, IfErr, IfOk, OnErr, OnOk, Some};
+ghost use Rattle.uses.specs.Inventory.{ChangesTo, IsAddRefusal, IsTakeRefusal, if_more, quantity, total_of};
 
 use art_operations::tree_map::TreeMap;
 
@@ -28,7 +28,7 @@ pub enum TakeError {
 /// Adds `count` of a good. If it fails, the stock is unchanged.
 pub fn add(stock: &mut Stock, code: [u8; 4], count: u32) -> Result<(), AddError>
     ensures added { OnOk result
-        (ChangesTo code (quantity code stock.old + count) stock.old stock.new) }
+        (ChangesTo code (Some (quantity code stock.old + count)) stock.old stock.new) }
     ensures refused { IfErr result (IsAddRefusal code count stock.old) }
     ensures kept { OnErr result (stock.new ≡ stock.old) }
 {
@@ -46,7 +46,8 @@ pub fn add(stock: &mut Stock, code: [u8; 4], count: u32) -> Result<(), AddError>
 /// fails, the stock is unchanged.
 pub fn take(stock: &mut Stock, code: [u8; 4], count: u32) -> Result<u32, TakeError>
     ensures left { IfOk result (λ left. left + count ≡ quantity code stock.old) }
-    ensures taken { IfOk result (λ left. ChangesTo code left stock.old stock.new) }
+    ensures taken { IfOk result (λ left.
+        ChangesTo code (if_more left) stock.old stock.new) }
     ensures refused { IfErr result (IsTakeRefusal code count stock.old) }
     ensures kept { OnErr result (stock.new ≡ stock.old) }
 {

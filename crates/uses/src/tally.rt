@@ -1,5 +1,7 @@
 //! Words, and how often each was added.
-ghost use Rattle.std.specs.Prelude.{◌≡◌, ◌≢◌, ◌+◌, ◌-◌, ◌^◌, ℕ, List, min, OnErr, OnOk};
+ghost use Rattle.std.specs.Prelude.{◌≡◌, ◌≢◌, ◌+◌, ◌-◌, ◌^◌, ℕ, List, min, OnErr, OnOk, Some};
+ghost use Rattle.art_operations.specs.Escapes.{escape};
+ghost use Rattle.art_operations.specs.KeyedValues.{value_of};
 ghost use Rattle.uses.specs.Tally.{count_of};
 
 use art_operations::keys::Escaped;
@@ -9,13 +11,13 @@ use std::alloc::{AllocError, Global};
 /// How often each word was added. A word is any string of bytes.
 pub type Tally = TreeMap<Escaped, u64, 16>;
 
-/// Counts a word once more; a count stays at the greatest number. Fails only if an allocation fails, and then nothing
-/// is counted.
+/// Counts a word once more; a count stays at the greatest number. No other word is added. Fails only if an allocation
+/// fails, and then nothing is counted.
 pub fn add(tally: &mut Tally, alloc: Global, word: &[u8]) -> Result<(), AllocError>
-    ensures counted { OnOk result (count_of word.now tally.new ≡
-        min (count_of word.now tally.old + 1) (2 ^ 64 - 1)) }
+    ensures counted { OnOk result (value_of escape word.now tally.new ≡
+        Some (min (count_of word.now tally.old + 1) (2 ^ 64 - 1))) }
     ensures others { OnOk result ((other : List ℕ) → other ≢ word.now →
-        count_of other tally.new ≡ count_of other tally.old) }
+        value_of escape other tally.new ≡ value_of escape other tally.old) }
     ensures kept { OnErr result (tally.new ≡ tally.old) }
 {
     let count = tally.get_text_or_insert(alloc, word, 0)?;

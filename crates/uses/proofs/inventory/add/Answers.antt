@@ -17,7 +17,7 @@ pub returns-in-Ok-clause-added : goal.returns-in-Ok-clause-added
 returns-in-Ok-clause-added c =
     let sum : c.in-Some.sum ≡ quantity c.args.code c.args.stock.now + c.args.count =
     c.in-Some.ensures.1 ∙ ap (λ m. m + c.args.count) (c.unwrap_or-there.ensures ∙ ap (λ o. unwrap_or o 0) (c.copied.ensures ∙ c.get.ensures.value)) in
-    (ap (λ o. unwrap_or o 0) c.in-Ok.ensures.found ∙ sum, λ other off. ap (λ o. unwrap_or o 0) (c.in-Ok.ensures.others other off))
+    (c.in-Ok.ensures.found ∙ ap Some sum, c.in-Ok.ensures.others)
 
 pub returns-in-Err-clause-refused : goal.returns-in-Err-clause-refused
 returns-in-Err-clause-refused c = none_there c.args.code c.args.stock.now c.in-Err.ensures.refused
