@@ -3,6 +3,7 @@ mod EndedLemmas
 -- the words of a text, and how often each occurs
 mod WordTexts
 mod Tallies
+mod JoinedCounts
 mod WordLines
 -- codes with names, and the longest one that a number starts with
 mod EntryLemmas

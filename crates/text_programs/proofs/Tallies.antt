@@ -30,14 +30,14 @@ times_more key ws w = ap length (filter-append (λ v. are_same key v) ws (w ∷ 
     go false = refl
 
 -- the number that is stored
-number_is : (n : ℕ) → unwrap_or (first_of (numbers_for n)) 0 ≡ min n (2 ^ 64 - 1)
+pub number_is : (n : ℕ) → unwrap_or (first_of (numbers_for n)) 0 ≡ min n (2 ^ 64 - 1)
 number_is n = go (eqb n 0) refl
   where
     go : (t : Bool) → eqb n 0 ≡ t → unwrap_or (first_of (cond t [] (min n (2 ^ 64 - 1) ∷ []))) 0 ≡ min n (2 ^ 64 - 1)
     go true e = let z = eqb-true n 0 e in omega arith
     go false e = refl
 
-some_number : (n : ℕ) → 0 < n → numbers_for n ≡ min n (2 ^ 64 - 1) ∷ []
+pub some_number : (n : ℕ) → 0 < n → numbers_for n ≡ min n (2 ^ 64 - 1) ∷ []
 some_number n h = ap (λ t. cond t [] (min n (2 ^ 64 - 1) ∷ [])) (ne_eqb n 0 (λ z. omega arith))
 
 -- the number that is stored for one more

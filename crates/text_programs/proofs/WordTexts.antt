@@ -33,7 +33,7 @@ split_gap (x ∷ xs) g ys e =
     go false = onto_parts x xs (parts ys)
 
 -- so the words before a gap and after it are those of the text
-words_around : (xs : List ℕ) (g : ℕ) (ys : List ℕ) → is_gap g ≡ true → words (xs ++ g ∷ ys) ≡ words xs ++ words ys
+pub words_around : (xs : List ℕ) (g : ℕ) (ys : List ℕ) → is_gap g ≡ true → words (xs ++ g ∷ ys) ≡ words xs ++ words ys
 words_around xs g ys e = ap (filter is_filled) (split_gap xs g ys e) ∙ filter-append is_filled (parts xs) (parts ys)
 
 -- the first part is prepended

@@ -1,6 +1,7 @@
 -- the words of a text, and how often each occurs
 pub mod Words
 pub mod Counts
+pub mod Joined
 -- codes with names, and the longest one that a number starts with
 pub mod Entries
 pub mod CodeRows

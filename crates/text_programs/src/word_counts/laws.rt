@@ -1,5 +1,6 @@
 //! Laws of words and their counts: functions that do nothing, each with a law as its contract.
 ghost use Rattle.text_programs.specs.Counts.{CountIsOne};
+ghost use Rattle.text_programs.specs.Joined.{CountsOfJoined, SumsOfCounts, WordsOfJoined};
 ghost use Rattle.text_programs.specs.Words.{GapsAreNoWords, WordsAreRuns};
 
 /// The words of a text are its longest runs of bytes that are no gaps, in order: every text is only gaps, or gaps, a
@@ -12,4 +13,12 @@ pub fn words_are_the_longest_runs()
 /// A list of words has one count, so what is written of a text is determined.
 pub fn a_list_of_words_has_one_count()
     ensures { CountIsOne }
+{}
+
+/// The count of two texts, one after another with a gap between them, is the sum of their counts, and each such sum is
+/// their count: the counts of parts of a text may be added in any order.
+pub fn counts_of_joined()
+    ensures words { WordsOfJoined }
+    ensures counts { CountsOfJoined }
+    ensures sums { SumsOfCounts }
 {}
