@@ -2,3 +2,4 @@ mod EntryLemmas
 mod ReadLemmas
 mod ServeLemmas
 mod CheckLemmas
+mod Examples

@@ -20,7 +20,7 @@ use Rattle.text_programs.specs.CodeTables.{IsCodeFault, IsFaultOf, IsFilledBy, I
 pub one_entry_more : (table others : List (List ℕ × List ℕ × ℕ)) (number : ℕ) (line : List ℕ) → HasLine line number table others →
     (before : List (ℕ × List ℕ)) → IsFilledBy table before → IsFilledBy others (before ++ (number, line) ∷ [])
 one_entry_more table others number line has before h =
-    let row = (has.entry.0, has.entry.1, number) in
+    let row : List ℕ × List ℕ × ℕ = (has.entry.0, has.entry.1, number) in
     record {
       rows = h.rows ++ row ∷ [];
       lines_are = record {

@@ -1,9 +1,8 @@
 -- Paths that are written, a line each, and whether one was found.
-use Rattle.std.proofs.Common.{◌≡◌, ◌≢◌, ℕ, Bool, true, false, is_some, List, [], ◌∷◌, ◌++◌, drop, flat_map, get_or, Option, Some, None, refl, ap, sym, ◌∙◌, subst, arith, append_assoc, append-nil}
+use Rattle.std.proofs.Common.{◌≡◌, ◌≢◌, ℕ, Bool, true, false, is_some, List, [], ◌∷◌, ◌++◌, drop, flat_map, get_or, Option, Some, None, Result, Ok, Err, IfOk, option_copied, Bor, refl, ap, sym, ◌∙◌, arith, append_assoc, append-nil}
 use Rattle.std.proofs.lemmas.Bool.{false≢true}
-use Rattle.std.specs.Option.{option_map}
 use Rattle.art_operations.specs.MapItems.{keys_of}
-use Rattle.art_operations.specs.Pairs.{first_of, last_of}
+use Rattle.art_operations.specs.Pairs.{last_of}
 use Rattle.text_lines.proofs.Spaces.{same_words}
 use Rattle.text_programs.specs.Paths.{below, between, is_stored}
 use Rattle.text_programs.specs.PathReplies.{FindsPath, finds, is_filled, path_line, path_lines}
@@ -51,18 +50,25 @@ all_found pairs left found h e = go found pairs (h.are ∙ ap (λ xs. h.done ++ 
     go false [] is none some = refl
     go false (p ∷ ps) is none some = let both = is ∙ none refl in absurd cc
 
--- the first and the last path are there if a path is
-pub first_filled : (paths : List (List ℕ)) (o : Option (List ℕ)) → o ≡ first_of paths → is_some o ≡ is_filled paths
-first_filled [] o e = ap is_some e
-first_filled (p ∷ ps) o e = ap is_some e
-
-pub last_filled : (paths : List (List ℕ)) (o : Option (List ℕ)) → o ≡ last_of paths → is_some o ≡ is_filled paths
+-- the last path is there if a path is
+last_filled : (paths : List (List ℕ)) (o : Option (List ℕ)) → o ≡ last_of paths → is_some o ≡ is_filled paths
 last_filled [] o e = ap is_some e
 last_filled (p ∷ ps) o e = ap is_some e ∙ go p ps
   where
     go : (p : List ℕ) (ps : List (List ℕ)) → is_some (last_of (p ∷ ps)) ≡ true
     go p [] = refl
     go p (q ∷ ps) = go q ps
+
+copied_some : (o : Option (Bor (List ℕ))) → is_some o ≡ is_some (option_copied o)
+copied_some None = refl
+copied_some (Some path) = refl
+
+-- what a request for the last path finds
+pub last_request : {E : Type 0} (paths : List (List ℕ)) (request : Request) (path : Option (Bor (List ℕ))) (r : Result Bool E) → request ≡ Last →
+    option_copied path ≡ last_of paths → IfOk r (λ found. found ≡ is_some path) → IfOk r (λ found. found ≡ finds paths request)
+last_request paths request path (Err e) is same h = tt
+last_request paths request path (Ok found) is same h =
+    h ∙ copied_some path ∙ last_filled paths (option_copied path) same ∙ ap (finds paths) (sym is)
 
 -- ---- requests with the same line find the same
 
@@ -78,7 +84,7 @@ finds_same paths Last Last h k e = refl
 finds_same paths (Between from to) (Between start end) h k e =
     let both = same_words from.now to.now start.now end.now h.0 k.0 (ap (drop 8) e) in
     ap (λ t. is_filled (between t to.now paths)) both.0 ∙ ap (λ t. is_filled (between start.now t paths)) both.1
-finds_same paths a b h k e = omega (arith, ap (at 0) e)
+finds_same paths a b h k e = absurd (omega (arith, ap (at 0) e))
 
 -- a line whose request finds nothing
 pub finds_none : (paths : List (List ℕ)) (line : List ℕ) (request : Request) → IsRequest request → line ≡ line_of request →

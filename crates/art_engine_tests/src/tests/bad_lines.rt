@@ -20,7 +20,7 @@ static BAD_LINES: [&str; 16] = [
     "find",
     " walk",
     "walk ",
-    "walk\r",
+    "walk\r\r",
     "Insert 1 1",
 ];
 

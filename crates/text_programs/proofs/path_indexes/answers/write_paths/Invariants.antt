@@ -1,4 +1,3 @@
-use Rattle.std.proofs.Common.{◌≡◌}
 use Rattle.text_lines.proofs.Writing.{AreWritten}
 use Rattle.text_programs.specs.PathReplies.{path_line}
 use Rattle.text_programs.proofs.PathReplyLemmas.{AreFound}
