@@ -5,7 +5,8 @@ use ip_routes::answers::Table;
 use line_programs::running::{Texts, run};
 use std::process::ExitCode;
 
-const DETAILS: &str = "For each address route_table prints the line of the longest route of FILE that covers it.
+const DETAILS: &str =
+    "For each address route_table prints the line of the longest route of FILE that covers it.
 
 A line of FILE is a network, and perhaps a space and a name, as '10.1.0.0/16 office' or
 '2001:db8::/32 lab'. An address without a length is a network that has only this address. Lines that
