@@ -3,3 +3,4 @@ pub mod WrittenLemmas
 pub mod SourceLemmas
 pub mod AnswerLemmas
 pub mod EntryLemmas
+mod WrittenExamples
