@@ -10,12 +10,12 @@ use Rattle.text_programs.specs.Words.{words}
 use Rattle.text_programs.proofs.Tallies.{number_is, some_number}
 use Rattle.text_programs.proofs.WordTexts.{words_around}
 
--- worked rows: two words, of which one is in both counts
-one_of_both : number_of (98 ∷ []) ((97 ∷ [], 2) ∷ (98 ∷ [], 3) ∷ []) ≡ 3
-one_of_both = refl
+-- examples: a word that is counted, and one that is not
+number_of_counted : number_of (98 ∷ []) ((97 ∷ [], 2) ∷ (98 ∷ [], 3) ∷ []) ≡ 3
+number_of_counted = refl
 
-none_of_both : number_of (99 ∷ []) ((97 ∷ [], 2) ∷ (98 ∷ [], 3) ∷ []) ≡ 0
-none_of_both = refl
+number_of_absent : number_of (99 ∷ []) ((97 ∷ [], 2) ∷ (98 ∷ [], 3) ∷ []) ≡ 0
+number_of_absent = refl
 
 pub words_of_joined : WordsOfJoined
 words_of_joined text more gap e = words_around text gap more e

@@ -98,7 +98,7 @@ def count_words(client, files, part_bytes=1 << 24):
     """Returns a future of a Map from each word of the files to how often it occurs in them.
 
     A word is a longest run of bytes that are neither zero nor ASCII white space (a vertical tab is none here). A file ends a
-    word. The parts have so many bytes: each is read and counted by one task, which takes some four times its bytes.
+    word. The parts have so many bytes: each is read and counted by one task, which takes some eight times its bytes.
     """
     counts = [client.submit(_count_part, part, pure=False) for part in _parts(files, part_bytes)]
     return _tree(client, _add_counts, counts or [client.submit(Map, pure=False)])
