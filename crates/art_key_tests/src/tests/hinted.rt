@@ -175,7 +175,7 @@ fn counted_and_copied(alloc: Global, state: RandomState) -> Option<[[usize; 6]; 
     let tree = map.into_tree_map();
     copy.extend(tree.clone().ok()?).ok()?;
     let mut again = HintedMap::from_tree_map(tree, state);
-    *again.get_text_mut(b"\x01b")? = first + second;
+    *again.get_text_mut(b"\x01b")? = first.wrapping_add(second);
     Some([before, changed, counts(&copy), counts(&again)])
 }
 
