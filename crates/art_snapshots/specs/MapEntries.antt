@@ -1,5 +1,5 @@
--- The entries of a map's snapshot.
-use Rattle.std.specs.Prelude.{◌≡◌, ℕ, List, map}
+-- The entries of the snapshot of a map, and of a set.
+use Rattle.std.specs.Prelude.{◌≡◌, ℕ, List, [], map}
 use Rattle.snapshot_format.specs.Snapshots.{Entry, entry}
 
 module _ {K V : Type 0} (bytes : K → List ℕ) (value_bytes : V → List ℕ) where
@@ -16,3 +16,7 @@ module _ {K V : Type 0} (bytes : K → List ℕ) (value_bytes : V → List ℕ) 
     pub value : V
     pub of_key : is_key key
     pub is : this ≡ entry (bytes key) (value_bytes value)
+
+-- the bytes of each key of a set, without a value
+abbrev pub key_entries : {K : Type 0} → (K → List ℕ) → List K → List Entry
+key_entries bytes keys = map (λ key. entry (bytes key) []) keys

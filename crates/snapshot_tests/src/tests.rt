@@ -1,5 +1,6 @@
 mod bytes;
 mod faults;
 mod in_memory;
+mod kinds;
 mod lists;
 mod maps;
