@@ -54,7 +54,7 @@ cleared_less count more number =
     ∙ ap (λ x. number / 2 ^ count / 2 ^ more * x) (mul_comm (2 ^ more) (2 ^ count) ∙ sym (pow-add 2 count more)))
     less)
 
-less_left : (few many number : ℕ) → few ≤ many → cleared many number ≤ cleared few number
+pub less_left : (few many number : ℕ) → few ≤ many → cleared many number ≤ cleared few number
 less_left few many number h =
     let all : few + (many - few) ≡ many = omega arith in
     subst (λ count. cleared count number ≤ cleared few number) all (cleared_less few (many - few) number)

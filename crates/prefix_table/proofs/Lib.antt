@@ -2,6 +2,8 @@
 pub mod CoverLemmas
 -- the columns of starts
 pub mod StartLemmas
+-- steps from a network to shorter ones
+pub mod StepLemmas
 -- rows in order
 pub mod RowLemmas
 -- columns of what else networks have

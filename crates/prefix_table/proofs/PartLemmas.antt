@@ -201,6 +201,15 @@ sum_of_map {X} {Y} g f xs = folded 0 xs
     folded total [] = refl
     folded total (x ∷ xs) = folded (total + f (g x)) xs
 
+-- no more rows are looked at than there are
+pub looked_fits : (rows : List Row) (upto looked : ℕ) → IsNestedIn rows upto looked → looked ≤ length rows
+looked_fits rows upto looked h =
+    let start = start_of (network_of (row_at rows (upto - 1))) in
+    let short = sum_by-take-le (λ row. cond (covers_at (network_of row) start) 1 0) rows upto in
+    let few = count_by-le-length (λ row. covers_at (network_of row) start) rows in
+    let looks = h.few in
+    omega arith
+
 module _ {V : Type 0} where
   pub within_nesting : (rows : List Row) (values : List V) (upto looked : ℕ) → IsTable rows values → upto ≤ length rows → IsNestedIn rows upto looked →
       looked ≤ nesting (entries_of rows values)

@@ -1,9 +1,10 @@
 -- The columns of starts as one list.
-use Rattle.std.proofs.Common.{◌≡◌, ℕ, ◌+◌, ◌-◌, ◌<◌, ◌≤◌, ◌⊎◌, inl, inr, List, [], ◌∷◌, ◌++◌, length, take, drop, zero, suc, slice_index_or, get_or, refl, ap, ap₂, sym, ◌∙◌, subst, arith, length-append, append_assoc, append-nil, length-drop}
+use Rattle.std.proofs.Common.{◌≡◌, ℕ, ◌+◌, ◌-◌, ◌/◌, ◌^◌, ◌<◌, ◌≤◌, ◌⊎◌, inl, inr, List, [], ◌∷◌, ◌++◌, length, zero, suc, slice_index_or, get_or, refl, ap, ap₂, sym, ◌∙◌, subst, arith, length-append, append_assoc, append-nil}
 use Rattle.std.specs.List.Sorted.{IsNonDecreasing, IsPartitionPoint}
 use Rattle.std.proofs.Math.ListN.{get_or-append}
 use Rattle.std.proofs.lemmas.Bool.{cases_lt}
-use Rattle.std.proofs.lemmas.List.{get_or-append-add, get_or-drop, get_or-map, get_or-take, length-map, length-take-le, map-append}
+use Rattle.std.proofs.lemmas.Nat.{pow-add}
+use Rattle.std.proofs.lemmas.List.{get_or-append-add, get_or-map, length-map, map-append}
 use Rattle.prefix_table.specs.declared.network.Address.{Address}
 use Rattle.prefix_table.specs.Networks.{IsUpTo}
 use Rattle.prefix_table.specs.Starts.{AreUpwards, IsCount, IsPartFor, of_version, start_at, starts_of}
@@ -12,7 +13,7 @@ module _ (four six : List ℕ) where
   abbrev Starts : List Address
   Starts = starts_of four six
 
-  length-starts : length Starts ≡ length four + length six
+  pub length-starts : length Starts ≡ length four + length six
   length-starts =
       length-append (of_version 4 four) (of_version 6 six)
       ∙ ap₂ (λ m n. m + n) (length-map four (λ n. record { number = n; version = 4 })) (length-map six (λ n. record { number = n; version = 6 }))
@@ -133,46 +134,74 @@ push_six four six n =
     ap (λ xs. of_version 4 four ++ xs) (map-append (λ n. record { number = n; version = 6 }) six (n ∷ []))
     ∙ sym (append_assoc (of_version 4 four) (of_version 6 six) _)
 
--- a search in a part of sorted numbers finds what one in all does
-pub part_is_point : (numbers : List ℕ) (from to most count : ℕ) → IsNonDecreasing numbers → IsPartFor numbers from to most →
-    count ≤ to - from → IsPartitionPoint (λ n. n ≤ most) (λ n. most < n) (take (to - from) (drop from numbers)) count →
-    IsPartitionPoint (λ n. n ≤ most) (λ n. most < n) numbers (from + count)
-part_is_point numbers from to most count rise part few point =
-    let order = part.in_order in
-    let within = part.within in
-    let many : length (take (to - from) (drop from numbers)) ≡ to - from =
-    length-take-le (to - from) (drop from numbers) (let left = length-drop from numbers in omega arith) in
-    let seen : (k d : ℕ) → from ≤ k → k < to → slice_index_or (take (to - from) (drop from numbers)) (k - from) d ≡ slice_index_or numbers k d =
-    λ k d low high.
-    get_or-take (to - from) (drop from numbers) (k - from) d (omega arith) ∙ get_or-drop from numbers (k - from) d
-    ∙ (let e : from + (k - from) ≡ k = omega arith in ap (λ n. slice_index_or numbers n d) e) in (
-      λ k d _ below.
-          elim (cases_lt k from) [
-            | inl early ↦
-                let last = part.before (omega arith) in
-                let up = rise k (from - 1) 0 (omega arith) (omega arith) in
-                let same = default_of numbers k d 0 (omega arith) in
-                omega arith
-            | inr inside ↦
-                let here = point.0 (k - from) d (omega arith) (omega arith) in
-                let is = seen k d inside (omega arith) in
-                omega arith
-          ],
-      λ k d after fits.
-          elim (cases_lt k to) [
-            | inl inside ↦
-                let here = point.1 (k - from) d (omega arith) (omega arith) in
-                let is = seen k d (omega arith) inside in
-                omega arith
-            | inr late ↦
-                let first = part.after (omega arith) in
-                let up = rise to k 0 late fits in
-                let same = default_of numbers k d 0 fits in
-                omega arith
-          ],
-    )
+-- ---- binary searches in sorted numbers
+
+-- A part of so many numbers is left once so many were looked at: each look leaves at most half.
+pub record IsHalved (many left looked : ℕ) : Type 0 where
+  pub few : (k : ℕ) → many < 2 ^ k → looked ≤ k
+  pub less : (k : ℕ) → many < 2 ^ k → left < 2 ^ (k - looked)
+
+pub halved_at_first : (many left : ℕ) → left ≤ many → IsHalved many left 0
+halved_at_first many left fits = record {
+  few = λ k h. omega arith;
+  less = λ k h. let all : k - 0 ≡ k = omega arith in subst (λ n. left < 2 ^ n) (sym all) (omega arith);
+}
+
+pub halved_once : (many left looked rest : ℕ) → IsHalved many left looked → 0 < left → rest ≤ left / 2 → IsHalved many rest (looked + 1)
+halved_once many left looked rest halved some half = record { few = λ k h. (step k h).0; less = λ k h. (step k h).1 }
   where
-    default_of : (xs : List ℕ) (k d e : ℕ) → k < length xs → slice_index_or xs k d ≡ slice_index_or xs k e
-    default_of [] k d e h = absurd (omega arith)
-    default_of (x ∷ xs) zero d e h = refl
-    default_of (x ∷ xs) (suc k) d e h = default_of xs k d e (omega arith)
+    step : (k : ℕ) → many < 2 ^ k → (looked + 1 ≤ k) × (rest < 2 ^ (k - (looked + 1)))
+    step k h =
+        let few = halved.few k h in
+        let less = halved.less k h in
+        elim (cases_lt looked k) [
+          | inl more ↦
+              let twice = pow-add 2 (k - (looked + 1)) 1 in
+              let exponent : k - (looked + 1) + 1 ≡ k - looked = omega arith in
+              let next = ap (λ n. 2 ^ n) exponent in
+              (omega arith, omega arith)
+          | inr all ↦
+              let none : k - looked ≡ 0 = omega arith in
+              let one = subst (λ n. left < 2 ^ n) none less in
+              absurd (omega arith)
+        ]
+
+module _ (numbers : List ℕ) (from to most at : ℕ) (part : IsPartFor numbers from to most) (within : from ≤ at) (below : at < to) where
+  -- what is left after a number that is not greater, and before one that is
+  pub part_after : slice_index_or numbers at 0 ≤ most → IsPartFor numbers (at + 1) to most
+  part_after up = record {
+    in_order = omega arith;
+    within = part.within;
+    before = λ _. let e : at + 1 - 1 ≡ at = omega arith in subst (λ k. slice_index_or numbers k 0 ≤ most) (sym e) up;
+    after = part.after;
+  }
+
+  pub part_before : most < slice_index_or numbers at 0 → IsPartFor numbers from at most
+  part_before over = record {
+    in_order = within;
+    within = let fits = part.within in omega arith;
+    before = part.before;
+    after = λ _. over;
+  }
+
+default_of : (xs : List ℕ) (k d e : ℕ) → k < length xs → slice_index_or xs k d ≡ slice_index_or xs k e
+default_of [] k d e h = absurd (omega arith)
+default_of (x ∷ xs) zero d e h = refl
+default_of (x ∷ xs) (suc k) d e h = default_of xs k d e (omega arith)
+
+-- where no part is left, sorted numbers are parted
+pub part_is_point : (numbers : List ℕ) (at most : ℕ) → IsNonDecreasing numbers → IsPartFor numbers at at most →
+    IsPartitionPoint (λ n. n ≤ most) (λ n. most < n) numbers at
+part_is_point numbers at most rise part =
+    let within = part.within in (
+      λ k d _ below.
+          let last = part.before (omega arith) in
+          let up = rise k (at - 1) 0 (omega arith) (omega arith) in
+          let same = default_of numbers k d 0 (omega arith) in
+          omega arith,
+      λ k d after fits.
+          let first = part.after (omega arith) in
+          let up = rise at k 0 after fits in
+          let same = default_of numbers k d 0 fits in
+          omega arith,
+    )

@@ -1,5 +1,7 @@
 -- addresses and networks as numbers
 pub mod Networks
+-- steps from network to network
+pub mod Steps
 -- where networks start
 pub mod Starts
 -- networks in order, each with the place of its value

@@ -9,4 +9,5 @@ mod rests;
 mod rows;
 mod sorting;
 mod starts;
+pub mod steps;
 pub mod table;

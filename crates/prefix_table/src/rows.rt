@@ -8,7 +8,7 @@ ghost use Rattle.prefix_table.specs.Starts.{start_at};
 
 use crate::network::{Address, Network, covers, precedes, start_of};
 use crate::rests::{Rest, Rests};
-use crate::starts::Starts;
+use crate::starts::{Counted, Starts};
 use std::alloc::{AllocError, Global};
 use std::marker::Model;
 
@@ -110,9 +110,11 @@ impl Rows {
     }
 
     /// Returns how many rows start at an address or before it.
-    pub fn count_up_to(&self, address: Address) -> usize
+    pub fn count_up_to(&self, address: Address) -> Counted
         requires { IsAddress address }
-        ensures { IsRowCount self.now address result }
+        ensures count { IsRowCount self.now address result.count }
+        ensures looked { (k : ℕ) → length self.now < 2 ^ k → result.looked ≤ k + 2 }
+        ensures few { length self.now < 2 ^ 32 }
     {
         let _rests = &self.rests;
         self.starts.count_up_to(address)
@@ -135,7 +137,7 @@ pub fn position(rows: &Rows, network: Network) -> usize
     requires network { IsAddress (start_of network) }
     ensures { IsPosition rows.now network result }
 {
-    let mut at = rows.count_up_to(start_of(network));
+    let mut at = rows.count_up_to(start_of(network)).count;
     while at > 0 {
         if precedes(network_of(rows.get(at - 1)), network) {
             return at;

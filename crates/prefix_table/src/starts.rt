@@ -1,5 +1,5 @@
 //! The addresses at which networks start, with numbers of their own width.
-ghost use Rattle.std.specs.Prelude.{◌≡◌, ℕ, ◌^◌, ◌<◌, ◌≤◌, [], ◌∷◌, ◌++◌, length, IfOk, OnOk};
+ghost use Rattle.std.specs.Prelude.{◌≡◌, ℕ, ◌+◌, ◌^◌, ◌<◌, ◌≤◌, [], ◌∷◌, ◌++◌, length, IfOk, OnOk};
 ghost use Rattle.std.specs.List.Sorted.{IsNonDecreasing, IsPartitionPoint};
 ghost use Rattle.prefix_table.specs.Networks.{IsAddress, IsUpTo};
 ghost use Rattle.prefix_table.specs.Starts.{AreUpwards, IsCount, IsPartFor, start_at};
@@ -97,31 +97,59 @@ impl Starts {
     }
 
     /// Returns how many addresses are not after this one.
-    pub fn count_up_to(&self, address: Address) -> usize
+    pub fn count_up_to(&self, address: Address) -> Counted
         requires few { length self.now < 2 ^ 64 }
         requires address { IsAddress address }
         requires order { AreUpwards self.now }
-        ensures { IsCount self.now address result }
+        ensures count { IsCount self.now address result.count }
+        ensures looked { (k : ℕ) → length self.now < 2 ^ k → result.looked ≤ k + 2 }
     {
         if address.version == 4 {
-            count_four(&self.four, &self.guesses_four, address.number as u32)
-        } else {
-            self.four.len() + count_six(&self.six, &self.guesses_six, address.number)
+            return count_four(&self.four, &self.guesses_four, address.number as u32);
+        }
+        let found = count_six(&self.six, &self.guesses_six, address.number);
+        Counted {
+            count: self.four.len() + found.count,
+            looked: found.looked,
         }
     }
 }
 
-// Returns how many of sorted numbers are at most this one: a search in the part that is guessed, if that is right.
-fn count_four(numbers: &[u32], guesses: &Guesses, most: u32) -> usize
+/// What a binary search has found.
+#[derive(Clone, Copy)]
+pub struct Counted {
+    /// How many are not after what was searched.
+    pub count: usize,
+    /// How many were looked at.
+    pub looked: usize,
+}
+
+// Returns how many of sorted numbers are at most this one: a search in the part that is guessed. Two numbers show whether
+// the guess is right.
+fn count_four(numbers: &[u32], guesses: &Guesses, most: u32) -> Counted
     requires { IsNonDecreasing numbers.now }
-    ensures parts { IsPartitionPoint (λ n. n ≤ most) (λ n. most < n) numbers.now result }
-    ensures bounded { result ≤ length numbers.now }
+    ensures parts { IsPartitionPoint (λ n. n ≤ most) (λ n. most < n) numbers.now result.count }
+    ensures bounded { result.count ≤ length numbers.now }
+    ensures looked { (k : ℕ) → length numbers.now < 2 ^ k → result.looked ≤ k + 2 }
+{
+    let (from, to) = part_four(numbers, guesses, most);
+    let found = search_four(numbers, from, to, most);
+    Counted {
+        count: found.count,
+        looked: found.looked + 2,
+    }
+}
+
+// Returns the part that is guessed, if that is right, else all.
+fn part_four(numbers: &[u32], guesses: &Guesses, most: u32) -> (usize, usize)
+    ensures { IsPartFor numbers.now result.0 result.1 most }
 {
     let (from, to) = guesses.around_four(most);
-    if !is_part_four(numbers, from, to, most) {
-        return search_four(numbers, most);
+    if is_part_four(numbers, from, to, most) {
+        (from, to)
+    } else {
+        (0, numbers.len())
     }
-    from + search_four(&numbers[from..to], most)
 }
 
 fn is_part_four(numbers: &[u32], from: usize, to: usize, most: u32) -> bool
@@ -133,25 +161,58 @@ fn is_part_four(numbers: &[u32], from: usize, to: usize, most: u32) -> bool
         && (to == numbers.len() || most < numbers[to])
 }
 
-fn search_four(numbers: &[u32], most: u32) -> usize
-    requires { IsNonDecreasing numbers.now }
-    ensures parts { IsPartitionPoint (λ n. n ≤ most) (λ n. most < n) numbers.now result }
-    ensures bounded { result ≤ length numbers.now }
+// Returns how many of sorted numbers are at most this one, by a binary search in a part.
+fn search_four(numbers: &[u32], mut from: usize, to: usize, most: u32) -> Counted
+    requires sorted { IsNonDecreasing numbers.now }
+    requires part { IsPartFor numbers.now from to most }
+    ensures parts { IsPartitionPoint (λ n. n ≤ most) (λ n. most < n) numbers.now result.count }
+    ensures bounded { result.count ≤ length numbers.now }
+    ensures looked { (k : ℕ) → length numbers.now < 2 ^ k → result.looked ≤ k }
+    ensures small { result.looked ≤ 64 }
 {
-    numbers.partition_point(|number| *number <= most)
+    let mut size = to - from;
+    let mut looked = 0;
+    while size > 0 {
+        let half = size / 2;
+        looked += 1;
+        if numbers[from + half] <= most {
+            from += half + 1;
+            size -= half + 1;
+        } else {
+            size = half;
+        }
+    }
+    Counted {
+        count: from,
+        looked,
+    }
 }
 
 // The same of numbers of 128 bits.
-fn count_six(numbers: &[u128], guesses: &Guesses, most: u128) -> usize
+fn count_six(numbers: &[u128], guesses: &Guesses, most: u128) -> Counted
     requires { IsNonDecreasing numbers.now }
-    ensures parts { IsPartitionPoint (λ n. n ≤ most) (λ n. most < n) numbers.now result }
-    ensures bounded { result ≤ length numbers.now }
+    ensures parts { IsPartitionPoint (λ n. n ≤ most) (λ n. most < n) numbers.now result.count }
+    ensures bounded { result.count ≤ length numbers.now }
+    ensures looked { (k : ℕ) → length numbers.now < 2 ^ k → result.looked ≤ k + 2 }
+{
+    let (from, to) = part_six(numbers, guesses, most);
+    let found = search_six(numbers, from, to, most);
+    Counted {
+        count: found.count,
+        looked: found.looked + 2,
+    }
+}
+
+// Returns the part that is guessed, if that is right, else all.
+fn part_six(numbers: &[u128], guesses: &Guesses, most: u128) -> (usize, usize)
+    ensures { IsPartFor numbers.now result.0 result.1 most }
 {
     let (from, to) = guesses.around_six(most);
-    if !is_part_six(numbers, from, to, most) {
-        return search_six(numbers, most);
+    if is_part_six(numbers, from, to, most) {
+        (from, to)
+    } else {
+        (0, numbers.len())
     }
-    from + search_six(&numbers[from..to], most)
 }
 
 fn is_part_six(numbers: &[u128], from: usize, to: usize, most: u128) -> bool
@@ -163,10 +224,28 @@ fn is_part_six(numbers: &[u128], from: usize, to: usize, most: u128) -> bool
         && (to == numbers.len() || most < numbers[to])
 }
 
-fn search_six(numbers: &[u128], most: u128) -> usize
-    requires { IsNonDecreasing numbers.now }
-    ensures parts { IsPartitionPoint (λ n. n ≤ most) (λ n. most < n) numbers.now result }
-    ensures bounded { result ≤ length numbers.now }
+fn search_six(numbers: &[u128], mut from: usize, to: usize, most: u128) -> Counted
+    requires sorted { IsNonDecreasing numbers.now }
+    requires part { IsPartFor numbers.now from to most }
+    ensures parts { IsPartitionPoint (λ n. n ≤ most) (λ n. most < n) numbers.now result.count }
+    ensures bounded { result.count ≤ length numbers.now }
+    ensures looked { (k : ℕ) → length numbers.now < 2 ^ k → result.looked ≤ k }
+    ensures small { result.looked ≤ 64 }
 {
-    numbers.partition_point(|number| *number <= most)
+    let mut size = to - from;
+    let mut looked = 0;
+    while size > 0 {
+        let middle = size / 2;
+        looked += 1;
+        if numbers[from + middle] <= most {
+            from += middle + 1;
+            size -= middle + 1;
+        } else {
+            size = middle;
+        }
+    }
+    Counted {
+        count: from,
+        looked,
+    }
 }

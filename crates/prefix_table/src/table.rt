@@ -1,5 +1,5 @@
 //! A table of networks with values, which is built once.
-ghost use Rattle.std.specs.Prelude.{◌≡◌, [], ℕ, ◌^◌, ◌<◌, ◌≤◌, ◌==◌, length, vec_len, All, AllPairs, Contains, IfErr, IfNone, IfOk, IfSome, OnErr, OnOk, filter, map, reverse, slice_index_or, ◌≢◌};
+ghost use Rattle.std.specs.Prelude.{◌≡◌, [], ℕ, ◌+◌, ◌^◌, ◌<◌, ◌≤◌, ◌==◌, length, vec_len, All, AllPairs, Contains, IfErr, IfNone, IfOk, IfSome, OnErr, OnOk, filter, map, reverse, slice_index_or, ◌≢◌};
 ghost use Rattle.std.specs.List.{zip};
 ghost use Rattle.std.specs.List.Sorted.{IsPermutation};
 ghost use Rattle.std.specs.Option.{option_map};
@@ -133,7 +133,7 @@ impl<V> PrefixTable<V> {
         ensures order { AllPairs (λ a b. Precedes a.0 b.0) self.now }
     {
         let _values = &self.values;
-        self.rows.count_up_to(address)
+        self.rows.count_up_to(address).count
     }
 
     // Returns how many entries reach to the last one of the first `upto` that covers an address, 0 if none does.
@@ -203,21 +203,22 @@ impl<V> PrefixTable<V> {
         self.longest_match_counted(address).0
     }
 
-    /// Does what `longest_match` does, and returns how many networks it looked at after its binary search: no more than
-    /// lie around one network, itself included.
+    /// Does what `longest_match` does, and returns how many networks it looked at: no more than the binary logarithm of
+    /// how many there are, rounded up, two, and as many as lie around one network, itself included.
     pub fn longest_match_counted(&self, address: &IpAddr) -> (Option<(Network, &V)>, usize)
         ensures found { IsLongestMatch self.now address.now (option_map shown result.0) }
-        ensures nested { result.1 ≤ nesting self.now }
+        ensures looked { (k : ℕ) → length self.now < 2 ^ k → result.1 ≤ k + 2 + nesting self.now }
     {
         let address = address_of(address);
-        let upto = self.rows.count_up_to(address);
-        let found = self.rows.last_covering(upto, address);
+        let started = self.rows.count_up_to(address);
+        let found = self.rows.last_covering(started.count, address);
+        let looked = started.looked + found.looked;
         if found.upto == 0 {
-            return (None, found.looked);
+            return (None, looked);
         }
         let index = found.upto - 1;
         let row = self.rows.get(index);
-        (Some((network_of(row), &self.values[index])), found.looked)
+        (Some((network_of(row), &self.values[index])), looked)
     }
 }
 

@@ -196,7 +196,9 @@ fn an_empty_table_has_nothing(rt: HostRuntime) -> Result<(), Fail> {
 }
 
 // How many networks are looked at for an address that the last one to start covers, for one that only the outermost of
-// six networks around that covers, and for one after the network of all addresses alone.
+// six networks around that covers, and for one after the network of all addresses alone. Two show that the address is in
+// the first half of the numbers of version 4, two or three are those of a binary search among the six networks there, and
+// one, six and one are those around the last one that was found.
 fn looked(alloc: Global) -> Option<[usize; 3]> {
     let table = table_of(alloc, &NETWORKS)?;
     Some([
@@ -214,7 +216,7 @@ fn looked_for(table: &PrefixTable<usize>, text: &str) -> usize {
 }
 
 #[test]
-fn a_lookup_looks_at_the_networks_around_one(rt: HostRuntime) -> Result<(), Fail> {
-    assert_eq!(rt; looked(rt.alloc()), Some([1, 6, 1]));
+fn a_lookup_looks_at_few_networks(rt: HostRuntime) -> Result<(), Fail> {
+    assert_eq!(rt; looked(rt.alloc()), Some([5, 10, 6]));
     Ok(())
 }

@@ -8,8 +8,8 @@ use Rattle.prefix_table.proofs.table.PrefixTable.count_up_to.Goals as goal
 
 pub returns-clause-started : goal.returns-clause-started
 returns-clause-started g c =
-    subst (λ entries. AreStarted entries c.args.address c.count_up_to.result) c.self.view_is
-    (started_entries c.self.inside.rows c.self.inside.values.items c.self.invariant.table c.args.address c.count_up_to.result c.count_up_to.ensures)
+    subst (λ entries. AreStarted entries c.args.address c.count_up_to.result.count) c.self.view_is
+    (started_entries c.self.inside.rows c.self.inside.values.items c.self.invariant.table c.args.address c.count_up_to.result.count c.count_up_to.ensures.count)
 
 pub returns-clause-order : goal.returns-clause-order
 returns-clause-order g c =
@@ -18,6 +18,6 @@ returns-clause-order g c =
 
 pub returns-clause-others : goal.returns-clause-others
 returns-clause-others g c =
-    subst (λ entries. (k : ℕ) → c.count_up_to.result ≤ k → k < length entries → ¬ IsUpTo (start_of (network_in entries k)) c.args.address)
+    subst (λ entries. (k : ℕ) → c.count_up_to.result.count ≤ k → k < length entries → ¬ IsUpTo (start_of (network_in entries k)) c.args.address)
     c.self.view_is
-    (others_start_later c.self.inside.rows c.self.inside.values.items c.self.invariant.table c.args.address c.count_up_to.result c.count_up_to.ensures)
+    (others_start_later c.self.inside.rows c.self.inside.values.items c.self.invariant.table c.args.address c.count_up_to.result.count c.count_up_to.ensures.count)

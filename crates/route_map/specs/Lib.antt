@@ -1,0 +1,2 @@
+-- networks with values, as keys of trees
+pub mod Routes
