@@ -1,5 +1,5 @@
 -- The entries of the snapshot of a map, and of a set.
-use Rattle.std.specs.Prelude.{◌≡◌, ℕ, List, [], map}
+use Rattle.std.specs.Prelude.{◌≡◌, ℕ, List, [], ⊤, map}
 use Rattle.snapshot_format.specs.Snapshots.{Entry, entry}
 
 module _ {K V : Type 0} (bytes : K → List ℕ) (value_bytes : V → List ℕ) where
@@ -20,3 +20,7 @@ module _ {K V : Type 0} (bytes : K → List ℕ) (value_bytes : V → List ℕ) 
 -- the bytes of each key of a set, without a value
 abbrev pub key_entries : {K : Type 0} → (K → List ℕ) → List K → List Entry
 key_entries bytes keys = map (λ key. entry (bytes key) []) keys
+
+-- the bytes of a key, and no value
+abbrev pub IsKeyEntry : {K : Type 0} → (K → List ℕ) → (K → Type 0) → Entry → Type 0
+IsKeyEntry bytes is_key = IsEntry {V = ⊤} bytes (λ value. []) is_key

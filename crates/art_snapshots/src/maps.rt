@@ -1,10 +1,11 @@
 //! Maps.
-ghost use Rattle.std.specs.Prelude.{◌≡◌, IfOk, IfSome, List, MatchResult, OnOk, Some};
+ghost use Rattle.std.specs.Prelude.{◌≡◌, IfErr, IfOk, IfSome, List, MatchResult, OnOk, Some};
 ghost use Rattle.std.specs.Io.KnownBytes.{Appends};
 ghost use Rattle.art_keyed.specs.KeyedPairs.{HaveKeys};
+ghost use Rattle.snapshot_format.specs.Faults.{IfMalformed, IsExplained};
 ghost use Rattle.snapshot_format.specs.Reading.{IsOutside};
 ghost use Rattle.snapshot_format.specs.Snapshots.{IsStorable, snapshot_of};
-ghost use Rattle.art_snapshots.specs.MapEntries.{entries_of};
+ghost use Rattle.art_snapshots.specs.MapEntries.{IsEntry, entries_of};
 
 use crate::giving::Giving;
 use crate::taking::Taking;
@@ -45,6 +46,11 @@ pub fn read_map<K: SnapshotKey + Drop, V: SnapshotValue + Drop, const P: usize, 
         R.remaining input ≡ Some (snapshot_of (entries_of K.bytes V.value_bytes pairs)) →
         MatchResult result (λ map. entries_of K.bytes V.value_bytes map ≡
         entries_of K.bytes V.value_bytes pairs) IsOutside }
+
+    // A fault is one of the bytes that were read, whose number the error has.
+    ensures fault { IfErr result (λ error. IfMalformed error (λ malformed.
+        IfSome (R.remaining input) (λ bytes.
+        IsExplained (IsEntry K.bytes V.value_bytes K.is_key) bytes malformed))) }
 {
     let mut taking = Taking {
         map: TreeMap::new(alloc),

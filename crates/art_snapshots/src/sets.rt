@@ -1,10 +1,11 @@
 //! Sets.
-ghost use Rattle.std.specs.Prelude.{◌≡◌, IfOk, IfSome, List, MatchResult, OnOk, Some};
+ghost use Rattle.std.specs.Prelude.{◌≡◌, [], IfErr, IfOk, IfSome, List, MatchResult, OnOk, Some};
 ghost use Rattle.std.specs.List.{AllByRecursion as Each};
 ghost use Rattle.std.specs.Io.KnownBytes.{Appends};
+ghost use Rattle.snapshot_format.specs.Faults.{IfMalformed, IsExplained};
 ghost use Rattle.snapshot_format.specs.Reading.{IsOutside};
 ghost use Rattle.snapshot_format.specs.Snapshots.{IsStorable, snapshot_of};
-ghost use Rattle.art_snapshots.specs.MapEntries.{key_entries};
+ghost use Rattle.art_snapshots.specs.MapEntries.{IsKeyEntry, key_entries};
 
 use crate::giving::GivingKeys;
 use crate::maps::read_map;
@@ -45,6 +46,11 @@ pub fn read_set<K: SnapshotKey + Drop, const P: usize, R: Read + Drop>(
         IsStorable (key_entries K.bytes keys) →
         R.remaining input ≡ Some (snapshot_of (key_entries K.bytes keys)) →
         MatchResult result (λ set. set ≡ keys) IsOutside }
+
+    // A fault is one of the bytes that were read, whose number the error has.
+    ensures fault { IfErr result (λ error. IfMalformed error (λ malformed.
+        IfSome (R.remaining input) (λ bytes.
+        IsExplained (IsKeyEntry K.bytes K.is_key) bytes malformed))) }
 {
     let map: TreeMap<K, (), P> = read_map(alloc, input)?;
     // No effect at run time. The proof reads from this call that the keys of the map are of the type.

@@ -31,7 +31,7 @@ left_of None b xs all h e = absurd cc
 left_of (Some p) None xs all h e = absurd h
 left_of (Some p) (Some q) xs all h e = let same : p ≡ all = cc in (q, refl, sym same ∙ h)
 
-saturate_more : (at a b : ℕ) → u64_saturate (u64_saturate (at + a) + b) ≡ u64_saturate (at + (a + b))
+pub saturate_more : (at a b : ℕ) → u64_saturate (u64_saturate (at + a) + b) ≡ u64_saturate (at + (a + b))
 saturate_more at a b = omega arith
 
 module _ {R : Type 0} (left : R → Option (List ℕ)) where

@@ -6,5 +6,8 @@ pub mod NumberReads
 pub mod Keys
 pub mod Parts
 pub mod Taking
+pub mod Causes
+pub mod PartFaults
 pub mod Whole
+pub mod WholeFaults
 pub mod Written

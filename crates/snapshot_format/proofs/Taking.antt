@@ -9,7 +9,7 @@ use Rattle.snapshot_format.proofs.Known.{left_of, reads_more, reads_none}
 use Rattle.snapshot_format.proofs.Parts.{after_entry, each_middle, each_more, entries_more, last_more, next_of, rising_more, rising_next}
 
 -- whether the next entry is the first one
-is_first : (taken : List Entry) (count : ℕ) → length taken ≡ count → eqb count 0 ≡ is_none taken
+pub is_first : (taken : List Entry) (count : ℕ) → length taken ≡ count → eqb count 0 ≡ is_none taken
 unfolding is_none
 is_first [] count e = rw (← e) refl
 is_first (one ∷ taken) count e = ne_eqb count 0 (λ none. omega arith)

@@ -34,7 +34,7 @@ snapshot_then : (entries : List Entry) → snapshot_of entries ≡ head_bytes (l
 unfolding snapshot_of body_of
 snapshot_then entries = append_assoc (head_bytes (length entries)) (entries_bytes [] entries) (sha256 (head_bytes (length entries) ++ entries_bytes [] entries))
 
-body_then : (entries : List Entry) (count : ℕ) → length entries ≡ count → head_bytes count ++ entries_bytes [] entries ≡ body_of entries
+pub body_then : (entries : List Entry) (count : ℕ) → length entries ≡ count → head_bytes count ++ entries_bytes [] entries ≡ body_of entries
 unfolding body_of
 body_then entries count e = ap (λ n. head_bytes n ++ entries_bytes [] entries) (sym e)
 

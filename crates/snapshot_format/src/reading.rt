@@ -2,12 +2,13 @@
 ghost use Rattle.std.specs.Prelude.{◌≡◌, ◌≢◌, ◌<◌, ◌^◌, ◌++◌, ◌∷◌, [], IfErr, IfOk, IfSome, List, MatchResult, OnOk, Some, length, true, ℕ};
 ghost use Rattle.std.specs.List.{AllByRecursion as Each, slice_get};
 ghost use Rattle.snapshot_format.specs.Snapshots.{Entry, FitsEntry, IsAfter, IsNext, IsRising, IsStorable, entries_bytes, entry, entry_bytes, head_bytes, key_bytes, magic, snapshot_of};
+ghost use Rattle.snapshot_format.specs.Faults.{EntryFault, Finds, HasEntries, HeadFault, IfMalformed, IsExplained, NextFault, TailFault};
 ghost use Rattle.snapshot_format.specs.Reading.{IfFault, IsOutside, Reads, is_next};
 ghost use Rattle.sha2.specs.Hashers.{Holds256};
 ghost use Rattle.sha2.specs.Sha256.{sha256};
 
 use crate::entries::{TakeEntries, TakeError};
-use crate::error::{Fault, ReadError};
+use crate::error::{Fault, Malformed, ReadError};
 use crate::source::Source;
 use sha2::{Digest, Sha256};
 use std::alloc::Global;
@@ -24,6 +25,8 @@ fn read_head<R: Read>(source: &mut Source<R>) -> Result<u64, ReadError>
     ensures read { IfOk result (λ count. Reads R.remaining source.old source.new (head_bytes count)) }
     ensures fault { IfErr result (λ error. IfFault error ((count : ℕ) (rest : List ℕ) →
         count < 2 ^ 64 → R.remaining source.old.input ≢ Some (head_bytes count ++ rest))) }
+    ensures why { IfErr result (λ error. IfMalformed error
+        (Finds R.remaining source.old source.new HeadFault)) }
 {
     source.expect(&MAGIC, Fault::NotASnapshot)?;
     let version = source.byte()?;
@@ -67,6 +70,8 @@ fn read_key<R: Read>(
     ensures fault { IfErr result (λ error. IfFault error ((next rest : List ℕ) →
         length next < 2 ^ 64 → IsAfter is_first key.old.items next →
         R.remaining source.old.input ≢ Some (key_bytes key.old.items next ++ rest))) }
+    ensures why { IfErr result (λ error. IfMalformed error
+        (Finds R.remaining source.old source.new (EntryFault is_first key.old.items))) }
 {
     let shared = source.number()?;
     if shared > key.len() as u64 {
@@ -96,6 +101,8 @@ fn read_entry<R: Read>(
     ensures fault { IfErr result (λ error. IfFault error ((next : Entry) (rest : List ℕ) →
         FitsEntry next → IsAfter is_first key.old.items next.key →
         R.remaining source.old.input ≢ Some (entry_bytes key.old.items next ++ rest))) }
+    ensures why { IfErr result (λ error. IfMalformed error
+        (Finds R.remaining source.old source.new (EntryFault is_first key.old.items))) }
 {
     read_key(source, is_first, key)?;
     value.clear();
@@ -104,7 +111,7 @@ fn read_entry<R: Read>(
 
 // Hands an entry on.
 fn take_entry<T: TakeEntries>(
-    malformed: ReadError,
+    malformed: Malformed,
     into: &mut T,
     key: &[u8],
     value: &[u8],
@@ -114,10 +121,11 @@ fn take_entry<T: TakeEntries>(
     ensures ok { OnOk result (T.entries into.new ≡ T.entries into.old ++ entry key.now value.now ∷ []) }
     ensures takes { OnOk result (T.takes (entry key.now value.now)) }
     ensures fault { IfErr result (λ error. IfFault error (T.takes (entry key.now value.now) → ⊥)) }
+    ensures why { IfErr result (λ error. IfMalformed error (λ found. found ≡ malformed)) }
 {
     match into.take_entry(key, value) {
         Ok(()) => Ok(()),
-        Err(TakeError::BadEntry) => Err(malformed),
+        Err(TakeError::BadEntry) => Err(ReadError::Malformed(malformed)),
         Err(TakeError::Memory) => Err(ReadError::Memory),
     }
 }
@@ -137,6 +145,8 @@ fn read_entries<R: Read, T: TakeEntries>(
     ensures fault { IfErr result (λ error. IfFault error ((entries : List Entry) (rest : List ℕ) →
         length entries ≡ count → IsStorable entries → Each T.takes entries →
         R.remaining source.old.input ≢ Some (entries_bytes [] entries ++ rest))) }
+    ensures why { IfErr result (λ error. IfMalformed error (Finds R.remaining source.old source.new
+        (λ fault. HasEntries T.takes (NextFault T.takes fault) count))) }
 {
     let mut key = Vec::new(alloc);
     let mut value = Vec::new(alloc);
@@ -144,7 +154,11 @@ fn read_entries<R: Read, T: TakeEntries>(
     let _at = source.at;
     for place in 0..count {
         read_entry(source, place == 0, &mut key, &mut value)?;
-        take_entry(source.malformed(Fault::BadEntry), into, &key, &value)?;
+        let malformed = Malformed {
+            at: source.at,
+            fault: Fault::BadEntry,
+        };
+        take_entry(malformed, into, &key, &value)?;
     }
     Ok(())
 }
@@ -155,6 +169,8 @@ fn read_tail<R: Read>(source: &mut Source<R>) -> Result<(), ReadError>
         IfSome (R.remaining source.old.input) (λ left. left ≡ sha256 body)) }
     ensures fault { IfErr result (λ error. IfFault error ((body : List ℕ) → Holds256 source.old.digest body →
         R.remaining source.old.input ≢ Some (sha256 body))) }
+    ensures why { (body : List ℕ) → Holds256 source.old.digest body → IfErr result (λ error.
+        IfMalformed error (Finds R.remaining source.old source.new (TailFault (sha256 body)))) }
 {
     let sum = source.digest.finalize_reset();
     source.expect(&sum, Fault::WrongChecksum)?;
@@ -183,6 +199,10 @@ pub fn read_snapshot<R: Read + Drop, T: TakeEntries>(
     ensures reads_back { (entries : List Entry) → IsStorable entries → Each T.takes entries →
         R.remaining input ≡ Some (snapshot_of entries) →
         MatchResult result (λ _. T.entries into.new ≡ entries) IsOutside }
+
+    // A fault is one of the bytes that were read, whose number the error has.
+    ensures fault { IfErr result (λ error. IfMalformed error (λ malformed.
+        IfSome (R.remaining input) (λ bytes. IsExplained T.takes bytes malformed))) }
 {
     let mut source = Source {
         input,

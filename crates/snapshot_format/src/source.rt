@@ -4,6 +4,8 @@ ghost use Rattle.std.specs.Io.KnownBytes.{IsAtEnd, ReadConsumes};
 ghost use Rattle.std.specs.Io.{ReadsAtMost};
 ghost use Rattle.snapshot_format.specs.Numbers.{FitsWithin, number_bytes, number_within};
 ghost use Rattle.snapshot_format.specs.Snapshots.{sized};
+ghost use Rattle.snapshot_format.specs.Faults.{Finds, IfMalformed, IsNot, NumberFault, SizedFault, WithinFault};
+ghost use Rattle.snapshot_format.specs.declared.error.Fault.TheVariants as faults;
 ghost use Rattle.snapshot_format.specs.Reading.{Appended, AppendedSized, IfFault, IsOutside, Reads};
 
 use crate::error::{Fault, Malformed, ReadError};
@@ -46,6 +48,8 @@ impl<R: Read> Source<R> {
         ensures read { IfOk result (λ byte. Reads R.remaining self.old self.new (byte ∷ [])) }
         ensures fault { IfErr result (λ error.
             IfFault error (IsAtEnd (R.remaining self.old.input))) }
+        ensures why { IfErr result (λ error. IfMalformed error
+            (Finds R.remaining self.old self.new (λ fault read. (fault ≡ faults.CutShort) × (read ≡ [])))) }
     {
         let mut byte = [0u8; 1];
         if self.read(&mut byte)? == 0 {
@@ -59,6 +63,8 @@ impl<R: Read> Source<R> {
         ensures read { OnOk result (Reads R.remaining self.old self.new wanted.now) }
         ensures fault { IfErr result (λ error. IfFault error ((rest : List ℕ) →
             R.remaining self.old.input ≢ Some (wanted.now ++ rest))) }
+        ensures why { fault ≢ faults.CutShort → IfErr result (λ error. IfMalformed error
+            (Finds R.remaining self.old self.new (IsNot wanted.now fault))) }
     {
         for byte in wanted {
             if self.byte()? != *byte {
@@ -73,6 +79,8 @@ impl<R: Read> Source<R> {
         ensures read { IfOk result (λ n. Reads R.remaining self.old self.new (number_bytes n)) }
         ensures fault { IfErr result (λ error. IfFault error ((n : ℕ) (rest : List ℕ) →
             n < 2 ^ 64 → R.remaining self.old.input ≢ Some (number_bytes n ++ rest))) }
+        ensures why { IfErr result (λ error. IfMalformed error
+            (Finds R.remaining self.old self.new NumberFault)) }
     {
         self.number_within(9)
     }
@@ -83,6 +91,8 @@ impl<R: Read> Source<R> {
         ensures fault { IfErr result (λ error. IfFault error ((n : ℕ) (rest : List ℕ) →
             FitsWithin more n → n < 2 ^ 64 →
             R.remaining self.old.input ≢ Some (number_within more n ++ rest))) }
+        ensures why { IfErr result (λ error. IfMalformed error
+            (Finds R.remaining self.old self.new (WithinFault more))) }
     {
         let byte = self.byte()?;
         if byte < 128 {
@@ -103,6 +113,8 @@ impl<R: Read> Source<R> {
         ensures read { OnOk result (Appended R.remaining self.old self.new into.old.items into.new.items len) }
         ensures fault { IfErr result (λ error. IfFault error (IfSome (R.remaining self.old.input) (λ left.
             length left < len))) }
+        ensures why { IfErr result (λ error. IfMalformed error (Finds R.remaining self.old self.new
+            (λ fault read. (fault ≡ faults.CutShort) × (length read < len)))) }
     {
         // No effect at run time. The proof reads from this use that the number is one of 64 bits.
         let _at = self.at;
@@ -125,6 +137,8 @@ impl<R: Read> Source<R> {
         ensures read { OnOk result (AppendedSized R.remaining self.old self.new into.old.items into.new.items) }
         ensures fault { IfErr result (λ error. IfFault error ((bytes rest : List ℕ) →
             length bytes < 2 ^ 64 → R.remaining self.old.input ≢ Some (sized bytes ++ rest))) }
+        ensures why { IfErr result (λ error. IfMalformed error
+            (Finds R.remaining self.old self.new SizedFault)) }
     {
         let len = self.number()?;
         self.append(len, into)
@@ -134,6 +148,8 @@ impl<R: Read> Source<R> {
     pub fn end(&mut self) -> Result<(), ReadError>
         ensures end { OnOk result (IsAtEnd (R.remaining self.old.input)) }
         ensures fault { IfErr result (λ error. IfFault error (R.remaining self.old.input ≢ Some [])) }
+        ensures why { IfErr result (λ error. IfMalformed error (Finds R.remaining self.old self.new
+            (λ fault read. (fault ≡ faults.TrailingBytes) × (length read ≡ 1)))) }
     {
         if self.read(&mut [0u8; 1])? == 0 {
             return Ok(());

@@ -93,6 +93,33 @@ fn each_bit_flipped(rt: HostRuntime) {
     }
 }
 
+// The start of a snapshot of one entry, whose key has 2^60 bytes.
+static HUGE_KEY: [u8; 19] = [
+    0x41, 0x52, 0x54, 0x53, 0x4e, 0x41, 0x50, 0x01, 0x01, 0x00, 0x80, 0x80, 0x80, 0x80, 0x80, 0x80,
+    0x80, 0x80, 0x10,
+];
+
+// The start of one whose first entry has the key "a" and a value of 2^60 bytes.
+static HUGE_VALUE: [u8; 21] = [
+    0x41, 0x52, 0x54, 0x53, 0x4e, 0x41, 0x50, 0x01, 0x01, 0x00, 0x01, 0x61, 0x80, 0x80, 0x80, 0x80,
+    0x80, 0x80, 0x80, 0x80, 0x10,
+];
+
+// The start of one of 2^60 entries.
+static HUGE_COUNT: [u8; 17] = [
+    0x41, 0x52, 0x54, 0x53, 0x4e, 0x41, 0x50, 0x01, 0x80, 0x80, 0x80, 0x80, 0x80, 0x80, 0x80, 0x80,
+    0x10,
+];
+
+// An allocation of so many bytes would fail.
+#[test]
+fn large_numbers_allocate_nothing(rt: HostRuntime) {
+    let alloc = rt.alloc();
+    assert!(rt; is_fault(error_of(alloc, &HUGE_KEY[..]), 19, Fault::CutShort));
+    assert!(rt; is_fault(error_of(alloc, &HUGE_VALUE[..]), 21, Fault::CutShort));
+    assert!(rt; is_fault(error_of(alloc, &HUGE_COUNT[..]), 17, Fault::CutShort));
+}
+
 // Returns whether a byte after the snapshot is reported.
 fn is_trailing(alloc: Global) -> bool {
     let mut bytes = [0u8; 58];

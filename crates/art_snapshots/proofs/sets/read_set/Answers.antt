@@ -30,3 +30,8 @@ returns-clause-reads_back g c = λ keys of_keys stored e.
     let known = subst (Each is_key) (sym c.from_map.ensures) (are_keys bytes is_key c.in_ok-map.map c.as_byte_map.ensures.keys) in
     same_keys bytes is_key g.met.K.NoPrefixesBytes.injective c.from_map.result keys known of_keys
     (ap (key_entries bytes) c.from_map.ensures ∙ sym (entries_keys bytes c.in_ok-map.map) ∙ same ∙ entries_units bytes keys)
+
+pub returns-in_err-map-clause-fault : goal.returns-in_err-map-clause-fault
+returns-in_err-map-clause-fault g c =
+    let p = err_from_is_err_and c.from_residual.result c.from_residual.ensures.1 in
+    rw (p.1, p.2) c.in_err-map.ensures.fault
