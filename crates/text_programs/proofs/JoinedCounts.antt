@@ -20,7 +20,7 @@ number_of_absent = refl
 pub words_of_joined : WordsOfJoined
 words_of_joined text more gap e = words_around text gap more e
 
-times_of_both : (word : List ℕ) (ws vs : List (List ℕ)) → times word (ws ++ vs) ≡ times word ws + times word vs
+pub times_of_both : (word : List ℕ) (ws vs : List (List ℕ)) → times word (ws ++ vs) ≡ times word ws + times word vs
 times_of_both word ws vs = ap length (filter-append (λ w. are_same word w) ws vs) ∙ length-append (filter (λ w. are_same word w) ws) _
 
 number_times : (word : List ℕ) (ws : List (List ℕ)) (counts : List (List ℕ × ℕ)) → HasTimes ws counts →

@@ -5,6 +5,12 @@ mod WordTexts
 mod Tallies
 mod JoinedCounts
 mod WordLines
+-- counts by frequency, and counts that are added up
+mod FrequencyLemmas
+mod RowNumbers
+mod RowLemmas
+mod SumLemmas
+mod MergeLemmas
 -- codes with names, and the longest one that a number starts with
 mod EntryLemmas
 mod CodeTableLemmas

@@ -58,15 +58,15 @@ value_is_first bytes key pairs = go (with_key (of_key bytes) key pairs)
 -- ---- words, and their keys
 
 -- the numbers that are found under a word
-abbrev found : List ℕ → List (List ℕ × ℕ) → List ℕ
+abbrev pub found : List ℕ → List (List ℕ × ℕ) → List ℕ
 found word counts = map (λ x. x.1) (with_key (λ x. x.0) word counts)
 
 -- what is found under a word's key is what is found under the word
-found_ended : (word : List ℕ) (pairs : List (List ℕ × ℕ)) → with_key (of_key ended) (ended word) pairs ≡ with_key (λ x. x.0) word pairs
+pub found_ended : (word : List ℕ) (pairs : List (List ℕ × ℕ)) → with_key (of_key ended) (ended word) pairs ≡ with_key (λ x. x.0) word pairs
 found_ended word [] = refl
 found_ended word (x ∷ xs) = rw (same_ended word x.0) (ap (λ r. cond (are_same word x.0) (x ∷ r) r) (found_ended word xs))
 
-value_found : (word : List ℕ) (pairs : List (List ℕ × ℕ)) → value_at ended (ended word) pairs ≡ first_of (found word pairs)
+pub value_found : (word : List ℕ) (pairs : List (List ℕ × ℕ)) → value_at ended (ended word) pairs ≡ first_of (found word pairs)
 value_found word pairs = value_is_first ended (ended word) pairs ∙ ap (λ xs. first_of (map (λ x. x.1) xs)) (found_ended word pairs)
 
 -- a word is counted once more: none was found, or one number
@@ -117,10 +117,10 @@ found_later word xs h =
     (Each-weaker (λ y. is_before word y.0 ≡ true) (λ y. are_same word y.0 ≡ false) (λ y e. earlier_apart word y.0 e) xs h))
 
 -- under the first word its number is found
-found_first : (x : List ℕ × ℕ) (xs : List (List ℕ × ℕ)) → Each (λ y. is_before x.0 y.0 ≡ true) xs → found x.0 (x ∷ xs) ≡ x.1 ∷ []
+pub found_first : (x : List ℕ × ℕ) (xs : List (List ℕ × ℕ)) → Each (λ y. is_before x.0 y.0 ≡ true) xs → found x.0 (x ∷ xs) ≡ x.1 ∷ []
 found_first x xs h = rw (front_same x.0) (ap (λ ns. x.1 ∷ ns) (found_later x.0 xs h))
 
-found_past : (word : List ℕ) (x : List ℕ × ℕ) (xs : List (List ℕ × ℕ)) → are_same word x.0 ≡ false → found word (x ∷ xs) ≡ found word xs
+pub found_past : (word : List ℕ) (x : List ℕ × ℕ) (xs : List (List ℕ × ℕ)) → are_same word x.0 ≡ false → found word (x ∷ xs) ≡ found word xs
 found_past word x xs e = rw e refl
 
 all_later : (word : List ℕ) (y : List ℕ × ℕ) (ys : List (List ℕ × ℕ)) → is_before word y.0 ≡ true →

@@ -2,6 +2,10 @@
 pub mod Words
 pub mod Counts
 pub mod Joined
+pub mod Frequency
+pub mod Rows
+pub mod Sums
+pub mod Merged
 -- codes with names, and the longest one that a number starts with
 pub mod Entries
 pub mod CodeRows

@@ -2,3 +2,6 @@
 
 pub mod counts;
 pub mod laws;
+pub mod merging;
+pub mod rows;
+pub mod top;

@@ -1,22 +1,26 @@
 //! Prints each word of some texts with how often it occurs.
 #![tactic(auto)]
 
-use clap::{Arg, ArgMatches, Command};
+use clap::{Arg, ArgAction, ArgMatches, Command, value_parser};
+use line_programs::messages::{Place, write_message};
 use line_programs::running::{
     ERROR, STATUS_OF_ERRORS, VERSION, print_usage, report, report_unwritten, source_of, words,
 };
 use std::alloc::{AllocError, Global};
-use std::io::{BufRead, BufReader, BufWriter, Write};
+use std::io::{BufReader, BufWriter, Read, Write};
 use std::process::ExitCode;
 use std::{fs, io};
 use text_programs::word_counts::counts::{Counts, count_text, write_counts};
+use text_programs::word_counts::merging::{MergeError, add_counts};
+use text_programs::word_counts::top::write_most_frequent;
 
 const NAME: &str = "word_count";
 
 const DETAILS: &str =
     "word_count prints each word of all FILEs together with how often it occurs, a line each, in the order of bytes.
 
-Words are separated by white space and zero bytes.
+Words are separated by white space and zero bytes. With --merge each FILE is what word_count printed, and the numbers of
+a word are added up. So counts of parts of a text become that of the text.
 
 Example:
   $ word_count /etc/hosts
@@ -46,41 +50,88 @@ fn command<'a>(alloc: Global) -> Result<Command<'a>, AllocError> {
         .num_args(0..)
         .value_name("FILE")
         .help("A text to count; '-' is standard input, which is counted if there is no FILE");
+    let top = Arg::new(alloc, "top")
+        .long("top")
+        .value_name("N")
+        .value_parser(value_parser!(usize))
+        .help("Print the N most frequent words, the most frequent first");
+    let merge = Arg::new(alloc, "merge")
+        .long("merge")
+        .action(ArgAction::SetTrue)
+        .help("Add up counts that word_count printed");
     Command::new(alloc, NAME)
         .bin_name(NAME)?
         .version(VERSION)
         .about("Counts the words of texts")
         .long_about(DETAILS)
         .after_help(STATUS_OF_ERRORS)
-        .arg(files)
+        .arg(files)?
+        .arg(top)?
+        .arg(merge)
 }
 
-// Counts the words of all files, and prints the counts if all could be read.
+// Counts the words of all files, or adds up their counts, and prints the counts if all could be read.
 fn status_of(rt: &HostRuntime, matches: &ArgMatches<'_>) -> u8 {
     let mut counts = Counts::new(rt.alloc());
+    let is_merge = matches.get_flag("merge");
     for path in matches.get_strs("files").unwrap_or(["-"].as_slice()) {
-        if let Err(error) = count_file(rt, &mut counts, path) {
-            return report(rt, NAME, source_of(path), error);
+        if let Err(error) = read_file(rt, &mut counts, is_merge, path) {
+            return report_unread(rt, source_of(path), error);
         }
     }
-    match print_counts(rt, &counts) {
+    match print_counts(rt, &counts, matches.get_one("top")) {
         Ok(()) => 0,
         Err(error) => report_unwritten(rt, NAME, error),
     }
 }
 
-fn count_file(rt: &HostRuntime, counts: &mut Counts, path: &str) -> io::Result<()> {
+fn read_file(
+    rt: &HostRuntime,
+    counts: &mut Counts,
+    is_merge: bool,
+    path: &str,
+) -> Result<(), MergeError> {
     let alloc = rt.alloc();
     if path == "-" {
-        let mut input = BufReader::new(alloc, rt.reader())?;
-        return count_text(counts, alloc, &mut input);
+        return read_opened(alloc, counts, is_merge, BufReader::new(alloc, rt.reader()));
     }
-    let mut input = BufReader::new(alloc, fs::open(rt, path)?)?;
-    count_text(counts, alloc, &mut input)
+    let opened = fs::open(rt, path).and_then(|file| BufReader::new(alloc, file));
+    read_opened(alloc, counts, is_merge, opened)
 }
 
-fn print_counts(rt: &HostRuntime, counts: &Counts) -> io::Result<()> {
+fn read_opened<R: Read + Drop>(
+    alloc: Global,
+    counts: &mut Counts,
+    is_merge: bool,
+    opened: io::Result<BufReader<R>>,
+) -> Result<(), MergeError> {
+    let mut input = opened.map_err(MergeError::Input)?;
+    if is_merge {
+        return add_counts(counts, alloc, &mut input);
+    }
+    count_text(counts, alloc, &mut input).map_err(MergeError::Input)
+}
+
+// Prints why a file was not read to its end.
+fn report_unread(rt: &HostRuntime, source: &str, error: MergeError) -> u8 {
+    let (number, line) = match error {
+        MergeError::Input(error) => return report(rt, NAME, source, error),
+        MergeError::Line(number, line) => (number, line),
+    };
+    let place = Place {
+        program: NAME,
+        source,
+    };
+    let fault = "not a count and a word";
+    let _ = write_message(&mut rt.stderr(), place, number, fault, line.as_slice());
+    ERROR
+}
+
+fn print_counts(rt: &HostRuntime, counts: &Counts, most: Option<usize>) -> io::Result<()> {
     let mut output = BufWriter::new(rt.alloc(), io::writer(rt))?;
-    write_counts(&mut output, counts)?;
+    match most {
+        Some(most) => write_most_frequent(&mut output, rt.alloc(), counts, most)?,
+        None => write_counts(&mut output, counts)?,
+    }
     output.flush()
 }

@@ -99,7 +99,8 @@ fn count_word(counts: &mut Counts, alloc: Global, word: &[u8]) -> Result<(), All
     Ok(())
 }
 
-fn is_gap(byte: &u8) -> bool
+/// Returns whether a byte stands in no word: white space, or a zero byte.
+pub fn is_gap(byte: &u8) -> bool
     ensures { result ≡ is_gap byte.now }
 {
     *byte == 0 || byte.is_ascii_whitespace()
@@ -116,8 +117,8 @@ pub fn write_counts<W: Write>(output: &mut W, counts: &Counts) -> io::Result<()>
     Ok(())
 }
 
-// Writes a word with its count.
-fn write_count<W: Write>(output: &mut W, word: &[u8], count: u64) -> io::Result<()>
+/// Writes a word with its count.
+pub fn write_count<W: Write>(output: &mut W, word: &[u8], count: u64) -> io::Result<()>
     ensures { OnOk result (Appends (W.contents output.old) (W.contents output.new)
         (line_of (word.now, count))) }
 {

@@ -1,6 +1,7 @@
 //! Laws of words and their counts: functions that do nothing, each with a law as its contract.
 ghost use Rattle.text_programs.specs.Counts.{CountIsOne};
 ghost use Rattle.text_programs.specs.Joined.{CountsOfJoined, SumsOfCounts, WordsOfJoined};
+ghost use Rattle.text_programs.specs.Sums.{OutputsAreRows, RowsAreDetermined, SumsOfOutputs};
 ghost use Rattle.text_programs.specs.Words.{GapsAreNoWords, WordsAreRuns};
 
 /// The words of a text are its longest runs of bytes that are no gaps, in order: every text is only gaps, or gaps, a
@@ -21,4 +22,12 @@ pub fn counts_of_joined()
     ensures words { WordsOfJoined }
     ensures counts { CountsOfJoined }
     ensures sums { SumsOfCounts }
+{}
+
+/// What is written of some texts, added up, is the count of these texts one after another: the lines that are written of a
+/// text are those of its counts alone, and the sums of the counts of all texts are the count of all their words.
+pub fn merged_outputs()
+    ensures rows { OutputsAreRows }
+    ensures determined { RowsAreDetermined }
+    ensures sums { SumsOfOutputs }
 {}
