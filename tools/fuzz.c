@@ -1,5 +1,5 @@
-// What tools/fuzz runs: the bytes of an input are calls of a map and of two handles of frozen maps, each of which is compared
-// with the same on a sorted array. An allocation fails where the input says so. At the end all pairs are compared, forward and
+// What tools/fuzz runs: the bytes of an input are calls of a map, of two handles of frozen maps and of a builder, each of which
+// is compared with the same on a sorted array. An allocation fails where the input says so. At the end all pairs are compared, forward and
 // backward.
 #include "vokujin.h"
 
@@ -28,11 +28,13 @@ typedef struct {
     bool is_freed;
 } array;
 
-// The map and its array; then the handles, and theirs.
+// The map and its array; the handles, and theirs; the builder, and its.
 static vokujin_map map;
 static array model;
 static vokujin_frozen handles[2];
 static array frozen[2];
+static vokujin_builder builder;
+static array built;
 // What calls read: the map, or a handle.
 static const vokujin_frozen *handle;
 static array *now = &model;
@@ -278,11 +280,67 @@ static void one_frozen_call(void) {
     now = &model;
 }
 
+static void push(void) {
+    text key = next_text();
+    uint64_t value = next_byte();
+    if (built.count == MOST_PAIRS) return;
+    uint32_t code = vokujin_builder_push(&builder, key.bytes, key.len, value);
+    if (code == VOKUJIN_NO_MEMORY) return;
+    if (built.is_freed) {
+        CHECK(code == VOKUJIN_FREED);
+        return;
+    }
+    int is_after = built.count == 0 || compare(&built.pairs[built.count - 1].key, &key) < 0;
+    CHECK(code == (is_after ? VOKUJIN_DONE : VOKUJIN_NOT_AFTER));
+    if (is_after) built.pairs[built.count++] = (entry){key, value};
+}
+
+static void finish(void) {
+    CHECK(vokujin_builder_finish(&builder, &map) == (built.is_freed ? VOKUJIN_FREED : VOKUJIN_DONE));
+    if (built.is_freed) return;
+    model = built;
+    built.count = 0;
+}
+
+static void free_builder(void) {
+    CHECK(vokujin_builder_free(&builder) == (built.is_freed ? VOKUJIN_FREED : VOKUJIN_DONE));
+    built.is_freed = true;
+    built.count = 0;
+}
+
+static void new_builder(void) {
+    vokujin_builder_new(&builder);
+    built.is_freed = false;
+}
+
+static void one_builder_call(void) {
+    uint8_t kind = next_byte();
+    now = &built;
+    switch (kind & 15) {
+    case 0: finish(); break;
+    case 1:
+        free_builder();
+        if (kind & 0x80) new_builder();
+        break;
+    case 2: {
+        vokujin_builder moved = builder;
+        memset(&builder, 0xff, sizeof moved);
+        builder = moved;
+        break;
+    }
+    case 3: if (built.is_freed) new_builder(); break;
+    default:
+        for (int at = 0; at <= kind >> 4; at++) push();
+    }
+    now = &model;
+}
+
 static void one_call(void) {
     uint8_t kind = next_byte();
     fails_at = kind & 0x80 ? next_byte() % 4 + 1 : 0;
     switch (kind & 0x7f) {
-    case 0 ... 50: insert(); break;
+    case 0 ... 40: insert(); break;
+    case 41 ... 50: one_builder_call(); break;
     case 51 ... 65: remove_key(); break;
     case 66 ... 75: one_frozen_call(); break;
     case 76 ... 85: get(); break;
@@ -313,6 +371,8 @@ int LLVMFuzzerTestOneInput(const uint8_t *data, size_t size) {
     left = size;
     model.count = 0;
     vokujin_new(&map);
+    built.count = 0;
+    new_builder();
     for (int at = 0; at < 2; at++) {
         vokujin_frozen_new(&handles[at]);
         frozen[at].is_freed = true;
@@ -328,6 +388,7 @@ int LLVMFuzzerTestOneInput(const uint8_t *data, size_t size) {
     }
     handle = NULL;
     now = &model;
+    free_builder();
     CHECK(vokujin_free(&map) == VOKUJIN_DONE);
     return 0;
 }

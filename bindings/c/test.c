@@ -65,6 +65,35 @@ static void prefix_ends(void) {
     CHECK(vokujin_prefix_end(all, 2) == 0 && vokujin_prefix_end(all, 0) == 0);
 }
 
+static void building(void) {
+    vokujin_builder first, builder;
+    vokujin_map map;
+    uint64_t value = 9;
+    size_t count = 9;
+    CHECK(vokujin_builder_size() == sizeof builder);
+    vokujin_builder_new(&first);
+    vokujin_new(&map);
+    CHECK(vokujin_insert(&map, TEXT("old"), 1, &value) == VOKUJIN_DONE);
+    CHECK(vokujin_builder_push(&first, TEXT(""), 1) == VOKUJIN_DONE && vokujin_builder_push(&first, TEXT(""), 2) == VOKUJIN_NOT_AFTER);
+    /* A builder may be moved. */
+    builder = first;
+    memset(&first, 0xff, sizeof first);
+    CHECK(vokujin_builder_push(&builder, TEXT("\0\1"), 2) == VOKUJIN_DONE && vokujin_builder_push(&builder, TEXT("\0"), 3) == VOKUJIN_NOT_AFTER);
+    CHECK(vokujin_builder_push(&builder, TEXT("car"), 3) == VOKUJIN_DONE && vokujin_builder_push(&builder, TEXT("cart"), 4) == VOKUJIN_DONE);
+    CHECK(vokujin_builder_push(&builder, TEXT("cars"), 5) == VOKUJIN_NOT_AFTER && vokujin_builder_push(&builder, TEXT("\xff"), 6) == VOKUJIN_DONE);
+    CHECK(vokujin_len(&map, &count) == VOKUJIN_DONE && count == 1);
+    CHECK(vokujin_builder_finish(&builder, &map) == VOKUJIN_DONE && vokujin_len(&map, &count) == VOKUJIN_DONE && count == 5);
+    CHECK(vokujin_get(&map, TEXT("old"), &value) == VOKUJIN_ABSENT && vokujin_get(&map, TEXT("car"), &value) == VOKUJIN_DONE && value == 3);
+    /* It is empty, and may be used again. A map that was freed gets the pairs too. */
+    CHECK(vokujin_free(&map) == VOKUJIN_DONE);
+    CHECK(vokujin_builder_push(&builder, TEXT("a"), 7) == VOKUJIN_DONE && vokujin_builder_finish(&builder, &map) == VOKUJIN_DONE);
+    CHECK(vokujin_insert(&map, TEXT("b"), 8, &value) == VOKUJIN_DONE && vokujin_len(&map, &count) == VOKUJIN_DONE && count == 2);
+    CHECK(vokujin_builder_push(&builder, TEXT("c"), 7) == VOKUJIN_DONE && vokujin_builder_free(&builder) == VOKUJIN_DONE);
+    CHECK(vokujin_builder_push(&builder, TEXT("d"), 7) == VOKUJIN_FREED && vokujin_builder_free(&builder) == VOKUJIN_FREED);
+    CHECK(vokujin_builder_finish(&builder, &map) == VOKUJIN_FREED && vokujin_len(&map, &count) == VOKUJIN_DONE && count == 2);
+    CHECK(vokujin_free(&map) == VOKUJIN_DONE);
+}
+
 static void many_calls(void) {
     vokujin_map map;
     uint64_t value;
@@ -82,6 +111,7 @@ static void many_calls(void) {
 int main(void) {
     each_call();
     prefix_ends();
+    building();
     many_calls();
     puts("ok");
     return 0;

@@ -5,7 +5,8 @@
  *   - A vokujin_map is memory of the program. vokujin_new makes an empty map there, and must be the first call on it. After
  *     vokujin_free the other calls return VOKUJIN_FREED, as long as nothing else is written to the memory.
  *   - The program neither reads nor writes the words of a map. It may copy them to another place; the map is there from then
- *     on, and the words at the old place are no map any more. The same of a vokujin_frozen, which vokujin_frozen_new makes.
+ *     on, and the words at the old place are no map any more. The same of a vokujin_frozen, which vokujin_frozen_new makes, and
+ *     of a vokujin_builder, which vokujin_builder_new makes, and which stays in one thread.
  *   - A call that takes a const vokujin_map or a const vokujin_frozen only reads it, and many threads may make such calls on it
  *     at once. While any other call works on a map or a handle, no call of another thread does. What threads do one after
  *     another is ordered as memory is otherwise: by a lock, or by the start or the end of a thread.
@@ -37,6 +38,11 @@ typedef struct {
     uint64_t words[2];
 } vokujin_frozen;
 
+/* A map that is being built from pairs in the order of their keys. */
+typedef struct {
+    uint64_t words[39];
+} vokujin_builder;
+
 /* A pair whose key is in a buffer. */
 typedef struct {
     uint64_t value;
@@ -64,6 +70,8 @@ enum {
     VOKUJIN_FREED = 5,
     /* An insertion has replaced the value of a stored key, and has written it. */
     VOKUJIN_REPLACED = 6,
+    /* The key is not after the last one, so the pair was not added. */
+    VOKUJIN_NOT_AFTER = 7,
     /* The range has no bound on this side. */
     VOKUJIN_UNBOUNDED = 0,
     /* The bound is a key of the range, if it is stored. */
@@ -122,6 +130,21 @@ uint32_t vokujin_next_pairs(const vokujin_map *map, const void *from, size_t fro
 /* Turns a prefix into the end of the range of the strings that start with it, and returns the length of that end. It
  * is 0 if all strings from the prefix on start with it: that range has no end. */
 size_t vokujin_prefix_end(void *prefix, size_t prefix_len);
+
+/* Returns the size of a builder in bytes. It is aligned to eight bytes. */
+size_t vokujin_builder_size(void);
+
+/* Makes a builder without pairs in the memory of the caller. It allocates nothing. */
+void vokujin_builder_new(vokujin_builder *builder);
+
+/* Adds a pair to a builder. Returns VOKUJIN_NOT_AFTER if the key is not after that of the last pair. */
+uint32_t vokujin_builder_push(vokujin_builder *builder, const void *key, size_t key_len, uint64_t value);
+
+/* Moves the pairs of a builder to a map, whose own pairs are freed before. The builder is empty then. */
+uint32_t vokujin_builder_finish(vokujin_builder *builder, vokujin_map *map);
+
+/* Frees a builder. Calls on it return `VOKUJIN_FREED` from then on. */
+uint32_t vokujin_builder_free(vokujin_builder *builder);
 
 /* Returns the size of a handle of a frozen map in bytes. It is aligned to eight bytes. */
 size_t vokujin_frozen_size(void);

@@ -31,6 +31,19 @@ class Beside:
         self.here.clear()
         self.assertEqual((list(self.here), len(self.here)), ([], 0))
 
+    def test_is_made_of_pairs_in_any_order(self):
+        random.seed(7)
+        for _ in range(1000):
+            keys = [self.key() for _ in range(random.randrange(40))]
+            count = random.randrange(len(keys) + 1)
+            keys[:count] = sorted(set(keys[:count]))
+            pairs = [random.choice((tuple, list))((key, Object())) if random.random() < 0.02 else (key, Object()) for key in keys]
+            wanted = sorted(dict(pairs).items(), key=lambda pair: pair[0])
+            for source in pairs, iter(pairs), tuple(pairs), self.kind(pairs), self.kind(pairs).freeze():
+                here = self.kind(source)
+                self.assertEqual(list(here.items()), wanted)
+                self.assertEqual((here.copy(), len(here)), (dict(pairs), len(wanted)))
+
     def insert(self, key):
         self.here[key] = self.model[key] = Object()
 

@@ -150,6 +150,27 @@ class Calls(unittest.TestCase):
         with self.assertRaises(TypeError):
             Map(a=1)
 
+    def test_updates_that_fail_keep_the_pairs_before(self):
+        for wrong, error in ((1, 2), TypeError), (("\ud800", 2), UnicodeEncodeError), (("c",), ValueError), (7, TypeError):
+            here = StrMap()
+            with self.assertRaises(error):
+                here.update([("a", 1), ("b", 2), wrong, ("d", 3)])
+            self.assertEqual(here, dict(a=1, b=2))
+        for source in StrMap(a=1), StrMap(a=1).freeze():
+            with self.assertRaises(TypeError):
+                Map(source)
+
+    def test_updates_are_those_of_another_class(self):
+        class Doubled(StrMap):
+            def __setitem__(self, key, value):
+                super().__setitem__(key * 2, value)
+
+        class Shown(StrMap):
+            def items(self):
+                return [("shown", 1)]
+
+        self.assertEqual((Doubled([("a", 1)]), Doubled(StrMap(a=1)), StrMap(Shown(a=1))), (dict(aa=1), dict(aa=1), dict(shown=1)))
+
     def test_unions(self):
         one, other = StrMap(a=1, b=2), {"b": 3, "c": 4}
         self.assertEqual((one | other, other | one), (dict(a=1, b=3, c=4), dict(a=1, b=2, c=4)))

@@ -115,6 +115,22 @@ class Calls(unittest.TestCase):
             self.assertIsNot(other["more"], here["more"])
         self.assertEqual((Named.fromkeys("ba", 0), repr(FrozenMap({b"a": [1]}))), ({"a": 0, "b": 0}, "FrozenMap({b'a': [1]})"))
 
+    def test_a_value_may_refer_to_its_map(self):
+        values = [
+            (list, list.append, operator.itemgetter(0)),
+            (Map, lambda value, map: value.update({b"map": map}), operator.itemgetter(b"map")),
+            (Object, lambda value, map: setattr(value, "map", map), operator.attrgetter("map")),
+        ]
+        for copied in copy.deepcopy, *(lambda map, it=it: pickle.loads(pickle.dumps(map, it)) for it in range(pickle.HIGHEST_PROTOCOL + 1)):
+            for make, refer, map_of in values:
+                value = make()
+                here = FrozenMap({b"one": value, b"other": value})
+                refer(value, here)
+                other = copied(here)
+                self.assertIs(map_of(other[b"one"]), other)
+                self.assertIs(other[b"one"], other[b"other"])
+                self.assertIsNot(other, here)
+
 
 class References(unittest.TestCase):
     def test_each_pair_has_one_reference(self):

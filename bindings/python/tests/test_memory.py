@@ -93,6 +93,15 @@ class References(unittest.TestCase):
         del other, pairs
         self.refers(100)
 
+    def test_pairs_of_lists_and_maps(self):
+        pairs = [(b"%03d" % number, self.value) for number in range(100)]
+        self.refers(100)
+        for source in pairs, Map(pairs), Map(pairs).freeze(), pairs[50:] + pairs[:60], [*pairs, (b"x", self.value, 1)], [*pairs, (None, self.value)]:
+            before = sys.getrefcount(self.value)
+            with contextlib.suppress(TypeError, ValueError):
+                Map(source)
+            self.assertEqual(sys.getrefcount(self.value), before)
+
     def test_calls_that_fail(self):
         for key in 1, "text":
             with self.assertRaises(TypeError):
@@ -140,6 +149,7 @@ class References(unittest.TestCase):
                 with contextlib.suppress(TypeError):
                     here[None] = 1
                 here.add_all({key * 2: 1, key * 5: 2})
+                kind([(key, here), (key * 2, []), (key, 1)]), kind(here.copy().freeze())
             frozen = here.freeze()
             frozen.get_many([key, key * 2], []), frozen.longest_match_many([key * 9, key[:0]]), frozen.matches(key * 3)
             frozen.count_prefix(key), frozen.first(), list(frozen.items()), copy.deepcopy(frozen), frozen.get(key)

@@ -16,7 +16,7 @@ KINDS = {vokujin.Map: "_Changed", vokujin.StrMap: "_Changed", vokujin.FrozenMap:
 READ = {"__len__", "__contains__", "__getitem__", "__iter__", "__reversed__", "__eq__"}
 OWN = {
     "_Changed": READ | {"__init__", "__setitem__", "__delitem__", "__or__", "__ror__", "__ior__"},
-    "_Frozen": READ | {"__new__", "__copy__"},
+    "_Frozen": READ | {"__new__", "__copy__", "__deepcopy__"},
 }
 
 

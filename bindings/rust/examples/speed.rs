@@ -65,6 +65,16 @@ fn fill_std(keys: &[Vec<u8>]) -> Model {
 }
 
 #[inline(never)]
+fn collect_here(keys: &[Vec<u8>]) -> Map<u64> {
+    keys.iter().zip(0..).collect()
+}
+
+#[inline(never)]
+fn collect_std(keys: &[Vec<u8>]) -> Model {
+    keys.iter().cloned().zip(0..).collect()
+}
+
+#[inline(never)]
 fn get_here(map: &Map<u64>, keys: &[Vec<u8>]) -> u64 {
     keys.iter().map(|key| *map.get(key).unwrap()).fold(0, u64::wrapping_add)
 }
@@ -165,6 +175,13 @@ fn main() {
     let show = |name: &str, here: f64, std: f64| println!("{name:26} {here:6.0} {std:6.0} {:5.2}", here / std);
     let insert = least(count, || _ = black_box(fill_here(&keys)));
     show("insertion, and drop", insert, least(count, || _ = black_box(fill_std(&keys))));
+    let mut sorted = keys.clone();
+    sorted.sort();
+    let (insert, collect) =
+        (least(count, || _ = black_box(fill_here(&sorted))), least(count, || _ = black_box(collect_here(&sorted))));
+    show("insertion, sorted, and drop", insert, least(count, || _ = black_box(fill_std(&sorted))));
+    show("collect, sorted, and drop", collect, least(count, || _ = black_box(collect_std(&sorted))));
+    show("clone, and drop", least(count, || _ = black_box(here.clone())), least(count, || _ = black_box(model.clone())));
     let get = least(count, || _ = black_box(get_here(&here, &asked)));
     show("lookup", get, least(count, || _ = black_box(get_std(&model, &asked))));
     let walk = least(count, || _ = black_box(walk_here(&here)));
@@ -178,6 +195,8 @@ fn one_part(part: &str, here: &mut Map<u64>, model: &mut Model, keys: &[Vec<u8>]
     let sum = match part {
         "insert here" => fill_here(keys).len() as u64,
         "insert std" => fill_std(keys).len() as u64,
+        "collect here" => collect_here(keys).len() as u64,
+        "collect std" => collect_std(keys).len() as u64,
         "get here" => get_here(here, asked),
         "get std" => get_std(model, asked),
         "iterate here" => walk_here(here),

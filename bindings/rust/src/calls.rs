@@ -11,6 +11,10 @@ pub struct Place(pub MaybeUninit<[u64; 35]>);
 #[repr(C)]
 pub struct FrozenPlace(pub MaybeUninit<[u64; 2]>);
 
+/// The memory of a builder.
+#[repr(C)]
+pub struct BuilderPlace(pub MaybeUninit<[u64; 39]>);
+
 /// A pair whose key is in a buffer.
 #[repr(C)]
 #[derive(Clone, Copy, Default)]
@@ -34,6 +38,7 @@ pub const TOO_LONG: u32 = 3;
 pub const FULL: u32 = 4;
 pub const FREED: u32 = 5;
 pub const REPLACED: u32 = 6;
+pub const NOT_AFTER: u32 = 7;
 pub const UNBOUNDED: u32 = 0;
 pub const INCLUDED: u32 = 1;
 pub const EXCLUDED: u32 = 2;
@@ -54,6 +59,11 @@ unsafe extern "C" {
     pub fn vokujin_last(map: *const Place, buffer: *mut u8, buffer_len: usize, pair: *mut Pair) -> u32;
     pub fn vokujin_next_pairs(map: *const Place, from: *const u8, from_len: usize, from_kind: u32, to: *const u8, to_len: usize, to_kind: u32, is_backward: bool, buffer: *mut u8, buffer_len: usize, pairs: *mut Pair, pairs_len: usize, given: *mut Given) -> u32;
     pub fn vokujin_prefix_end(prefix: *mut u8, prefix_len: usize) -> usize;
+    pub fn vokujin_builder_size() -> usize;
+    pub fn vokujin_builder_new(builder: *mut BuilderPlace);
+    pub fn vokujin_builder_push(builder: *mut BuilderPlace, key: *const u8, key_len: usize, value: u64) -> u32;
+    pub fn vokujin_builder_finish(builder: *mut BuilderPlace, map: *mut Place) -> u32;
+    pub fn vokujin_builder_free(builder: *mut BuilderPlace) -> u32;
     pub fn vokujin_frozen_size() -> usize;
     pub fn vokujin_frozen_new(frozen: *mut FrozenPlace);
     pub fn vokujin_freeze(map: *mut Place, frozen: *mut FrozenPlace) -> u32;

@@ -30,6 +30,7 @@ use std::fmt;
 #[rustfmt::skip] // tools/declarations writes it
 mod calls;
 mod entry;
+mod filling;
 mod frozen;
 mod iter;
 mod map;

@@ -5,6 +5,7 @@ use std::fmt;
 use std::hash::{Hash, Hasher};
 use std::ops::Index;
 
+use crate::filling::Filling;
 use crate::{Frozen, Iter, Map};
 
 impl<V> Default for Map<V> {
@@ -15,11 +16,11 @@ impl<V> Default for Map<V> {
 
 impl<V: Clone> Clone for Map<V> {
     fn clone(&self) -> Map<V> {
-        let (mut map, mut pairs) = (Map::new(), self.iter());
+        let (mut filling, mut pairs) = (Filling::new(), self.iter());
         while let Some((key, value)) = pairs.next_borrowed() {
-            map.insert(key, value.clone());
+            filling.insert(key, value.clone());
         }
-        map
+        filling.finish()
     }
 }
 
@@ -31,11 +32,14 @@ impl<K: AsRef<[u8]>, V> Extend<(K, V)> for Map<V> {
     }
 }
 
+/// Makes a map of pairs. It takes the least time where their keys rise.
 impl<K: AsRef<[u8]>, V> FromIterator<(K, V)> for Map<V> {
     fn from_iter<T: IntoIterator<Item = (K, V)>>(pairs: T) -> Map<V> {
-        let mut map = Map::new();
-        map.extend(pairs);
-        map
+        let mut filling = Filling::new();
+        for (key, value) in pairs {
+            filling.insert(key.as_ref(), value);
+        }
+        filling.finish()
     }
 }
 

@@ -1,11 +1,13 @@
 //! The trees of the library, with a number for each key: each call of this module is one call of the library.
 
+use std::marker::PhantomData;
 use std::mem::MaybeUninit;
 use std::ops::Bound;
 
 use crate::OutOfMemory;
 use crate::calls::{
-    self, DONE, EXCLUDED, FrozenPlace, Given, INCLUDED, NO_MEMORY, Pair, Place, REPLACED, TOO_LONG, UNBOUNDED,
+    self, BuilderPlace, DONE, EXCLUDED, FrozenPlace, Given, INCLUDED, NO_MEMORY, NOT_AFTER, Pair, Place, REPLACED, TOO_LONG,
+    UNBOUNDED,
 };
 
 /// A tree that may be changed.
@@ -26,6 +28,12 @@ pub(crate) struct FrozenTree {
 // SAFETY: as of a tree; that a handle is `Send` and `Sync` is proved there too.
 unsafe impl Send for FrozenTree {}
 unsafe impl Sync for FrozenTree {}
+
+/// A tree that is built of keys in their order, in one thread.
+pub(crate) struct TreeBuilder {
+    place: BuilderPlace,
+    stays: PhantomData<*const ()>,
+}
 
 /// What a call did that finds nothing and may allocate.
 fn done<T>(code: u32, it: T) -> Result<T, OutOfMemory> {
@@ -124,6 +132,33 @@ impl Tree {
 impl Drop for Tree {
     fn drop(&mut self) {
         unsafe { calls::vokujin_free(&mut self.place) };
+    }
+}
+
+impl TreeBuilder {
+    pub fn new() -> TreeBuilder {
+        let mut place = BuilderPlace(MaybeUninit::uninit());
+        assert_eq!(unsafe { calls::vokujin_builder_size() }, size_of::<BuilderPlace>(), "a library of another version");
+        // SAFETY: the place has the size of a builder. From here to `drop` one lies in it, which each call below asks for.
+        unsafe { calls::vokujin_builder_new(&mut place) };
+        TreeBuilder { place, stays: PhantomData }
+    }
+
+    /// Adds a pair, and returns whether its key is after all others; if it is not, nothing changes.
+    pub fn push(&mut self, key: &[u8], value: u64) -> Result<bool, OutOfMemory> {
+        let code = unsafe { calls::vokujin_builder_push(&mut self.place, key.as_ptr(), key.len(), value) };
+        if code == NOT_AFTER { Ok(false) } else { done(code, true) }
+    }
+
+    /// Moves the pairs to a tree, in place of what that has.
+    pub fn finish(mut self, tree: &mut Tree) {
+        unsafe { calls::vokujin_builder_finish(&mut self.place, &mut tree.place) };
+    }
+}
+
+impl Drop for TreeBuilder {
+    fn drop(&mut self) {
+        unsafe { calls::vokujin_builder_free(&mut self.place) };
     }
 }
 

@@ -163,6 +163,29 @@ fn does_what_a_btree_map_does() {
 }
 
 /// An iteration from both ends meets in the middle, wherever that is.
+/// Of pairs whose keys rise, and then do not, or that are equal.
+#[test]
+fn is_made_of_pairs_in_any_order() {
+    let mut random = Random(1234567);
+    let counts = Rc::default();
+    for turn in 0..2000 {
+        let mut keys: Vec<_> = (0..random.next() % 40).map(|_| random.key()).collect();
+        let sorted = random.next() as usize % (keys.len() + 1);
+        keys[..sorted].sort();
+        if turn % 2 == 0 {
+            keys.dedup();
+        }
+        let model: Model = keys.iter().cloned().zip(0..).collect();
+        let here: Map<Value> = keys.iter().zip(0..).map(|(key, number)| (key, Value::new(number, &counts))).collect();
+        assert!(here.iter().map(number).eq(model.iter().map(owned)));
+        assert_eq!((here.len(), counts.live()), (model.len(), model.len()));
+        let copy = here.clone();
+        drop(here);
+        assert!(copy.iter().map(number).eq(model.iter().map(owned)));
+    }
+    assert_eq!(counts.live(), 0);
+}
+
 #[test]
 fn iterates_from_both_ends() {
     let mut here: Map<u64> = (0..1000u64).map(|it| (it.to_be_bytes(), it)).collect();

@@ -58,6 +58,12 @@ fn a_function_or_a_clone_that_panics_loses_no_value() {
     counts.panic_at(600);
     panics(|| drop(map.clone()));
     is_whole(&mut map, &counts, 850);
+    panics(|| {
+        drop(
+            (0..10).map(|it| (format!("{it}"), if it < 5 { Value::new(it, &counts) } else { panic!() })).collect::<Map<_>>(),
+        )
+    });
+    is_whole(&mut map, &counts, 850);
     panics(|| _ = map.entry("0299").or_insert_with(|| panic!()));
     panics(|| _ = map.entry("0302").and_modify(|_| panic!()));
     panics(|| map.extend((0..10).map(|it| (format!("{it:04}"), if it < 5 { Value::new(it, &counts) } else { panic!() }))));

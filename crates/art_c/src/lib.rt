@@ -14,16 +14,19 @@ ghost use Rattle.std.specs.Ptr.{lies_at, room_at};
 ghost use Rattle.art_keyed.specs.KeyedPairs.{strings_below, strings_in_front};
 ghost use Rattle.art_keys.specs.Escapes.{escape};
 ghost use Rattle.art_model.specs.Pairs.{first_of, last_of, of_key, remove_key};
+ghost use Rattle.string_map.specs.Building.{Finishes, Pushes};
 ghost use Rattle.string_map.specs.Calls.{Answers, Changes, Inserts, code_of, done, freed, no_memory, value_of};
 ghost use Rattle.string_map.specs.Frozen.{Freezes, Shares};
 ghost use Rattle.string_map.specs.Given.{GivesPairs, bound_at, wanted_of};
 ghost use Rattle.string_map.specs.PrefixEnds.{IsPrefixEnd};
 ghost use Rattle.string_map.specs.Shown.{ShowsPair, pair_of};
 ghost use Rattle.string_map.specs.contracts.StringMap.{the_row as MapRow};
+ghost use Rattle.string_map.specs.contracts.building.StringMapBuilder.{the_row as BuilderRow};
 ghost use Rattle.string_map.specs.contracts.frozen.FrozenMap.{the_row as FrozenRow};
 
 use std::alloc::Global;
 use string_map::StringMap;
+use string_map::building::StringMapBuilder;
 use string_map::frozen::FrozenMap;
 use string_map::pairs::{Given, Pair};
 
@@ -221,6 +224,61 @@ pub extern "C" fn vokujin_prefix_end(prefix: &mut [u8]) -> usize
     ensures within { result ≤ length prefix.new }
 {
     string_map::prefixes::prefix_end(prefix)
+}
+
+/// Returns the size of a builder in bytes. It is aligned to eight bytes.
+#[unsafe(no_mangle)]
+pub extern "C" fn vokujin_builder_size() -> usize
+    ensures { result ≡ 312 }
+{
+    std::mem::size_of::<StringMapBuilder>()
+}
+
+/// Makes a builder without pairs in the memory of the caller. It allocates nothing.
+#[unsafe(no_mangle)]
+pub unsafe extern "C" fn vokujin_builder_new(alloc: Global, builder: *mut u8)
+    requires* { sem 𝓛 (room_at BuilderRow builder) }
+    ensures* { sem 𝓛 (lies_at BuilderRow full_share builder (Some [])) }
+{
+    let made = string_map::building::new(alloc);
+    std::ptr::write(builder as *mut StringMapBuilder, made);
+}
+
+/// Adds a pair to a builder. Returns VOKUJIN_NOT_AFTER if the key is not after that of the last pair.
+#[unsafe(no_mangle)]
+pub unsafe extern "C" fn vokujin_builder_push(builder: *mut u8, key: &[u8], value: u64) -> u32
+    ghost pairs: { Option (List (List ℕ × ℕ)) }
+    requires* { sem 𝓛 (lies_at BuilderRow full_share builder pairs) }
+    ensures* { ∃ₛ λ (now : Option (List (List ℕ × ℕ))). sem 𝓛 (lies_at BuilderRow full_share builder now) ∗
+        ⌜ Pushes key.now value pairs result now ⌝ }
+{
+    string_map::building::push(&mut *(builder as *mut StringMapBuilder), key, value)
+}
+
+/// Moves the pairs of a builder to a map, whose own pairs are freed before. The builder is empty then.
+#[unsafe(no_mangle)]
+pub unsafe extern "C" fn vokujin_builder_finish(builder: *mut u8, map: *mut u8) -> u32
+    ghost at: { Option (List (List ℕ × ℕ)) × Option (List (List ℕ × ℕ)) }
+    requires* { sem 𝓛 (lies_at BuilderRow full_share builder at.0) ∗ sem 𝓛 (lies_at MapRow full_share map at.1) }
+    ensures* { ∃ₛ λ (now : Option (List (List ℕ × ℕ)) × Option (List (List ℕ × ℕ))).
+        (sem 𝓛 (lies_at BuilderRow full_share builder now.0) ∗ sem 𝓛 (lies_at MapRow full_share map now.1)) ∗
+        ⌜ Finishes at.0 at.1 result now.0 now.1 ⌝ }
+{
+    string_map::building::finish(
+        &mut *(builder as *mut StringMapBuilder),
+        &mut *(map as *mut StringMap),
+    )
+}
+
+/// Frees a builder. Calls on it return `VOKUJIN_FREED` from then on.
+#[unsafe(no_mangle)]
+pub unsafe extern "C" fn vokujin_builder_free(builder: *mut u8) -> u32
+    ghost pairs: { Option (List (List ℕ × ℕ)) }
+    requires* { sem 𝓛 (lies_at BuilderRow full_share builder pairs) }
+    ensures* { ∃ₛ λ (now : Option (List (List ℕ × ℕ))). sem 𝓛 (lies_at BuilderRow full_share builder now) ∗
+        ⌜ (now ≡ None) × (result ≡ code_of pairs) ⌝ }
+{
+    string_map::building::free(&mut *(builder as *mut StringMapBuilder))
 }
 
 /// Returns the size of a handle of a frozen map in bytes. It is aligned to eight bytes.

@@ -1,3 +1,4 @@
 mod Crossing
 mod Fills
+mod NotAfter
 mod PrefixEnds

@@ -1,3 +1,4 @@
+pub mod Building
 pub mod Calls
 pub mod Frozen
 pub mod Given

@@ -14,6 +14,8 @@ pub const FULL: u32 = 4;
 pub const FREED: u32 = 5;
 /// An insertion has replaced the value of a stored key, and has written it.
 pub const REPLACED: u32 = 6;
+/// The key is not after the last one, so the pair was not added.
+pub const NOT_AFTER: u32 = 7;
 
 /// The range has no bound on this side.
 pub const UNBOUNDED: u32 = 0;

@@ -7,6 +7,7 @@ use art_keys::escaped::Escaped;
 use std::alloc::Global;
 use std::marker::Model;
 
+pub mod building;
 pub mod calls;
 pub mod codes;
 pub mod frozen;

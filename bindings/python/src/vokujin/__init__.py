@@ -17,6 +17,7 @@ when it imports this module. A frozen map looks up many keys at once without tha
 process has a map of its own.
 """
 
+import copy
 import copyreg
 import itertools
 import operator
@@ -165,13 +166,18 @@ class _Changed(_Ordered, MutableMapping):
 
     def update(self, pairs=(), /, **named):
         """Inserts the pairs of a mapping, or of an iterable of pairs. Keys that are inserted in their order stand in memory as
-        after compact, which makes iterations faster.
+        after compact, which makes iterations faster. An empty map takes those of another map, or of a list whose keys rise, in
+        less time.
 
         >>> ages = Map({b"ann": 31})
         >>> ages.update([(b"ann", 32), (b"bob", 27)])
         >>> ages
         Map({b'ann': 32, b'bob': 27})
         """
+        # Another class may insert, or may read the pairs of a map, in its own way.
+        has_pairs = type(pairs) is list or getattr(type(pairs), "items", None) is _Ordered.items
+        if has_pairs and type(self).__setitem__ is _core.BytesCore.__setitem__:
+            pairs = self._start(pairs)
         for key, value in itertools.chain(_pairs_of(pairs), named.items()):
             self[key] = value
 
@@ -248,6 +254,15 @@ class _Frozen(_Ordered):
 
     def __copy__(self):
         return self
+
+    def __deepcopy__(self, memo):
+        pairs = copy.deepcopy(list(self.items()), memo)
+        # Where a value refers to this map, the two have been copied together.
+        if id(self) not in memo:
+            memo[id(self)] = made = type(self)(pairs)
+            if hasattr(self, "__dict__"):
+                made.__dict__.update(copy.deepcopy(self.__dict__, memo))
+        return memo[id(self)]
 
     def __reduce__(self):
         return type(self), (list(self.items()),), getattr(self, "__dict__", None) or None

@@ -82,7 +82,7 @@ typedef struct {
 } Core;
 
 typedef struct {
-    PyTypeObject *pairs_type, *frozen_type;
+    PyTypeObject *pairs_type, *read_type, *frozen_type;
 } State;
 
 #define CORE(object) ((Core *)(object))
@@ -666,6 +666,95 @@ static PyObject *core_prefix(PyObject *self, PyTypeObject *definer, PyObject *co
     return (PyObject *)pairs;
 }
 
+/* Sorted pairs, which a map without any starts with. Until it has them no other code runs ----------------------------- */
+
+/* Adds a pair whose key is after all others. Returns as answer does, 0 if the key is not. */
+static int push(Core *self, vokujin_builder *builder, const char *key, size_t len, PyObject *value) {
+    size_t slot = values_insert(&self->values, value);
+    uint32_t code = slot == NO_SLOT ? VOKUJIN_NO_MEMORY : vokujin_builder_push(builder, key, len, slot);
+    if (code == VOKUJIN_DONE) return 1;
+    if (slot != NO_SLOT) Py_DECREF(values_take(&self->values, slot));
+    return code == VOKUJIN_NOT_AFTER ? 0 : answer(code);
+}
+
+/* Adds a pair of a list, if it is a tuple with a key that needs no other code. Returns as push does. */
+static int push_item(Core *self, vokujin_builder *builder, PyObject *item) {
+    if (!PyTuple_CheckExact(item) || PyTuple_Size(item) != 2) return 0;
+    PyObject *object = PyTuple_GetItem(item, 0);
+    Key key;
+    if (self->is_text ? !PyUnicode_Check(object) : !PyBytes_Check(object)) return 0;
+    if (!key_of(self, object, &key)) return -1;
+    int pushed = push(self, builder, key.bytes, (size_t)key.len, PyTuple_GetItem(item, 1));
+    Py_DECREF(key.owner);
+    return pushed;
+}
+
+/* Adds pairs of a list until one can't be added, and writes how many it added. Returns as push does for the last one. */
+static int push_list(Core *self, vokujin_builder *builder, PyObject *list, Py_ssize_t *taken) {
+    int pushed = 1;
+    Py_ssize_t at = 0;
+    while (pushed == 1 && at < PyList_Size(list))
+        if ((pushed = push_item(self, builder, PyList_GetItem(list, at))) == 1) at++;
+    *taken = at;
+    return pushed;
+}
+
+/* Adds all pairs of another map. Returns as push does. */
+static int push_map(Core *self, vokujin_builder *builder, Pairs *pairs) {
+    for (;;) {
+        if (pairs->next == pairs->count && (!pairs->is_more || !pairs_fill(pairs))) return pairs->is_more ? -1 : 1;
+        if (pairs->next == pairs->count) return 1;
+        vokujin_pair *pair = &pairs->pairs[pairs->next++];
+        int pushed = push(self, builder, pairs->keys + pairs->at, pair->key_len, (PyObject *)pairs->map->values.slots[pair->value]);
+        if (pushed != 1) return pushed;
+        pairs->at += pair->key_len;
+    }
+}
+
+/* Moves what was added to the map. */
+static void end_order(Core *self, vokujin_builder *builder) {
+    vokujin_builder_finish(builder, &self->map);
+    vokujin_builder_free(builder);
+    self->changes++;
+}
+
+static PyObject *start_with_list(PyObject *self, PyObject *list) {
+    vokujin_builder builder;
+    Py_ssize_t taken;
+    vokujin_builder_new(&builder);
+    int pushed = push_list(CORE(self), &builder, list, &taken);
+    end_order(CORE(self), &builder);
+    return pushed < 0 ? NULL : PyList_GetSlice(list, taken, PyList_Size(list));
+}
+
+static PyObject *start_with_map(PyObject *self, PyTypeObject *definer, PyObject *map) {
+    vokujin_builder builder;
+    Pairs *pairs = pairs_new(map, definer, ITEMS, false);
+    if (!pairs) return NULL;
+    /* What ran at that allocation may have changed this map. */
+    bool starts = core_len(self) == 0 && bound_of(CORE(map), Py_None, true, &pairs->from) && bound_of(CORE(map), Py_None, true, &pairs->to);
+    int pushed = starts ? 1 : PyErr_Occurred() ? -1 : 0;
+    if (starts) {
+        vokujin_builder_new(&builder);
+        pushed = push_map(CORE(self), &builder, pairs);
+        end_order(CORE(self), &builder);
+    }
+    Py_DECREF(pairs);
+    return pushed < 0 ? NULL : pushed == 0 ? Py_NewRef(map) : PyTuple_New(0);
+}
+
+/* Inserts pairs at the start of a list whose keys rise, or those of a map of the same kind of keys, where this map has none yet.
+ * Returns what is left to be inserted. */
+static PyObject *core_start(PyObject *self, PyTypeObject *definer, PyObject *const *args, Py_ssize_t count, PyObject *Py_UNUSED(names)) {
+    State *state = PyType_GetModuleState(definer);
+    if (!takes(count, 1, 1)) return NULL;
+    PyObject *pairs = args[0];
+    if (core_len(self) != 0) return Py_NewRef(pairs);
+    if (PyList_CheckExact(pairs)) return start_with_list(self, pairs);
+    if (PyType_IsSubtype(Py_TYPE(pairs), state->read_type) && CORE(pairs)->is_text == CORE(self)->is_text) return start_with_map(self, definer, pairs);
+    return Py_NewRef(pairs);
+}
+
 /* Removes the pairs of these keys, which are bytes and stored. The list has their values then. */
 static void take_all(Core *self, PyObject *list, Py_ssize_t count) {
     for (Py_ssize_t at = 0; at < count; at++) {
@@ -852,6 +941,7 @@ static PyMethodDef core_methods[] = {
           "removal for each. If an allocation fails, it raises MemoryError and the map is unchanged."),
     {"clear", core_clear_call, METH_NOARGS, "clear($self, /)\n--\n\nRemoves all pairs."},
     PRIVATE(take_end, METH_O),
+    PRIVATE(start, METH_DEFINED),
     PRIVATE(freeze, METH_DEFINED),
     {NULL, NULL, 0, NULL},
 };
@@ -906,11 +996,10 @@ static PyTypeObject *add_type(PyObject *module, PyType_Spec *spec, PyTypeObject 
 
 /* Adds the types of maps: what is read, from which maps and frozen ones derive, and from maps of bytes those of strings. */
 static int add_maps(PyObject *module, State *state) {
-    PyTypeObject *read = add_type(module, &read_spec, NULL);
+    PyTypeObject *read = state->read_type = add_type(module, &read_spec, NULL);
     PyTypeObject *core = read ? add_type(module, &core_spec, read) : NULL;
     PyTypeObject *text = core ? add_type(module, &text_spec, core) : NULL;
     state->frozen_type = text ? add_type(module, &frozen_spec, read) : NULL;
-    Py_XDECREF(read);
     Py_XDECREF(core);
     Py_XDECREF(text);
     return state->frozen_type ? 0 : -1;
@@ -918,7 +1007,7 @@ static int add_maps(PyObject *module, State *state) {
 
 static int module_exec(PyObject *module) {
     State *state = PyModule_GetState(module);
-    if (vokujin_size() != sizeof(vokujin_map) || vokujin_frozen_size() != sizeof(vokujin_frozen)) {
+    if (vokujin_size() != sizeof(vokujin_map) || vokujin_frozen_size() != sizeof(vokujin_frozen) || vokujin_builder_size() != sizeof(vokujin_builder)) {
         PyErr_SetString(PyExc_ImportError, "the library and the header that this module was built from differ");
         return -1;
     }
@@ -931,6 +1020,7 @@ static int module_exec(PyObject *module) {
 static int module_traverse(PyObject *module, visitproc visit, void *arg) {
     State *state = PyModule_GetState(module);
     Py_VISIT(state->pairs_type);
+    Py_VISIT(state->read_type);
     Py_VISIT(state->frozen_type);
     return 0;
 }
@@ -938,6 +1028,7 @@ static int module_traverse(PyObject *module, visitproc visit, void *arg) {
 static int module_clear(PyObject *module) {
     State *state = PyModule_GetState(module);
     Py_CLEAR(state->pairs_type);
+    Py_CLEAR(state->read_type);
     Py_CLEAR(state->frozen_type);
     return 0;
 }
