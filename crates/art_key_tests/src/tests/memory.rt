@@ -34,7 +34,7 @@ fn starve_keys(
     Some(answers)
 }
 
-// While every allocation fails: the lengths of short keys, and whether the bytes of one are refused as a vector, which
+// While every allocation fails: the lengths of short keys, and whether the bytes of one fail to become a vector, which
 // takes an allocation.
 fn starve_short_keys(alloc: Global, short: Vec<u8>) -> Option<([usize; 3], bool)> {
     let held = all_memory(alloc).ok()?;

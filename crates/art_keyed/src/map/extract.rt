@@ -1,5 +1,5 @@
 //! Iterators that remove the pairs of a range, or those with a prefix, from a map.
-ghost use Rattle.std.specs.Prelude.{◌≡◌, ◌&&◌, ◌<◌, ◌^◌, length, IfSome};
+ghost use Rattle.std.specs.Prelude.{◌≡◌, ◌&&◌, ◌<◌, ◌^◌, length, IfSome, Some};
 ghost use Rattle.std.specs.Iterator.{UpTo, at_most};
 ghost use Rattle.std.specs.Iterator.SizeHint.{IsWithinCount};
 ghost use Rattle.std.specs.Range.Bound.{bound_map};
@@ -46,6 +46,7 @@ impl<'a, R: RangeBounds<K> + Drop, K: OrderedBytes + Drop, V: Drop, const P: usi
     fn size_hint(&self) -> (usize, Option<usize>)
         ensures lower { IsWithinCount result.0 (at_most (length self.now.map.now)) }
         ensures upper { IfSome result.1 (UpTo (at_most (length self.now.map.now))) }
+        ensures exact { result ≡ (0, Some (length self.now.map.now)) }
     {
         (0, Some(self.map.len()))
     }
@@ -86,6 +87,7 @@ impl<'a, 'k, K: StringBytes + Drop, V: Drop, const P: usize> Iterator
     fn size_hint(&self) -> (usize, Option<usize>)
         ensures lower { IsWithinCount result.0 (at_most (length self.now.map.now)) }
         ensures upper { IfSome result.1 (UpTo (at_most (length self.now.map.now))) }
+        ensures exact { result ≡ (0, Some (length self.now.map.now)) }
     {
         (0, Some(self.map.len()))
     }
