@@ -2,17 +2,7 @@
 use Rattle.std.proofs.Common.{◌≡◌, ◌≢◌, ℕ, suc, ◌+◌, ◌*◌, ◌-◌, ◌<◌, ◌≤◌, List, [], ◌∷◌, ◌++◌, length, length-append, reverse, take, Some, refl, ap, sym, ◌∙◌, subst, arith}
 use Rattle.std.proofs.Math.Seq.{take-append_seam}
 use Rattle.std.specs.FinMap as map
-use Rattle.art_inner.specs.Inner.{Inner, Children, IsRising}
-use Rattle.art_parts.specs.Kinds.{kind_capacity, kind_least}
-use Rattle.art_parts.specs.Names.{inner_name, leaf_name}
-use Rattle.art_nodes.specs.Nodes.{Nodes}
-use Rattle.art_parts.specs.declared.names.InnerPtr.{InnerPtr}
-use Rattle.art_parts.specs.declared.names.LeafPtr.{LeafPtr}
-use Rattle.art_parts.specs.declared.names.NodeType.{NodeType}
-use Rattle.art_parts.specs.declared.names.NodeType.TheVariants.{Node4, Node16, Node48, Node256, Leaf}
-use Rattle.art_parts.specs.declared.names.OpaqueNodePtr.{OpaqueNodePtr}
-use Rattle.art_model.specs.Faults.{Reaches}
-use Rattle.art_model.specs.Layouts.{slots_of}
+use Rattle.art_model.specs.Prelude.{Inner, Children, IsRising, kind_capacity, kind_least, inner_name, leaf_name, Nodes, InnerPtr, LeafPtr, NodeType, Node4, Node16, Node48, Node256, Leaf, OpaqueNodePtr, Reaches, slots_of}
 use Rattle.art_checking.specs.Checked.{AreReached, IsEntered, IsFirstMet, IsLeafAt, IsMetTree, IsPassed, IsStart, IsWalked, AllBefore}
 use Rattle.art_checking.specs.Meetings.{place_in}
 use Rattle.art_checking.specs.declared.well_formed.check.Above.{Above}

@@ -1,20 +1,8 @@
 -- descents along least children, step by step
-use Rattle.std.proofs.Common.{◌≡◌, ◌≢◌, ℕ, Bool, true, List, [], ◌∷◌, ◌++◌, refl, ap, sym, ◌∙◌, subst, Option, Some, None, ◌⊎◌, inl, inr}
+use Rattle.std.proofs.Common.{◌≡◌, ◌≢◌, ℕ, Bool, true, List, [], ◌∷◌, ◌++◌, refl, ap, sym, ◌∙◌, subst, Option, Some, None, ◌⊎◌, inl, inr, option_map}
 use Rattle.std.specs.FinMap as map
-use Rattle.std.specs.Option.{option_map}
-use Rattle.art_inner.specs.Inner.{Inner}
-use Rattle.art_parts.specs.Names.{leaf_name, inner_name}
-use Rattle.art_nodes.specs.Nodes.{Nodes}
-use Rattle.art_parts.specs.declared.names.InnerPtr.{InnerPtr}
-use Rattle.art_parts.specs.declared.leaf.LeafNode.{LeafNode}
-use Rattle.art_parts.specs.declared.names.LeafPtr.{LeafPtr}
-use Rattle.art_parts.specs.declared.names.NodeType.TheVariants.{Leaf}
-use Rattle.art_parts.specs.declared.names.OpaqueNodePtr.{OpaqueNodePtr}
-use Rattle.art_model.specs.Footprints.{IsIn}
-use Rattle.art_model.specs.Layouts.{Node, leaf_node, inner_node, AreDistinct}
-use Rattle.art_model.specs.Stores.{node_at, header_at, held_leaf, held_inner, tree_node, pair_of}
-use Rattle.art_model.specs.Trails.{bottom_of, HasLeast, IsDescent}
-use Rattle.art_model.specs.Trees.{NodeHeader}
+use Rattle.art_model.specs.Prelude.{Inner, leaf_name, inner_name, Nodes, InnerPtr, LeafNode, LeafPtr, Leaf, OpaqueNodePtr, IsIn, Node, leaf_node, inner_node, AreDistinct, node_at, header_at, held_leaf, held_inner, tree_node, pair_of, bottom_of, IsDescent, NodeHeader}
+use Rattle.art_model.specs.Trails.{HasLeast}
 use Rattle.art_model.proofs.lists.Lists.{each_in}
 use Rattle.art_model.proofs.stores.Views.{held_in_inner, leaf_name_is}
 use Rattle.art_checking.specs.Checked.{IsLeastLeaf}

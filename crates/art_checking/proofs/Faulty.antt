@@ -1,19 +1,9 @@
 -- Errors that are passed on, and those of a canonical root.
-use Rattle.std.proofs.Common.{◌≡◌, ◌≢◌, ◌<◌, inl, inr, ℕ, List, length, sym, subst, refl, Result, Ok, Err, IfErr, Some}
+use Rattle.std.proofs.Common.{◌≡◌, ◌≢◌, ◌<◌, inl, inr, ℕ, List, length, sym, subst, refl, Result, Ok, Err, IfErr, Some, IsErrAnd}
 use Rattle.std.proofs.lemmas.Result.{IfErr-weaker}
 use Rattle.std.specs.FinMap as map
-use Rattle.std.specs.Result.{IsErrAnd}
-use Rattle.art_inner.specs.Inner.{Inner}
-use Rattle.art_parts.specs.Kinds.{kind_least}
-use Rattle.art_parts.specs.Names.{inner_name}
-use Rattle.art_nodes.specs.Nodes.{Nodes}
-use Rattle.art_parts.specs.declared.names.InnerPtr.{InnerPtr}
-use Rattle.art_parts.specs.declared.names.NodeType.{NodeType}
-use Rattle.art_parts.specs.declared.names.NodeType.TheVariants.{Leaf}
-use Rattle.art_parts.specs.declared.names.OpaqueNodePtr.{OpaqueNodePtr}
-use Rattle.art_model.specs.Faults.{Fault, IsTrueOf, Reaches, out_of_memory, wrong_children_count}
-use Rattle.art_model.specs.Roots.{IsCanonicalRoot}
-use Rattle.art_model.specs.Stores.{header_at}
+use Rattle.art_model.specs.Prelude.{Inner, kind_least, inner_name, Nodes, InnerPtr, NodeType, Leaf, OpaqueNodePtr, IsTrueOf, Reaches, wrong_children_count, IsCanonicalRoot, header_at}
+use Rattle.art_model.specs.Faults.{Fault, out_of_memory}
 use Rattle.art_model.proofs.stores.Canonical.{laid_out}
 use Rattle.art_model.proofs.stores.Faultless.{no_fault}
 use Rattle.art_checking.specs.Checked.{IsTrueAt, Says}

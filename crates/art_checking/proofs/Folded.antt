@@ -1,22 +1,7 @@
 -- A fold proceeds child by child: some children of a node are joined, and the others are left.
-use Rattle.std.specs.Option.{option_map}
-use Rattle.std.proofs.Common.{◌≡◌, ◌≢◌, ℕ, ◌<◌, ◌≤◌, List, [], ◌∷◌, length, refl, ap, ap₂, sym, ◌∙◌, arith, subst, IsSome, Some}
+use Rattle.std.proofs.Common.{◌≡◌, ◌≢◌, ℕ, ◌<◌, ◌≤◌, List, [], ◌∷◌, length, refl, ap, ap₂, sym, ◌∙◌, arith, subst, IsSome, Some, option_map}
 use Rattle.std.specs.FinMap as map
-use Rattle.art_inner.specs.Inner.{Inner}
-use Rattle.art_parts.specs.Names.{leaf_name, inner_name}
-use Rattle.art_nodes.specs.Nodes.{Nodes}
-use Rattle.art_parts.specs.declared.names.NodeType.{NodeType}
-use Rattle.art_parts.specs.declared.names.NodeType.TheVariants.{Leaf}
-use Rattle.art_parts.specs.declared.names.LeafPtr.{LeafPtr}
-use Rattle.art_parts.specs.declared.names.InnerPtr.{InnerPtr}
-use Rattle.art_parts.specs.declared.leaf.LeafNode.{LeafNode}
-use Rattle.art_parts.specs.declared.names.OpaqueNodePtr.{OpaqueNodePtr}
-use Rattle.art_model.specs.Trees.{Tree, inner, Subtrees, child, no_child, NodeHeader}
-use Rattle.art_model.specs.Radix.{join, bytes_of, HaveChildren}
-use Rattle.art_model.specs.Layouts.{name_of, slots_of, names_of, names_below, AreDistinct}
-use Rattle.art_model.specs.Stores.{content_at, held_leaf, held_inner, node_at, header_at}
-use Rattle.art_model.specs.Heights.{height, tree_height}
-use Rattle.art_model.specs.Roots.{IsFullTree}
+use Rattle.art_model.specs.Prelude.{Inner, leaf_name, inner_name, Nodes, NodeType, Leaf, LeafPtr, InnerPtr, LeafNode, OpaqueNodePtr, Tree, inner, Subtrees, child, no_child, NodeHeader, join, bytes_of, HaveChildren, name_of, slots_of, names_of, names_below, AreDistinct, content_at, held_leaf, held_inner, node_at, header_at, height, tree_height, IsFullTree}
 use Rattle.art_model.proofs.places.Edges.{children_right, height_join}
 use Rattle.art_model.proofs.stores.Heights.{height_is, enough_steps}
 use Rattle.art_model.proofs.lists.Pairwises.{Pairwise-left, Pairwise-right}

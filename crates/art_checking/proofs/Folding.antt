@@ -1,15 +1,6 @@
 -- For callers: what a fold returns, in terms of the tree's pairs. Three steps are to be shown: for a leaf's pair, for the hook of an inner node, and for two adjacent lists whose outputs are joined.
-use Rattle.std.proofs.Common.{◌≡◌, List, [], ◌∷◌, ◌++◌, sym, ap, ◌∙◌, subst, append-nil, append_assoc, Option, Some}
-use Rattle.std.specs.Option.{option_map}
-use Rattle.art_inner.specs.Inner.{Inner}
-use Rattle.art_nodes.specs.Nodes.{Nodes}
-use Rattle.art_parts.specs.declared.leaf.LeafNode.{LeafNode}
-use Rattle.art_parts.specs.declared.names.NodeType.{NodeType}
-use Rattle.art_parts.specs.declared.names.OpaqueNodePtr.{OpaqueNodePtr}
-use Rattle.art_model.specs.Layouts.{Node, leaf_node, Holds, HoldsBelow}
-use Rattle.art_model.specs.Radix.{pairs_of, pairs_below}
-use Rattle.art_model.specs.Stores.{node_at, pair_of, tree_node}
-use Rattle.art_model.specs.Trees.{Tree, leaf, inner, Subtrees, child, no_child}
+use Rattle.std.proofs.Common.{◌≡◌, List, [], ◌∷◌, ◌++◌, sym, ap, ◌∙◌, subst, append-nil, append_assoc, Option, Some, option_map}
+use Rattle.art_model.specs.Prelude.{Inner, Nodes, LeafNode, NodeType, OpaqueNodePtr, Node, leaf_node, Holds, HoldsBelow, pairs_of, pairs_below, node_at, pair_of, tree_node, Tree, leaf, inner, Subtrees, child, no_child}
 use Rattle.art_checking.specs.Folds.{Folds, JoinsAll, Joins}
 
 module _ {K V T Out : Type 0} (OfLeaf : T → LeafNode K V → Out → T → Type 0) (OfInner : T → NodeType → Inner → Out → Out → T → Type 0)

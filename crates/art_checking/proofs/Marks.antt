@@ -1,7 +1,6 @@
 -- places that are marked in bytes
-use Rattle.std.proofs.Common.{◌≡◌, ℕ, ◌-◌, ◌≤◌, List, [], ◌∷◌, ◌++◌, length, take, drop, refl, ap, ap₂, ◌∙◌, arith, length-append, length-drop}
+use Rattle.std.proofs.Common.{◌≡◌, ℕ, ◌-◌, ◌≤◌, List, [], ◌∷◌, ◌++◌, length, take, drop, refl, ap, ap₂, ◌∙◌, arith, length-append, length-drop, slice_range}
 use Rattle.std.proofs.lemmas.List.{drop-append-le, drop_at, take-append-le, take_all}
-use Rattle.std.specs.List.{slice_range}
 use Rattle.art_checking.specs.Marks.{AreWithin, marked}
 use Rattle.art_checking.specs.declared.well_formed.met.Mark.{Mark}
 

@@ -1,20 +1,13 @@
 -- what a check has met, as a map from names to places
-use Rattle.std.proofs.Common.{◌≡◌, ◌≢◌, ℕ, zero, suc, true, false, eqb, ◌&&◌, List, [], ◌∷◌, ◌++◌, length, slice_get, refl, ap, ap₂, sym, ◌∙◌, arith, eq-eqb, eqb-true, Some, None, ◌⊎◌, inl, inr}
+use Rattle.std.proofs.Common.{◌≡◌, ◌≢◌, ℕ, zero, suc, true, false, eqb, ◌&&◌, List, [], ◌∷◌, ◌++◌, length, slice_get, refl, ap, ap₂, sym, ◌∙◌, arith, eq-eqb, eqb-true, Some, None, ◌⊎◌, inl, inr, Less, Equal, Greater, is_eq, nat_cmp}
 use Rattle.std.proofs.lemmas.Bool.{cases_Bool, cases_order, ne_eqb, false≢true}
 use Rattle.std.specs.Cmp.{nat_cmp_is}
-use Rattle.std.specs.declared.cmp.Ordering.TheVariants.{Less, Equal, Greater}
 use Rattle.std.specs.List.{AllByRecursion as Each}
-use Rattle.std.specs.Ordering.{is_eq, nat_cmp}
 use Rattle.art_parts.specs.Codes.{kind_at, kind_at-index}
-use Rattle.art_parts.specs.Kinds.{kind_index}
-use Rattle.art_parts.specs.declared.names.NodeType.{NodeType}
-use Rattle.art_parts.specs.declared.names.NodeType.TheVariants.{Node4, Node16, Node48, Node256, Leaf}
-use Rattle.art_parts.specs.declared.names.OpaqueNodePtr.{OpaqueNodePtr}
+use Rattle.art_model.specs.Prelude.{kind_index, NodeType, Node4, Node16, Node48, Node256, Leaf, OpaqueNodePtr, InnerPtr, IsIn}
 use Rattle.art_parts.specs.contracts.names.OpaqueNodePtrOrd.TheImpl as derived
 use Rattle.art_parts.specs.contracts.names.OpaqueNodePtrPartialEq.TheImpl as derived_eq
 use Rattle.art_parts.specs.contracts.names.InnerPtrOrd.TheImpl as derived_inner
-use Rattle.art_parts.specs.declared.names.InnerPtr.{InnerPtr}
-use Rattle.art_model.specs.Footprints.{IsIn}
 use Rattle.art_model.proofs.lists.Lists.{Each-append, each_in, each_from, in_left, in_right}
 use Rattle.art_model.proofs.lists.Pairwises.{Pairwise-append}
 use Rattle.art_checking.specs.Marks.{same_name, place_under}

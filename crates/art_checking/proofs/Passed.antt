@@ -1,27 +1,12 @@
 -- What a check has passed is a part of a radix tree, name by name.
 use Rattle.std.proofs.Math.Seq.{take-append_seam}
 use Rattle.std.proofs.lemmas.Bool.{false≢true}
-use Rattle.std.proofs.Common.{is_some, IsSome, ◌-◌, length-append, ◌≡◌, ◌≢◌, ℕ, suc, ◌+◌, ◌<◌, ◌≤◌, true, List, [], ◌∷◌, ◌++◌, length, map}
+use Rattle.std.proofs.Common.{is_some, IsSome, ◌-◌, length-append, ◌≡◌, ◌≢◌, ℕ, suc, ◌+◌, ◌<◌, ◌≤◌, true, List, [], ◌∷◌, ◌++◌, length, map, option_map}
 use Rattle.std.proofs.Common.{take, refl, ap, ap₂, sym, ◌∙◌, arith, subst, append_assoc, append-nil, Option, Some, None}
 use Rattle.std.specs.FinMap as finite
 use Rattle.std.specs.List.{AllByRecursion as Each}
-use Rattle.std.specs.Option.{option_map}
-use Rattle.art_inner.specs.Inner.{Inner}
+use Rattle.art_model.specs.Prelude.{Inner, kind_capacity, kind_least, leaf_name, inner_name, inner_cmp, Nodes, NodeType, Node4, Node16, Node48, Node256, Leaf, LeafPtr, InnerPtr, OpaqueNodePtr, IsFront, leaf_node, inner_node, name_of, slots_of, names_of, names_below, leaf_names, leaf_names_below, inner_names, inner_names_below, Holds, HoldsBelow, AreLinked, IsLayout, join, pairs_of, bytes_of, BytesRise, AreRadix, node_at, header_at, held_inner, Held, IsUsed, links_at, Tree, leaf, inner, Subtrees, child, no_child, NodeHeader, canonical_header, kind_of}
 use Rattle.art_inner.specs.Inner as entries
-use Rattle.art_parts.specs.Kinds.{kind_capacity, kind_least}
-use Rattle.art_parts.specs.Names.{leaf_name, inner_name, inner_cmp}
-use Rattle.art_nodes.specs.Nodes.{Nodes}
-use Rattle.art_parts.specs.declared.names.NodeType.{NodeType}
-use Rattle.art_parts.specs.declared.names.NodeType.TheVariants.{Node4, Node16, Node48, Node256, Leaf}
-use Rattle.art_parts.specs.declared.names.LeafPtr.{LeafPtr}
-use Rattle.art_parts.specs.declared.names.InnerPtr.{InnerPtr}
-use Rattle.art_parts.specs.declared.names.OpaqueNodePtr.{OpaqueNodePtr}
-use Rattle.art_model.specs.Keys.{IsFront}
-use Rattle.art_model.specs.Layouts.{leaf_node, inner_node, name_of, slots_of, names_of, names_below, leaf_names, leaf_names_below}
-use Rattle.art_model.specs.Layouts.{inner_names, inner_names_below, Holds, HoldsBelow, AreLinked, IsLayout}
-use Rattle.art_model.specs.Radix.{join, pairs_of, bytes_of, BytesRise, AreRadix}
-use Rattle.art_model.specs.Stores.{node_at, header_at, held_inner, Held, IsUsed, links_at}
-use Rattle.art_model.specs.Trees.{Tree, leaf, inner, Subtrees, child, no_child, NodeHeader, canonical_header, kind_of}
 use Rattle.art_model.proofs.stores.Canonical.{canonical_from}
 use Rattle.art_model.proofs.lists.Lists.{Each-append}
 use Rattle.art_model.proofs.changes.OutOf.{two_of_spare}

@@ -1,19 +1,8 @@
 -- a prefix as read from its node or from the least leaf, or not
-use Rattle.std.proofs.Common.{◌≡◌, ◌≢◌, ℕ, ◌+◌, ◌<◌, ◌≤◌, List, ◌++◌, length, take, min, refl, ap, subst, ◌∙◌, Bor, Option, Some, None, IfSome, inl, inr, arith}
+use Rattle.std.proofs.Common.{◌≡◌, ◌≢◌, ℕ, ◌+◌, ◌<◌, ◌≤◌, List, ◌++◌, length, take, min, refl, ap, subst, ◌∙◌, Bor, Option, Some, None, IfSome, inl, inr, arith, MatchOption}
 use Rattle.std.proofs.lemmas.List.{take_all}
 use Rattle.std.specs.FinMap as map
-use Rattle.std.specs.Option.{MatchOption}
-use Rattle.art_inner.specs.Inner.{Inner}
-use Rattle.art_parts.specs.Names.{leaf_name, inner_name}
-use Rattle.art_nodes.specs.Nodes.{Nodes}
-use Rattle.art_parts.specs.declared.names.InnerPtr.{InnerPtr}
-use Rattle.art_parts.specs.declared.names.LeafPtr.{LeafPtr}
-use Rattle.art_parts.specs.declared.names.NodeType.TheVariants.{Leaf}
-use Rattle.art_parts.specs.declared.names.OpaqueNodePtr.{OpaqueNodePtr}
-use Rattle.art_model.specs.Faults.{Reaches, IsUnreadable, StoresOthers}
-use Rattle.art_model.specs.Layouts.{leaf_node}
-use Rattle.art_model.specs.Stores.{node_at, header_at}
-use Rattle.art_model.specs.Trails.{IsPrefix}
+use Rattle.art_model.specs.Prelude.{Inner, leaf_name, inner_name, Nodes, InnerPtr, LeafPtr, Leaf, OpaqueNodePtr, Reaches, IsUnreadable, StoresOthers, leaf_node, node_at, header_at, IsPrefix}
 use Rattle.art_checking.specs.Checked.{IsLeastLeaf, IsPartOf, IsRead, IsReadFrom}
 use Rattle.art_checking.proofs.Descents.{inner_at}
 

@@ -1,15 +1,8 @@
 -- One step over the children of a node.
 use Rattle.std.proofs.Common.{◌≡◌, ◌≢◌, ℕ, ◌-◌, List, [], ◌∷◌, ◌++◌, length, take, Some, sym, ap, subst, ◌∙◌}
 use Rattle.std.specs.FinMap as map
-use Rattle.art_inner.specs.Inner.{Inner, Children, IsBelow, IsRising}
-use Rattle.art_parts.specs.Names.{inner_name}
-use Rattle.art_nodes.specs.Nodes.{Nodes}
-use Rattle.art_parts.specs.declared.names.InnerPtr.{InnerPtr}
-use Rattle.art_parts.specs.declared.names.NodeType.TheVariants.{Leaf}
-use Rattle.art_parts.specs.declared.names.OpaqueNodePtr.{OpaqueNodePtr}
-use Rattle.art_model.specs.Faults.{Reaches}
-use Rattle.art_model.specs.Layouts.{slots_of}
-use Rattle.art_model.specs.Stores.{header_at}
+use Rattle.art_model.specs.Prelude.{Inner, Children, IsRising, inner_name, Nodes, InnerPtr, Leaf, OpaqueNodePtr, Reaches, slots_of, header_at}
+use Rattle.art_inner.specs.Inner.{IsBelow}
 use Rattle.art_checking.specs.Checked.{IsPassed, IsRead, IsWalked, NoneAfter, AllBefore}
 use Rattle.art_checking.specs.Meetings.{place_in}
 use Rattle.art_checking.specs.declared.well_formed.seen.Seen.{Seen}

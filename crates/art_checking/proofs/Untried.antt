@@ -1,16 +1,11 @@
 -- fewer keys are left to try once a further one passes the test
-use Rattle.std.proofs.Common.{◌≡◌, ℕ, suc, ◌<◌, ◌≤◌, Bool, true, false, cond, not, ◌||◌, List, [], ◌∷◌, refl, ap, sym, ◌∙◌, arith, Some, is_some, inl, inr}
+use Rattle.std.proofs.Common.{◌≡◌, ℕ, suc, ◌<◌, ◌≤◌, Bool, true, false, cond, not, ◌||◌, List, [], ◌∷◌, refl, ap, sym, ◌∙◌, arith, Some, is_some, inl, inr, Ordering, Less, Equal, Greater}
 use Rattle.std.proofs.lemmas.Bool.{cases_Bool, true≢false, false≢true}
 use Rattle.std.specs.FinMap as map
 use Rattle.std.specs.List.{list_any}
 use Rattle.std.specs.Ordering.{is_eq, eq_by_cmp}
-use Rattle.std.specs.declared.cmp.Ordering.{Ordering}
-use Rattle.std.specs.declared.cmp.Ordering.TheVariants.{Less, Equal, Greater}
 use Rattle.art_parts.proofs.NameLemmas.{inner_cmp-IsAntisymmetric}
-use Rattle.art_inner.specs.Inner.{Inner}
-use Rattle.art_parts.specs.Names.{inner_cmp}
-use Rattle.art_parts.specs.declared.names.InnerPtr.{InnerPtr}
-use Rattle.art_model.specs.Footprints.{IsIn}
+use Rattle.art_model.specs.Prelude.{Inner, inner_cmp, InnerPtr, IsIn}
 use Rattle.art_checking.specs.Untried.{untried}
 
 module _ {K : Type 0} (f g : K → Bool) (more : (k : K) → f k ≡ true → g k ≡ true) where

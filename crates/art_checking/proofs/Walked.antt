@@ -3,20 +3,9 @@ use Rattle.std.proofs.Common.{◌≡◌, ◌≢◌, ℕ, ◌<◌, List, [], ◌�
 use Rattle.std.proofs.lemmas.Bool.{cases_Bool, ne_eqb, true≢false}
 use Rattle.std.specs.FinMap as map
 use Rattle.std.specs.List.{AllByRecursion as Each}
-use Rattle.art_inner.specs.Inner.{child_at}
+use Rattle.art_model.specs.Prelude.{child_at, inner_name, Nodes, InnerPtr, Leaf, LeafPtr, OpaqueNodePtr, Reaches, IsFront, is_before, Node, inner_node, node_at, header_at, end_of, IsTrail, HasPrefix, IsReadAs, NodeHeader}
 use Rattle.art_inner.specs.Inner as entries
-use Rattle.art_parts.specs.Names.{inner_name}
-use Rattle.art_nodes.specs.Nodes.{Nodes}
-use Rattle.art_parts.specs.declared.names.InnerPtr.{InnerPtr}
-use Rattle.art_parts.specs.declared.names.NodeType.TheVariants.{Leaf}
-use Rattle.art_parts.specs.declared.names.LeafPtr.{LeafPtr}
-use Rattle.art_parts.specs.declared.names.OpaqueNodePtr.{OpaqueNodePtr}
-use Rattle.art_model.specs.Faults.{Reaches}
-use Rattle.art_model.specs.Keys.{IsFront, is_before}
-use Rattle.art_model.specs.Layouts.{Node, inner_node}
-use Rattle.art_model.specs.Stores.{node_at, header_at}
-use Rattle.art_model.specs.Trails.{end_of, HasChild, IsTrail, HasPrefix, IsReadAs}
-use Rattle.art_model.specs.Trees.{NodeHeader}
+use Rattle.art_model.specs.Trails.{HasChild}
 use Rattle.art_model.proofs.keys.KeyLaws.{order_is_decided, order_is_strict, order_is_transitive}
 use Rattle.art_model.proofs.lists.Lists.{front_cut}
 use Rattle.art_checking.specs.Checked.{AllBefore, IsFirstLeast, IsLeastLeaf, IsRead, IsWalked, NoneAfter}

@@ -2,14 +2,7 @@
 use Rattle.std.proofs.Common.{◌≡◌, ◌≢◌, ℕ, ◌+◌, ◌<◌, ◌≤◌, List, [], ◌∷◌, ◌++◌, length, refl, ap, sym, ◌∙◌, arith, subst, Option, Some, None, IsSome, true, inl, inr, ◌⊎◌, take_at, take, append-nil, get_or}
 use Rattle.std.specs.List.{AllByRecursion as Each}
 use Rattle.std.specs.FinMap as map
-use Rattle.art_inner.specs.Inner.{Inner}
-use Rattle.art_parts.specs.Names.{leaf_name, inner_name}
-use Rattle.art_parts.specs.declared.leaf.LeafNode.{LeafNode}
-use Rattle.art_parts.specs.declared.names.InnerPtr.{InnerPtr}
-use Rattle.art_parts.specs.declared.names.LeafPtr.{LeafPtr}
-use Rattle.art_parts.specs.declared.names.NodeType.TheVariants.{Leaf}
-use Rattle.art_parts.specs.declared.names.OpaqueNodePtr.{OpaqueNodePtr}
-use Rattle.art_nodes.specs.Nodes.{Nodes}
+use Rattle.art_model.specs.Prelude.{Inner, leaf_name, inner_name, LeafNode, InnerPtr, LeafPtr, Leaf, OpaqueNodePtr, Nodes, IsCanonical, IsCanonicalTree, Precedes, is_before, AreDistinct, name_of, names_of, Holds, slots_of, last_of, put, Frame, fill, plug, pairs_before, depth_of, prefix_of, IsRadix, join, pairs_of, IsFullTree, node_at, pair_of, Tree, leaf, inner, child, no_child, as_inner, parent_of}
 use Rattle.art_loading.specs.Edges.{EndsIfInto, IsEdge, IsEdgePoint, IsLastPoint, IsLeafIf, IsNewKind}
 use Rattle.art_loading.specs.NextKeys.{IsNextKey, IsReason}
 use Rattle.art_loading.specs.declared.append.AppendReason.{AppendReason}
@@ -20,17 +13,6 @@ use Rattle.art_loading.proofs.Next.{next_byte, next_precedes}
 use Rattle.art_loading.proofs.Points.{IsPointAt, leaf_point, into_byte, into_point, mismatch_point, plug_twice, prefix_len}
 use Rattle.art_loading.proofs.Puts.{before_last, ends_with_last, last_child, last_of_push, pairs_with_last, put_last}
 use Rattle.art_loading.proofs.Steps.{IsCut, cut_at, path_by-steps}
-use Rattle.art_model.specs.Canonical.{IsCanonical, IsCanonicalTree}
-use Rattle.art_model.specs.Keys.{Precedes, is_before}
-use Rattle.art_model.specs.Layouts.{AreDistinct, name_of, names_of, Holds, slots_of}
-use Rattle.art_model.specs.Pairs.{last_of, put}
-use Rattle.art_model.specs.Paths.{Frame, fill, plug, pairs_before}
-use Rattle.art_model.specs.Places.{depth_of, prefix_of}
-use Rattle.art_model.specs.Radix.{IsRadix, join, pairs_of}
-use Rattle.art_model.specs.Roots.{IsFullTree}
-use Rattle.art_model.specs.Stores.{node_at, pair_of}
-use Rattle.art_model.specs.Trees.{Tree, leaf, inner, child, no_child}
-use Rattle.art_model.specs.Writes.{as_inner, parent_of}
 use Rattle.art_model.proofs.keys.KeyLaws.{order_is_transitive}
 use Rattle.art_model.proofs.lists.Lists.{Each-append, Each-left, Each-right, Each-weaker}
 use Rattle.art_model.proofs.places.Paths.{radix_plug}

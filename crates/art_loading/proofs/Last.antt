@@ -1,25 +1,14 @@
 -- a new last leaf below a node: its neighbours are the last leaf and none
-use Rattle.std.proofs.Common.{◌≡◌, ◌⊎◌, ℕ, ◌+◌, ◌<◌, ◌≤◌, List, [], ◌∷◌, ◌++◌, length, get_or, Option, Some, None, IsSomeAnd, IfSome, refl, ap, sym, ◌∙◌, subst, arith, inl, inr, append_assoc, length-append}
+use Rattle.std.proofs.Common.{◌≡◌, ◌⊎◌, ℕ, ◌+◌, ◌<◌, ◌≤◌, List, [], ◌∷◌, ◌++◌, length, get_or, Option, Some, None, IsSomeAnd, IfSome, refl, ap, sym, ◌∙◌, subst, arith, inl, inr, append_assoc, length-append, option_map}
 use Rattle.std.specs.List.{AllByRecursion as Each}
 use Rattle.std.specs.FinMap as map
-use Rattle.std.specs.Option.{option_map}
 use Rattle.std.proofs.lemmas.List.{same_from_push}
-use Rattle.art_parts.specs.Names.{leaf_name, inner_name}
-use Rattle.art_parts.specs.declared.names.InnerPtr.{InnerPtr}
-use Rattle.art_parts.specs.declared.names.LeafPtr.{LeafPtr}
-use Rattle.art_parts.specs.declared.names.OpaqueNodePtr.{OpaqueNodePtr}
-use Rattle.art_nodes.specs.Nodes.{Nodes}
+use Rattle.art_model.specs.Prelude.{leaf_name, inner_name, InnerPtr, LeafPtr, OpaqueNodePtr, Nodes, AreDistinct, AreLinked, Holds, Links, leaf_names, name_of, names_of, slots_of, leaves_before, plug, depth_of, BytesRise, IsRadix, bytes_of, join, links_at, node_at, Tree, inner, Subtrees, child, no_child}
 use Rattle.art_loading.specs.Edges.{EndsUnder, EndsIfInto, IsEdge, IsEdgePoint}
 use Rattle.art_loading.specs.declared.edge.Step.{Step}
 use Rattle.art_loading.proofs.Edges.{edge_leaf}
 use Rattle.art_loading.proofs.Puts.{names_with_last}
 use Rattle.art_loading.proofs.Steps.{HasPush, push_view}
-use Rattle.art_model.specs.Layouts.{AreDistinct, AreLinked, Holds, Links, leaf_names, name_of, names_of, slots_of}
-use Rattle.art_model.specs.Paths.{leaves_before, plug}
-use Rattle.art_model.specs.Places.{depth_of}
-use Rattle.art_model.specs.Radix.{BytesRise, IsRadix, bytes_of, join}
-use Rattle.art_model.specs.Stores.{links_at, node_at}
-use Rattle.art_model.specs.Trees.{Tree, inner, Subtrees, child, no_child}
 use Rattle.art_model.proofs.leaves.Chains.{links_leaf}
 use Rattle.art_model.proofs.leaves.Links.{link_of}
 use Rattle.art_model.proofs.lists.Lists.{Each-right, Each-weaker}

@@ -5,7 +5,7 @@ use Rattle.std.proofs.lemmas.Bool.{cases_eq, ne_eqb}
 use Rattle.art_loading.specs.NextKeys.{IsNextKey, IsReason}
 use Rattle.art_loading.specs.declared.append.AppendReason.{AppendReason}
 use Rattle.art_loading.specs.declared.append.AppendReason.TheVariants.{Equal, Conflict}
-use Rattle.art_model.specs.Keys.{IsFront, is_front, are_related, Precedes}
+use Rattle.art_model.specs.Prelude.{IsFront, is_front, are_related, Precedes}
 use Rattle.art_model.proofs.keys.Fronts.{part_where, front_right, shared_whole}
 use Rattle.art_model.proofs.keys.Keys.{front_from, front_related, precedes_at, related_sym}
 use Rattle.art_model.proofs.lists.Lists.{common_front-append}

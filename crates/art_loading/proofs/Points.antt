@@ -2,22 +2,9 @@
 use Rattle.std.proofs.Common.{◌≡◌, ◌≢◌, ℕ, ◌+◌, ◌<◌, ◌≤◌, List, [], ◌∷◌, ◌++◌, length, get_or, drop, refl, ap, ap₂, sym, ◌∙◌, arith, subst, append_assoc, append-nil, length-append, Some, None, inl, slice_get}
 use Rattle.std.specs.List.{AllByRecursion as Each}
 use Rattle.std.proofs.lemmas.Bool.{ne_eqb}
-use Rattle.art_inner.specs.Inner.{child_at}
-use Rattle.art_parts.specs.Names.{leaf_name}
-use Rattle.art_parts.specs.declared.names.LeafPtr.{LeafPtr}
-use Rattle.art_parts.specs.declared.names.OpaqueNodePtr.{OpaqueNodePtr}
-use Rattle.art_nodes.specs.Nodes.{Nodes}
+use Rattle.art_model.specs.Prelude.{child_at, leaf_name, LeafPtr, OpaqueNodePtr, Nodes, IsCanonicalTree, IsIn, IsFront, slots_of, Frame, IsPath, fill, plug, pairs_before, pairs_after, depth_of, prefix_of, IsEndNode, IsRadix, BytesRise, bytes_of, join, pairs_of, Tree, leaf, Subtrees, child, no_child, as_inner}
 use Rattle.art_loading.specs.NextKeys.{IsNextKey}
 use Rattle.art_loading.proofs.Next.{IsShort, short_place, next_unrelated, next_shared, next_within, next_byte, split_front}
-use Rattle.art_model.specs.Canonical.{IsCanonicalTree}
-use Rattle.art_model.specs.Footprints.{IsIn}
-use Rattle.art_model.specs.Keys.{IsFront}
-use Rattle.art_model.specs.Layouts.{slots_of}
-use Rattle.art_model.specs.Paths.{Frame, IsPath, fill, plug, pairs_before, pairs_after}
-use Rattle.art_model.specs.Places.{depth_of, prefix_of, IsEndNode}
-use Rattle.art_model.specs.Radix.{IsRadix, BytesRise, bytes_of, join, pairs_of}
-use Rattle.art_model.specs.Trees.{Tree, leaf, Subtrees, child, no_child}
-use Rattle.art_model.specs.Writes.{as_inner}
 use Rattle.art_model.proofs.lists.Lists.{Each-append, Each-weaker, after_front, each_in, front_trans, in_left, in_right, common_front-append}
 use Rattle.art_model.proofs.lists.Pairwises.{Pairwise-before}
 use Rattle.art_model.proofs.places.OnWay.{AreAside, aside_others, aside_off}

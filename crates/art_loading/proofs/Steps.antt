@@ -4,11 +4,8 @@ use Rattle.std.specs.List.{AllByRecursion as Each}
 use Rattle.std.proofs.lemmas.List.{same_from_push}
 use Rattle.art_loading.specs.declared.edge.Step.{Step}
 use Rattle.art_loading.specs.EdgeSteps.{path_by, step_of, steps_of}
-use Rattle.art_model.specs.Paths.{Frame}
-use Rattle.art_model.specs.Places.{depth_of}
-use Rattle.art_model.specs.Writes.{as_inner}
+use Rattle.art_model.specs.Prelude.{Frame, depth_of, as_inner, OpaqueNodePtr}
 use Rattle.art_model.proofs.lists.Lists.{Each-left, Each-right}
-use Rattle.art_parts.specs.declared.names.OpaqueNodePtr.{OpaqueNodePtr}
 use Rattle.art_reading.specs.PathSteps.{path_of, step_down}
 use Rattle.art_reading.specs.declared.path.TreePath.{TreePath}
 use Rattle.art_reading.specs.declared.path.TreePath.TheVariants.{Root, ChildOfRoot, Normal}

@@ -1,9 +1,7 @@
 -- What a caller finds in a map after a change, whatever the pairs.
-use Rattle.std.proofs.Common.{◌≡◌, ℕ, List, [], ◌∷◌, Bool, refl, ap, sym, ◌∙◌, Some, None, false, true, cond}
+use Rattle.std.proofs.Common.{◌≡◌, ℕ, List, [], ◌∷◌, Bool, refl, ap, sym, ◌∙◌, Some, None, false, true, cond, option_map}
 use Rattle.std.proofs.lemmas.Bool.{false≢true}
-use Rattle.std.specs.Option.{option_map}
-use Rattle.art_model.specs.Keys.{are_same}
-use Rattle.art_model.specs.Pairs.{first_of, of_key, put, remove_key, stored_for, with_key}
+use Rattle.art_model.specs.Prelude.{are_same, first_of, of_key, put, remove_key, stored_for, with_key}
 use Rattle.art_model.proofs.keys.Keys.{front_same, same_equal}
 use Rattle.art_model.proofs.pairs.MapLaws.{put_is_found, removed_is_gone}
 use Rattle.art_model.proofs.pairs.Puts.{stored_value}

@@ -1,21 +1,10 @@
 -- What holds while a closure changes values of a map, leaf by leaf.
-use Rattle.std.proofs.Common.{◌≡◌, ◌≢◌, ℕ, ◌<◌, ◌≤◌, List, [], ◌∷◌, ◌++◌, length, filter, Bool, true, false, cond, not, refl, ap, ap₂, sym}
+use Rattle.std.proofs.Common.{◌≡◌, ◌≢◌, ℕ, ◌<◌, ◌≤◌, List, [], ◌∷◌, ◌++◌, length, filter, Bool, true, false, cond, not, refl, ap, ap₂, sym, option_map}
 use Rattle.std.proofs.Common.{◌∙◌, subst, arith, append_assoc, append-nil, Option, Some, None, inl, inr}
 use Rattle.std.specs.FinMap.{get}
 use Rattle.std.specs.List.{AllByRecursion as Each}
-use Rattle.std.specs.Option.{option_map}
-use Rattle.art_nodes.specs.LeafChanges.{with_value}
-use Rattle.art_nodes.specs.Lends.{with_leaf_value}
-use Rattle.art_nodes.specs.Nodes.{Nodes}
+use Rattle.art_model.specs.Prelude.{with_value, with_leaf_value, Nodes, leaf_name, LeafNode, LeafPtr, OpaqueNodePtr, Precedes, are_same, AreDistinct, AreLinked, IsMap, first_of, of_key, without_first, links_at, pair_of}
 use Rattle.art_nodes.proofs.StoreLaws.{leaf_changed_at, leaf_changed_elsewhere}
-use Rattle.art_parts.specs.Names.{leaf_name}
-use Rattle.art_parts.specs.declared.leaf.LeafNode.{LeafNode}
-use Rattle.art_parts.specs.declared.names.LeafPtr.{LeafPtr}
-use Rattle.art_parts.specs.declared.names.OpaqueNodePtr.{OpaqueNodePtr}
-use Rattle.art_model.specs.Keys.{Precedes, are_same}
-use Rattle.art_model.specs.Layouts.{AreDistinct, AreLinked}
-use Rattle.art_model.specs.Pairs.{IsMap, first_of, of_key, without_first}
-use Rattle.art_model.specs.Stores.{links_at, pair_of}
 use Rattle.art_model.proofs.leaves.Chains.{links_inner, links_leaf}
 use Rattle.art_model.proofs.keys.Keys.{front_same, same_equal}
 use Rattle.art_model.proofs.leaves.Leaves.{same_leaf}

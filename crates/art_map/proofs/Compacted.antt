@@ -1,19 +1,8 @@
 -- A map whose leaves are sorted keeps its pairs.
 use Rattle.std.proofs.Common.{◌≡◌, ◌≢◌, ℕ, List, Option, Some, None, Result, Ok, Err, OnOk, OnErr, ap, sym, ◌∙◌, subst}
 use Rattle.art_inner.specs.InnerRenamed.{child_renamed}
-use Rattle.art_nodes.specs.Nodes.{Nodes}
+use Rattle.art_model.specs.Prelude.{Nodes, inner_name, leaf_name, InnerPtr, LeafPtr, Leaf, OpaqueNodePtr, IsCanonicalTree, leaf_names, HasFirstLeaf, first_of, IsFullTree, Tree}
 use Rattle.art_nodes.specs.Renamed.{AreRenamed, IsRow}
-use Rattle.art_parts.specs.Names.{inner_name, leaf_name}
-use Rattle.art_parts.specs.declared.names.InnerPtr.{InnerPtr}
-use Rattle.art_parts.specs.declared.names.LeafPtr.{LeafPtr}
-use Rattle.art_parts.specs.declared.names.NodeType.TheVariants.{Leaf}
-use Rattle.art_parts.specs.declared.names.OpaqueNodePtr.{OpaqueNodePtr}
-use Rattle.art_model.specs.Canonical.{IsCanonicalTree}
-use Rattle.art_model.specs.Layouts.{leaf_names}
-use Rattle.art_model.specs.Lookups.{HasFirstLeaf}
-use Rattle.art_model.specs.Pairs.{first_of}
-use Rattle.art_model.specs.Roots.{IsFullTree}
-use Rattle.art_model.specs.Trees.{Tree}
 use Rattle.art_model.proofs.stores.StoreLaws.{has_children}
 use Rattle.art_model.proofs.leaves.OtherNames.{renamed}
 use Rattle.art_model.proofs.leaves.Renamed.{HasRow, canonical_renamed, first_named, inner_stays, none_beside, row_of}

@@ -1,25 +1,10 @@
 -- A store with another one's inner nodes and clones of its leaves, under the same names, holds clones of the pairs.
-use Rattle.std.proofs.Common.{◌≡◌, ℕ, List, [], ◌∷◌, ◌++◌, length, refl, ap, ap₂, sym, ◌∙◌, subst, Option, Some, None}
+use Rattle.std.proofs.Common.{◌≡◌, ℕ, List, [], ◌∷◌, ◌++◌, length, refl, ap, ap₂, sym, ◌∙◌, subst, Option, Some, None, option_map, option_and_then}
 use Rattle.std.specs.FinMap as map
-use Rattle.std.specs.Option.{option_map, option_and_then}
 use Rattle.std.proofs.lemmas.List.Elements.{length_all_zip}
-use Rattle.art_inner.specs.Inner.{Inner}
-use Rattle.art_parts.specs.LeafClones.{IsPairClone}
-use Rattle.art_parts.specs.declared.leaf.LeafNode.{LeafNode}
-use Rattle.art_parts.specs.declared.names.NodeType.{NodeType}
-use Rattle.art_parts.specs.declared.names.NodeType.TheVariants.{Node4, Node16, Node48, Node256, Leaf}
-use Rattle.art_parts.specs.declared.names.OpaqueNodePtr.{OpaqueNodePtr}
-use Rattle.art_nodes.specs.Nodes.{Nodes}
+use Rattle.art_model.specs.Prelude.{Inner, IsPairClone, LeafNode, NodeType, Node4, Node16, Node48, Node256, Leaf, OpaqueNodePtr, Nodes, IsCopy, AreCopies, AreClones, IsIn, names_in, Node, leaf_node, inner_node, name_of, names_of, names_below, leaf_names, leaf_names_below, slots_of, Holds, HoldsBelow, AreDistinct, AreLinked, of_key, pairs_of, IsRootOf, Held, held_leaf, held_inner, content_at, content_in, node_at, links_at, links_of, tree_node, Tree, leaf, inner, Subtrees, child, no_child}
 use Rattle.art_nodes.specs.StoreClones.{AreLeafCopies, IsCopyThere}
-use Rattle.art_model.specs.Clones.{IsCopy, AreCopies, AreClones, KeepBytes}
-use Rattle.art_model.specs.Footprints.{IsIn}
-use Rattle.art_model.specs.Kept.{names_in}
-use Rattle.art_model.specs.Layouts.{Node, leaf_node, inner_node, name_of, names_of, names_below, leaf_names, leaf_names_below, slots_of, Holds, HoldsBelow, AreDistinct, AreLinked}
-use Rattle.art_model.specs.Pairs.{of_key}
-use Rattle.art_model.specs.Radix.{pairs_of}
-use Rattle.art_model.specs.Roots.{IsRootOf}
-use Rattle.art_model.specs.Stores.{Held, held_leaf, held_inner, content_at, content_in, node_at, links_at, links_of, tree_node}
-use Rattle.art_model.specs.Trees.{Tree, leaf, inner, Subtrees, child, no_child}
+use Rattle.art_model.specs.Clones.{KeepBytes}
 use Rattle.art_model.proofs.radix.Copies.{copied_pairs, copied_radix}
 use Rattle.art_model.proofs.stores.Canonical.{laid_out, canonical_from}
 use Rattle.art_map.specs.MapChanges.{HoldsClones}

@@ -1,22 +1,10 @@
 -- A store has at least as many leaves as a tree in it has pairs.
-use Rattle.std.proofs.Common.{◌≡◌, ◌≢◌, ℕ, ◌≤◌, List, [], ◌∷◌, length, refl, ap, ap₂, sym, ◌∙◌, arith, Option, Some, None, true, is_some}
+use Rattle.std.proofs.Common.{◌≡◌, ◌≢◌, ℕ, ◌≤◌, List, [], ◌∷◌, length, refl, ap, ap₂, sym, ◌∙◌, arith, Option, Some, None, true, is_some, option_map}
 use Rattle.std.specs.List.{AllByRecursion as Each}
-use Rattle.std.specs.Option.{option_map}
 use Rattle.std.specs.FinMap as map
-use Rattle.art_inner.specs.Inner.{Inner}
-use Rattle.art_nodes.specs.Nodes.{Nodes}
-use Rattle.art_parts.specs.Names.{leaf_cmp}
-use Rattle.art_parts.specs.declared.leaf.LeafNode.{LeafNode}
-use Rattle.art_parts.specs.declared.names.LeafPtr.{LeafPtr}
-use Rattle.art_parts.specs.declared.names.NodeType.{NodeType}
-use Rattle.art_parts.specs.declared.names.NodeType.TheVariants.{Node4, Node16, Node48, Node256, Leaf}
-use Rattle.art_parts.specs.declared.names.OpaqueNodePtr.{OpaqueNodePtr}
+use Rattle.art_model.specs.Prelude.{Inner, Nodes, leaf_cmp, LeafNode, LeafPtr, NodeType, Node4, Node16, Node48, Node256, Leaf, OpaqueNodePtr, IsCanonicalTree, leaf_node, leaf_names, leaf_names_below, Holds, HoldsBelow, AreDistinct, held_leaf, held_inner, content_in, tree_node, node_at, Tree, leaf, inner, Subtrees, child, no_child}
 use Rattle.art_parts.proofs.NameLemmas.{leaf_cmp_total, leaf_cmp-IsAntisymmetric}
 use Rattle.art_nodes.proofs.StoreLaws.{gone_elsewhere}
-use Rattle.art_model.specs.Canonical.{IsCanonicalTree}
-use Rattle.art_model.specs.Layouts.{leaf_node, leaf_names, leaf_names_below, Holds, HoldsBelow, AreDistinct}
-use Rattle.art_model.specs.Stores.{held_leaf, held_inner, content_in, tree_node, node_at}
-use Rattle.art_model.specs.Trees.{Tree, leaf, inner, Subtrees, child, no_child}
 use Rattle.art_model.proofs.stores.Canonical.{tree_radix}
 use Rattle.art_model.proofs.stores.Heights.{one_less}
 use Rattle.art_model.proofs.lists.Lists.{Each-append}

@@ -2,14 +2,7 @@
 use Rattle.std.proofs.Common.{◌≡◌, ℕ, List, Option, Some, None, Result, Ok, Err, refl, ap, sym, ◌∙◌, subst, false, is_some}
 use Rattle.std.proofs.lemmas.Bool.{false≢true}
 use Rattle.std.specs.Option.{UnwrapsOrElse, unwrap_or}
-use Rattle.art_parts.specs.declared.names.LeafPtr.{LeafPtr}
-use Rattle.art_parts.specs.declared.names.OpaqueNodePtr.{OpaqueNodePtr}
-use Rattle.art_nodes.specs.Nodes.{Nodes}
-use Rattle.art_model.specs.Canonical.{IsCanonical}
-use Rattle.art_model.specs.Pairs.{IsMap, first_of, has_key, of_key, put, put_reply, replace_key, stored_for, with_key}
-use Rattle.art_model.specs.Roots.{ForTree}
-use Rattle.art_model.specs.Stores.{pair_of}
-use Rattle.art_model.specs.Keys.{are_same}
+use Rattle.art_model.specs.Prelude.{LeafPtr, OpaqueNodePtr, Nodes, IsCanonical, IsMap, first_of, has_key, of_key, put, put_reply, replace_key, stored_for, with_key, ForTree, pair_of, are_same}
 use Rattle.art_model.proofs.pairs.Puts.{any_is_first, has_is_stored, put-new, put_reply-new, stored_bytes}
 use Rattle.art_writing.specs.Inserted.{HasInserted, IsPointIn}
 use Rattle.art_reading.specs.declared.end_node.InsertKind.TheVariants.{Exact}

@@ -1,6 +1,6 @@
 -- Puts of several pairs, and of one more.
 use Rattle.std.proofs.Common.{◌≡◌, ℕ, List, [], ◌∷◌, ◌++◌, refl}
-use Rattle.art_model.specs.Pairs.{of_key, put}
+use Rattle.art_model.specs.Prelude.{of_key, put}
 use Rattle.art_map.specs.MapCalls.{put_all}
 use Rattle.art_map.specs.SetKeys.{add_all, add_key}
 

@@ -5,9 +5,7 @@ use Rattle.std.specs.Iterator.{MakesProgress, at_most}
 use Rattle.std.specs.Range.Bound.{bound_map}
 use Rattle.std.specs.declared.ops.Bound.{Bound}
 use Rattle.std.specs.declared.ops.Bound.TheVariants.{Included, Excluded, Unbounded}
-use Rattle.art_model.specs.Keys.{is_front}
-use Rattle.art_model.specs.Pairs.{IsMap, first_of, of_key}
-use Rattle.art_model.specs.Parts.{below, is_between, without_below}
+use Rattle.art_model.specs.Prelude.{is_front, IsMap, first_of, of_key, below, is_between, without_below}
 use Rattle.art_model.proofs.lists.Filters.{filter_all, none_passes}
 use Rattle.art_model.proofs.lists.Lists.{Each-weaker}
 use Rattle.art_model.proofs.pairs.Puts.{first_none}

@@ -1,8 +1,7 @@
 -- The first pair whose key passes a test is removed, and then the next ones.
 use Rattle.std.proofs.Common.{◌≡◌, ℕ, suc, ◌+◌, ◌-◌, ◌≤◌, ◌<◌, List, [], ◌∷◌, length, refl, ap, sym, ◌∙◌, subst, arith, Some, None, Bool, true, false, not, cond, filter}
 use Rattle.std.proofs.lemmas.Bool.{true≢false}
-use Rattle.art_model.specs.Keys.{are_same}
-use Rattle.art_model.specs.Pairs.{IsMap, first_of, remove_key, remove_reply}
+use Rattle.art_model.specs.Prelude.{are_same, IsMap, first_of, remove_key, remove_reply}
 use Rattle.art_model.proofs.lists.Filters.{filter_all, filter_passes, none_passes}
 use Rattle.art_model.proofs.keys.Keys.{front_same, same_equal}
 use Rattle.art_model.proofs.lists.Lists.{Each-weaker}

@@ -1,20 +1,7 @@
 -- The pairs that an iterator over leaves has left.
-use Rattle.std.proofs.Common.{◌≡◌, ℕ, suc, ◌+◌, ◌-◌, List, [], ◌∷◌, ◌++◌, length, refl, ap, ap₂, sym, ◌∙◌, subst, arith, length-append, append_assoc, Option, Some, None}
-use Rattle.std.specs.Option.{option_map}
+use Rattle.std.proofs.Common.{◌≡◌, ℕ, suc, ◌+◌, ◌-◌, List, [], ◌∷◌, ◌++◌, length, refl, ap, ap₂, sym, ◌∙◌, subst, arith, length-append, append_assoc, Option, Some, None, option_map}
 use Rattle.std.specs.FinMap as map
-use Rattle.art_parts.specs.Names.{leaf_name}
-use Rattle.art_nodes.specs.Nodes.{Nodes}
-use Rattle.art_parts.specs.declared.leaf.LeafNode.{LeafNode}
-use Rattle.art_parts.specs.declared.names.LeafPtr.{LeafPtr}
-use Rattle.art_parts.specs.declared.names.OpaqueNodePtr.{OpaqueNodePtr}
-use Rattle.art_model.specs.Canonical.{IsCanonicalTree}
-use Rattle.art_model.specs.Layouts.{AreLinked, first_or, leaf_names, leaf_names_below, Holds, HoldsBelow}
-use Rattle.art_model.specs.Lookups.{HasFirstLeaf, HasLastLeaf}
-use Rattle.art_model.specs.Pairs.{first_of, last_of, without_first, without_last}
-use Rattle.art_model.specs.Radix.{pairs_of, pairs_below}
-use Rattle.art_model.specs.Roots.{IsRootOf}
-use Rattle.art_model.specs.Stores.{links_at, node_at, pair_of}
-use Rattle.art_model.specs.Trees.{Tree, leaf, inner, Subtrees, child, no_child}
+use Rattle.art_model.specs.Prelude.{leaf_name, Nodes, LeafNode, LeafPtr, OpaqueNodePtr, IsCanonicalTree, AreLinked, first_or, leaf_names, leaf_names_below, Holds, HoldsBelow, HasFirstLeaf, HasLastLeaf, first_of, last_of, without_first, without_last, pairs_of, pairs_below, IsRootOf, links_at, node_at, pair_of, Tree, leaf, inner, Subtrees, child, no_child}
 use Rattle.art_model.proofs.stores.Canonical.{tree_radix}
 use Rattle.art_model.proofs.places.Paths.{length-leaf_names}
 use Rattle.art_model.proofs.leaves.Segments.{but_last, tree_segment}

@@ -1,23 +1,7 @@
 -- Each leaf in the store of a map is one of the tree.
-use Rattle.std.proofs.Common.{◌≡◌, ◌≢◌, ◌⊎◌, ℕ, List, [], ◌∷◌, Option, Some, None, refl, ap, sym, ◌∙◌, subst, inl, inr}
+use Rattle.std.proofs.Common.{◌≡◌, ◌≢◌, ◌⊎◌, ℕ, List, [], ◌∷◌, Option, Some, None, refl, ap, sym, ◌∙◌, subst, inl, inr, option_map}
 use Rattle.std.specs.FinMap.{get}
-use Rattle.std.specs.Option.{option_map}
-use Rattle.art_nodes.specs.Nodes.{Nodes}
-use Rattle.art_parts.specs.Names.{leaf_name}
-use Rattle.art_parts.specs.declared.leaf.LeafNode.{LeafNode}
-use Rattle.art_parts.specs.declared.names.LeafPtr.{LeafPtr}
-use Rattle.art_parts.specs.declared.names.NodeType.TheVariants.{Leaf}
-use Rattle.art_parts.specs.declared.names.OpaqueNodePtr.{OpaqueNodePtr}
-use Rattle.art_model.specs.Footprints.{IsIn}
-use Rattle.art_model.specs.Kept.{names_in}
-use Rattle.art_model.specs.Layouts.{Holds, HoldsBelow, names_of, names_below, slots_of}
-use Rattle.art_model.specs.Lookups.{HasLeaf}
-use Rattle.art_model.specs.Pairs.{of_key}
-use Rattle.art_model.specs.Paths.{Frame, plug}
-use Rattle.art_model.specs.Radix.{join}
-use Rattle.art_model.specs.Roots.{IsRootOf}
-use Rattle.art_model.specs.Stores.{content_at, held_leaf, node_at}
-use Rattle.art_model.specs.Trees.{NodeHeader, Tree, leaf, inner, Subtrees, child, no_child}
+use Rattle.art_model.specs.Prelude.{Nodes, leaf_name, LeafNode, LeafPtr, Leaf, OpaqueNodePtr, IsIn, names_in, Holds, HoldsBelow, names_of, names_below, slots_of, HasLeaf, of_key, Frame, plug, join, IsRootOf, content_at, held_leaf, node_at, NodeHeader, Tree, leaf, inner, Subtrees, child, no_child}
 use Rattle.art_model.proofs.leaves.Leaves.{same_leaf}
 use Rattle.art_model.proofs.leaves.LeavesFound.{leaf_found}
 use Rattle.art_model.proofs.lists.Lists.{in_either}

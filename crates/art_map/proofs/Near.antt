@@ -1,18 +1,7 @@
 -- Leaves that are read under a name that may be wrong.
-use Rattle.std.proofs.Common.{◌≡◌, ℕ, List, Option, Some, None, IfSome, is_some, refl, ap, sym, ◌∙◌, subst, true}
+use Rattle.std.proofs.Common.{◌≡◌, ℕ, List, Option, Some, None, IfSome, is_some, refl, ap, sym, ◌∙◌, subst, true, option_map}
 use Rattle.std.specs.FinMap.{get}
-use Rattle.std.specs.Option.{option_map}
-use Rattle.art_parts.specs.declared.leaf.LeafNode.{LeafNode}
-use Rattle.art_parts.specs.declared.names.LeafPtr.{LeafPtr}
-use Rattle.art_parts.specs.declared.names.OpaqueNodePtr.{OpaqueNodePtr}
-use Rattle.art_nodes.specs.LeafChanges.{with_value}
-use Rattle.art_nodes.specs.Lends.{with_leaf_value}
-use Rattle.art_nodes.specs.Nodes.{Nodes, change}
-use Rattle.art_model.specs.Keys.{are_same}
-use Rattle.art_model.specs.Lookups.{FindsLeaf}
-use Rattle.art_model.specs.Pairs.{first_of, has_key, of_key, put, put_reply, with_key}
-use Rattle.art_model.specs.Roots.{ForTree}
-use Rattle.art_model.specs.Stores.{pair_of}
+use Rattle.art_model.specs.Prelude.{LeafNode, LeafPtr, OpaqueNodePtr, with_value, with_leaf_value, Nodes, change, are_same, FindsLeaf, first_of, has_key, of_key, put, put_reply, with_key, ForTree, pair_of}
 use Rattle.art_model.proofs.pairs.Puts.{any_is_first}
 use Rattle.art_map.specs.MapChanges.{HasKeyAt, IsLeafOfKey, NamesLeafOf}
 use Rattle.art_map.specs.MapPairs.{HoldsPairs, pairs_at}

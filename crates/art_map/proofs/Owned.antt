@@ -1,17 +1,8 @@
 -- What an iterator has left after the returned leaf is freed.
-use Rattle.std.proofs.Common.{◌≡◌, ◌≢◌, ℕ, ◌-◌, List, [], ◌∷◌, ◌++◌, length, refl, ap, sym, ◌∙◌, subst, inl, inr, Option, Some, None}
-use Rattle.std.specs.Option.{option_map, option_and_then}
+use Rattle.std.proofs.Common.{◌≡◌, ◌≢◌, ℕ, ◌-◌, List, [], ◌∷◌, ◌++◌, length, refl, ap, sym, ◌∙◌, subst, inl, inr, Option, Some, None, option_map, option_and_then}
 use Rattle.std.specs.FinMap as map
-use Rattle.art_parts.specs.Names.{leaf_name}
-use Rattle.art_nodes.specs.Nodes.{Nodes}
+use Rattle.art_model.specs.Prelude.{leaf_name, Nodes, LeafNode, LeafPtr, OpaqueNodePtr, IsIn, AreDistinct, AreLinked, first_or, first_of, last_of, without_first, without_last, links_at, links_of, pair_of}
 use Rattle.art_nodes.proofs.StoreLaws.{leaf_gone_elsewhere}
-use Rattle.art_parts.specs.declared.leaf.LeafNode.{LeafNode}
-use Rattle.art_parts.specs.declared.names.LeafPtr.{LeafPtr}
-use Rattle.art_parts.specs.declared.names.OpaqueNodePtr.{OpaqueNodePtr}
-use Rattle.art_model.specs.Footprints.{IsIn}
-use Rattle.art_model.specs.Layouts.{AreDistinct, AreLinked, first_or}
-use Rattle.art_model.specs.Pairs.{first_of, last_of, without_first, without_last}
-use Rattle.art_model.specs.Stores.{links_at, links_of, pair_of}
 use Rattle.art_model.proofs.lists.Lists.{each_in}
 use Rattle.art_model.proofs.stores.Names.{apart_in}
 use Rattle.art_model.proofs.leaves.Segments.{but_last}

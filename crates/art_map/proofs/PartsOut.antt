@@ -2,16 +2,7 @@
 use Rattle.std.proofs.Common.{◌≡◌, ℕ, suc, ◌+◌, ◌-◌, ◌≤◌, Option, List, [], ◌∷◌, length, refl, ap, sym, ◌∙◌, subst, arith, Some, None, Bool, true, false, not, cond}
 use Rattle.std.specs.List.{AllByRecursion as Each}
 use Rattle.std.proofs.lemmas.Bool.{true≢false}
-use Rattle.art_nodes.specs.Nodes.{Nodes}
-use Rattle.art_parts.specs.declared.names.OpaqueNodePtr.{OpaqueNodePtr}
-use Rattle.art_model.specs.Canonical.{IsCanonical}
-use Rattle.art_model.specs.Kept.{ChangesInPlace}
-use Rattle.art_model.specs.Keys.{are_same, is_front}
-use Rattle.art_model.specs.Pairs.{IsMap, first_of, remove_key, remove_reply}
-use Rattle.art_model.specs.Parts.{below, not_below, without_below}
-use Rattle.art_model.specs.Radix.{pairs_of}
-use Rattle.art_model.specs.Roots.{ForRoot, IsRootOf}
-use Rattle.art_model.specs.Trees.{Tree}
+use Rattle.art_model.specs.Prelude.{Nodes, OpaqueNodePtr, IsCanonical, ChangesInPlace, are_same, is_front, IsMap, first_of, remove_key, remove_reply, below, not_below, without_below, pairs_of, ForRoot, IsRootOf, Tree}
 use Rattle.art_model.proofs.stores.Canonical.{tree_radix}
 use Rattle.art_model.proofs.lists.Filters.{filter_all, filter_passes, none_passes}
 use Rattle.art_model.proofs.keys.Keys.{front_same, same_equal}

@@ -1,25 +1,11 @@
 -- Puts of pairs into a map's tree.
-use Rattle.std.proofs.Common.{◌≡◌, ℕ, ◌+◌, ◌-◌, ◌≤◌, List, [], ◌∷◌, length, not, refl, ap, ap₂, sym, ◌∙◌, subst, arith, Bool, Option, Some, None, true, false, is_some, zero, suc}
+use Rattle.std.proofs.Common.{◌≡◌, ℕ, ◌+◌, ◌-◌, ◌≤◌, List, [], ◌∷◌, length, not, refl, ap, ap₂, sym, ◌∙◌, subst, arith, Bool, Option, Some, None, true, false, is_some, zero, suc, option_map}
 use Rattle.std.proofs.lemmas.Bool.{true≢false}
 use Rattle.std.specs.List.{cons_option}
-use Rattle.std.specs.Option.{option_map}
 use Rattle.std.proofs.lemmas.List.{length-map}
 use Rattle.std.proofs.lemmas.List.Filters.{length-filter_both}
-use Rattle.art_parts.specs.Names.{leaf_name}
-use Rattle.art_nodes.specs.Nodes.{Nodes}
-use Rattle.art_parts.specs.declared.leaf.LeafNode.{LeafNode}
-use Rattle.art_parts.specs.declared.names.LeafPtr.{LeafPtr}
-use Rattle.art_parts.specs.declared.names.OpaqueNodePtr.{OpaqueNodePtr}
-use Rattle.art_model.specs.Canonical.{IsCanonicalTree, IsCanonical}
-use Rattle.art_model.specs.Footprints.{IsIn}
-use Rattle.art_model.specs.Kept.{ChangesInPlace, KeepsOthers, names_in}
-use Rattle.art_model.specs.Keys.{are_related}
-use Rattle.art_model.specs.Layouts.{names_of}
+use Rattle.art_model.specs.Prelude.{leaf_name, Nodes, LeafNode, LeafPtr, OpaqueNodePtr, IsCanonicalTree, IsCanonical, IsIn, ChangesInPlace, KeepsOthers, names_in, are_related, names_of, IsMap, first_of, of_key, has_key, overwrite, overwrite_reply, put, put_reply, related_to, with_key, is_conflict, IsCanonicalRoot, IsRootOf, ForTree, content_at, pair_of, Tree, leaf}
 use Rattle.art_model.specs.MapLaws.{Tells}
-use Rattle.art_model.specs.Pairs.{IsMap, first_of, of_key, has_key, overwrite, overwrite_reply, put, put_reply, related_to, with_key, is_conflict}
-use Rattle.art_model.specs.Roots.{IsCanonicalRoot, IsRootOf, ForTree}
-use Rattle.art_model.specs.Stores.{content_at, pair_of}
-use Rattle.art_model.specs.Trees.{Tree, leaf}
 use Rattle.art_model.proofs.pairs.MapLaws.{overwrite_counts, overwrite_of_key_is_put, overwrite_tells, put_counts, put_tells}
 use Rattle.art_model.proofs.pairs.Puts.{has_is_stored}
 use Rattle.art_writing.specs.Inserted.{unlinked_leaf}

@@ -1,25 +1,12 @@
 -- The first pair for which a closure returns false: its point, and what is left after its removal.
-use Rattle.std.proofs.Common.{◌≡◌, ℕ, Bool, true, false, List, [], Option, Some, None, IfSome, refl, ap, sym, ◌∙◌, subst}
+use Rattle.std.proofs.Common.{◌≡◌, ℕ, Bool, true, false, List, [], Option, Some, None, IfSome, refl, ap, sym, ◌∙◌, subst, option_map}
 use Rattle.std.specs.Borrow.{MutBor}
 use Rattle.std.specs.FinMap.{get}
 use Rattle.std.specs.Fn.{Mut}
-use Rattle.std.specs.Option.{option_map}
 use Rattle.std.specs.declared.ops.Bound.TheVariants.{Unbounded}
-use Rattle.art_nodes.specs.LeafCalls.{CalledOnPair, CallsOnLeaf}
-use Rattle.art_nodes.specs.LeafChanges.{with_value}
-use Rattle.art_nodes.specs.Lends.{with_leaf_value}
-use Rattle.art_nodes.specs.Nodes.{Nodes}
+use Rattle.art_model.specs.Prelude.{CalledOnPair, with_value, with_leaf_value, Nodes, leaf_name, LeafNode, LeafPtr, OpaqueNodePtr, IsCanonicalTree, IsMap, first_of, of_key, remove_key, remove_reply, without_first, is_between, ForTree, pair_of, Tree}
+use Rattle.art_nodes.specs.LeafCalls.{CallsOnLeaf}
 use Rattle.art_nodes.proofs.StoreLaws.{leaf_changed_at}
-use Rattle.art_parts.specs.Names.{leaf_name}
-use Rattle.art_parts.specs.declared.leaf.LeafNode.{LeafNode}
-use Rattle.art_parts.specs.declared.names.LeafPtr.{LeafPtr}
-use Rattle.art_parts.specs.declared.names.OpaqueNodePtr.{OpaqueNodePtr}
-use Rattle.art_model.specs.Canonical.{IsCanonicalTree}
-use Rattle.art_model.specs.Pairs.{IsMap, first_of, of_key, remove_key, remove_reply, without_first}
-use Rattle.art_model.specs.Parts.{is_between}
-use Rattle.art_model.specs.Roots.{ForTree}
-use Rattle.art_model.specs.Stores.{pair_of}
-use Rattle.art_model.specs.Trees.{Tree}
 use Rattle.art_model.proofs.stores.StoreLaws.{has_one_map}
 use Rattle.art_reading.specs.Iterators.{IsIteratorOf}
 use Rattle.art_writing.specs.Deleted.{IsDeletePoint, IsDeletePointIn, LeadsTo}

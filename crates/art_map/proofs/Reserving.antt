@@ -1,7 +1,6 @@
 -- What holds of a place that was reserved for a key, or was not.
 use Rattle.std.proofs.Common.{◌≡◌, ℕ, List, Option, refl, ap, ◌∙◌, true}
-use Rattle.art_nodes.specs.Nodes.{Nodes}
-use Rattle.art_model.specs.Pairs.{IsMap, is_conflict, of_key}
+use Rattle.art_model.specs.Prelude.{Nodes, IsMap, is_conflict, of_key, OpaqueNodePtr}
 use Rattle.art_reading.specs.declared.end_node.InsertKind.{InsertKind}
 use Rattle.art_reading.specs.declared.end_node.InsertKind.TheVariants.{Exact, IntoExisting, MismatchPrefix, SplitLeaf}
 use Rattle.art_writing.specs.Inserted.{placed_for}
@@ -9,7 +8,6 @@ use Rattle.art_writing.specs.Points.{IsRefusedFor}
 use Rattle.art_writing.specs.declared.insert.InsertSearchError.{InsertSearchError}
 use Rattle.art_writing.specs.declared.insert.InsertSearchError.TheVariants.{Memory, Prefix}
 use Rattle.art_writing.proofs.KeysFound.{conflict_new}
-use Rattle.art_parts.specs.declared.names.OpaqueNodePtr.{OpaqueNodePtr}
 use Rattle.art_map.specs.MapPairs.{HoldsPairs, pairs_at}
 use Rattle.art_map.specs.Reserved.{IsUnreserved}
 use Rattle.art_map.proofs.Puts.{stays}

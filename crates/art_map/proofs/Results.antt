@@ -1,9 +1,6 @@
 -- What a change leaves, in terms of the pairs read off the store.
 use Rattle.std.proofs.Common.{◌≡◌, ◌≢◌, ℕ, List, length, Option, Some, None, Result, Ok, Err, OnOk, OnErr, IfOk, IfErr, false, refl, ap, ◌∙◌, subst}
-use Rattle.art_nodes.specs.Nodes.{Nodes}
-use Rattle.art_parts.specs.declared.names.OpaqueNodePtr.{OpaqueNodePtr}
-use Rattle.art_model.specs.Pairs.{IsMap, first_of, is_conflict, of_key, overwrite, put, put_reply, related_to, remove_key, replace_key, with_key}
-use Rattle.art_model.specs.Parts.{below, not_below}
+use Rattle.art_model.specs.Prelude.{Nodes, OpaqueNodePtr, IsMap, first_of, is_conflict, of_key, overwrite, put, put_reply, related_to, remove_key, replace_key, with_key, below, not_below}
 use Rattle.art_model.proofs.keys.Keys.{not_same}
 use Rattle.art_writing.specs.declared.insert.PairRefused.{PairRefused}
 use Rattle.art_map.specs.MapAnswers.{IsRefusalOf, value_at}

@@ -3,7 +3,7 @@
 use Rattle.std.proofs.Common.{◌≡◌, List, [], ◌∷◌, ◌++◌, Bool, true, false, cond, refl, append_assoc, append-nil}
 use Rattle.std.specs.Borrow.{MutBor}
 use Rattle.std.specs.Fn.{Mut}
-use Rattle.art_nodes.specs.LeafCalls.{CalledOnPair}
+use Rattle.art_model.specs.Prelude.{CalledOnPair}
 use Rattle.art_map.specs.MapCalls.{ChangesBy}
 use Rattle.art_map.specs.MapRetain.{Retains, RetainsPairs}
 use denote.Ref.{Bor}

@@ -4,9 +4,7 @@ use Rattle.std.proofs.Common.{arith, length-append, append_assoc, append-nil, Op
 use Rattle.std.specs.Borrow.{MutBor}
 use Rattle.std.specs.Fn.{CalledAt, Mut}
 use Rattle.std.specs.List.{AllByRecursion as Each}
-use Rattle.art_nodes.specs.LeafCalls.{CalledOnPair}
-use Rattle.art_model.specs.Keys.{Precedes, are_same}
-use Rattle.art_model.specs.Pairs.{IsMap, first_of, of_key, remove_key, with_key}
+use Rattle.art_model.specs.Prelude.{CalledOnPair, Precedes, are_same, IsMap, first_of, of_key, remove_key, with_key}
 use Rattle.art_model.proofs.keys.Keys.{front_same, precedes_apart, related_sym, same_related}
 use Rattle.art_model.proofs.lists.Filters.{filter_all}
 use Rattle.art_model.proofs.pairs.MapLaws.{first_is_removed_by_key}

@@ -1,7 +1,7 @@
 -- The keys of clones are clones of the keys.
 use Rattle.std.proofs.Common.{List, [], ◌∷◌}
 use Rattle.std.specs.List.{AllZip}
-use Rattle.art_model.specs.Clones.{AreClones}
+use Rattle.art_model.specs.Prelude.{AreClones}
 use Rattle.art_map.specs.MapItems.{keys_of}
 
 pub cloned_keys : {K V : Type 0} (is_clone : K → K → Type 0) (is_value_clone : V → V → Type 0) (pairs copies : List (K × V)) →

@@ -1,13 +1,9 @@
 -- What a map's calls do to the keys alone.
-use Rattle.std.proofs.Common.{◌≡◌, List, [], ◌∷◌, Bool, Option, Some, None, ℕ, suc, ◌||◌, ◌&&◌, cond, filter, leb, length, refl, ap, sym, ◌∙◌, true, false, not, is_some}
+use Rattle.std.proofs.Common.{◌≡◌, List, [], ◌∷◌, Bool, Option, Some, None, ℕ, suc, ◌||◌, ◌&&◌, cond, filter, leb, length, refl, ap, sym, ◌∙◌, true, false, not, is_some, option_map}
 use Rattle.std.proofs.lemmas.Bool.{false≢true}
 use Rattle.std.specs.List.{AllByRecursion as Each}
-use Rattle.std.specs.Option.{option_map}
 use Rattle.std.specs.declared.ops.Bound.{Bound}
-use Rattle.art_model.specs.Keys.{Precedes, are_related, are_same, is_before, is_front}
-use Rattle.art_model.specs.Pairs.{IsMap, add_in_order, first_of, has_key, is_conflict, last_of, of_key, put, put_reply, remove_key, remove_reply, replace_key, with_key, without_first, without_last}
-use Rattle.art_model.specs.Parts.{below, between}
-use Rattle.art_model.specs.Texts.{texts_in_front, text_of}
+use Rattle.art_model.specs.Prelude.{Precedes, are_related, are_same, is_before, is_front, IsMap, add_in_order, first_of, has_key, is_conflict, last_of, of_key, put, put_reply, remove_key, remove_reply, replace_key, with_key, without_first, without_last, below, between, texts_in_front, text_of}
 use Rattle.art_model.proofs.pairs.Puts.{any_is_first, has_is_stored, put-new}
 use Rattle.art_reading.specs.ShortTexts.{texts_from}
 use Rattle.art_map.specs.declared.map.MapInsertError.{MapInsertError}

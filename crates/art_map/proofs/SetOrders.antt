@@ -1,12 +1,9 @@
 -- Maps without values are compared and hashed as the lists of their keys.
-use Rattle.std.proofs.Common.{◌≡◌, List, [], ◌∷◌, ◌++◌, Bool, Option, Some, None, ◌&&◌, refl, sym, true, false, append-nil}
+use Rattle.std.proofs.Common.{◌≡◌, List, [], ◌∷◌, ◌++◌, Bool, Option, Some, None, ◌&&◌, refl, sym, true, false, append-nil, flat_map, Ordering, Less, Equal, Greater}
 use Rattle.std.proofs.lemmas.List.{length-map}
 use Rattle.std.specs.Hash as fed
-use Rattle.std.specs.List.{flat_map}
 use Rattle.std.specs.Cmp.Lexicographic.{pointwise, slice_cmp, slice_partial_cmp}
 use Rattle.std.specs.Ordering.{ordering_then, partial_ordering_then}
-use Rattle.std.specs.declared.cmp.Ordering.{Ordering}
-use Rattle.std.specs.declared.cmp.Ordering.TheVariants.{Less, Equal, Greater}
 use Rattle.art_map.specs.MapItems.{keys_of}
 
 and-true : (b : Bool) → (b && true) ≡ b

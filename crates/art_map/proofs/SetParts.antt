@@ -1,9 +1,7 @@
 -- What is removed from a map, by the keys alone.
 use Rattle.std.proofs.Common.{◌≡◌, ℕ, List, [], ◌∷◌, ◌++◌, not, ap, sym, refl, ◌∙◌}
 use Rattle.std.specs.declared.ops.Bound.{Bound}
-use Rattle.art_model.specs.Keys.{is_before}
-use Rattle.art_model.specs.Pairs.{of_key}
-use Rattle.art_model.specs.Parts.{is_between}
+use Rattle.art_model.specs.Prelude.{is_before, of_key, is_between}
 use Rattle.art_map.specs.MapItems.{keys_of}
 use Rattle.art_map.specs.MapParts.{keys_before, keys_from, not_between}
 use Rattle.art_map.proofs.SetLaws.{keys_between, keys_first, keys_len, keys_where, removed_keys}

@@ -1,11 +1,9 @@
 -- The first of the keys that pass a test, and of two lists that are merged.
-use Rattle.std.proofs.Common.{◌≡◌, ℕ, ◌+◌, ◌≤◌, IfSome, suc, List, [], ◌∷◌, Bool, ◌||◌, ◌&&◌, Option, Some, None, cond, filter, length, refl, ap, sym, ◌∙◌, subst, arith, true, false, not, is_some, Bor}
+use Rattle.std.proofs.Common.{◌≡◌, ℕ, ◌+◌, ◌≤◌, IfSome, suc, List, [], ◌∷◌, Bool, ◌||◌, ◌&&◌, Option, Some, None, cond, filter, length, refl, ap, sym, ◌∙◌, subst, arith, true, false, not, is_some, Bor, Ordering, Less, Equal, Greater}
 use Rattle.std.specs.Iterator.{UpTo, at_most}
 use Rattle.std.specs.List.{list_all, list_any}
 use Rattle.std.specs.Ordering.{match_ordering}
 use Rattle.std.specs.Set.{merge_step, sorted_merge}
-use Rattle.std.specs.declared.cmp.Ordering.{Ordering}
-use Rattle.std.specs.declared.cmp.Ordering.TheVariants.{Less, Equal, Greater}
 use Rattle.art_map.specs.MapItems.{ShowsFirst}
 use Rattle.art_map.specs.SetAlgebra.{IsSum}
 

@@ -1,24 +1,7 @@
 -- Pairs that are found, and pairs that are removed.
-use Rattle.std.proofs.Common.{◌≡◌, ℕ, ◌-◌, ◌≤◌, List, [], ◌∷◌, ◌++◌, length, filter, refl, ap, sym, ◌∙◌, subst, arith, Option, Some, None, Bool, true, false, IfSome, IsSome, is_some, option_copied, Bor}
+use Rattle.std.proofs.Common.{◌≡◌, ℕ, ◌-◌, ◌≤◌, List, [], ◌∷◌, ◌++◌, length, filter, refl, ap, sym, ◌∙◌, subst, arith, Option, Some, None, Bool, true, false, IfSome, IsSome, is_some, option_copied, Bor, option_map}
 use Rattle.std.specs.FinMap.{get}
-use Rattle.art_parts.specs.Names.{leaf_name}
-use Rattle.std.specs.Option.{option_map}
-use Rattle.art_nodes.specs.Nodes.{Nodes}
-use Rattle.art_parts.specs.declared.leaf.LeafNode.{LeafNode}
-use Rattle.art_parts.specs.declared.names.LeafPtr.{LeafPtr}
-use Rattle.art_parts.specs.declared.names.OpaqueNodePtr.{OpaqueNodePtr}
-use Rattle.art_model.specs.Canonical.{IsCanonicalTree, IsCanonical}
-use Rattle.art_model.specs.Footprints.{IsIn}
-use Rattle.art_model.specs.Kept.{ChangesInPlace}
-use Rattle.art_model.specs.Keys.{are_same}
-use Rattle.art_model.specs.Layouts.{names_of}
-use Rattle.art_model.specs.Lookups.{HasFirstLeaf, HasLastLeaf}
-use Rattle.art_model.specs.Pairs.{IsMap, first_of, last_of, without_first, of_key, has_key, remove_key, with_key}
-use Rattle.art_model.specs.Paths.{pairs_before, pairs_after}
-use Rattle.art_model.specs.Radix.{pairs_of}
-use Rattle.art_model.specs.Roots.{ForRoot, ForTree}
-use Rattle.art_model.specs.Stores.{content_at, pair_of}
-use Rattle.art_model.specs.Trees.{Tree, leaf}
+use Rattle.art_model.specs.Prelude.{leaf_name, Nodes, LeafNode, LeafPtr, OpaqueNodePtr, IsCanonicalTree, IsCanonical, IsIn, ChangesInPlace, are_same, names_of, HasFirstLeaf, HasLastLeaf, IsMap, first_of, last_of, without_first, of_key, has_key, remove_key, with_key, pairs_before, pairs_after, pairs_of, ForRoot, ForTree, content_at, pair_of, Tree, leaf}
 use Rattle.art_model.proofs.stores.Canonical.{tree_radix}
 use Rattle.art_model.proofs.keys.Keys.{front_same}
 use Rattle.art_model.proofs.leaves.LeavesFound.{leaf_found}

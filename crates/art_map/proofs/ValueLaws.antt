@@ -1,11 +1,9 @@
 -- Another value under a key, and puts of it.
-use Rattle.std.proofs.Common.{◌≡◌, ℕ, List, [], ◌∷◌, Bool, Option, Some, None, refl, ap, sym, ◌∙◌, subst, true, false, not, is_some}
+use Rattle.std.proofs.Common.{◌≡◌, ℕ, List, [], ◌∷◌, Bool, Option, Some, None, refl, ap, sym, ◌∙◌, subst, true, false, not, is_some, unwrap_or}
 use Rattle.std.proofs.lemmas.Bool.{false≢true}
 use Rattle.std.proofs.lemmas.List.{map-append}
 use Rattle.std.specs.List.{AllByRecursion as Each}
-use Rattle.std.specs.Option.{unwrap_or}
-use Rattle.art_model.specs.Keys.{Precedes, are_same, is_before}
-use Rattle.art_model.specs.Pairs.{IsMap, add_in_order, first_of, of_key, put, remove_key, replace_key, with_key}
+use Rattle.art_model.specs.Prelude.{Precedes, are_same, is_before, IsMap, add_in_order, first_of, of_key, put, remove_key, replace_key, with_key}
 use Rattle.art_model.proofs.pairs.Between.{IsLocal, add_in_order_first}
 use Rattle.art_model.proofs.lists.Filters.{Each-filter, filter_passes}
 use Rattle.art_model.proofs.keys.Keys.{front_same, precedes_apart, related_sym, same_equal, same_related}

@@ -1,22 +1,7 @@
 -- The pairs read off a store are those that the root is canonical for.
-use Rattle.std.proofs.Common.{◌≡◌, ℕ, zero, suc, ◌≤◌, List, [], ◌++◌, refl, ap, ap₂, sym, ◌∙◌, subst, arith, Option, Some, None}
+use Rattle.std.proofs.Common.{◌≡◌, ℕ, zero, suc, ◌≤◌, List, [], ◌++◌, refl, ap, ap₂, sym, ◌∙◌, subst, arith, Option, Some, None, option_map}
 use Rattle.std.specs.FinMap as map
-use Rattle.std.specs.Option.{option_map}
-use Rattle.art_nodes.specs.Nodes.{Nodes}
-use Rattle.art_parts.specs.Names.{leaf_cmp, inner_cmp}
-use Rattle.art_parts.specs.declared.names.NodeType.{NodeType}
-use Rattle.art_parts.specs.declared.names.NodeType.TheVariants.{Node4, Node16, Node48, Node256, Leaf}
-use Rattle.art_parts.specs.declared.names.OpaqueNodePtr.{OpaqueNodePtr}
-use Rattle.art_model.specs.Canonical.{IsCanonical}
-use Rattle.art_model.specs.Footprints.{IsIn}
-use Rattle.art_model.specs.Heights.{tree_height, height_below}
-use Rattle.art_model.specs.Kept.{KeepsOthers}
-use Rattle.art_model.specs.Layouts.{Node, name_of, slots_of, Holds, HoldsBelow}
-use Rattle.art_model.specs.Pairs.{IsMap}
-use Rattle.art_model.specs.Radix.{pairs_of, pairs_below}
-use Rattle.art_model.specs.Roots.{IsRootOf}
-use Rattle.art_model.specs.Stores.{Held, held_leaf, held_inner, content_at, content_in, node_at}
-use Rattle.art_model.specs.Trees.{Tree, leaf, inner, Subtrees, child, no_child}
+use Rattle.art_model.specs.Prelude.{Nodes, leaf_cmp, inner_cmp, NodeType, Node4, Node16, Node48, Node256, Leaf, OpaqueNodePtr, IsCanonical, IsIn, tree_height, height_below, KeepsOthers, Node, name_of, slots_of, Holds, HoldsBelow, IsMap, pairs_of, pairs_below, IsRootOf, Held, held_leaf, held_inner, content_at, content_in, node_at, Tree, leaf, inner, Subtrees, child, no_child}
 use Rattle.art_model.proofs.stores.Canonical.{tree_radix}
 use Rattle.art_model.proofs.stores.Heights.{enough_steps}
 use Rattle.art_map.specs.MapPairs.{all_below, pairs_within, pairs_at, HoldsPairs}

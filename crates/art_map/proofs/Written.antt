@@ -1,24 +1,8 @@
 -- A value that is written to the leaf of a key.
-use Rattle.std.proofs.Common.{◌≡◌, ℕ, List, [], ◌∷◌, Option, Some, IfSome, IsSome, is_some, refl, ap, sym, ◌∙◌, subst, inl, true, ◌++◌, length, length-append, ◌+◌}
+use Rattle.std.proofs.Common.{◌≡◌, ℕ, List, [], ◌∷◌, Option, Some, IfSome, IsSome, is_some, refl, ap, sym, ◌∙◌, subst, inl, true, ◌++◌, length, length-append, ◌+◌, option_map}
 use Rattle.std.specs.FinMap.{get}
-use Rattle.std.specs.Option.{option_map}
 use Rattle.std.proofs.lemmas.List.{length-map}
-use Rattle.art_parts.specs.Names.{leaf_name}
-use Rattle.art_parts.specs.declared.leaf.LeafNode.{LeafNode}
-use Rattle.art_parts.specs.declared.names.LeafPtr.{LeafPtr}
-use Rattle.art_parts.specs.declared.names.OpaqueNodePtr.{OpaqueNodePtr}
-use Rattle.art_nodes.specs.LeafChanges.{with_pair, with_value}
-use Rattle.art_nodes.specs.Lends.{with_leaf_value}
-use Rattle.art_nodes.specs.Nodes.{Nodes, change}
-use Rattle.art_model.specs.Kept.{ChangesInPlace}
-use Rattle.art_model.specs.Keys.{are_same}
-use Rattle.art_model.specs.Lookups.{FindsLeaf}
-use Rattle.art_model.specs.Pairs.{first_of, has_key, of_key, replace_key, with_key}
-use Rattle.art_model.specs.Paths.{pairs_after, pairs_before, plug}
-use Rattle.art_model.specs.Radix.{pairs_of}
-use Rattle.art_model.specs.Roots.{ForTree}
-use Rattle.art_model.specs.Stores.{links_at, node_at, pair_of}
-use Rattle.art_model.specs.Trees.{leaf}
+use Rattle.art_model.specs.Prelude.{leaf_name, LeafNode, LeafPtr, OpaqueNodePtr, with_pair, with_value, with_leaf_value, Nodes, change, ChangesInPlace, are_same, FindsLeaf, first_of, has_key, of_key, replace_key, with_key, pairs_after, pairs_before, plug, pairs_of, ForTree, links_at, node_at, pair_of, leaf}
 use Rattle.art_model.proofs.pairs.Between.{IsLocal, replace_key-between}
 use Rattle.art_model.proofs.stores.Canonical.{IsLaidOut, canonical_from, laid_out}
 use Rattle.art_model.proofs.places.InHole.{with_key-hole}

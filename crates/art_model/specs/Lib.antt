@@ -34,6 +34,8 @@ pub mod Promises
 -- the faults of a store
 pub mod Trails
 pub mod Faults
+-- the words that proofs cite most
+pub mod Prelude
 -- examples
 pub mod Examples
 pub mod FaultExamples

@@ -1,17 +1,7 @@
 -- the descent along an edge, with its path
 use Rattle.std.proofs.Common.{◌≡◌, ℕ, ◌-◌, ◌<◌, List, length, slice_get, refl, ap, sym, ◌∙◌}
 use Rattle.std.specs.FinMap as map
-use Rattle.art_inner.specs.Inner.{Inner}
-use Rattle.art_parts.specs.Names.{leaf_name}
-use Rattle.art_nodes.specs.Nodes.{Nodes}
-use Rattle.art_parts.specs.declared.names.LeafPtr.{LeafPtr}
-use Rattle.art_parts.specs.declared.names.InnerPtr.{InnerPtr}
-use Rattle.art_parts.specs.declared.names.OpaqueNodePtr.{OpaqueNodePtr}
-use Rattle.art_model.specs.Trees.{Tree, no_child}
-use Rattle.art_model.specs.Stores.{node_at}
-use Rattle.art_model.specs.Heights.{height}
-use Rattle.art_model.specs.Paths.{Frame}
-use Rattle.art_model.specs.Roots.{IsFullTree}
+use Rattle.art_model.specs.Prelude.{Inner, leaf_name, Nodes, LeafPtr, InnerPtr, OpaqueNodePtr, Tree, no_child, node_at, height, Frame, IsFullTree}
 use Rattle.art_model.proofs.places.Edges.{AreFirst, AreLast, IsAtEdge, edge_start, edge_down, first_child, last_child, first_leaf, last_leaf}
 use Rattle.art_model.proofs.stores.Shown.{IsShown}
 use Rattle.art_reading.specs.declared.descent.End.{End}

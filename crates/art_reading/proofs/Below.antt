@@ -3,18 +3,7 @@ use Rattle.std.proofs.Common.{◌≡◌, ◌≢◌, ℕ, ◌+◌, ◌<◌, ◌�
 use Rattle.std.specs.List.{AllByRecursion as Each}
 use Rattle.std.proofs.lemmas.List.{get_or_append_left}
 use Rattle.std.proofs.lemmas.List.Elements.{filter-append}
-use Rattle.art_inner.specs.Inner.{Inner, child_at}
-use Rattle.art_parts.specs.declared.names.InnerPtr.{InnerPtr}
-use Rattle.art_parts.specs.declared.names.OpaqueNodePtr.{OpaqueNodePtr}
-use Rattle.art_nodes.specs.Nodes.{Nodes}
-use Rattle.art_model.specs.Canonical.{IsCanonicalTree}
-use Rattle.art_model.specs.Footprints.{IsIn}
-use Rattle.art_model.specs.Keys.{IsFront, is_front}
-use Rattle.art_model.specs.Lookups.{nodes_on_way}
-use Rattle.art_model.specs.Parts.{below}
-use Rattle.art_model.specs.Paths.{pairs_before, pairs_after}
-use Rattle.art_model.specs.Radix.{bytes_of, pairs_of}
-use Rattle.art_model.specs.Trees.{Tree, leaf}
+use Rattle.art_model.specs.Prelude.{Inner, child_at, InnerPtr, OpaqueNodePtr, Nodes, IsCanonicalTree, IsIn, IsFront, is_front, nodes_on_way, below, pairs_before, pairs_after, bytes_of, pairs_of, Tree, leaf}
 use Rattle.art_model.proofs.keys.Keys.{front_from}
 use Rattle.art_model.proofs.lists.Lists.{filter_none, front_cut}
 use Rattle.art_model.proofs.places.OnWay.{byte_after}

@@ -1,25 +1,8 @@
 -- the descent to a node next to a key
-use Rattle.std.proofs.Common.{◌≡◌, ℕ, suc, ◌+◌, ◌*◌, ◌<◌, ◌≤◌, ◌⊎◌, List, [], ◌∷◌, ◌++◌, length, drop, get_or, refl, ap, sym, ◌∙◌, arith, subst, append_assoc, Option, Some, None, ◌↔◌, inl, inr}
+use Rattle.std.proofs.Common.{◌≡◌, ℕ, suc, ◌+◌, ◌*◌, ◌<◌, ◌≤◌, ◌⊎◌, List, [], ◌∷◌, ◌++◌, length, drop, get_or, refl, ap, sym, ◌∙◌, arith, subst, append_assoc, Option, Some, None, ◌↔◌, inl, inr, is_lt}
 use Rattle.std.specs.List.{AllByRecursion as Each}
-use Rattle.std.specs.Ordering.{is_lt}
 use Rattle.std.proofs.lemmas.Bool.{cases_order}
-use Rattle.art_inner.specs.Beside.{IsNextTo}
-use Rattle.art_inner.specs.Inner.{Inner, child_at}
-use Rattle.art_nodes.specs.Nodes.{Nodes}
-use Rattle.art_parts.specs.Names.{inner_name}
-use Rattle.art_parts.specs.declared.names.InnerPtr.{InnerPtr}
-use Rattle.art_parts.specs.declared.names.LeafPtr.{LeafPtr}
-use Rattle.art_parts.specs.declared.names.OpaqueNodePtr.{OpaqueNodePtr}
-use Rattle.art_model.specs.Canonical.{IsCanonicalTree}
-use Rattle.art_model.specs.Footprints.{IsIn}
-use Rattle.art_model.specs.Keys.{IsFront, Precedes, is_before}
-use Rattle.art_model.specs.Lookups.{nodes_on_way}
-use Rattle.art_model.specs.Paths.{IsPath}
-use Rattle.art_model.specs.Places.{prefix_of}
-use Rattle.art_model.specs.Radix.{bytes_of, pairs_of}
-use Rattle.art_model.specs.Stores.{header_at}
-use Rattle.art_model.specs.Layouts.{slots_of}
-use Rattle.art_model.specs.Trees.{Tree, leaf, inner, Subtrees, child, no_child}
+use Rattle.art_model.specs.Prelude.{IsNextTo, Inner, child_at, Nodes, inner_name, InnerPtr, LeafPtr, OpaqueNodePtr, IsCanonicalTree, IsIn, IsFront, Precedes, is_before, nodes_on_way, IsPath, prefix_of, bytes_of, pairs_of, header_at, slots_of, Tree, leaf, inner, Subtrees, child, no_child}
 use Rattle.art_model.proofs.lists.Lists.{Each-weaker, after_front, front_cut}
 use Rattle.art_model.proofs.places.OnWay.{byte_after, front_byte}
 use Rattle.art_model.proofs.places.Places.{prefix_is}

@@ -5,7 +5,7 @@ use Rattle.std.proofs.lemmas.Bool.{eq-eqb}
 use Rattle.std.proofs.lemmas.List.{append_cancel_left, take_all, take-append-drop, take-append-le, take-take}
 use Rattle.std.proofs.lemmas.Simd.{mask_l-mod}
 use lib.Lanes.{mask_l, zip2}
-use Rattle.art_model.specs.Keys.{IsFront}
+use Rattle.art_model.specs.Prelude.{IsFront}
 
 -- bytes that are the same at first, and then a further block
 pub joined : (at n : ℕ) (a b : List ℕ) → take at a ≡ take at b → take n (drop at a) ≡ take n (drop at b) → take (at + n) a ≡ take (at + n) b

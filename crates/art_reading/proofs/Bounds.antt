@@ -1,27 +1,12 @@
 -- the leaves between two bounds
-use Rattle.std.proofs.Common.{◌≡◌, ℕ, List, [], ◌∷◌, ◌++◌, map as each, filter, refl, ap, sym, ◌∙◌, subst, Option, Some, None, IsSome, IfSome, Bool, true, false, not, cond, inl, inr}
+use Rattle.std.proofs.Common.{◌≡◌, ℕ, List, [], ◌∷◌, ◌++◌, map as each, filter, refl, ap, sym, ◌∙◌, subst, Option, Some, None, IsSome, IfSome, Bool, true, false, not, cond, inl, inr, option_map}
 use Rattle.std.specs.List.{AllByRecursion as Each}
-use Rattle.std.specs.Option.{option_map}
 use Rattle.std.specs.FinMap as map
 use Rattle.std.specs.declared.ops.Bound.{Bound}
 use Rattle.std.specs.declared.ops.Bound.TheVariants.{Included, Excluded, Unbounded}
 use Rattle.std.proofs.lemmas.Bool.{true≢false}
 use Rattle.std.proofs.lemmas.List.{map-append}
-use Rattle.art_nodes.specs.Nodes.{Nodes}
-use Rattle.art_parts.specs.Names.{leaf_name}
-use Rattle.art_parts.specs.declared.leaf.LeafNode.{LeafNode}
-use Rattle.art_parts.specs.declared.names.LeafPtr.{LeafPtr}
-use Rattle.art_parts.specs.declared.names.OpaqueNodePtr.{OpaqueNodePtr}
-use Rattle.art_model.specs.Canonical.{IsCanonicalTree}
-use Rattle.art_model.specs.Footprints.{IsIn}
-use Rattle.art_model.specs.Keys.{Precedes, is_before}
-use Rattle.art_model.specs.Layouts.{Holds, HoldsBelow, Node, entries_below, entries_of, leaf_names, leaf_node}
-use Rattle.art_model.specs.Pairs.{Pairwise, first_of, last_of}
-use Rattle.art_model.specs.Parts.{is_between, is_from, is_up_to, leaves_where}
-use Rattle.art_model.specs.Segments.{IsSegment}
-use Rattle.art_model.specs.Stores.{links_at, node_at, pair_of}
-use Rattle.art_model.specs.Trees.{Subtrees, Tree, child, inner, leaf, no_child}
-use Rattle.art_model.specs.Radix.{pairs_of}
+use Rattle.art_model.specs.Prelude.{Nodes, leaf_name, LeafNode, LeafPtr, OpaqueNodePtr, IsCanonicalTree, IsIn, Precedes, is_before, Holds, HoldsBelow, Node, entries_below, entries_of, leaf_names, leaf_node, Pairwise, first_of, last_of, is_between, is_from, is_up_to, leaves_where, IsSegment, links_at, node_at, pair_of, Subtrees, Tree, child, inner, leaf, no_child, pairs_of}
 use Rattle.art_model.proofs.stores.Canonical.{tree_radix}
 use Rattle.art_model.proofs.keys.KeyLaws.{order_is_transitive}
 use Rattle.art_model.proofs.lists.Lists.{Each-append, each_in, in_map, out_map}

@@ -1,6 +1,6 @@
 -- counters of readings
 use Rattle.std.proofs.Common.{◌≡◌, ℕ, ◌+◌, ◌-◌, ◌^◌, ◌≤◌, List, [], ◌∷◌, None, refl, ap, min, arith}
-use Rattle.art_model.specs.Pairs.{first_of}
+use Rattle.art_model.specs.Prelude.{first_of}
 use Rattle.art_reading.specs.Readings.{if_any}
 
 -- two counts one after another

@@ -1,23 +1,8 @@
 -- the leaves next to a cut
-use Rattle.std.proofs.Common.{◌≡◌, ℕ, List, [], ◌∷◌, ◌++◌, ap, sym, ◌∙◌, subst, append_assoc, append-nil, Option, Some, None, Bool, true, false, not}
+use Rattle.std.proofs.Common.{◌≡◌, ℕ, List, [], ◌∷◌, ◌++◌, ap, sym, ◌∙◌, subst, append_assoc, append-nil, Option, Some, None, Bool, true, false, not, option_map}
 use Rattle.std.specs.List.{AllByRecursion as Each}
-use Rattle.std.specs.Option.{option_map}
 use Rattle.std.specs.FinMap as map
-use Rattle.art_nodes.specs.Nodes.{Nodes}
-use Rattle.art_parts.specs.Names.{leaf_name}
-use Rattle.art_parts.specs.declared.leaf.LeafNode.{LeafNode}
-use Rattle.art_parts.specs.declared.names.LeafPtr.{LeafPtr}
-use Rattle.art_parts.specs.declared.names.OpaqueNodePtr.{OpaqueNodePtr}
-use Rattle.art_model.specs.Canonical.{IsCanonicalTree}
-use Rattle.art_model.specs.Keys.{Precedes, is_before}
-use Rattle.art_model.specs.Layouts.{AreLinked, leaf_names}
-use Rattle.art_model.specs.Lookups.{HasFirstLeaf, HasLastLeaf}
-use Rattle.art_model.specs.Pairs.{first_of, last_of}
-use Rattle.art_model.specs.Parts.{leaves_where}
-use Rattle.art_model.specs.Paths.{leaves_after, leaves_before, pairs_after, pairs_before}
-use Rattle.art_model.specs.Radix.{pairs_of}
-use Rattle.art_model.specs.Stores.{links_at}
-use Rattle.art_model.specs.Trees.{Tree}
+use Rattle.art_model.specs.Prelude.{Nodes, leaf_name, LeafNode, LeafPtr, OpaqueNodePtr, IsCanonicalTree, Precedes, is_before, AreLinked, leaf_names, HasFirstLeaf, HasLastLeaf, first_of, last_of, leaves_where, leaves_after, leaves_before, pairs_after, pairs_before, pairs_of, links_at, Tree}
 use Rattle.art_model.proofs.keys.Keys.{precedes_apart}
 use Rattle.art_model.proofs.leaves.LeafEnds.{first_or_of, last_or_of}
 use Rattle.art_model.proofs.leaves.Links.{link_of}

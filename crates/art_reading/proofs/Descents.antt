@@ -1,19 +1,7 @@
 -- descents to a part of a tree: a node, between pairs of which something holds
 use Rattle.std.proofs.Common.{◌≡◌, ◌≢◌, ℕ, ◌+◌, ◌<◌, ◌≤◌, List, [], ◌∷◌, ◌++◌, length, refl, ap, sym, ◌∙◌, arith, subst, length-append, Some, None, inr}
 use Rattle.std.specs.List.{AllByRecursion as Each}
-use Rattle.art_inner.specs.Inner.{Inner, child_at}
-use Rattle.art_nodes.specs.Nodes.{Nodes}
-use Rattle.art_parts.specs.Names.{inner_name}
-use Rattle.art_parts.specs.declared.names.InnerPtr.{InnerPtr}
-use Rattle.art_parts.specs.declared.names.OpaqueNodePtr.{OpaqueNodePtr}
-use Rattle.art_model.specs.Canonical.{IsCanonicalTree}
-use Rattle.art_model.specs.Footprints.{IsIn}
-use Rattle.art_model.specs.Keys.{IsFront}
-use Rattle.art_model.specs.Layouts.{Holds}
-use Rattle.art_model.specs.Paths.{Frame, IsPath, fill, plug, pairs_before, pairs_after}
-use Rattle.art_model.specs.Radix.{IsRadix, AreRadix, BytesRise, bytes_of, pairs_of, pairs_below}
-use Rattle.art_model.specs.Stores.{header_at, node_at}
-use Rattle.art_model.specs.Trees.{Tree, inner, child, canonical_header}
+use Rattle.art_model.specs.Prelude.{Inner, child_at, Nodes, inner_name, InnerPtr, OpaqueNodePtr, IsCanonicalTree, IsIn, IsFront, Holds, Frame, IsPath, fill, plug, pairs_before, pairs_after, IsRadix, AreRadix, BytesRise, bytes_of, pairs_of, pairs_below, header_at, node_at, Tree, inner, child, canonical_header}
 use Rattle.art_model.proofs.stores.Canonical.{tree_radix}
 use Rattle.art_model.proofs.lists.Lists.{Each-append, each_from, each_in, in_left, in_right}
 use Rattle.art_model.proofs.places.OnWay.{child_under, no_child_under}

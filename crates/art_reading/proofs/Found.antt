@@ -1,17 +1,7 @@
 -- The leaf that is found in the tree is in the store, with its pair.
-use Rattle.std.proofs.Common.{◌≡◌, ℕ, List, refl, ap, sym, ◌∙◌, Option, Some, None, IsSome}
+use Rattle.std.proofs.Common.{◌≡◌, ℕ, List, refl, ap, sym, ◌∙◌, Option, Some, None, IsSome, option_map}
 use Rattle.std.specs.FinMap.{get}
-use Rattle.std.specs.Option.{option_map}
-use Rattle.art_nodes.specs.Nodes.{Nodes}
-use Rattle.art_parts.specs.Names.{leaf_name}
-use Rattle.art_parts.specs.declared.names.LeafPtr.{LeafPtr}
-use Rattle.art_parts.specs.declared.names.OpaqueNodePtr.{OpaqueNodePtr}
-use Rattle.art_model.specs.Canonical.{IsCanonicalTree}
-use Rattle.art_model.specs.Lookups.{FindsLast, FindsLeaf, HasLeaf}
-use Rattle.art_model.specs.Pairs.{first_of, last_of}
-use Rattle.art_model.specs.Roots.{ForTree, IsCanonicalRoot}
-use Rattle.art_model.specs.Stores.{pair_of}
-use Rattle.art_model.specs.Trees.{Tree}
+use Rattle.art_model.specs.Prelude.{Nodes, leaf_name, LeafPtr, OpaqueNodePtr, IsCanonicalTree, FindsLast, FindsLeaf, HasLeaf, first_of, last_of, ForTree, IsCanonicalRoot, pair_of, Tree}
 use Rattle.art_model.proofs.leaves.LeavesFound.{found_is_there, leaf_found, pair_found}
 use Rattle.art_reading.specs.Found.{HasFound, HasFoundFirst, HasFoundLast}
 use Rattle.art_reading.specs.ShortTexts.{FindsFirst}

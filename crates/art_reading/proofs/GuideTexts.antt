@@ -3,17 +3,7 @@ use Rattle.std.proofs.Common.{◌≡◌, ◌≢◌, ℕ, ◌+◌, ◌<◌, List,
 use Rattle.std.specs.List.{AllByRecursion as Each}
 use Rattle.std.proofs.lemmas.Bool.{cases_lt}
 use Rattle.std.proofs.lemmas.List.{take_at}
-use Rattle.art_nodes.specs.Nodes.{Nodes}
-use Rattle.art_parts.specs.declared.names.LeafPtr.{LeafPtr}
-use Rattle.art_parts.specs.declared.names.OpaqueNodePtr.{OpaqueNodePtr}
-use Rattle.art_model.specs.Canonical.{IsCanonicalTree}
-use Rattle.art_model.specs.Footprints.{IsIn}
-use Rattle.art_model.specs.Keys.{IsFront, common_front, is_front}
-use Rattle.art_model.specs.Pairs.{without_last}
-use Rattle.art_model.specs.Places.{place_of, places, places_below}
-use Rattle.art_model.specs.Radix.{AreRadix, BytesRise, IsRadix, bytes_of, pairs_below, pairs_of}
-use Rattle.art_model.specs.Texts.{text_of, texts_in_front}
-use Rattle.art_model.specs.Trees.{Subtrees, Tree, child, inner, leaf, no_child}
+use Rattle.art_model.specs.Prelude.{Nodes, LeafPtr, OpaqueNodePtr, IsCanonicalTree, IsIn, IsFront, common_front, is_front, without_last, place_of, places, places_below, AreRadix, BytesRise, IsRadix, bytes_of, pairs_below, pairs_of, text_of, texts_in_front, Subtrees, Tree, child, inner, leaf, no_child}
 use Rattle.art_model.proofs.keys.KeyLaws.{common_front_is_longest}
 use Rattle.art_model.proofs.keys.Texts.{front_of_fronts}
 use Rattle.art_model.proofs.lists.Lists.{Each-left, Each-right, common_front_left, common_front_right, each_from, each_in, front_cut, front_trans, in_either}

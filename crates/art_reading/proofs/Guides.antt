@@ -3,25 +3,7 @@ use Rattle.std.proofs.Common.{◌≡◌, ◌≢◌, ℕ, ◌+◌, ◌<◌, ◌�
 use Rattle.std.specs.Bool.{⊤}
 use Rattle.std.specs.List.{AllByRecursion as Each}
 use Rattle.std.specs.FinMap as map
-use Rattle.art_inner.specs.Inner.{Inner, child_at}
-use Rattle.art_nodes.specs.Nodes.{Nodes}
-use Rattle.art_parts.specs.Names.{leaf_name, inner_name}
-use Rattle.art_parts.specs.declared.leaf.LeafNode.{LeafNode}
-use Rattle.art_parts.specs.declared.names.InnerPtr.{InnerPtr}
-use Rattle.art_parts.specs.declared.names.LeafPtr.{LeafPtr}
-use Rattle.art_parts.specs.declared.names.OpaqueNodePtr.{OpaqueNodePtr}
-use Rattle.art_model.specs.Canonical.{IsCanonicalTree}
-use Rattle.art_model.specs.Footprints.{IsIn}
-use Rattle.art_model.specs.Keys.{IsFront, are_related}
-use Rattle.art_model.specs.Layouts.{name_of}
-use Rattle.art_model.specs.Lookups.{HasFirstLeaf}
-use Rattle.art_model.specs.Pairs.{related_to}
-use Rattle.art_model.specs.Paths.{Frame, IsPath, fill, plug, pairs_before, pairs_after}
-use Rattle.art_model.specs.Places.{depth_of, place_of, places, places_below}
-use Rattle.art_model.specs.Radix.{IsRadix, AreRadix, bytes_of, join, pairs_of}
-use Rattle.art_model.specs.Roots.{IsFullTree}
-use Rattle.art_model.specs.Stores.{header_at, pair_of}
-use Rattle.art_model.specs.Trees.{Tree, leaf, inner, Subtrees, child, no_child}
+use Rattle.art_model.specs.Prelude.{Inner, child_at, Nodes, leaf_name, inner_name, LeafNode, InnerPtr, LeafPtr, OpaqueNodePtr, IsCanonicalTree, IsIn, IsFront, are_related, name_of, HasFirstLeaf, related_to, Frame, IsPath, fill, plug, pairs_before, pairs_after, depth_of, place_of, places, places_below, IsRadix, AreRadix, bytes_of, join, pairs_of, IsFullTree, header_at, pair_of, Tree, leaf, inner, Subtrees, child, no_child}
 use Rattle.art_model.proofs.keys.Keys.{front_related}
 use Rattle.art_model.proofs.leaves.LeavesFound.{leaf_found}
 use Rattle.art_model.proofs.lists.Filters.{Each-filter}

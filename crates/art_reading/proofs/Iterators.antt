@@ -1,18 +1,8 @@
 -- The ends of a segment, and what is left when one of them was returned.
-use Rattle.std.proofs.Common.{◌≡◌, ◌≢◌, List, [], ◌∷◌, Option, Some, None, IsSome, eqb, true, false, refl, ap, sym, ◌∙◌, subst, inl, inr}
-use Rattle.std.specs.Option.{option_map, option_and_then}
+use Rattle.std.proofs.Common.{◌≡◌, ◌≢◌, List, [], ◌∷◌, Option, Some, None, IsSome, eqb, true, false, refl, ap, sym, ◌∙◌, subst, inl, inr, option_map, option_and_then}
 use Rattle.std.specs.FinMap as map
 use Rattle.std.proofs.lemmas.Bool.{eqb-true, eq-eqb, true≢false}
-use Rattle.art_parts.specs.Names.{leaf_name}
-use Rattle.art_nodes.specs.Nodes.{Nodes}
-use Rattle.art_parts.specs.declared.names.LeafPtr.{LeafPtr}
-use Rattle.art_parts.specs.declared.leaf.LeafNode.{LeafNode}
-use Rattle.art_parts.specs.declared.names.OpaqueNodePtr.{OpaqueNodePtr}
-use Rattle.art_model.specs.Layouts.{Links, AreLinked, first_or, last_or}
-use Rattle.art_model.specs.Footprints.{IsIn}
-use Rattle.art_model.specs.Segments.{IsSegment}
-use Rattle.art_model.specs.Pairs.{first_of, last_of, without_last}
-use Rattle.art_model.specs.Stores.{held_leaf, links_of, links_at}
+use Rattle.art_model.specs.Prelude.{leaf_name, Nodes, LeafPtr, LeafNode, OpaqueNodePtr, Links, AreLinked, first_or, last_or, IsIn, IsSegment, first_of, last_of, without_last, held_leaf, links_of, links_at}
 use Rattle.art_model.proofs.leaves.Links.{link_of}
 use Rattle.art_model.proofs.lists.Lists.{each_from, each_in}
 use Rattle.art_model.proofs.lists.Pairwises.{Pairwise-in}

@@ -1,15 +1,6 @@
 -- how many nodes on the key's path there are from a node on
 use Rattle.std.proofs.Common.{◌≡◌, ◌≢◌, ℕ, ◌+◌, ◌<◌, ◌≤◌, List, [], ◌∷◌, ◌++◌, length, get_or, ap, sym, ◌∙◌, arith, subst, length-append, Some, None}
-use Rattle.art_inner.specs.Inner.{Inner, child_at}
-use Rattle.art_parts.specs.Names.{inner_name}
-use Rattle.art_parts.specs.declared.names.InnerPtr.{InnerPtr}
-use Rattle.art_parts.specs.declared.names.OpaqueNodePtr.{OpaqueNodePtr}
-use Rattle.art_model.specs.Footprints.{IsIn}
-use Rattle.art_model.specs.Keys.{IsFront}
-use Rattle.art_model.specs.Trees.{Tree, leaf, inner, Subtrees, child, NodeHeader}
-use Rattle.art_model.specs.Radix.{IsRadix, AreRadix, bytes_of, join}
-use Rattle.art_model.specs.Places.{place_of, places_below}
-use Rattle.art_model.specs.Stores.{header_at}
+use Rattle.art_model.specs.Prelude.{Inner, child_at, inner_name, InnerPtr, OpaqueNodePtr, IsIn, IsFront, Tree, leaf, inner, Subtrees, child, NodeHeader, IsRadix, AreRadix, bytes_of, join, place_of, places_below, header_at}
 use Rattle.art_model.proofs.lists.Lists.{Each-weaker}
 use Rattle.art_model.proofs.places.OnWay.{AreAside, aside_end, aside_off, aside_others, aside_places, child_under, no_child_under, none_match, places_between}
 use Rattle.art_model.proofs.places.Places.{place_is}

@@ -1,18 +1,7 @@
 -- the descent with a key: what a lookup keeps at each node
 use Rattle.std.proofs.Common.{◌≡◌, ℕ, ◌+◌, ◌<◌, ◌≤◌, suc, zero, List, [], ◌∷◌, ◌++◌, length, take, drop, get_or, refl, ap, ap₂, sym, ◌∙◌, arith, subst, append_assoc, length-append, Some, None, Bool, true, false, cond}
 use Rattle.std.proofs.lemmas.List.{length-take, take-append-drop}
-use Rattle.art_inner.specs.Inner.{Inner, child_at}
-use Rattle.art_parts.specs.Names.{inner_name}
-use Rattle.art_parts.specs.declared.names.InnerPtr.{InnerPtr}
-use Rattle.art_parts.specs.declared.names.OpaqueNodePtr.{OpaqueNodePtr}
-use Rattle.art_model.specs.Keys.{IsFront, is_front}
-use Rattle.art_model.specs.Pairs.{match_of}
-use Rattle.art_model.specs.Trees.{Tree, leaf, inner, Subtrees, no_child, child}
-use Rattle.art_model.specs.Radix.{IsRadix, AreRadix, join, pairs_of, pairs_below}
-use Rattle.art_model.specs.Layouts.{name_of}
-use Rattle.art_model.specs.Stores.{header_at}
-use Rattle.art_model.specs.Paths.{Frame, plug}
-use Rattle.art_model.specs.Places.{places, places_below, place_of}
+use Rattle.art_model.specs.Prelude.{Inner, child_at, inner_name, InnerPtr, OpaqueNodePtr, IsFront, is_front, match_of, Tree, leaf, inner, Subtrees, no_child, child, IsRadix, AreRadix, join, pairs_of, pairs_below, name_of, header_at, Frame, plug, places, places_below, place_of}
 use Rattle.art_model.proofs.lists.Lists.{front_cut, after_front}
 use Rattle.art_model.proofs.keys.Keys.{front_is}
 use Rattle.art_model.proofs.radix.Radix.{AreRadix-right}

@@ -1,8 +1,7 @@
 -- what the comparison of a prefix decides
 use Rattle.std.proofs.Common.{◌≡◌, ℕ, ◌<◌, ◌≤◌, ◌⊎◌, inl, inr, List, length, refl, ap, sym, Ok, Err, Bool, true, ltb, arith, false, not, IsTrue, ◌↔◌}
 use Rattle.std.proofs.lemmas.Bool.{le-ltb, lt-ltb, cases_lt, false≢true}
-use Rattle.art_parts.specs.Headers.{Prefix}
-use Rattle.art_model.specs.Keys.{IsFront}
+use Rattle.art_model.specs.Prelude.{Prefix, IsFront}
 use Rattle.art_model.proofs.keys.Fronts.{shared_whole, whole_shared}
 use Rattle.art_reading.specs.declared.matching.PrefixMatchBehavior.{PrefixMatchBehavior}
 use Rattle.art_reading.specs.declared.matching.PrefixMatchBehavior.TheVariants.{Pessimistic, Optimistic}

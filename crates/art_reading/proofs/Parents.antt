@@ -1,15 +1,6 @@
 -- the parent at the end of a path
 use Rattle.std.proofs.Common.{◌≡◌, ◌≢◌, ℕ, ◌∷◌, List, [], refl, ap, sym, ◌∙◌, subst, inl, inr, Some}
-use Rattle.art_parts.specs.declared.names.NodeType.TheVariants.{Leaf}
-use Rattle.art_parts.specs.declared.names.InnerPtr.{InnerPtr}
-use Rattle.art_parts.specs.declared.names.OpaqueNodePtr.{OpaqueNodePtr}
-use Rattle.art_nodes.specs.Nodes.{Nodes}
-use Rattle.art_model.specs.Canonical.{IsCanonicalTree}
-use Rattle.art_model.specs.Layouts.{Holds}
-use Rattle.art_model.specs.Paths.{Frame, plug}
-use Rattle.art_model.specs.Stores.{node_at}
-use Rattle.art_model.specs.Trees.{Tree}
-use Rattle.art_model.specs.Writes.{as_inner}
+use Rattle.art_model.specs.Prelude.{Leaf, InnerPtr, OpaqueNodePtr, Nodes, IsCanonicalTree, Holds, Frame, plug, node_at, Tree, as_inner}
 use Rattle.art_model.proofs.stores.Stores.{path_holds}
 use Rattle.art_model.proofs.stores.Views.{leaf_name_is, leaf_or}
 use Rattle.art_reading.specs.EndNodes.{IsAt}

@@ -2,8 +2,7 @@
 use Rattle.std.proofs.Common.{◌≡◌, ◌≢◌, ℕ, suc, eqb, eqb-true, eq-eqb, ◌<◌, ◌≤◌, List, [], ◌∷◌, ◌++◌, length, refl, ap, sym, ◌∙◌, subst, arith, append_assoc, append-nil, length-append, Bool, true, false, ◌||◌, ◌&&◌, not, ◌⊎◌, inl, inr}
 use Rattle.std.specs.List.{AllByRecursion as Each}
 use Rattle.std.proofs.lemmas.Bool.{cases_order, eqb-false, ne_eqb}
-use Rattle.art_model.specs.Keys.{IsFront, are_related, are_same, common_front}
-use Rattle.art_model.specs.Pairs.{is_conflict, related_to}
+use Rattle.art_model.specs.Prelude.{IsFront, are_related, are_same, common_front, is_conflict, related_to}
 use Rattle.art_model.proofs.lists.Lists.{common_front_left, common_front_right}
 use Rattle.art_model.proofs.keys.Keys.{related_sym, front_related, front_same, not_same, precedes_at}
 use Rattle.art_model.proofs.keys.Texts.{front_short}

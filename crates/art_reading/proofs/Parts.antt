@@ -2,22 +2,7 @@
 use Rattle.std.proofs.Common.{◌≡◌, ℕ, List, [], ◌++◌, refl, ap, sym, ◌∙◌, subst, Option, Some, None, IsSome, true, false}
 use Rattle.std.specs.List.{AllByRecursion as Each}
 use Rattle.std.specs.FinMap as map
-use Rattle.art_nodes.specs.Nodes.{Nodes}
-use Rattle.art_parts.specs.Names.{leaf_name}
-use Rattle.art_parts.specs.declared.leaf.LeafNode.{LeafNode}
-use Rattle.art_parts.specs.declared.names.LeafPtr.{LeafPtr}
-use Rattle.art_parts.specs.declared.names.OpaqueNodePtr.{OpaqueNodePtr}
-use Rattle.art_model.specs.Canonical.{IsCanonicalTree}
-use Rattle.art_model.specs.Keys.{is_front}
-use Rattle.art_model.specs.Layouts.{names_of, leaf_names, AreDistinct, Holds}
-use Rattle.art_model.specs.Lookups.{HasFirstLeaf, HasLastLeaf, HasLeaf}
-use Rattle.art_model.specs.Parts.{below, leaves_where}
-use Rattle.art_model.specs.Paths.{leaves_before, leaves_after}
-use Rattle.art_model.specs.Radix.{IsRadix, pairs_of}
-use Rattle.art_model.specs.Roots.{IsFullTree}
-use Rattle.art_model.specs.Segments.{IsSegment}
-use Rattle.art_model.specs.Stores.{links_at, node_at, pair_of}
-use Rattle.art_model.specs.Trees.{Tree, leaf}
+use Rattle.art_model.specs.Prelude.{Nodes, leaf_name, LeafNode, LeafPtr, OpaqueNodePtr, IsCanonicalTree, is_front, names_of, leaf_names, AreDistinct, Holds, HasFirstLeaf, HasLastLeaf, HasLeaf, below, leaves_where, leaves_before, leaves_after, IsRadix, pairs_of, IsFullTree, IsSegment, links_at, node_at, pair_of, Tree, leaf}
 use Rattle.art_model.proofs.stores.Canonical.{tree_radix}
 use Rattle.art_model.proofs.lists.Filters.{none_passes}
 use Rattle.art_model.proofs.radix.Parts.{where_in_hole, where_all, where_none}

@@ -1,7 +1,7 @@
 -- what a comparison of the ends of two slices returns
 use Rattle.std.proofs.Common.{◌≡◌, ◌≢◌, ◌∙◌, ℕ, ◌-◌, ◌≤◌, ◌↔◌, List, length, take, drop, length-drop, Bool, IsTrue, ap, subst, sym, arith}
 use Rattle.std.proofs.lemmas.List.{take_rest}
-use Rattle.art_model.specs.Keys.{IsFront}
+use Rattle.art_model.specs.Prelude.{IsFront}
 use Rattle.art_reading.specs.Matching.{MatchesLeafKey, compared_from}
 use Rattle.art_reading.specs.declared.matching.PrefixMatchBehavior.{PrefixMatchBehavior}
 use Rattle.art_reading.specs.declared.matching.PrefixMatchBehavior.TheVariants.{Optimistic, Pessimistic}

@@ -2,7 +2,7 @@
 use Rattle.std.proofs.Common.{◌≡◌, ℕ, suc, ◌<◌, List, [], ◌∷◌, ◌++◌, length, get_or, slice_get, is_some, refl, ap, sym, ◌∙◌, arith}
 use Rattle.std.proofs.Common.{Bool, true, false, not, eqb, eq-eqb, eqb-true}
 use Rattle.std.proofs.lemmas.Bool.{false≢true, ne_eqb}
-use Rattle.art_model.specs.Keys.{is_front}
+use Rattle.art_model.specs.Prelude.{is_front}
 use Rattle.art_reading.specs.Matching.{shared_len}
 
 none_with : (a : List ℕ) → shared_len a [] ≡ 0

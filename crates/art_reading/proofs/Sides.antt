@@ -3,7 +3,7 @@ use Rattle.std.proofs.Common.{◌≡◌, ℕ, ◌<◌, ◌≤◌, ◌⊎◌, Lis
 use Rattle.std.specs.Cmp.Lexicographic.{slice_cmp}
 use Rattle.std.specs.Ordering.{nat_cmp, ordering_then}
 use Rattle.std.proofs.lemmas.Bool.{cases_order, le-ltb, lt-ltb, ne_eqb}
-use Rattle.art_model.specs.Keys.{IsFront}
+use Rattle.art_model.specs.Prelude.{IsFront}
 
 -- a byte that is not the key's decides
 decided_left : (a k : ℕ) (w v s : List ℕ) → (a ≡ k → slice_cmp nat_cmp w s ≡ slice_cmp nat_cmp v s) →

@@ -3,7 +3,7 @@ use Rattle.std.proofs.Common.{◌≡◌, List, [], ◌∷◌, ◌++◌, map, fil
 use Rattle.std.proofs.lemmas.Bool.{true≢false}
 use Rattle.std.proofs.lemmas.List.{map-append}
 use Rattle.std.proofs.lemmas.List.Elements.{filter-append}
-use Rattle.art_model.specs.Pairs.{Pairwise, last_of}
+use Rattle.art_model.specs.Prelude.{Pairwise, last_of}
 use Rattle.art_model.proofs.lists.Filters.{Pairwise-filter, filter_all}
 use Rattle.art_model.proofs.lists.Lists.{Each-weaker, each_unmap, filter_none}
 

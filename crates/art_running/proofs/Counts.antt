@@ -1,13 +1,7 @@
 -- How many inner nodes of each kind there are: in trees, with another tree in the hole of a path, and in the tree of pairs.
 use Rattle.std.proofs.Common.{◌≡◌, ◌≢◌, ℕ, ◌+◌, ◌≤◌, List, [], ◌∷◌, cond, eqb, refl, ap, ap₂, sym, ◌∙◌, arith, Option, Some, None}
 use Rattle.std.proofs.lemmas.Bool.{lt-ltb, le-ltb}
-use Rattle.art_parts.specs.Kinds.{kind_index}
-use Rattle.art_parts.specs.declared.names.NodeType.{NodeType}
-use Rattle.art_parts.specs.declared.names.NodeType.TheVariants.{Node4, Node16, Node48, Node256, Leaf}
-use Rattle.art_model.specs.Pairs.{of_key}
-use Rattle.art_model.specs.Paths.{Frame, plug, fill}
-use Rattle.art_model.specs.Radix.{IsRadix, join, pairs_of, unmarked, all_unmarked}
-use Rattle.art_model.specs.Trees.{Tree, leaf, inner, Subtrees, child, no_child}
+use Rattle.art_model.specs.Prelude.{kind_index, NodeType, Node4, Node16, Node48, Node256, Leaf, of_key, Frame, plug, fill, IsRadix, join, pairs_of, unmarked, all_unmarked, Tree, leaf, inner, Subtrees, child, no_child}
 use Rattle.art_model.proofs.radix.Rebuild.{rebuild_root}
 use Rattle.art_running.specs.Needs.{count_of, inner_count_below, more_of, inner_count}
 

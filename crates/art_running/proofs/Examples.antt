@@ -3,8 +3,7 @@ use Rattle.std.proofs.Common.{◌≡◌, ℕ, List, [], ◌∷◌, Option, Some,
 use Rattle.std.specs.Global.{Vec}
 use Rattle.std.specs.Box.{boxed_slice_items}
 use Rattle.std.proofs.lemmas.Bool.{true≢false}
-use Rattle.art_nodes.specs.Nodes.{Promise}
-use Rattle.art_parts.specs.declared.names.NodeType.TheVariants.{Node4, Node16}
+use Rattle.art_model.specs.Prelude.{Promise, Node4, Node16}
 use Rattle.art_running.specs.Answers.{Answers, pairs_after_command}
 use Rattle.art_running.specs.Needs.{needs}
 use Rattle.art_running.specs.Runs.{Chain}

@@ -2,10 +2,7 @@
 use Rattle.std.proofs.Common.{◌≡◌, ℕ, List, [], ◌∷◌, ap, sym, subst, Option, Some}
 use Rattle.std.specs.Global.{Vec}
 use Rattle.art_running.specs.Made.{IsDeletionAt}
-use Rattle.art_nodes.specs.Nodes.{Nodes}
-use Rattle.art_parts.specs.declared.names.OpaqueNodePtr.{OpaqueNodePtr}
-use Rattle.art_model.specs.Pairs.{first_of, last_of, IsMap, of_key, remove_key, remove_reply}
-use Rattle.art_model.specs.Roots.{ForTree}
+use Rattle.art_model.specs.Prelude.{Nodes, OpaqueNodePtr, first_of, last_of, IsMap, of_key, remove_key, remove_reply, ForTree}
 use Rattle.art_model.proofs.pairs.MapLaws.{first_is_removed_by_key, last_is_removed_by_key}
 use Rattle.art_running.specs.Answers.{Answers}
 use Rattle.art_running.specs.declared.run.Command.{Command}

@@ -1,16 +1,7 @@
 -- The steps of a clone: to the other store, or a failure.
 use Rattle.std.proofs.Common.{◌≡◌, ℕ, List, [], refl, ap, sym, ◌∙◌, subst, Option, Some, None}
-use Rattle.art_parts.specs.LeafClones.{IsPairClone}
-use Rattle.art_nodes.specs.Nodes.{Nodes}
-use Rattle.art_parts.specs.declared.names.OpaqueNodePtr.{OpaqueNodePtr}
-use Rattle.art_model.specs.Canonical.{IsCanonicalTree, IsCanonical}
-use Rattle.art_model.specs.Clones.{AreClones}
-use Rattle.art_model.specs.Kept.{Frees, KeepsOthers, SameNodes}
-use Rattle.art_model.specs.Layouts.{names_of}
-use Rattle.art_model.specs.Pairs.{of_key}
-use Rattle.art_model.specs.Promises.{IsLessened, tree_taken}
-use Rattle.art_model.specs.Radix.{pairs_of}
-use Rattle.art_model.specs.Roots.{ForTree}
+use Rattle.art_model.specs.Prelude.{IsPairClone, Nodes, OpaqueNodePtr, IsCanonicalTree, IsCanonical, AreClones, Frees, KeepsOthers, SameNodes, names_of, of_key, IsLessened, pairs_of, ForTree}
+use Rattle.art_model.specs.Promises.{tree_taken}
 use Rattle.art_model.proofs.stores.Canonical.{tree_radix}
 use Rattle.art_running.specs.Runs.{on, of_side, from_side, shown_state}
 use Rattle.art_running.specs.Steps.{State, Step, opposite}

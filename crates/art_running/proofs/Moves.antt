@@ -1,16 +1,7 @@
 -- Steps from a tree in a store, whatever the other one holds.
-use Rattle.std.proofs.Common.{◌≡◌, ℕ, List, [], refl, ap, sym, subst, Option, Some, None, Bool}
-use Rattle.std.specs.Option.{option_map}
+use Rattle.std.proofs.Common.{◌≡◌, ℕ, List, [], refl, ap, sym, subst, Option, Some, None, Bool, option_map}
 use Rattle.art_running.specs.Made.{MakesStep}
-use Rattle.art_model.specs.Kept.{SameNodes}
-use Rattle.art_nodes.specs.Nodes.{Nodes}
-use Rattle.art_parts.specs.declared.names.OpaqueNodePtr.{OpaqueNodePtr}
-use Rattle.art_model.specs.Canonical.{IsCanonicalTree, IsCanonical}
-use Rattle.art_model.specs.Layouts.{name_of}
-use Rattle.art_model.specs.Pairs.{of_key}
-use Rattle.art_model.specs.Radix.{pairs_of}
-use Rattle.art_model.specs.Roots.{IsCanonicalRoot, IsRootOf}
-use Rattle.art_model.specs.Trees.{Tree}
+use Rattle.art_model.specs.Prelude.{SameNodes, Nodes, OpaqueNodePtr, IsCanonicalTree, IsCanonical, name_of, of_key, pairs_of, IsCanonicalRoot, IsRootOf, Tree}
 use Rattle.art_model.proofs.stores.Canonical.{tree_radix}
 use Rattle.art_running.specs.Answers.{Answers}
 use Rattle.art_running.specs.Steps.{State, NothingChanged, IsSound, Step, pairs_in}

@@ -1,30 +1,14 @@
 -- What applied points place is what their commands need.
-use Rattle.std.proofs.Common.{◌≡◌, ◌≢◌, ℕ, suc, ◌+◌, ◌<◌, ◌≤◌, List, [], ◌∷◌, ◌++◌, length, drop, take, cond, ltb, leb, get_or, slice_get}
+use Rattle.std.proofs.Common.{◌≡◌, ◌≢◌, ℕ, suc, ◌+◌, ◌<◌, ◌≤◌, List, [], ◌∷◌, ◌++◌, length, drop, take, cond, ltb, leb, get_or, slice_get, is_some}
 use Rattle.std.proofs.Common.{Bool, true, false, refl, ap, ap₂, sym, ◌∙◌, subst, arith, append_assoc, length-append, Option, Some, None}
 use Rattle.std.proofs.Common.{inl, inr}
 use Rattle.art_parts.proofs.NameLemmas.{same_kind}
-use Rattle.art_parts.specs.Kinds.{kind_index, kind_capacity, kind_least, larger_kind, next_larger, smaller_kind}
+use Rattle.art_model.specs.Prelude.{kind_index, kind_capacity, kind_least, larger_kind, smaller_kind, Inner, child_at, leaf_name, inner_name, Nodes, Promise, InnerPtr, NodeType, Node4, Node16, Node48, Node256, Leaf, OpaqueNodePtr, IsCanonicalTree, IsFront, are_related, are_same, name_of, slots_of, Holds, of_key, first_of, has_key, with_key, put, remove_key, replace_key, Frame, plug, IsPath, least_key, prefix_of, IsRadix, AreRadix, BytesRise, join, bytes_of, pairs_of, pairs_below, node_at, Tree, leaf, inner, Subtrees, child, no_child, NodeHeader, canonical_header, kind_of, as_inner}
+use Rattle.art_parts.specs.Kinds.{next_larger}
 use Rattle.std.proofs.lemmas.Bool.{cases_Bool, leb-true, leb-false, ne_eqb}
 use Rattle.std.proofs.lemmas.Option.{slice_get_within}
 use Rattle.std.proofs.Math.Seq.{get_or-append_seam}
 use Rattle.std.specs.FinMap.{get}
-use Rattle.std.specs.Option.{is_some}
-use Rattle.art_inner.specs.Inner.{Inner, child_at}
-use Rattle.art_parts.specs.Names.{leaf_name, inner_name}
-use Rattle.art_nodes.specs.Nodes.{Nodes, Promise}
-use Rattle.art_parts.specs.declared.names.InnerPtr.{InnerPtr}
-use Rattle.art_parts.specs.declared.names.NodeType.{NodeType}
-use Rattle.art_parts.specs.declared.names.NodeType.TheVariants.{Node4, Node16, Node48, Node256, Leaf}
-use Rattle.art_parts.specs.declared.names.OpaqueNodePtr.{OpaqueNodePtr}
-use Rattle.art_model.specs.Canonical.{IsCanonicalTree}
-use Rattle.art_model.specs.Keys.{IsFront, are_related, are_same}
-use Rattle.art_model.specs.Layouts.{name_of, slots_of, Holds}
-use Rattle.art_model.specs.Pairs.{of_key, first_of, has_key, with_key, put, remove_key, replace_key}
-use Rattle.art_model.specs.Paths.{Frame, plug, IsPath}
-use Rattle.art_model.specs.Places.{least_key, prefix_of}
-use Rattle.art_model.specs.Radix.{IsRadix, AreRadix, BytesRise, join, bytes_of, pairs_of, pairs_below}
-use Rattle.art_model.specs.Stores.{node_at}
-use Rattle.art_model.specs.Trees.{Tree, leaf, inner, Subtrees, child, no_child, NodeHeader, canonical_header, kind_of}
 use Rattle.art_model.proofs.changes.AddedChild.{IsSplit, kind_of-larger, split_at}
 use Rattle.art_model.proofs.pairs.Between.{remove_key-between, replace_key-between}
 use Rattle.art_model.proofs.stores.Canonical.{tree_radix}
@@ -42,7 +26,6 @@ use Rattle.art_model.proofs.pairs.Puts.{any_is_first, put-new, put-old}
 use Rattle.art_model.proofs.radix.Radix.{only_child, pairs_below-join, bytes_of-join, AreRadix-right}
 use Rattle.art_model.proofs.stores.Slots.{IsInRange, range_of_kind, kind_of-range, kind_of-room, kind_of-full, kind_of-spare, kind_of-least, length-slots_of}
 use Rattle.art_model.proofs.stores.Stores.{path_holds}
-use Rattle.art_model.specs.Writes.{as_inner}
 use Rattle.art_model.proofs.stores.Writes.{inner_at}
 use Rattle.art_running.specs.Answers.{Answers}
 use Rattle.art_writing.specs.Inserted.{placed_for, is_full}

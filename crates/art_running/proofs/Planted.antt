@@ -1,13 +1,7 @@
 -- Steps to a tree of one leaf, where there was no tree.
 use Rattle.std.proofs.Common.{◌≡◌, ℕ, ◌<◌, List, refl, ap, sym, ◌∙◌, arith, Option, Some, None, zero, suc, inl, inr}
 use Rattle.std.proofs.lemmas.Bool.{le-leb, leb-true}
-use Rattle.art_parts.specs.Names.{leaf_name}
-use Rattle.art_nodes.specs.Nodes.{Nodes, Promise, take_leaf}
-use Rattle.art_parts.specs.declared.names.LeafPtr.{LeafPtr}
-use Rattle.art_parts.specs.declared.names.OpaqueNodePtr.{OpaqueNodePtr}
-use Rattle.art_model.specs.Footprints.{TouchesAtMost}
-use Rattle.art_model.specs.Promises.{promise_after}
-use Rattle.art_model.specs.Trees.{leaf}
+use Rattle.art_model.specs.Prelude.{leaf_name, Nodes, Promise, take_leaf, LeafPtr, OpaqueNodePtr, TouchesAtMost, promise_after, leaf}
 use Rattle.art_model.proofs.stores.Touches.{touches_at_most}
 use Rattle.art_writing.specs.ParentWrites.{IsPlanted}
 use Rattle.art_running.specs.declared.run.Side.{Side}

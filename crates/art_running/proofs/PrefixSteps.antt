@@ -1,24 +1,9 @@
 -- Applied prefix points make steps: what an overwrite needs, and what it touches.
-use Rattle.std.proofs.Common.{◌≡◌, ◌≢◌, ℕ, List, [], ◌∷◌, length, leb, eqb, cond, is_some, Option, true, false, not, refl, ap, ap₂, sym, ◌∙◌, subst, arith, Some, None, inl, inr}
+use Rattle.std.proofs.Common.{◌≡◌, ◌≢◌, ℕ, List, [], ◌∷◌, length, leb, eqb, cond, is_some, Option, true, false, not, refl, ap, ap₂, sym, ◌∙◌, subst, arith, Some, None, inl, inr, option_map}
 use Rattle.std.proofs.lemmas.Bool.{ne_eqb, lt-leb}
 use Rattle.std.specs.List.{AllByRecursion as Each}
-use Rattle.std.specs.Option.{option_map}
-use Rattle.art_parts.specs.Names.{leaf_name}
-use Rattle.art_nodes.specs.Nodes.{Nodes, Promise}
-use Rattle.art_parts.specs.declared.leaf.LeafNode.{LeafNode}
-use Rattle.art_parts.specs.declared.names.NodeType.{NodeType}
-use Rattle.art_parts.specs.declared.names.NodeType.TheVariants.{Node4, Node16, Node48, Node256, Leaf}
-use Rattle.art_parts.specs.declared.names.OpaqueNodePtr.{OpaqueNodePtr}
-use Rattle.art_model.specs.Canonical.{IsCanonical, IsCanonicalTree}
-use Rattle.art_model.specs.Footprints.{TouchesAtMost, TouchesRelated}
-use Rattle.art_model.specs.Keys.{are_related, are_same}
-use Rattle.art_model.specs.Kept.{ChangesInPlace}
-use Rattle.art_model.specs.Pairs.{of_key, add_in_order, first_of, only_or_count, is_conflict, overwrite, overwrite_reply, related_to, remove_key, remove_related, replace_related, with_key}
-use Rattle.art_model.specs.Paths.{Frame, plug}
-use Rattle.art_model.specs.Promises.{is_covered, promise_after}
-use Rattle.art_model.specs.Radix.{IsRadix, pairs_of}
-use Rattle.art_model.specs.Stores.{pair_of}
-use Rattle.art_model.specs.Trees.{leaf}
+use Rattle.art_model.specs.Prelude.{leaf_name, Nodes, Promise, LeafNode, NodeType, Node4, Node16, Node48, Node256, Leaf, OpaqueNodePtr, IsCanonical, IsCanonicalTree, TouchesAtMost, are_related, are_same, ChangesInPlace, of_key, add_in_order, first_of, only_or_count, is_conflict, overwrite, overwrite_reply, related_to, remove_key, remove_related, replace_related, with_key, Frame, plug, is_covered, promise_after, IsRadix, pairs_of, pair_of, leaf}
+use Rattle.art_model.specs.Footprints.{TouchesRelated}
 use Rattle.art_model.proofs.pairs.Between.{replace_related-between}
 use Rattle.art_model.proofs.stores.Canonical.{tree_radix}
 use Rattle.art_model.proofs.places.InHole.{with_key-hole}

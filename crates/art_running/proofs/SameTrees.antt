@@ -1,14 +1,6 @@
 -- What the pairs of sound states decide.
-use Rattle.std.proofs.Common.{◌≡◌, ℕ, List, [], refl, ap, sym, ◌∙◌, subst, Option, Some, None}
-use Rattle.std.specs.Option.{option_map}
-use Rattle.art_nodes.specs.Nodes.{Nodes}
-use Rattle.art_parts.specs.declared.names.OpaqueNodePtr.{OpaqueNodePtr}
-use Rattle.art_model.specs.Canonical.{IsCanonicalTree}
-use Rattle.art_model.specs.Layouts.{name_of}
-use Rattle.art_model.specs.Pairs.{of_key}
-use Rattle.art_model.specs.Radix.{pairs_of, unmarked}
-use Rattle.art_model.specs.Roots.{IsRootOf}
-use Rattle.art_model.specs.Trees.{Tree, tree_of}
+use Rattle.std.proofs.Common.{◌≡◌, ℕ, List, [], refl, ap, sym, ◌∙◌, subst, Option, Some, None, option_map}
+use Rattle.art_model.specs.Prelude.{Nodes, OpaqueNodePtr, IsCanonicalTree, name_of, of_key, pairs_of, unmarked, IsRootOf, Tree, tree_of}
 use Rattle.art_model.proofs.stores.StoreLaws.{have_same_tree}
 use Rattle.art_running.specs.Steps.{pairs_in}
 

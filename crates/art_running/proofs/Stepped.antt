@@ -1,19 +1,7 @@
 -- Applied points make steps: from what an application leaves to the parts of a step.
-use Rattle.std.proofs.Common.{◌≡◌, ℕ, ◌≤◌, List, refl, ap, sym, ◌∙◌, subst, arith, Option, Some, None, Bool, true, false, MatchBool, inl, inr}
-use Rattle.std.specs.Option.{option_map}
+use Rattle.std.proofs.Common.{◌≡◌, ℕ, ◌≤◌, List, refl, ap, sym, ◌∙◌, subst, arith, Option, Some, None, Bool, true, false, MatchBool, inl, inr, option_map}
 use Rattle.std.specs.Box.{boxed_slice_items}
-use Rattle.art_nodes.specs.Nodes.{Nodes, Promise, no_promise}
-use Rattle.art_parts.specs.declared.names.OpaqueNodePtr.{OpaqueNodePtr}
-use Rattle.art_parts.specs.declared.leaf.LeafNode.{LeafNode}
-use Rattle.art_model.specs.Canonical.{IsCanonicalTree, IsCanonical}
-use Rattle.art_model.specs.Footprints.{TouchesAtMost}
-use Rattle.art_model.specs.Kept.{ChangesInPlace, SameNodes}
-use Rattle.art_model.specs.Layouts.{name_of}
-use Rattle.art_model.specs.Pairs.{of_key, is_conflict, has_key, put, put_reply, remove_key}
-use Rattle.art_model.specs.Promises.{is_covered, promise_after}
-use Rattle.art_model.specs.Radix.{pairs_of}
-use Rattle.art_model.specs.Roots.{ForRoot}
-use Rattle.art_model.specs.Stores.{pair_of}
+use Rattle.art_model.specs.Prelude.{Nodes, Promise, no_promise, OpaqueNodePtr, LeafNode, IsCanonicalTree, IsCanonical, TouchesAtMost, ChangesInPlace, SameNodes, name_of, of_key, is_conflict, has_key, put, put_reply, remove_key, is_covered, promise_after, pairs_of, ForRoot, pair_of}
 use Rattle.art_model.proofs.stores.Canonical.{tree_radix}
 use Rattle.art_running.specs.Answers.{Answers}
 use Rattle.art_writing.specs.Deleted.{TouchesFor, ParentChange, no_parent, keeps, shrinks, is_compressed, parent_change, LeadsTo, placed_for_deletion}

@@ -1,19 +1,7 @@
 -- the end node of a key in the hole of its path, and the leaf that the store has there
 use Rattle.std.proofs.Common.{◌≡◌, ℕ, List, [], length, Some, ap, sym, ◌∙◌, subst}
 use Rattle.std.specs.FinMap as map
-use Rattle.art_parts.specs.Names.{leaf_name}
-use Rattle.art_parts.specs.declared.leaf.LeafNode.{LeafNode}
-use Rattle.art_parts.specs.declared.names.LeafPtr.{LeafPtr}
-use Rattle.art_nodes.specs.Nodes.{Nodes}
-use Rattle.art_parts.specs.declared.names.OpaqueNodePtr.{OpaqueNodePtr}
-use Rattle.art_model.specs.Canonical.{IsCanonicalTree}
-use Rattle.art_model.specs.Keys.{IsFront}
-use Rattle.art_model.specs.Layouts.{Holds}
-use Rattle.art_model.specs.Paths.{Frame, plug}
-use Rattle.art_model.specs.Places.{depth_of, place_of, IsEndNode}
-use Rattle.art_model.specs.Radix.{IsRadix}
-use Rattle.art_model.specs.Stores.{node_at, pair_of}
-use Rattle.art_model.specs.Trees.{Tree, leaf}
+use Rattle.art_model.specs.Prelude.{leaf_name, LeafNode, LeafPtr, Nodes, OpaqueNodePtr, IsCanonicalTree, IsFront, Holds, Frame, plug, depth_of, place_of, IsEndNode, IsRadix, node_at, pair_of, Tree, leaf}
 use Rattle.art_model.proofs.stores.Canonical.{tree_radix}
 use Rattle.art_model.proofs.places.Paths.{IsHole, radix_plug}
 use Rattle.art_model.proofs.places.PlaceLaws.{depth_is}

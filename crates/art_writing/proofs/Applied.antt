@@ -1,18 +1,10 @@
 -- What is stated of an applied point, from what holds for each layout of the root.
-use Rattle.std.proofs.Common.{◌≡◌, ℕ, List, Some, Ok, Err, false, true, IsTrue, refl, ap, sym, ◌∙◌, subst}
-use Rattle.std.specs.Option.{option_map}
-use Rattle.art_nodes.specs.Nodes.{Nodes, Promise, no_promise}
-use Rattle.art_model.specs.Canonical.{IsCanonical}
-use Rattle.art_model.specs.Kept.{ChangesInPlace}
-use Rattle.art_model.specs.Pairs.{of_key, overwrite, put, stored_for}
-use Rattle.art_model.specs.Paths.{Frame}
-use Rattle.art_model.specs.Promises.{is_covered, promise_after}
-use Rattle.art_model.specs.Roots.{ForTree}
+use Rattle.std.proofs.Common.{◌≡◌, ℕ, List, Some, Ok, Err, false, true, IsTrue, refl, ap, sym, ◌∙◌, subst, option_map}
+use Rattle.art_model.specs.Prelude.{Nodes, Promise, no_promise, IsCanonical, ChangesInPlace, of_key, overwrite, put, stored_for, Frame, is_covered, promise_after, ForTree, OpaqueNodePtr}
 use Rattle.art_model.proofs.stores.Apart.{tree_apart}
 use Rattle.art_model.proofs.pairs.MapLaws.{stored_again}
 use Rattle.art_model.proofs.pairs.PutOver.{put_is_overwrite, put_reply_is, was_free}
 use Rattle.art_model.proofs.stores.StoreLaws.{has_one_map}
-use Rattle.art_parts.specs.declared.names.OpaqueNodePtr.{OpaqueNodePtr}
 use Rattle.art_writing.specs.declared.insert.InsertPoint.{InsertPoint}
 use Rattle.art_writing.specs.declared.insert.InsertResult.{InsertResult}
 use Rattle.art_writing.specs.declared.insert.OverwritePoint.{OverwritePoint}

@@ -2,27 +2,9 @@
 use Rattle.std.proofs.Common.{◌≡◌, ◌≢◌, ℕ, suc, ◌<◌, ◌≤◌, List, [], ◌∷◌, length, Bool, true, false, cond, leb, refl, ap, sym, ◌∙◌, subst, arith, Option, Some, None, IsSome, is_some, IfSome, IsSomeAnd}
 use Rattle.std.specs.FinMap.{get, insert, remove}
 use Rattle.std.proofs.lemmas.Bool.{leb-true, leb-false, lt-leb}
-use Rattle.art_inner.specs.InnerChanges.{without_child}
-use Rattle.art_inner.specs.Inner.{Inner, child_at, remove_child}
-use Rattle.art_parts.specs.Kinds.{kind_capacity, kind_least, next_smaller, smaller_kind}
-use Rattle.art_parts.specs.Names.{leaf_name, inner_name}
-use Rattle.art_nodes.specs.Nodes.{Nodes, change}
-use Rattle.art_parts.specs.declared.names.NodeType.{NodeType}
-use Rattle.art_parts.specs.declared.names.NodeType.TheVariants.{Node4, Node16, Node48, Node256, Leaf}
-use Rattle.art_parts.specs.declared.names.InnerPtr.{InnerPtr}
-use Rattle.art_parts.specs.declared.leaf.LeafNode.{LeafNode}
-use Rattle.art_parts.specs.declared.names.OpaqueNodePtr.{OpaqueNodePtr}
+use Rattle.art_model.specs.Prelude.{without_child, Inner, child_at, remove_child, kind_capacity, kind_least, smaller_kind, leaf_name, inner_name, Nodes, change, NodeType, Node4, Node16, Node48, Node256, Leaf, InnerPtr, LeafNode, OpaqueNodePtr, IsCanonicalTree, ChangesInPlace, name_of, remove_key, Frame, plug, bytes_of, join, IsRootOf, node_at, links_at, pair_of, Tree, leaf, child, Inners, as_inner, parent_of, with_child_at, without_leaf}
+use Rattle.art_parts.specs.Kinds.{next_smaller}
 use Rattle.art_nodes.proofs.StoreLaws.{inner_fresh_differs, inner_gone_elsewhere}
-use Rattle.art_model.specs.Canonical.{IsCanonicalTree}
-use Rattle.art_model.specs.Kept.{ChangesInPlace}
-use Rattle.art_model.specs.Layouts.{name_of}
-use Rattle.art_model.specs.Pairs.{remove_key}
-use Rattle.art_model.specs.Paths.{Frame, plug}
-use Rattle.art_model.specs.Radix.{bytes_of, join}
-use Rattle.art_model.specs.Roots.{IsRootOf}
-use Rattle.art_model.specs.Stores.{node_at, links_at, pair_of}
-use Rattle.art_model.specs.Trees.{Tree, leaf, child}
-use Rattle.art_model.specs.Writes.{Inners, as_inner, parent_of, with_child_at, without_leaf}
 use Rattle.art_model.proofs.stores.Canonical.{IsLaidOut, laid_out, canonical_from}
 use Rattle.art_model.proofs.changes.OutOf.{HasLeafBelow, ParentStays, ParentShrinks, with_leaf_in, links_there, parent_is, one_more}
 use Rattle.art_model.proofs.changes.OutOf.{slots_left, room_in_smaller, above_same, above_holds, hole, left_out, stays_laid_out}

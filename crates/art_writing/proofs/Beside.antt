@@ -1,15 +1,7 @@
 -- the neighbours of a new leaf in the chain of a store
-use Rattle.std.proofs.Common.{◌≡◌, List, [], ◌∷◌, ◌++◌, Option, Some, None, IsSomeAnd, refl, ap, sym, ◌∙◌, subst, append_assoc, append-nil, inl, inr}
+use Rattle.std.proofs.Common.{◌≡◌, List, [], ◌∷◌, ◌++◌, Option, Some, None, IsSomeAnd, refl, ap, sym, ◌∙◌, subst, append_assoc, append-nil, inl, inr, option_map}
 use Rattle.std.specs.FinMap as map
-use Rattle.std.specs.Option.{option_map}
-use Rattle.art_parts.specs.Names.{leaf_name}
-use Rattle.art_nodes.specs.Nodes.{Nodes}
-use Rattle.art_parts.specs.declared.leaf.LeafNode.{LeafNode}
-use Rattle.art_parts.specs.declared.names.LeafPtr.{LeafPtr}
-use Rattle.art_parts.specs.declared.names.OpaqueNodePtr.{OpaqueNodePtr}
-use Rattle.art_model.specs.Layouts.{AreLinked, Links, first_or, last_or, leaf_names, leaf_names_below}
-use Rattle.art_model.specs.Stores.{links_at}
-use Rattle.art_model.specs.Trees.{Subtrees, child, no_child}
+use Rattle.art_model.specs.Prelude.{leaf_name, Nodes, LeafNode, LeafPtr, OpaqueNodePtr, AreLinked, Links, first_or, last_or, leaf_names, leaf_names_below, links_at, Subtrees, child, no_child}
 use Rattle.art_model.proofs.leaves.Chains.{links_leaf}
 use Rattle.art_model.proofs.leaves.Links.{link_of, last_or-push}
 use Rattle.art_model.proofs.lists.Lists.{first_and_rest, others_and_last}

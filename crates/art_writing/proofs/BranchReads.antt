@@ -1,28 +1,11 @@
 -- What is read before a branch is placed: where the key differs from those below the end of its path, and the neighbours of the new leaf.
-use Rattle.std.proofs.Common.{◌≡◌, ◌≢◌, ℕ, ◌+◌, ◌-◌, ◌<◌, ◌≤◌, List, [], ◌∷◌, ◌++◌, length, take, drop, get_or, Option, Some, None}
+use Rattle.std.proofs.Common.{◌≡◌, ◌≢◌, ℕ, ◌+◌, ◌-◌, ◌<◌, ◌≤◌, List, [], ◌∷◌, ◌++◌, length, take, drop, get_or, Option, Some, None, option_map, option_and_then}
 use Rattle.std.proofs.Common.{IsSome, IsSomeAnd, refl, ap, ap₂, sym, ◌∙◌, subst, arith, cond, ltb, Bool, true, false, append_assoc, append-nil}
 use Rattle.std.proofs.Common.{length-append, take_at}
 use Rattle.std.proofs.lemmas.List.{get_or_at, take-append-drop}
 use Rattle.std.proofs.lemmas.Option.{slice_get_within, get_or_from_slice_get}
-use Rattle.std.specs.Option.{option_map, option_and_then}
 use Rattle.std.specs.FinMap.{get}
-use Rattle.art_parts.specs.Headers.{header_of}
-use Rattle.art_parts.specs.Names.{leaf_name, inner_name}
-use Rattle.art_nodes.specs.Nodes.{Nodes}
-use Rattle.art_parts.specs.declared.names.InnerPtr.{InnerPtr}
-use Rattle.art_parts.specs.declared.names.LeafPtr.{LeafPtr}
-use Rattle.art_parts.specs.declared.leaf.LeafNode.{LeafNode}
-use Rattle.art_parts.specs.declared.names.OpaqueNodePtr.{OpaqueNodePtr}
-use Rattle.art_model.specs.Canonical.{IsCanonicalTree}
-use Rattle.art_model.specs.Keys.{IsFront, are_related}
-use Rattle.art_model.specs.Layouts.{Links, AreLinked, name_of, leaf_names, first_or, last_or}
-use Rattle.art_model.specs.Pairs.{first_of, last_of}
-use Rattle.art_model.specs.Paths.{plug, leaves_before, leaves_after, Frame}
-use Rattle.art_model.specs.Places.{depth_of, least_key, prefix_of}
-use Rattle.art_model.specs.Roots.{IsFullTree}
-use Rattle.art_model.specs.Radix.{IsRadix}
-use Rattle.art_model.specs.Stores.{links_at, links_of, held_leaf, node_at, pair_of}
-use Rattle.art_model.specs.Trees.{Tree, leaf, inner, Subtrees, NodeHeader}
+use Rattle.art_model.specs.Prelude.{header_of, leaf_name, inner_name, Nodes, InnerPtr, LeafPtr, LeafNode, OpaqueNodePtr, IsCanonicalTree, IsFront, are_related, Links, AreLinked, name_of, leaf_names, first_or, last_or, first_of, last_of, plug, leaves_before, leaves_after, Frame, depth_of, least_key, prefix_of, IsFullTree, IsRadix, links_at, links_of, held_leaf, node_at, pair_of, Tree, leaf, inner, Subtrees, NodeHeader}
 use Rattle.art_model.proofs.keys.Fronts.{part_where, unrelated_part}
 use Rattle.art_model.proofs.leaves.Links.{link_of, last_or-append}
 use Rattle.art_model.proofs.keys.KeyLaws.{common_front_is_longest}

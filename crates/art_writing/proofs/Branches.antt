@@ -1,29 +1,9 @@
 -- A branch at the end of a point's path: what the store has there before the branch is placed, and after.
-use Rattle.std.proofs.Common.{◌≡◌, ◌≢◌, ℕ, List, [], ◌∷◌, ◌++◌, length, take, Option, Some, None, IsSome, IsSomeAnd, IfSome, is_some, refl}
+use Rattle.std.proofs.Common.{◌≡◌, ◌≢◌, ℕ, List, [], ◌∷◌, ◌++◌, length, take, Option, Some, None, IsSome, IsSomeAnd, IfSome, is_some, refl, option_map}
 use Rattle.std.proofs.Common.{ap, ap₂, sym, ◌∙◌, subst, cond, ltb, Bool, true, false, append_assoc, append-nil}
 use Rattle.std.specs.List.{AllByRecursion as Each}
-use Rattle.std.specs.Option.{option_map}
 use Rattle.std.specs.FinMap.{get, insert}
-use Rattle.art_inner.specs.InnerChanges.{with_child}
-use Rattle.art_inner.specs.Inner.{Inner, childless, child_at}
-use Rattle.art_parts.specs.Headers.{Prefix}
-use Rattle.art_parts.specs.Names.{leaf_name, inner_name}
-use Rattle.art_nodes.specs.Nodes.{Nodes}
-use Rattle.art_parts.specs.declared.names.InnerPtr.{InnerPtr}
-use Rattle.art_parts.specs.declared.leaf.LeafNode.{LeafNode}
-use Rattle.art_parts.specs.declared.names.OpaqueNodePtr.{OpaqueNodePtr}
-use Rattle.art_model.specs.Canonical.{IsCanonicalTree}
-use Rattle.art_model.specs.Footprints.{IsIn}
-use Rattle.art_model.specs.Kept.{ChangesInPlace}
-use Rattle.art_model.specs.Keys.{IsFront, are_related, are_same}
-use Rattle.art_model.specs.Layouts.{name_of, names_of, leaf_names}
-use Rattle.art_model.specs.Pairs.{with_key, replace_key, related_to, first_of}
-use Rattle.art_model.specs.Paths.{Frame, plug, fill, leaves_before, leaves_after}
-use Rattle.art_model.specs.Places.{depth_of, least_key}
-use Rattle.art_model.specs.Radix.{pairs_of}
-use Rattle.art_model.specs.Stores.{node_at, links_at}
-use Rattle.art_model.specs.Trees.{Tree, leaf, inner, child, no_child, canonical_header}
-use Rattle.art_model.specs.Writes.{IsThere, with_child_at, with_leaf, parent_of}
+use Rattle.art_model.specs.Prelude.{with_child, Inner, childless, child_at, Prefix, leaf_name, inner_name, Nodes, InnerPtr, LeafNode, OpaqueNodePtr, IsCanonicalTree, IsIn, ChangesInPlace, IsFront, are_related, are_same, name_of, names_of, leaf_names, with_key, replace_key, related_to, first_of, Frame, plug, fill, leaves_before, leaves_after, depth_of, least_key, pairs_of, node_at, links_at, Tree, leaf, inner, child, no_child, canonical_header, IsThere, with_child_at, with_leaf, parent_of}
 use Rattle.art_model.proofs.changes.Branches.{BranchStored, branch_in_place}
 use Rattle.art_model.proofs.stores.Canonical.{IsLaidOut, laid_out, canonical_from}
 use Rattle.art_model.proofs.leaves.Chains.{AreThere, are_there, previous_there, next_there}

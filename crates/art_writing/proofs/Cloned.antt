@@ -1,20 +1,8 @@
 -- What is stated of a clone, from the copy of a canonical tree.
 use Rattle.std.proofs.Common.{ℕ, List, [], Some, None, Result, IfOk, refl, sym, subst}
 use Rattle.std.proofs.lemmas.Result.{IfOk-weaker}
-use Rattle.art_parts.specs.LeafClones.{IsPairClone}
-use Rattle.art_parts.specs.Names.{leaf_name}
-use Rattle.art_nodes.specs.Nodes.{Nodes}
-use Rattle.art_parts.specs.declared.names.OpaqueNodePtr.{OpaqueNodePtr}
-use Rattle.art_model.specs.Apart.{KeepsApart}
-use Rattle.art_model.specs.Canonical.{IsCanonical, IsCanonicalTree}
-use Rattle.art_model.specs.Clones.{AreClones, KeepBytes}
-use Rattle.art_model.specs.Kept.{KeepsOthers}
-use Rattle.art_model.specs.Layouts.{names_of}
-use Rattle.art_model.specs.Lookups.{HasFirstLeaf, HasLastLeaf}
-use Rattle.art_model.specs.Pairs.{of_key}
-use Rattle.art_model.specs.Radix.{HaveChildren, pairs_of}
-use Rattle.art_model.specs.Roots.{ForTree, IsCanonicalRoot, IsFullTree}
-use Rattle.art_model.specs.Trees.{Tree}
+use Rattle.art_model.specs.Prelude.{IsPairClone, leaf_name, Nodes, OpaqueNodePtr, KeepsApart, IsCanonical, IsCanonicalTree, AreClones, KeepsOthers, names_of, HasFirstLeaf, HasLastLeaf, of_key, HaveChildren, pairs_of, ForTree, IsCanonicalRoot, IsFullTree, Tree}
+use Rattle.art_model.specs.Clones.{KeepBytes}
 use Rattle.art_model.proofs.stores.Apart.{tree_apart}
 use Rattle.art_model.proofs.radix.Copies.{copied_tree}
 use Rattle.art_model.proofs.stores.Gains.{came_others}

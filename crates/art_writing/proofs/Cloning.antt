@@ -4,27 +4,11 @@ use Rattle.std.specs.List.{AllByRecursion as Each}
 use Rattle.std.specs.Option.{option_map, option_or}
 use Rattle.std.specs.FinMap.{get, insert}
 use Rattle.std.proofs.lemmas.List.{length-append}
-use Rattle.art_inner.specs.InnerChanges.{with_child}
-use Rattle.art_parts.specs.LeafClones.{IsLeafClone, IsPairClone}
+use Rattle.art_model.specs.Prelude.{with_child, IsPairClone, kind_capacity, leaf_name, inner_name, Nodes, change, take_leaf, take_inner, Leaf, LeafPtr, LeafNode, InnerPtr, OpaqueNodePtr, Tree, leaf, inner, Subtrees, child, no_child, NodeHeader, BytesRise, bytes_of, join, HaveChildren, HaveChildrenBelow, tree_height, height_below, leaf_node, name_of, slots_of, names_of, names_below, leaf_names, leaf_names_below, inner_names, HoldsBelow, AreDistinct, IsLayout, first_or, last_or, IsFullTree, node_at, pair_of, header_at, as_inner, with_links_around, IsThere, IsCopy, AreCopies, without, Gains}
+use Rattle.art_parts.specs.LeafClones.{IsLeafClone}
 use Rattle.art_inner.specs.Inner.{Inner, HasPlace, IsBelow, childless, IsRising as AreRising}
-use Rattle.art_parts.specs.Kinds.{kind_capacity}
-use Rattle.art_parts.specs.Names.{leaf_name, inner_name}
-use Rattle.art_nodes.specs.Nodes.{Nodes, change, take_leaf, take_inner}
-use Rattle.art_parts.specs.declared.names.NodeType.TheVariants.{Leaf}
-use Rattle.art_parts.specs.declared.names.LeafPtr.{LeafPtr}
-use Rattle.art_parts.specs.declared.leaf.LeafNode.{LeafNode}
-use Rattle.art_parts.specs.declared.names.InnerPtr.{InnerPtr}
-use Rattle.art_parts.specs.declared.names.OpaqueNodePtr.{OpaqueNodePtr}
-use Rattle.art_model.specs.Trees.{Tree, leaf, inner, Subtrees, child, no_child, NodeHeader}
-use Rattle.art_model.specs.Radix.{BytesRise, bytes_of, join, HaveChildren, HaveChildrenBelow}
-use Rattle.art_model.specs.Heights.{tree_height, height_below}
-use Rattle.art_model.specs.Layouts.{leaf_node, name_of, slots_of, names_of, names_below, leaf_names, leaf_names_below, inner_names, HoldsBelow, AreDistinct, IsLayout, first_or, last_or}
-use Rattle.art_model.specs.Roots.{IsFullTree}
-use Rattle.art_model.specs.Stores.{node_at, pair_of, header_at}
-use Rattle.art_model.specs.Writes.{as_inner, with_links_around, IsThere}
-use Rattle.art_model.specs.Clones.{IsCopy, AreCopies}
 use Rattle.art_model.specs.Promises.{tree_taken, children_taken}
-use Rattle.art_model.specs.Gains.{as_leaf, without, Loses, Gains}
+use Rattle.art_model.specs.Gains.{as_leaf, Loses}
 use Rattle.art_model.proofs.leaves.Chains.{are_there}
 use Rattle.art_model.proofs.radix.Copies.{copied_bytes, copies_joined}
 use Rattle.art_model.proofs.stores.Gains.{GainsChild, gained_child, gained_leaf, gained_inner, child_seen}

@@ -1,27 +1,9 @@
 -- A subtree is replaced by its first leaf: what the writes leave, from the equations of the store's maps.
-use Rattle.std.proofs.Common.{◌≡◌, ◌≢◌, ℕ, ◌+◌, List, [], ◌∷◌, ◌++◌, length, length-append, append_assoc, append-nil, Option, Some, None, refl, ap, sym, ◌∙◌, subst, arith, ◌⊎◌, inl, inr}
+use Rattle.std.proofs.Common.{◌≡◌, ◌≢◌, ℕ, ◌+◌, List, [], ◌∷◌, ◌++◌, length, length-append, append_assoc, append-nil, Option, Some, None, refl, ap, sym, ◌∙◌, subst, arith, ◌⊎◌, inl, inr, option_map}
 use Rattle.std.specs.List.{AllByRecursion as Each}
-use Rattle.std.specs.Option.{option_map}
 use Rattle.std.specs.FinMap.{get}
-use Rattle.art_inner.specs.InnerChanges.{without_child}
-use Rattle.art_parts.specs.Names.{leaf_name}
-use Rattle.art_parts.specs.declared.leaf.LeafNode.{LeafNode}
-use Rattle.art_parts.specs.declared.names.LeafPtr.{LeafPtr}
-use Rattle.art_parts.specs.declared.names.NodeType.TheVariants.{Leaf}
-use Rattle.art_parts.specs.declared.names.OpaqueNodePtr.{OpaqueNodePtr}
-use Rattle.art_nodes.specs.Nodes.{Nodes, change}
+use Rattle.art_model.specs.Prelude.{without_child, leaf_name, LeafNode, LeafPtr, Leaf, OpaqueNodePtr, Nodes, change, IsIn, IsFront, ChangesInPlace, Frees, KeepsOthers, leaf_node, inner_node, name_of, names_of, names_below, leaf_names, entries_of, slots_of, first_or, last_or, AreDistinct, AreLinked, Holds, IsLayout, first_of, Frame, plug, IsPath, HoldsPath, pairs_before, pairs_after, leaves_before, leaves_after, names_before, names_after, IsRadix, join, pairs_of, content_at, held_leaf, held_inner, node_at, links_at, pair_of, tree_node, Tree, leaf, inner, child, no_child, as_inner, parent_of, with_links_around, with_child_at}
 use Rattle.art_nodes.proofs.StoreLaws.{inner_changed_here, inner_changed_elsewhere}
-use Rattle.art_model.specs.Footprints.{IsIn}
-use Rattle.art_model.specs.Keys.{IsFront}
-use Rattle.art_model.specs.Kept.{ChangesInPlace, Frees, KeepsOthers}
-use Rattle.art_model.specs.Layouts.{leaf_node, inner_node, name_of, names_of, names_below, leaf_names, entries_of}
-use Rattle.art_model.specs.Layouts.{slots_of, first_or, last_or, AreDistinct, AreLinked, Holds, IsLayout}
-use Rattle.art_model.specs.Pairs.{first_of}
-use Rattle.art_model.specs.Paths.{Frame, plug, IsPath, HoldsPath, pairs_before, pairs_after, leaves_before, leaves_after, names_before, names_after}
-use Rattle.art_model.specs.Radix.{IsRadix, join, pairs_of}
-use Rattle.art_model.specs.Stores.{content_at, held_leaf, held_inner, node_at, links_at, pair_of, tree_node}
-use Rattle.art_model.specs.Trees.{Tree, leaf, inner, child, no_child}
-use Rattle.art_model.specs.Writes.{as_inner, parent_of, with_links_around, with_child_at}
 use Rattle.art_model.proofs.stores.Canonical.{IsLaidOut}
 use Rattle.art_model.proofs.leaves.Chains.{AreBeside, relinked_beside}
 use Rattle.art_model.proofs.changes.Kept.{kept_leaves, kept_leaves_fewer}

@@ -2,9 +2,7 @@
 use Rattle.std.proofs.Common.{◌≡◌, ℕ, ◌+◌, ◌≤◌, List, [], ◌∷◌, ◌++◌, length, take, min}
 use Rattle.std.proofs.Common.{Option, Some, None, IsSome, IsSomeAnd, refl, ap, ◌∙◌, arith, append_assoc}
 use Rattle.std.proofs.lemmas.List.{take-take}
-use Rattle.art_inner.specs.Inner.{Inner}
-use Rattle.art_parts.specs.declared.leaf.LeafNode.{LeafNode}
-use Rattle.art_parts.specs.Headers.{Prefix, header_of}
+use Rattle.art_model.specs.Prelude.{Inner, LeafNode, Prefix, header_of}
 use Rattle.art_nodes.proofs.StoreLemmas.{is_there}
 use Rattle.art_parts.proofs.HeaderLaws.{extended_header, len_of_header, stored_of_header}
 

@@ -2,20 +2,7 @@
 use Rattle.std.proofs.Common.{◌≡◌, ◌≢◌, ℕ, suc, ◌+◌, ◌*◌, ◌<◌, List, [], ◌∷◌, ◌++◌, length, length-append, reverse, Option, Some, None, IsSome, true, refl, ap, sym, ◌∙◌, subst, arith}
 use Rattle.std.specs.Option.{option_or}
 use Rattle.std.specs.FinMap as map
-use Rattle.art_inner.specs.InnerChanges.{with_child}
-use Rattle.art_inner.specs.Inner.{Inner, Children}
-use Rattle.art_parts.specs.Names.{inner_name, leaf_name}
-use Rattle.art_nodes.specs.Nodes.{Nodes, change}
-use Rattle.art_parts.specs.declared.names.InnerPtr.{InnerPtr}
-use Rattle.art_parts.specs.declared.names.LeafPtr.{LeafPtr}
-use Rattle.art_parts.specs.declared.names.NodeType.TheVariants.{Leaf}
-use Rattle.art_parts.specs.declared.names.OpaqueNodePtr.{OpaqueNodePtr}
-use Rattle.art_model.specs.Kept.{Frees, SameNodes}
-use Rattle.art_model.specs.Layouts.{AreDistinct, HoldsBelow, IsLayout, name_of, names_of, names_below, shape_of, slots_of}
-use Rattle.art_model.specs.Roots.{IsFullTree}
-use Rattle.art_model.specs.Stores.{node_at, shape_at}
-use Rattle.art_model.specs.Trees.{Tree, leaf, inner, Subtrees, child, no_child}
-use Rattle.art_model.specs.Writes.{with_links_around}
+use Rattle.art_model.specs.Prelude.{with_child, Inner, Children, inner_name, leaf_name, Nodes, change, InnerPtr, LeafPtr, Leaf, OpaqueNodePtr, Frees, SameNodes, AreDistinct, HoldsBelow, IsLayout, name_of, names_of, names_below, shape_of, slots_of, IsFullTree, node_at, shape_at, Tree, leaf, inner, Subtrees, child, no_child, with_links_around}
 use Rattle.art_model.proofs.stores.Gains.{frees_lost}
 use Rattle.art_model.proofs.lists.Pairwises.{Pairwise-left, Pairwise-right}
 use Rattle.art_model.proofs.places.Paths.{names_below-join}

@@ -1,17 +1,6 @@
 -- points at which leaves are removed
-use Rattle.std.proofs.Common.{◌≡◌, ℕ, List, ap, sym, ◌∙◌, subst, Option, Some, None}
-use Rattle.std.specs.Prelude.{IfNone}
-use Rattle.std.specs.Option.{option_map}
-use Rattle.art_nodes.specs.Nodes.{Nodes}
-use Rattle.art_parts.specs.Names.{leaf_name}
-use Rattle.art_parts.specs.declared.names.OpaqueNodePtr.{OpaqueNodePtr}
-use Rattle.art_model.specs.Canonical.{IsCanonical, IsCanonicalTree}
-use Rattle.art_model.specs.Lookups.{HasLeaf}
-use Rattle.art_model.specs.Pairs.{first_of, last_of, remove_key, remove_reply}
-use Rattle.art_model.specs.Radix.{pairs_of}
-use Rattle.art_model.specs.Roots.{ForTree, IsCanonicalRoot}
-use Rattle.art_model.specs.Stores.{pair_of}
-use Rattle.art_model.specs.Trees.{Tree}
+use Rattle.std.proofs.Common.{◌≡◌, ℕ, List, ap, sym, ◌∙◌, subst, Option, Some, None, IfNone, option_map}
+use Rattle.art_model.specs.Prelude.{Nodes, leaf_name, OpaqueNodePtr, IsCanonical, IsCanonicalTree, HasLeaf, first_of, last_of, remove_key, remove_reply, pairs_of, ForTree, IsCanonicalRoot, pair_of, Tree}
 use Rattle.art_model.proofs.leaves.LeavesFound.{leaf_found}
 use Rattle.art_reading.specs.declared.descent.End.{End}
 use Rattle.art_reading.specs.declared.descent.End.TheVariants.{First, Last}

@@ -1,24 +1,7 @@
 -- What follows from a deletion's record for each clause of an applied point, and what a store has at a point: the leaf and its parent.
-use Rattle.std.proofs.Common.{◌≡◌, ◌≢◌, ℕ, List, [], ◌∷◌, refl, ap, sym, ◌∙◌, subst, true, Option, Some, None, IsSome, IfSome, IsSomeAnd}
-use Rattle.std.specs.Option.{option_map}
+use Rattle.std.proofs.Common.{◌≡◌, ◌≢◌, ℕ, List, [], ◌∷◌, refl, ap, sym, ◌∙◌, subst, true, Option, Some, None, IsSome, IfSome, IsSomeAnd, option_map}
 use Rattle.std.specs.FinMap.{get}
-use Rattle.art_parts.specs.Names.{leaf_name}
-use Rattle.art_nodes.specs.Nodes.{Nodes, take_inner}
-use Rattle.art_parts.specs.declared.names.NodeType.{NodeType}
-use Rattle.art_parts.specs.declared.names.InnerPtr.{InnerPtr}
-use Rattle.art_parts.specs.declared.leaf.LeafNode.{LeafNode}
-use Rattle.art_parts.specs.declared.names.OpaqueNodePtr.{OpaqueNodePtr}
-use Rattle.art_model.specs.Canonical.{IsCanonicalTree, IsCanonical}
-use Rattle.art_model.specs.Kept.{ChangesInPlace}
-use Rattle.art_model.specs.Layouts.{leaf_node, Node, Holds}
-use Rattle.art_model.specs.Keys.{are_same}
-use Rattle.art_model.specs.Pairs.{IsMap, first_of, remove_key, remove_reply, with_key, without_first}
-use Rattle.art_model.specs.Paths.{Frame, plug, HoldsPath}
-use Rattle.art_model.specs.Promises.{promise_after}
-use Rattle.art_model.specs.Roots.{IsCanonicalRoot, IsRootOf}
-use Rattle.art_model.specs.Stores.{node_at, pair_of}
-use Rattle.art_model.specs.Trees.{Tree, leaf}
-use Rattle.art_model.specs.Writes.{as_inner, parent_of, without_leaf}
+use Rattle.art_model.specs.Prelude.{leaf_name, Nodes, take_inner, NodeType, InnerPtr, LeafNode, OpaqueNodePtr, IsCanonicalTree, IsCanonical, ChangesInPlace, leaf_node, Node, Holds, are_same, IsMap, first_of, remove_key, remove_reply, with_key, without_first, Frame, plug, HoldsPath, promise_after, IsCanonicalRoot, IsRootOf, node_at, pair_of, Tree, leaf, as_inner, parent_of, without_leaf}
 use Rattle.art_model.proofs.stores.Apart.{tree_apart}
 use Rattle.art_model.proofs.lists.Filters.{filter_passes}
 use Rattle.art_model.proofs.keys.Keys.{same_equal}

@@ -1,16 +1,8 @@
 -- A tree is unchanged where the nodes in use hold what they held: writes outside it and reservations don't matter.
-use Rattle.std.proofs.Common.{◌≡◌, ◌≢◌, ℕ, List, ap, sym, subst, ◌∙◌, None, Result, Ok, Err, IfOk, OnErr, inl, inr}
-use Rattle.std.specs.Option.{option_map}
+use Rattle.std.proofs.Common.{◌≡◌, ◌≢◌, ℕ, List, ap, sym, subst, ◌∙◌, None, Result, Ok, Err, IfOk, OnErr, inl, inr, option_map}
 use Rattle.std.specs.FinMap.{get, insert}
-use Rattle.art_parts.specs.Names.{leaf_name}
-use Rattle.art_nodes.specs.Nodes.{Nodes}
-use Rattle.art_parts.specs.declared.names.LeafPtr.{LeafPtr}
-use Rattle.art_parts.specs.declared.leaf.LeafNode.{LeafNode}
-use Rattle.art_parts.specs.declared.names.OpaqueNodePtr.{OpaqueNodePtr}
+use Rattle.art_model.specs.Prelude.{leaf_name, Nodes, LeafPtr, LeafNode, OpaqueNodePtr, IsCanonicalTree, content_at, held_leaf, held_inner, Tree}
 use Rattle.art_nodes.proofs.StoreLaws.{leaf_elsewhere as elsewhere}
-use Rattle.art_model.specs.Canonical.{IsCanonicalTree}
-use Rattle.art_model.specs.Stores.{content_at, held_leaf, held_inner}
-use Rattle.art_model.specs.Trees.{Tree}
 use Rattle.art_model.proofs.stores.Apart.{name_used, tree_kept}
 use Rattle.art_model.proofs.stores.Views.{held_in_inner, leaf_or}
 

@@ -1,29 +1,10 @@
 -- a leaf added below an inner node, as an insertion: the point's node, where the leaf is placed, and what the writes leave
-use Rattle.std.proofs.Common.{◌≡◌, ◌≢◌, ℕ, ◌<◌, List, [], ◌∷◌, ◌++◌, length, drop, get_or, Option, Some, None, IsSome, IsSomeAnd, IfSome}
+use Rattle.std.proofs.Common.{◌≡◌, ◌≢◌, ℕ, ◌<◌, List, [], ◌∷◌, ◌++◌, length, drop, get_or, Option, Some, None, IsSome, IsSomeAnd, IfSome, option_map}
 use Rattle.std.proofs.Common.{refl, leb, ap, sym, ◌∙◌, subst, arith, append_assoc, length-append, false, inl}
 use Rattle.std.specs.List.{AllByRecursion as Each}
 use Rattle.std.specs.FinMap as map
-use Rattle.std.specs.Option.{option_map}
-use Rattle.art_inner.specs.Inner.{Inner, child_at}
-use Rattle.art_parts.specs.Kinds.{kind_capacity}
-use Rattle.art_parts.specs.Names.{leaf_name, inner_name}
-use Rattle.art_nodes.specs.Nodes.{Nodes}
-use Rattle.art_parts.specs.declared.names.NodeType.TheVariants.{Leaf}
-use Rattle.art_parts.specs.declared.names.InnerPtr.{InnerPtr}
-use Rattle.art_parts.specs.declared.names.LeafPtr.{LeafPtr}
-use Rattle.art_parts.specs.declared.names.OpaqueNodePtr.{OpaqueNodePtr}
+use Rattle.art_model.specs.Prelude.{Inner, child_at, kind_capacity, leaf_name, inner_name, Nodes, Leaf, InnerPtr, LeafPtr, OpaqueNodePtr, IsCanonicalTree, IsFront, are_same, ChangesInPlace, slots_of, first_of, with_key, replace_key, Frame, plug, depth_of, prefix_of, IsRadix, AreRadix, bytes_of, join, pairs_of, pairs_below, node_at, links_at, Tree, leaf, inner, Subtrees, child, no_child, NodeHeader, kind_of, as_inner, parent_of}
 use Rattle.art_nodes.proofs.StoreLaws.{inner_gone_elsewhere}
-use Rattle.art_model.specs.Canonical.{IsCanonicalTree}
-use Rattle.art_model.specs.Keys.{IsFront, are_same}
-use Rattle.art_model.specs.Kept.{ChangesInPlace}
-use Rattle.art_model.specs.Layouts.{slots_of}
-use Rattle.art_model.specs.Pairs.{first_of, with_key, replace_key}
-use Rattle.art_model.specs.Paths.{Frame, plug}
-use Rattle.art_model.specs.Places.{depth_of, prefix_of}
-use Rattle.art_model.specs.Radix.{IsRadix, AreRadix, bytes_of, join, pairs_of, pairs_below}
-use Rattle.art_model.specs.Stores.{node_at, links_at}
-use Rattle.art_model.specs.Trees.{Tree, leaf, inner, Subtrees, child, no_child, NodeHeader, kind_of}
-use Rattle.art_model.specs.Writes.{as_inner, parent_of}
 use Rattle.art_model.proofs.changes.AddedChild.{ChildAdded, split_at}
 use Rattle.art_model.proofs.stores.Canonical.{IsLaidOut, laid_out, canonical_from}
 use Rattle.art_model.proofs.places.InHole.{with_key-hole}

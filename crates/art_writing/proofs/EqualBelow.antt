@@ -1,15 +1,7 @@
 -- A key's own point is that of the first key that starts with it, if that one is no longer.
 use Rattle.std.proofs.Common.{◌≡◌, ℕ, ◌<◌, ◌≤◌, List, [], length, if◌then◌else◌, ap, append-nil, arith, refl, sym, ◌∙◌, subst, Some, None, IsSome}
 use Rattle.std.specs.FinMap as map
-use Rattle.art_nodes.specs.Nodes.{Nodes}
-use Rattle.art_parts.specs.declared.leaf.LeafNode.{LeafNode}
-use Rattle.art_parts.specs.declared.names.OpaqueNodePtr.{OpaqueNodePtr}
-use Rattle.art_model.specs.Canonical.{IsCanonicalTree}
-use Rattle.art_model.specs.Keys.{common_front, is_front}
-use Rattle.art_model.specs.Pairs.{first_of, remove_reply}
-use Rattle.art_model.specs.Parts.{below}
-use Rattle.art_model.specs.Stores.{pair_of}
-use Rattle.art_model.specs.Trees.{Tree}
+use Rattle.art_model.specs.Prelude.{Nodes, LeafNode, OpaqueNodePtr, IsCanonicalTree, common_front, is_front, first_of, remove_reply, below, pair_of, Tree}
 use Rattle.art_model.proofs.keys.Fronts.{shared_whole}
 use Rattle.art_model.proofs.keys.KeyLaws.{common_front_is_longest}
 use Rattle.art_model.proofs.keys.Texts.{front_short, not_front, true_front}

@@ -1,20 +1,10 @@
 -- What is freed, one name after another.
-use Rattle.std.proofs.Common.{◌≡◌, ◌≢◌, ◌-◌, suc, List, [], ◌∷◌, ◌++◌, Option, Some, None, IsSome, refl, ap, sym, ◌∙◌, subst, append-nil, append_assoc, arith, cond, is_some, true, inl, inr}
-use Rattle.std.specs.Option.{option_map, option_and_then}
+use Rattle.std.proofs.Common.{◌≡◌, ◌≢◌, ◌-◌, suc, List, [], ◌∷◌, ◌++◌, Option, Some, None, IsSome, refl, ap, sym, ◌∙◌, subst, append-nil, append_assoc, arith, cond, is_some, true, inl, inr, option_map, option_and_then}
 use Rattle.std.specs.FinMap as map
 use Rattle.std.proofs.lemmas.Bool.{false≢true}
-use Rattle.art_parts.specs.Names.{leaf_name, leaf_cmp}
-use Rattle.art_nodes.specs.Nodes.{Nodes}
-use Rattle.art_parts.specs.declared.names.LeafPtr.{LeafPtr}
-use Rattle.art_parts.specs.declared.leaf.LeafNode.{LeafNode}
-use Rattle.art_parts.specs.declared.names.OpaqueNodePtr.{OpaqueNodePtr}
+use Rattle.art_model.specs.Prelude.{leaf_name, leaf_cmp, Nodes, LeafPtr, LeafNode, OpaqueNodePtr, IsIn, Frees, AreDistinct, first_of, without_first, content_at, held_leaf, held_inner, links_of}
 use Rattle.art_parts.proofs.NameLemmas.{leaf_cmp_total}
 use Rattle.art_nodes.proofs.StoreLaws.{leaf_gone, leaf_gone_elsewhere}
-use Rattle.art_model.specs.Footprints.{IsIn}
-use Rattle.art_model.specs.Kept.{Frees}
-use Rattle.art_model.specs.Layouts.{AreDistinct}
-use Rattle.art_model.specs.Pairs.{first_of, without_first}
-use Rattle.art_model.specs.Stores.{content_at, held_leaf, held_inner, links_of}
 use Rattle.art_model.proofs.lists.Lists.{in_left, in_right, in_either}
 use Rattle.art_model.proofs.stores.Names.{apart_in}
 use Rattle.art_model.proofs.lists.Pairwises.{Pairwise-right}

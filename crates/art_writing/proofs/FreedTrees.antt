@@ -1,27 +1,11 @@
 -- A tree that is freed: what a store shows of it, and which of its names are freed.
-use Rattle.std.proofs.Common.{◌≡◌, ◌≢◌, ℕ, zero, suc, ◌≤◌, ◌+◌, Bool, true, false, cond, List, [], ◌∷◌, ◌++◌, length, length-append, Option}
+use Rattle.std.proofs.Common.{◌≡◌, ◌≢◌, ℕ, zero, suc, ◌≤◌, ◌+◌, Bool, true, false, cond, List, [], ◌∷◌, ◌++◌, length, length-append, Option, option_map}
 use Rattle.std.proofs.Common.{Some, None, IsSome, is_some, refl, ap, ap₂, sym, ◌∙◌, subst, arith, inl, inr}
 use Rattle.std.specs.List.{AllByRecursion as Each}
-use Rattle.std.specs.Option.{option_map}
 use Rattle.std.specs.FinMap as map
-use Rattle.art_inner.specs.Inner.{Inner}
-use Rattle.art_parts.specs.Names.{leaf_name, inner_name}
-use Rattle.art_nodes.specs.Nodes.{Nodes, change}
-use Rattle.art_parts.specs.declared.names.NodeType.{NodeType}
-use Rattle.art_parts.specs.declared.names.NodeType.TheVariants.{Node4, Node16, Node48, Node256, Leaf}
-use Rattle.art_parts.specs.declared.names.LeafPtr.{LeafPtr}
-use Rattle.art_parts.specs.declared.names.InnerPtr.{InnerPtr}
-use Rattle.art_parts.specs.declared.leaf.LeafNode.{LeafNode}
-use Rattle.art_parts.specs.declared.names.OpaqueNodePtr.{OpaqueNodePtr}
+use Rattle.art_model.specs.Prelude.{Inner, leaf_name, inner_name, Nodes, change, NodeType, Node4, Node16, Node48, Node256, Leaf, LeafPtr, InnerPtr, LeafNode, OpaqueNodePtr, IsIn, tree_height, height_below, Frees, Node, name_of, leaf_node, inner_node, slots_of, names_of, names_below, leaf_names, leaf_names_below, inner_names, inner_names_below, shape_of, Holds, HoldsBelow, IsLayout, content_at, held_leaf, held_inner, IsUsed, header_at, node_at, tree_node, shape_at, Tree, leaf, inner, Subtrees, child, no_child, NodeHeader, as_inner}
 use Rattle.art_nodes.proofs.StoreLaws.{inner_gone, inner_gone_elsewhere, inner_changed_elsewhere}
-use Rattle.art_model.specs.Footprints.{IsIn}
-use Rattle.art_model.specs.Heights.{tree_height, height_below}
-use Rattle.art_model.specs.Kept.{Frees}
-use Rattle.art_model.specs.Layouts.{Node, name_of, leaf_node, inner_node, slots_of, names_of, names_below, leaf_names, leaf_names_below}
-use Rattle.art_model.specs.Layouts.{inner_names, inner_names_below, shape_of, Holds, HoldsBelow, IsLayout}
-use Rattle.art_model.specs.Stores.{content_at, held_leaf, held_inner, IsUsed, header_at, inner_seen, node_at, tree_node, shape_in, shape_at}
-use Rattle.art_model.specs.Trees.{Tree, leaf, inner, Subtrees, child, no_child, NodeHeader}
-use Rattle.art_model.specs.Writes.{as_inner}
+use Rattle.art_model.specs.Stores.{inner_seen, shape_in}
 use Rattle.art_model.proofs.stores.Heights.{height_long, enough_inners}
 use Rattle.art_model.proofs.lists.Lists.{Each-append, Each-weaker, in_left, in_right, in_either, each_in, each_from}
 use Rattle.art_model.proofs.stores.Names.{IsTaken as IsInUse, all_taken, among, among_below, taken_distinct, takes_inners, takes_leaves}

@@ -2,21 +2,9 @@
 use Rattle.std.proofs.Common.{◌≡◌, ◌≢◌, ◌⊎◌, ℕ, ◌<◌, ◌∷◌, ◌++◌, length, cond, ltb, Bool, true, false, Option, Some, None, refl, ap, sym, ◌∙◌, subst, arith, inl, inr}
 use Rattle.std.specs.List.{AllByRecursion as Each}
 use Rattle.std.specs.FinMap as map
-use Rattle.art_inner.specs.Inner.{Inner, Children, child_at}
-use Rattle.art_parts.specs.Names.{inner_name}
-use Rattle.art_nodes.specs.Nodes.{Nodes}
-use Rattle.art_parts.specs.declared.names.NodeType.TheVariants.{Leaf}
-use Rattle.art_parts.specs.declared.names.InnerPtr.{InnerPtr}
-use Rattle.art_parts.specs.declared.names.LeafPtr.{LeafPtr}
-use Rattle.art_parts.specs.declared.names.OpaqueNodePtr.{OpaqueNodePtr}
+use Rattle.art_model.specs.Prelude.{Inner, Children, child_at, inner_name, Nodes, Leaf, InnerPtr, LeafPtr, OpaqueNodePtr, IsNextTo, AreDistinct, name_of, names_of, names_below, slots_of, BytesRise, bytes_of, join, IsFullTree, node_at, Tree, inner, Subtrees, child, no_child, NodeHeader}
 use Rattle.std.proofs.lemmas.Bool.{cases_eq, ltb-true, ltb-false}
-use Rattle.art_inner.specs.Beside.{IsNextTo}
 use Rattle.art_inner.proofs.ChildrenLaws.{at_here, at_later}
-use Rattle.art_model.specs.Layouts.{AreDistinct, name_of, names_of, names_below, slots_of}
-use Rattle.art_model.specs.Radix.{BytesRise, bytes_of, join}
-use Rattle.art_model.specs.Roots.{IsFullTree}
-use Rattle.art_model.specs.Stores.{node_at}
-use Rattle.art_model.specs.Trees.{Tree, inner, Subtrees, child, no_child, NodeHeader}
 use Rattle.art_model.proofs.places.Edges.{children_right}
 use Rattle.art_model.proofs.lists.Pairwises.{Pairwise-left, Pairwise-right}
 use Rattle.art_model.proofs.places.Paths.{names_below-join}

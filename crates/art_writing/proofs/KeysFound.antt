@@ -1,22 +1,9 @@
 -- What is found under a key in a list of pairs, and in a tree.
-use Rattle.std.proofs.Common.{◌≡◌, ℕ, List, [], ◌∷◌, length, map, refl, ap, ap₂, sym, ◌&&◌, ◌||◌, ◌∙◌, subst, Option, Some, None, Bool, true, false, not, IfSome, if◌then◌else◌}
+use Rattle.std.proofs.Common.{◌≡◌, ℕ, List, [], ◌∷◌, length, map, refl, ap, ap₂, sym, ◌&&◌, ◌||◌, ◌∙◌, subst, Option, Some, None, Bool, true, false, not, IfSome, if◌then◌else◌, is_some}
 use Rattle.std.specs.List.{AllByRecursion as Each}
-use Rattle.std.specs.Option.{is_some}
 use Rattle.std.proofs.lemmas.Bool.{true≢false}
 use Rattle.std.specs.FinMap.{get}
-use Rattle.art_parts.specs.Names.{leaf_name}
-use Rattle.art_nodes.specs.Nodes.{Nodes}
-use Rattle.art_parts.specs.declared.leaf.LeafNode.{LeafNode}
-use Rattle.art_parts.specs.declared.names.LeafPtr.{LeafPtr}
-use Rattle.art_parts.specs.declared.names.OpaqueNodePtr.{OpaqueNodePtr}
-use Rattle.art_model.specs.Canonical.{IsCanonicalTree}
-use Rattle.art_model.specs.Keys.{are_related, are_same, is_front, Precedes}
-use Rattle.art_model.specs.Layouts.{Holds}
-use Rattle.art_model.specs.Lookups.{FindsLeaf}
-use Rattle.art_model.specs.Pairs.{first_of, IsMap, with_key, has_key, is_conflict, of_key, remove_key, remove_reply}
-use Rattle.art_model.specs.Parts.{below}
-use Rattle.art_model.specs.Stores.{node_at, pair_of}
-use Rattle.art_model.specs.Trees.{Tree, leaf}
+use Rattle.art_model.specs.Prelude.{leaf_name, Nodes, LeafNode, LeafPtr, OpaqueNodePtr, IsCanonicalTree, are_related, are_same, is_front, Precedes, Holds, FindsLeaf, first_of, IsMap, with_key, has_key, is_conflict, of_key, remove_key, remove_reply, below, node_at, pair_of, Tree, leaf}
 use Rattle.art_model.proofs.lists.Filters.{none_passes, filter_all, filter_passes}
 use Rattle.art_model.proofs.keys.Keys.{related_sym, same_equal}
 use Rattle.art_model.proofs.leaves.LeavesFound.{leaf_found}

@@ -1,28 +1,11 @@
 -- a leaf placed below the node of a point, which has room or is replaced by a larger one
-use Rattle.std.proofs.Common.{◌≡◌, ◌≢◌, ℕ, ◌<◌, ◌≤◌, List, ◌++◌, length, Bool, true, false, cond, leb, MatchBool, Option, Some, None}
+use Rattle.std.proofs.Common.{◌≡◌, ◌≢◌, ℕ, ◌<◌, ◌≤◌, List, ◌++◌, length, Bool, true, false, cond, leb, MatchBool, Option, Some, None, option_map}
 use Rattle.std.proofs.Common.{IsSomeAnd, IfSome, is_some, refl, ap, ap₂, sym, ◌∙◌, subst, arith, append_assoc, inl}
 use Rattle.std.proofs.lemmas.Bool.{leb-true, leb-false}
 use Rattle.std.specs.FinMap as map
-use Rattle.std.specs.Option.{option_map}
-use Rattle.art_inner.specs.InnerChanges.{with_child}
-use Rattle.art_inner.specs.Inner.{Inner, HasPlace}
-use Rattle.art_parts.specs.Kinds.{kind_capacity, larger_kind, next_larger}
-use Rattle.art_parts.specs.Names.{leaf_name, inner_name}
-use Rattle.art_nodes.specs.Nodes.{Nodes, change}
-use Rattle.art_parts.specs.declared.names.NodeType.{NodeType}
-use Rattle.art_parts.specs.declared.names.NodeType.TheVariants.{Node4, Node16, Node48, Node256, Leaf}
-use Rattle.art_parts.specs.declared.names.InnerPtr.{InnerPtr}
-use Rattle.art_parts.specs.declared.names.LeafPtr.{LeafPtr}
-use Rattle.art_parts.specs.declared.leaf.LeafNode.{LeafNode}
-use Rattle.art_parts.specs.declared.names.OpaqueNodePtr.{OpaqueNodePtr}
-use Rattle.art_model.specs.Canonical.{IsCanonicalTree}
-use Rattle.art_model.specs.Footprints.{TouchesAtMost}
-use Rattle.art_model.specs.Layouts.{AreLinked, leaf_names, leaf_names_below, first_or, last_or}
-use Rattle.art_model.specs.Paths.{plug, leaves_before, leaves_after}
-use Rattle.art_model.specs.Radix.{bytes_of, join}
-use Rattle.art_model.specs.Stores.{links_at}
-use Rattle.art_model.specs.Trees.{Tree, inner, kind_of}
-use Rattle.art_model.specs.Writes.{Inners, IsThere, with_child_at, with_leaf}
+use Rattle.art_model.specs.Prelude.{with_child, Inner, kind_capacity, larger_kind, leaf_name, inner_name, Nodes, change, NodeType, Node4, Node16, Node48, Node256, Leaf, InnerPtr, LeafPtr, LeafNode, OpaqueNodePtr, IsCanonicalTree, TouchesAtMost, AreLinked, leaf_names, leaf_names_below, first_or, last_or, plug, leaves_before, leaves_after, bytes_of, join, links_at, Tree, inner, kind_of, Inners, IsThere, with_child_at, with_leaf}
+use Rattle.art_inner.specs.Inner.{HasPlace}
+use Rattle.art_parts.specs.Kinds.{next_larger}
 use Rattle.art_model.proofs.leaves.Chains.{AreThere, are_there, previous_there, next_there}
 use Rattle.art_model.proofs.places.InHole.{root_stays}
 use Rattle.art_model.proofs.changes.IntoFull.{IntoFull, full_added, full_touches}

@@ -1,14 +1,9 @@
 -- The leaves after some links are changed.
-use Rattle.std.proofs.Common.{◌≡◌, Option, Some, IsSome, ap, sym, ◌∙◌}
-use Rattle.std.specs.Option.{option_map}
+use Rattle.std.proofs.Common.{◌≡◌, Option, Some, IsSome, ap, sym, ◌∙◌, option_map}
 use Rattle.std.specs.FinMap.{get, insert}
-use Rattle.art_nodes.specs.Nodes.{change}
-use Rattle.art_parts.specs.declared.names.LeafPtr.{LeafPtr}
-use Rattle.art_parts.specs.declared.leaf.LeafNode.{LeafNode}
+use Rattle.art_model.specs.Prelude.{change, LeafPtr, LeafNode, pair_of, Leaves, IsThere, with_links_around}
 use Rattle.art_parts.proofs.NameLemmas.{leaf_cmp_total, leaf_cmp-IsAntisymmetric}
 use Rattle.art_nodes.proofs.StoreLaws.{changed_from}
-use Rattle.art_model.specs.Stores.{pair_of}
-use Rattle.art_model.specs.Writes.{Leaves, IsThere, with_links_around}
 use Rattle.art_model.proofs.stores.Touches.{still_placed}
 use Rattle.art_model.proofs.leaves.Leaves.{joined_pair}
 use Rattle.art_reading.proofs.Parts.{some_there}

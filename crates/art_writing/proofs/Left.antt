@@ -1,13 +1,7 @@
 -- What applied points leave, with the resulting tree.
 use Rattle.std.specs.Prelude.{◌≡◌, ℕ, List, Some}
 use Rattle.std.specs.Option.{option_map}
-use Rattle.art_nodes.specs.Nodes.{Nodes}
-use Rattle.art_parts.specs.declared.names.OpaqueNodePtr.{OpaqueNodePtr}
-use Rattle.art_model.specs.Canonical.{IsCanonicalTree}
-use Rattle.art_model.specs.Kept.{ChangesInPlace}
-use Rattle.art_model.specs.Pairs.{overwrite, overwrite_reply, put, put_reply, stored_for}
-use Rattle.art_model.specs.Trees.{Tree}
-use Rattle.art_model.specs.Paths.{Frame}
+use Rattle.art_model.specs.Prelude.{Nodes, OpaqueNodePtr, IsCanonicalTree, ChangesInPlace, overwrite, overwrite_reply, put, put_reply, stored_for, Tree, Frame}
 use Rattle.art_writing.specs.Inserted.{HasInserted, IsBelow, Touches, unlinked_leaf}
 use Rattle.art_writing.specs.Overwritten.{HasOverwritten, TouchesForNode}
 use Rattle.art_writing.specs.declared.insert.InsertPoint.{InsertPoint}

@@ -1,21 +1,9 @@
 -- A tree of one leaf, where there was no tree.
-use Rattle.std.proofs.Common.{◌≡◌, ℕ, List, [], ◌∷◌, refl, ap, sym, ◌∙◌, subst, Some, None, inr}
-use Rattle.std.specs.Option.{option_map, option_and_then}
+use Rattle.std.proofs.Common.{◌≡◌, ℕ, List, [], ◌∷◌, refl, ap, sym, ◌∙◌, subst, Some, None, inr, option_map, option_and_then}
 use Rattle.std.specs.FinMap.{get, insert}
-use Rattle.art_parts.specs.Names.{leaf_name}
-use Rattle.art_nodes.specs.Nodes.{Nodes, take_leaf}
-use Rattle.art_parts.specs.declared.leaf.LeafNode.{LeafNode}
-use Rattle.art_parts.specs.declared.names.LeafPtr.{LeafPtr}
-use Rattle.art_parts.specs.declared.names.NodeType.TheVariants.{Leaf}
+use Rattle.art_model.specs.Prelude.{leaf_name, Nodes, take_leaf, LeafNode, LeafPtr, Leaf, IsCanonicalTree, ChangesInPlace, of_key, IsCanonicalRoot, held_leaf, tree_node, links_of, leaf, KeepsApart}
 use Rattle.art_parts.proofs.NameLemmas.{leaf_cmp_total, leaf_cmp-IsAntisymmetric}
 use Rattle.art_nodes.proofs.StoreLaws.{leaf_here}
-use Rattle.art_model.specs.Canonical.{IsCanonicalTree}
-use Rattle.art_model.specs.Kept.{ChangesInPlace}
-use Rattle.art_model.specs.Pairs.{of_key}
-use Rattle.art_model.specs.Roots.{IsCanonicalRoot}
-use Rattle.art_model.specs.Stores.{held_leaf, tree_node, links_of}
-use Rattle.art_model.specs.Trees.{leaf}
-use Rattle.art_model.specs.Apart.{KeepsApart}
 use Rattle.art_model.proofs.stores.Apart.{tree_apart}
 use Rattle.art_model.proofs.stores.Canonical.{canonical_from}
 use Rattle.art_model.proofs.changes.InPlace.{others_kept}

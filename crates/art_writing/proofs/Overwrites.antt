@@ -1,32 +1,10 @@
 -- Overwrite points, applied: a pair replaces a related one in its leaf.
-use Rattle.std.proofs.Common.{◌≡◌, ◌≢◌, ℕ, ◌+◌, ◌<◌, ◌≤◌, List, [], ◌∷◌, ◌++◌, length, length-append, append_assoc, append-nil, drop}
+use Rattle.std.proofs.Common.{◌≡◌, ◌≢◌, ℕ, ◌+◌, ◌<◌, ◌≤◌, List, [], ◌∷◌, ◌++◌, length, length-append, append_assoc, append-nil, drop, option_map}
 use Rattle.std.proofs.Common.{Option, Some, None, true, false, is_some, IsSome, IfSome, IsSomeAnd, refl, ap, ap₂, sym, ◌∙◌, subst, arith}
 use Rattle.std.specs.List.{AllByRecursion as Each}
 use Rattle.std.specs.FinMap as map
-use Rattle.std.specs.Option.{option_map}
-use Rattle.art_nodes.specs.LeafChanges.{with_pair}
-use Rattle.art_inner.specs.Inner.{Inner, child_at}
-use Rattle.art_parts.specs.Names.{leaf_name}
-use Rattle.art_nodes.specs.Nodes.{Nodes, change}
-use Rattle.art_parts.specs.declared.names.InnerPtr.{InnerPtr}
-use Rattle.art_parts.specs.declared.names.NodeType.{NodeType}
-use Rattle.art_parts.specs.declared.names.NodeType.TheVariants.{Node4, Node16, Node48, Node256, Leaf}
-use Rattle.art_parts.specs.declared.leaf.LeafNode.{LeafNode}
-use Rattle.art_parts.specs.declared.names.LeafPtr.{LeafPtr}
-use Rattle.art_parts.specs.declared.names.OpaqueNodePtr.{OpaqueNodePtr}
-use Rattle.art_model.specs.Canonical.{IsCanonicalTree}
-use Rattle.art_model.specs.Keys.{IsFront, are_related}
-use Rattle.art_model.specs.Footprints.{IsIn, TouchesRelated}
-use Rattle.art_model.specs.Kept.{ChangesInPlace, Frees, SameNodes}
-use Rattle.art_model.specs.Layouts.{name_of, names_of, leaf_names, slots_of, first_or, last_or, Holds}
-use Rattle.art_model.specs.Pairs.{overwrite, overwrite_reply, only_or_count}
-use Rattle.art_model.specs.Paths.{Frame, plug, leaves_before, leaves_after}
-use Rattle.art_model.specs.Places.{depth_of, prefix_of, IsEndNode}
-use Rattle.art_model.specs.Radix.{AreRadix, bytes_of, pairs_of, pairs_below}
-use Rattle.art_model.specs.Roots.{ForTree, IsFullTree}
-use Rattle.art_model.specs.Stores.{node_at, links_at, pair_of}
-use Rattle.art_model.specs.Trees.{Tree, leaf, inner, Subtrees, child, no_child}
-use Rattle.art_model.specs.Writes.{as_inner, parent_of, with_child_at, with_leaf, IsThere}
+use Rattle.art_model.specs.Prelude.{with_pair, Inner, child_at, leaf_name, Nodes, change, InnerPtr, NodeType, Node4, Node16, Node48, Node256, Leaf, LeafNode, LeafPtr, OpaqueNodePtr, IsCanonicalTree, IsFront, are_related, IsIn, ChangesInPlace, Frees, SameNodes, name_of, names_of, leaf_names, slots_of, first_or, last_or, Holds, overwrite, overwrite_reply, only_or_count, Frame, plug, leaves_before, leaves_after, depth_of, prefix_of, IsEndNode, AreRadix, bytes_of, pairs_of, pairs_below, ForTree, IsFullTree, node_at, links_at, pair_of, Tree, leaf, inner, Subtrees, child, no_child, as_inner, parent_of, with_child_at, with_leaf, IsThere}
+use Rattle.art_model.specs.Footprints.{TouchesRelated}
 use Rattle.art_model.proofs.stores.Canonical.{IsLaidOut, laid_out, canonical_from}
 use Rattle.art_model.proofs.leaves.Chains.{AreThere, are_there, previous_there, next_there}
 use Rattle.art_model.proofs.changes.IntoHole.{IntoHole, hole_kept, hole_overwritten, hole_related, hole_reply, hole_touches}

@@ -1,11 +1,6 @@
 -- the point of a key's end node
 use Rattle.std.proofs.Common.{◌≡◌, ℕ, List, ap, sym, ◌∙◌, subst, is_none, Some, None}
-use Rattle.art_nodes.specs.Nodes.{Nodes}
-use Rattle.art_parts.specs.declared.names.OpaqueNodePtr.{OpaqueNodePtr}
-use Rattle.art_model.specs.Canonical.{IsCanonicalTree}
-use Rattle.art_model.specs.Places.{depth_of}
-use Rattle.art_model.specs.Roots.{ForTree, IsCanonicalRoot}
-use Rattle.art_model.specs.Trees.{Tree}
+use Rattle.art_model.specs.Prelude.{Nodes, OpaqueNodePtr, IsCanonicalTree, depth_of, ForTree, IsCanonicalRoot, Tree}
 use Rattle.art_reading.specs.EndNodes.{ComesTo, IsEndFor}
 use Rattle.art_reading.specs.declared.end_node.EndNode.{EndNode}
 use Rattle.art_reading.specs.declared.end_node.InsertKind.{InsertKind}

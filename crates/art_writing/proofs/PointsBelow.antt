@@ -1,15 +1,6 @@
 -- The points of a prefix: that of the node below which its keys are, and that of the first leaf below that node.
 use Rattle.std.proofs.Common.{◌≡◌, ℕ, List, [], ◌∷◌, ◌++◌, refl, ap, sym, ◌∙◌, true, Some, None}
-use Rattle.art_parts.specs.Names.{leaf_name}
-use Rattle.art_parts.specs.declared.names.InnerPtr.{InnerPtr}
-use Rattle.art_parts.specs.declared.names.OpaqueNodePtr.{OpaqueNodePtr}
-use Rattle.art_model.specs.Lookups.{HasFirstLeaf}
-use Rattle.art_model.specs.Pairs.{first_of}
-use Rattle.art_model.specs.Parts.{below}
-use Rattle.art_model.specs.Paths.{Frame, plug}
-use Rattle.art_model.specs.Radix.{pairs_of}
-use Rattle.art_model.specs.Trees.{Tree, leaf}
-use Rattle.art_model.specs.Writes.{as_inner}
+use Rattle.art_model.specs.Prelude.{leaf_name, InnerPtr, OpaqueNodePtr, HasFirstLeaf, first_of, below, Frame, plug, pairs_of, Tree, leaf, as_inner}
 use Rattle.art_reading.specs.PartEnds.{HasAllBelow}
 use Rattle.art_reading.specs.PathSteps.{path_of, step_down}
 use Rattle.art_reading.specs.declared.descent.LastNode.{LastNode}

@@ -1,19 +1,7 @@
 -- How many pairs are related to the key of a point: one where they are in a leaf, so that an insertion never fails for a single pair.
 use Rattle.std.proofs.Common.{◌≡◌, ◌≢◌, ℕ, ◌≤◌, List, [], ◌∷◌, length, is_some, true, false, refl, ap, sym, ◌∙◌, subst, arith, ◌⊎◌, inl, inr}
 use Rattle.std.proofs.Math.Dec.{leb-zero}
-use Rattle.art_parts.specs.Names.{leaf_name}
-use Rattle.art_nodes.specs.Nodes.{Nodes}
-use Rattle.art_parts.specs.declared.names.NodeType.{NodeType}
-use Rattle.art_parts.specs.declared.names.NodeType.TheVariants.{Leaf}
-use Rattle.art_parts.specs.declared.names.OpaqueNodePtr.{OpaqueNodePtr}
-use Rattle.art_model.specs.Canonical.{IsCanonicalTree}
-use Rattle.art_model.specs.Keys.{are_related, are_same}
-use Rattle.art_model.specs.Layouts.{name_of}
-use Rattle.art_model.specs.Pairs.{first_of, is_conflict, related_to, with_key}
-use Rattle.art_model.specs.Promises.{is_covered}
-use Rattle.art_model.specs.Radix.{pairs_of}
-use Rattle.art_model.specs.Stores.{pair_of}
-use Rattle.art_model.specs.Trees.{Tree, leaf}
+use Rattle.art_model.specs.Prelude.{leaf_name, Nodes, NodeType, Leaf, OpaqueNodePtr, IsCanonicalTree, are_related, are_same, name_of, first_of, is_conflict, related_to, with_key, is_covered, pairs_of, pair_of, Tree, leaf}
 use Rattle.art_model.proofs.stores.Canonical.{laid_out}
 use Rattle.art_model.proofs.lists.Filters.{filter_all}
 use Rattle.art_model.proofs.places.Paths.{related_at}

@@ -1,36 +1,14 @@
 -- The removal of a leaf that is the root, or that is below a node with one other child.
-use Rattle.std.proofs.Common.{◌≡◌, ◌≢◌, ℕ, suc, ◌+◌, ◌≤◌, ◌<◌, cond, nat_lt, List, [], ◌∷◌, ◌++◌, length, Option, Some, None, IsSome}
+use Rattle.std.proofs.Common.{◌≡◌, ◌≢◌, ℕ, suc, ◌+◌, ◌≤◌, ◌<◌, cond, nat_lt, List, [], ◌∷◌, ◌++◌, length, Option, Some, None, IsSome, option_map}
 use Rattle.std.proofs.Common.{IfSome, IsSomeAnd, slice_get, refl, ap, ap₂, sym, ◌∙◌, subst, arith, append-nil, length-append, ◌⊎◌, inl, inr}
 use Rattle.std.specs.List.{AllByRecursion as Each}
-use Rattle.std.specs.Option.{option_map}
 use Rattle.std.specs.FinMap.{get, remove}
 use Rattle.std.proofs.lemmas.Bool.{lt-ltb, le-ltb}
-use Rattle.art_inner.specs.InnerChanges.{with_child, with_header, without_child}
-use Rattle.art_inner.specs.Inner.{Inner, remove_child}
-use Rattle.art_parts.specs.Headers.{Prefix}
+use Rattle.art_model.specs.Prelude.{with_child, with_header, without_child, Inner, remove_child, Prefix, leaf_name, Nodes, change, Leaf, LeafPtr, InnerPtr, LeafNode, OpaqueNodePtr, IsCanonicalTree, IsIn, ChangesInPlace, IsFront, slots_of, name_of, leaf_names, leaf_names_below, Holds, last_or, first_or, remove_key, Frame, plug, leaves_before, leaves_after, IsRadix, bytes_of, join, pairs_of, IsRootOf, node_at, links_at, pair_of, Tree, leaf, inner, Subtrees, child, no_child, Inners, as_inner, parent_of, without_leaf, with_child_at}
 use Rattle.art_inner.specs.Inner as nodes
 use Rattle.art_parts.specs.Headers as headers
-use Rattle.art_parts.specs.Names.{leaf_name}
-use Rattle.art_nodes.specs.Nodes.{Nodes, change}
-use Rattle.art_parts.specs.declared.names.NodeType.TheVariants.{Leaf}
-use Rattle.art_parts.specs.declared.names.LeafPtr.{LeafPtr}
-use Rattle.art_parts.specs.declared.names.InnerPtr.{InnerPtr}
-use Rattle.art_parts.specs.declared.leaf.LeafNode.{LeafNode}
-use Rattle.art_parts.specs.declared.names.OpaqueNodePtr.{OpaqueNodePtr}
 use Rattle.art_parts.proofs.HeaderLaws.{header_by_parts}
 use Rattle.art_nodes.proofs.StoreLaws.{inner_gone_elsewhere}
-use Rattle.art_model.specs.Canonical.{IsCanonicalTree}
-use Rattle.art_model.specs.Footprints.{IsIn}
-use Rattle.art_model.specs.Kept.{ChangesInPlace}
-use Rattle.art_model.specs.Keys.{IsFront}
-use Rattle.art_model.specs.Layouts.{slots_of, name_of, leaf_names, leaf_names_below, Holds, last_or, first_or}
-use Rattle.art_model.specs.Pairs.{remove_key}
-use Rattle.art_model.specs.Paths.{Frame, plug, leaves_before, leaves_after}
-use Rattle.art_model.specs.Radix.{IsRadix, bytes_of, join, pairs_of}
-use Rattle.art_model.specs.Roots.{IsRootOf}
-use Rattle.art_model.specs.Stores.{node_at, links_at, pair_of}
-use Rattle.art_model.specs.Trees.{Tree, leaf, inner, Subtrees, child, no_child}
-use Rattle.art_model.specs.Writes.{Inners, as_inner, parent_of, without_leaf, with_child_at}
 use Rattle.art_model.proofs.stores.Canonical.{IsLaidOut, laid_out}
 use Rattle.art_model.proofs.changes.Changes.{child_left}
 use Rattle.art_model.proofs.changes.Changes as changes

@@ -1,20 +1,7 @@
 -- another value for a stored key, as an insertion
-use Rattle.std.proofs.Common.{◌≡◌, ℕ, List, Some, IsSome, IfSome, refl, ap, sym, ◌∙◌, subst}
+use Rattle.std.proofs.Common.{◌≡◌, ℕ, List, Some, IsSome, IfSome, refl, ap, sym, ◌∙◌, subst, option_map}
 use Rattle.std.specs.FinMap as map
-use Rattle.std.specs.Option.{option_map}
-use Rattle.art_nodes.specs.LeafChanges.{with_value}
-use Rattle.art_parts.specs.Names.{leaf_name}
-use Rattle.art_nodes.specs.Nodes.{Nodes, change}
-use Rattle.art_parts.specs.declared.leaf.LeafNode.{LeafNode}
-use Rattle.art_parts.specs.declared.names.LeafPtr.{LeafPtr}
-use Rattle.art_parts.specs.declared.names.OpaqueNodePtr.{OpaqueNodePtr}
-use Rattle.art_model.specs.Canonical.{IsCanonicalTree}
-use Rattle.art_model.specs.Kept.{ChangesInPlace}
-use Rattle.art_model.specs.Paths.{plug}
-use Rattle.art_model.specs.Roots.{ForTree}
-use Rattle.art_model.specs.Stores.{node_at, links_at, pair_of}
-use Rattle.art_model.specs.Trees.{Tree, leaf}
-use Rattle.art_model.specs.Writes.{parent_of}
+use Rattle.art_model.specs.Prelude.{with_value, leaf_name, Nodes, change, LeafNode, LeafPtr, OpaqueNodePtr, IsCanonicalTree, ChangesInPlace, plug, ForTree, node_at, links_at, pair_of, Tree, leaf, parent_of}
 use Rattle.art_model.proofs.stores.Canonical.{IsLaidOut, laid_out, canonical_from}
 use Rattle.art_model.proofs.changes.IntoLeaf.{IntoLeaf, leaf_inserted, leaf_insertion_kept, leaf_reply, leaf_stored_for, leaf_touches}
 use Rattle.art_model.proofs.places.Paths.{IsHole}

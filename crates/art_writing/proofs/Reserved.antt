@@ -3,10 +3,8 @@ use Rattle.std.proofs.Common.{◌≡◌, ℕ, zero, suc, ◌<◌, Bool, true, fa
 use Rattle.std.proofs.Common.{OnOk, OnErr, IsOk, is_err, is_some, refl, ap, ◌∙◌, subst, leb, arith, eq-eqb}
 use Rattle.std.proofs.lemmas.Bool.{le-leb, leb-true}
 use Rattle.std.proofs.lemmas.Grind.{common_steps}
-use Rattle.art_nodes.specs.Nodes.{Nodes, Promise, covers, no_promise, promises, take_inner, take_leaf}
-use Rattle.art_parts.specs.Kinds.{kind_index}
-use Rattle.art_parts.specs.declared.names.NodeType.{NodeType}
-use Rattle.art_model.specs.Promises.{inner_taken, promise_after}
+use Rattle.art_model.specs.Prelude.{Nodes, Promise, covers, no_promise, promises, take_inner, take_leaf, kind_index, NodeType, promise_after}
+use Rattle.art_model.specs.Promises.{inner_taken}
 
 module _ (promise : Promise) where
   -- a leaf is promised

@@ -2,27 +2,9 @@
 use Rattle.std.proofs.Common.{◌≡◌, ℕ, ◌+◌, ◌<◌, List, [], ◌∷◌, ◌++◌, length, take, drop, refl, ap, sym, ◌∙◌, subst, arith, append_assoc, length-append, take_at, inl, inr, Some, IsSome, IsSomeAnd, ◌≢◌}
 use Rattle.std.proofs.lemmas.List.{take-append-drop, take-append-le, append_cancel_left}
 use Rattle.std.specs.FinMap.{get}
-use Rattle.art_model.specs.Kept.{SameNodes}
-use Rattle.art_inner.specs.InnerChanges.{with_header}
-use Rattle.art_inner.specs.Inner.{child_at}
+use Rattle.art_model.specs.Prelude.{SameNodes, with_header, child_at, leaf_name, inner_name, Nodes, change, InnerPtr, LeafPtr, LeafNode, OpaqueNodePtr, IsCanonicalTree, IsIn, IsFront, inner_node, slots_of, names_of, Holds, Frame, plug, depth_of, least_key, prefix_of, bytes_of, node_at, links_at, pair_of, Tree, leaf, inner, Subtrees, NodeHeader, canonical_header, Inners, as_inner, parent_of}
 use Rattle.art_parts.specs.Headers.{Prefix, header_of as whole_header}
-use Rattle.art_parts.specs.Names.{leaf_name, inner_name}
-use Rattle.art_nodes.specs.Nodes.{Nodes, change}
-use Rattle.art_parts.specs.declared.names.InnerPtr.{InnerPtr}
-use Rattle.art_parts.specs.declared.names.LeafPtr.{LeafPtr}
-use Rattle.art_parts.specs.declared.leaf.LeafNode.{LeafNode}
-use Rattle.art_parts.specs.declared.names.OpaqueNodePtr.{OpaqueNodePtr}
 use Rattle.art_nodes.proofs.StoreLaws.{inner_changed_elsewhere}
-use Rattle.art_model.specs.Canonical.{IsCanonicalTree}
-use Rattle.art_model.specs.Footprints.{IsIn}
-use Rattle.art_model.specs.Keys.{IsFront}
-use Rattle.art_model.specs.Layouts.{inner_node, slots_of, names_of, Holds}
-use Rattle.art_model.specs.Paths.{Frame, plug}
-use Rattle.art_model.specs.Places.{depth_of, least_key, prefix_of}
-use Rattle.art_model.specs.Radix.{bytes_of}
-use Rattle.art_model.specs.Stores.{node_at, links_at, pair_of}
-use Rattle.art_model.specs.Trees.{Tree, leaf, inner, Subtrees, NodeHeader, canonical_header}
-use Rattle.art_model.specs.Writes.{Inners, as_inner, parent_of}
 use Rattle.art_model.proofs.changes.Branches.{BranchStored, leaf_branched, prefix_branched, header_touches, branch_touches}
 use Rattle.art_model.proofs.stores.Canonical.{IsLaidOut}
 use Rattle.art_model.proofs.changes.Inserted.{BranchInserted}

@@ -1,11 +1,6 @@
 -- A store with the same nodes under the same names, as it is once memory is reserved.
 use Rattle.std.proofs.Common.{◌≡◌, ℕ, List, refl, ap₂, sym, ◌∙◌, subst}
-use Rattle.art_model.specs.Kept.{SameNodes}
-use Rattle.art_nodes.specs.Nodes.{Nodes}
-use Rattle.art_parts.specs.declared.names.OpaqueNodePtr.{OpaqueNodePtr}
-use Rattle.art_model.specs.Canonical.{IsCanonicalTree}
-use Rattle.art_model.specs.Stores.{content_at}
-use Rattle.art_model.specs.Trees.{Tree}
+use Rattle.art_model.specs.Prelude.{SameNodes, Nodes, OpaqueNodePtr, IsCanonicalTree, content_at, Tree}
 use Rattle.art_model.proofs.stores.StoreLaws.{has_one_map}
 use Rattle.art_writing.proofs.Elsewhere as elsewhere
 use Rattle.art_writing.specs.Inserted.{IsPointIn}

@@ -1,34 +1,14 @@
 -- Subtree delete points: the node that one names, the tree with one leaf in its place, and the tree without it.
-use Rattle.std.proofs.Common.{◌≡◌, ◌≢◌, ℕ, ◌+◌, ◌≤◌, ◌<◌, ◌^◌, zero, suc, List, [], ◌∷◌, ◌++◌, length, length-append, append-nil, take}
+use Rattle.std.proofs.Common.{◌≡◌, ◌≢◌, ℕ, ◌+◌, ◌≤◌, ◌<◌, ◌^◌, zero, suc, List, [], ◌∷◌, ◌++◌, length, length-append, append-nil, take, option_map}
 use Rattle.std.proofs.Common.{drop, take-append-drop, Option, Some, None, IsSome, IfSome}
 use Rattle.std.proofs.Common.{true, false, not, refl, ap, ap₂, sym, ◌∙◌, subst, arith, ◌⊎◌, inl, inr}
 use Rattle.std.specs.List.{AllByRecursion as Each}
-use Rattle.std.specs.Option.{option_map}
 use Rattle.std.specs.FinMap as map
 use Rattle.std.proofs.lemmas.Bool.{true≢false}
 use Rattle.std.proofs.lemmas.List.Elements.{filter-append}
-use Rattle.art_inner.specs.InnerChanges.{without_child}
-use Rattle.art_parts.specs.declared.leaf.LeafNode.{LeafNode}
-use Rattle.art_parts.specs.declared.names.InnerPtr.{InnerPtr}
-use Rattle.art_parts.specs.declared.names.LeafPtr.{LeafPtr}
-use Rattle.art_parts.specs.declared.names.OpaqueNodePtr.{OpaqueNodePtr}
-use Rattle.art_parts.specs.Names.{leaf_cmp, leaf_name}
-use Rattle.art_nodes.specs.Nodes.{Nodes, change}
+use Rattle.art_model.specs.Prelude.{without_child, LeafNode, InnerPtr, LeafPtr, OpaqueNodePtr, leaf_cmp, leaf_name, Nodes, change, IsCanonical, IsCanonicalTree, IsIn, ChangesInPlace, Frees, IsFront, Precedes, is_front, Holds, IsLayout, entries_of, first_or, leaf_names, name_of, names_of, slots_of, first_of, remove_key, below, not_below, Frame, HoldsPath, IsPath, plug, pairs_before, pairs_after, leaves_before, leaves_after, inner_nodes, inner_nodes_below, least_key, least_below, AreRadix, IsRadix, bytes_of, pairs_of, pairs_below, ForRoot, ForTree, IsCanonicalRoot, IsFullTree, IsRootOf, node_at, links_at, pair_of, Tree, leaf, inner, Subtrees, child, no_child, Inners, IsThere, as_inner, with_links_around, parent_of, with_child_at}
 use Rattle.art_nodes.proofs.StoreLaws.{inner_changed_elsewhere}
-use Rattle.art_model.specs.Canonical.{IsCanonical, IsCanonicalTree}
-use Rattle.art_model.specs.Footprints.{IsIn}
-use Rattle.art_model.specs.Kept.{ChangesInPlace, Frees, KeepsInners, KeepsLeaves, inners_in, leaves_in}
-use Rattle.art_model.specs.Keys.{IsFront, Precedes, is_front}
-use Rattle.art_model.specs.Layouts.{Holds, IsLayout, entries_of, first_or, leaf_names, name_of, names_of, slots_of}
-use Rattle.art_model.specs.Pairs.{first_of, remove_key}
-use Rattle.art_model.specs.Parts.{below, not_below}
-use Rattle.art_model.specs.Paths.{Frame, HoldsPath, IsPath, plug, pairs_before, pairs_after, leaves_before, leaves_after}
-use Rattle.art_model.specs.Places.{inner_nodes, inner_nodes_below, least_key, least_below}
-use Rattle.art_model.specs.Radix.{AreRadix, IsRadix, bytes_of, pairs_of, pairs_below}
-use Rattle.art_model.specs.Roots.{ForRoot, ForTree, IsCanonicalRoot, IsFullTree, IsRootOf}
-use Rattle.art_model.specs.Stores.{node_at, links_at, pair_of}
-use Rattle.art_model.specs.Trees.{Tree, leaf, inner, Subtrees, child, no_child}
-use Rattle.art_model.specs.Writes.{Inners, IsThere, as_inner, with_links_around, parent_of, with_child_at}
+use Rattle.art_model.specs.Kept.{KeepsInners, KeepsLeaves, inners_in, leaves_in}
 use Rattle.art_model.proofs.pairs.Between.{remove_key-between}
 use Rattle.art_model.proofs.stores.Canonical.{IsLaidOut, canonical_from, laid_out, tree_radix}
 use Rattle.art_model.proofs.leaves.Chains.{are_there}

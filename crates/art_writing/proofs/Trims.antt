@@ -1,22 +1,8 @@
 -- The header that remains of a split prefix, from what is stored of the prefix, or from the least leaf below.
 use Rattle.std.proofs.Common.{◌≡◌, ◌≢◌, ℕ, ◌+◌, ◌-◌, ◌<◌, ◌≤◌, min, List, length, take, drop, IsSome, Some, None, ap, sym, ◌∙◌, subst, arith}
 use Rattle.std.specs.FinMap.{get}
-use Rattle.art_inner.specs.Inner.{Inner}
-use Rattle.art_parts.specs.Headers.{Prefix, header_of}
-use Rattle.art_parts.specs.Names.{leaf_name, inner_name}
-use Rattle.art_nodes.specs.Nodes.{Nodes}
-use Rattle.art_parts.specs.declared.names.NodeType.TheVariants.{Leaf}
-use Rattle.art_parts.specs.declared.names.InnerPtr.{InnerPtr}
-use Rattle.art_parts.specs.declared.names.LeafPtr.{LeafPtr}
-use Rattle.art_parts.specs.declared.leaf.LeafNode.{LeafNode}
-use Rattle.art_parts.specs.declared.names.OpaqueNodePtr.{OpaqueNodePtr}
+use Rattle.art_model.specs.Prelude.{Inner, Prefix, header_of, leaf_name, inner_name, Nodes, Leaf, InnerPtr, LeafPtr, LeafNode, OpaqueNodePtr, IsCanonicalTree, slots_of, Holds, HasFirstLeaf, depth_of, prefix_of, node_at, pair_of, Tree}
 use Rattle.art_parts.proofs.HeaderLaws.{trimmed_header, trimmed_by_leaf, len_of_header}
-use Rattle.art_model.specs.Canonical.{IsCanonicalTree}
-use Rattle.art_model.specs.Layouts.{slots_of, Holds}
-use Rattle.art_model.specs.Lookups.{HasFirstLeaf}
-use Rattle.art_model.specs.Places.{depth_of, prefix_of}
-use Rattle.art_model.specs.Stores.{node_at, pair_of}
-use Rattle.art_model.specs.Trees.{Tree}
 use Rattle.art_model.proofs.stores.Stores.{path_holds}
 use Rattle.art_model.proofs.stores.Writes.{inner_at}
 use Rattle.art_reading.specs.declared.end_node.InsertKind.TheVariants.{MismatchPrefix}

@@ -2,17 +2,7 @@
 use Rattle.std.proofs.Common.{◌≡◌, ℕ, ◌+◌, ◌<◌, ◌≤◌, List, [], ◌∷◌, ◌++◌, length, take, refl, ap, sym, ◌∙◌, subst, arith, true, false, is_some}
 use Rattle.std.proofs.Math.Dec.{leb-zero}
 use Rattle.std.specs.List.{AllByRecursion as Each}
-use Rattle.art_nodes.specs.Nodes.{Nodes}
-use Rattle.art_parts.specs.declared.names.LeafPtr.{LeafPtr}
-use Rattle.art_parts.specs.declared.names.OpaqueNodePtr.{OpaqueNodePtr}
-use Rattle.art_model.specs.Canonical.{IsCanonicalTree}
-use Rattle.art_model.specs.Keys.{IsFront, are_same}
-use Rattle.art_model.specs.Layouts.{name_of}
-use Rattle.art_model.specs.Pairs.{first_of, has_key, with_key}
-use Rattle.art_model.specs.Places.{depth_of, place_of, places, places_below}
-use Rattle.art_model.specs.Promises.{is_covered}
-use Rattle.art_model.specs.Radix.{IsRadix, AreRadix, pairs_of, pairs_below}
-use Rattle.art_model.specs.Trees.{Tree, inner, Subtrees, child, no_child, NodeHeader}
+use Rattle.art_model.specs.Prelude.{Nodes, LeafPtr, OpaqueNodePtr, IsCanonicalTree, IsFront, are_same, name_of, first_of, has_key, with_key, depth_of, place_of, places, places_below, is_covered, IsRadix, AreRadix, pairs_of, pairs_below, Tree, inner, Subtrees, child, no_child, NodeHeader}
 use Rattle.art_model.proofs.places.InHole.{with_key-hole}
 use Rattle.art_model.proofs.keys.Keys.{same_related}
 use Rattle.art_model.proofs.lists.Lists.{Each-append, Each-left, Each-right, Each-weaker, filter_none}

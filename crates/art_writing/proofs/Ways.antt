@@ -1,10 +1,6 @@
 -- Paths of code and of the model: the last step, the resulting roots, and the same one step up.
 use Rattle.std.proofs.Common.{◌≡◌, ◌≢◌, ℕ, List, [], ◌∷◌, Some, refl}
-use Rattle.art_parts.specs.Names.{inner_name}
-use Rattle.art_parts.specs.declared.names.InnerPtr.{InnerPtr}
-use Rattle.art_parts.specs.declared.names.OpaqueNodePtr.{OpaqueNodePtr}
-use Rattle.art_model.specs.Paths.{Frame}
-use Rattle.art_model.specs.Writes.{as_inner, parent_of}
+use Rattle.art_model.specs.Prelude.{inner_name, InnerPtr, OpaqueNodePtr, Frame, as_inner, parent_of}
 use Rattle.art_model.proofs.places.Paths as paths
 use Rattle.art_writing.specs.Deleted.{IsRootAfter, IsTopAfter, ParentChange, no_parent, keeps, shrinks, is_compressed}
 use Rattle.art_writing.specs.Inserted.{root_after}

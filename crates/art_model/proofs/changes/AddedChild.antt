@@ -2,20 +2,7 @@
 use Rattle.std.proofs.Common.{◌≡◌, ◌≢◌, ℕ, suc, ◌<◌, ◌≤◌, List, [], length, Some, None, refl, ap, sym, ◌∙◌, subst, arith, eq-eqb, inl, inr}
 use Rattle.std.specs.List.{AllByRecursion as Each}
 use Rattle.std.proofs.lemmas.Bool.{cases_order, ne_eqb}
-use Rattle.art_inner.specs.Inner.{child_at}
-use Rattle.art_parts.specs.Kinds.{kind_capacity, larger_kind}
-use Rattle.art_nodes.specs.Nodes.{Nodes}
-use Rattle.art_parts.specs.declared.names.NodeType.{NodeType}
-use Rattle.art_parts.specs.declared.names.NodeType.TheVariants.{Node4, Node16, Node48, Node256, Leaf}
-use Rattle.art_parts.specs.declared.names.OpaqueNodePtr.{OpaqueNodePtr}
-use Rattle.art_model.specs.Trees.{leaf, inner, Subtrees, child, no_child, NodeHeader, canonical_header, kind_of}
-use Rattle.art_model.specs.Radix.{BytesRise, bytes_of, join}
-use Rattle.art_model.specs.Paths.{Frame, plug}
-use Rattle.art_model.specs.Layouts.{name_of, slots_of, names_of}
-use Rattle.art_model.specs.Stores.{node_at, links_at}
-use Rattle.art_model.specs.Pairs.{replace_key}
-use Rattle.art_model.specs.Kept.{ChangesInPlace}
-use Rattle.art_model.specs.Footprints.{IsIn, Footprint}
+use Rattle.art_model.specs.Prelude.{child_at, kind_capacity, larger_kind, Nodes, NodeType, Node4, Node16, Node48, Node256, Leaf, OpaqueNodePtr, leaf, inner, Subtrees, child, no_child, NodeHeader, canonical_header, kind_of, BytesRise, bytes_of, join, Frame, plug, name_of, slots_of, names_of, node_at, links_at, replace_key, ChangesInPlace, IsIn, Footprint}
 use Rattle.art_model.proofs.stores.Canonical.{IsLaidOut}
 use Rattle.art_model.proofs.places.InHole.{names_around}
 use Rattle.art_model.proofs.changes.InPlace.{AreNames, in_place}

@@ -1,30 +1,11 @@
 -- A branch is placed, from the equations of the store's maps: a leaf, and a node above it and the tree in the hole, which may be changed itself.
-use Rattle.std.proofs.Common.{◌≡◌, ◌≢◌, ℕ, ◌+◌, ◌≤◌, List, [], ◌∷◌, ◌++◌, length, take, Option, Some, None, refl, ap, sym, ◌∙◌, subst, map, arith, cond, ltb, Bool, true, false, ◌⊎◌, inl, inr}
+use Rattle.std.proofs.Common.{◌≡◌, ◌≢◌, ℕ, ◌+◌, ◌≤◌, List, [], ◌∷◌, ◌++◌, length, take, Option, Some, None, refl, ap, sym, ◌∙◌, subst, map, arith, cond, ltb, Bool, true, false, ◌⊎◌, inl, inr, option_map}
 use Rattle.std.specs.List.{AllByRecursion as Each}
-use Rattle.std.specs.Option.{option_map}
 use Rattle.std.specs.FinMap.{get, insert}
-use Rattle.art_inner.specs.Inner.{Inner, childless, put_child}
-use Rattle.art_parts.specs.Headers.{Prefix}
+use Rattle.art_model.specs.Prelude.{Inner, childless, put_child, Prefix, leaf_name, inner_name, Nodes, change, NodeType, Node4, Leaf, InnerPtr, LeafPtr, LeafNode, OpaqueNodePtr, IsFront, Tree, leaf, inner, Subtrees, child, no_child, NodeHeader, canonical_header, kind_of, bytes_of, Frame, plug, leaves_before, leaves_after, Node, inner_node, name_of, slots_of, names_of, leaf_names, node_at, links_at, pair_of, Inners, as_inner, parent_of, with_child_at, ChangesInPlace, IsIn, Footprint, TouchesAtMost}
 use Rattle.art_inner.specs.InnerChanges.{with_header, with_child as child_put}
-use Rattle.art_parts.specs.Names.{leaf_name, inner_name}
-use Rattle.art_nodes.specs.Nodes.{Nodes, change}
-use Rattle.art_parts.specs.declared.names.NodeType.{NodeType}
-use Rattle.art_parts.specs.declared.names.NodeType.TheVariants.{Node4, Leaf}
-use Rattle.art_parts.specs.declared.names.InnerPtr.{InnerPtr}
-use Rattle.art_parts.specs.declared.names.LeafPtr.{LeafPtr}
-use Rattle.art_parts.specs.declared.leaf.LeafNode.{LeafNode}
-use Rattle.art_parts.specs.declared.names.OpaqueNodePtr.{OpaqueNodePtr}
 use Rattle.art_parts.proofs.NameLemmas.{inner_cmp_total, inner_cmp-IsAntisymmetric}
 use Rattle.art_nodes.proofs.StoreLaws.{inner_here, inner_elsewhere, inner_changed_at}
-use Rattle.art_model.specs.Keys.{IsFront}
-use Rattle.art_model.specs.Trees.{Tree, leaf, inner, Subtrees, child, no_child, NodeHeader, canonical_header, kind_of}
-use Rattle.art_model.specs.Radix.{bytes_of}
-use Rattle.art_model.specs.Paths.{Frame, plug, leaves_before, leaves_after}
-use Rattle.art_model.specs.Layouts.{Node, inner_node, name_of, slots_of, names_of, leaf_names}
-use Rattle.art_model.specs.Stores.{node_at, links_at, pair_of}
-use Rattle.art_model.specs.Writes.{Inners, as_inner, parent_of, with_child_at}
-use Rattle.art_model.specs.Kept.{ChangesInPlace}
-use Rattle.art_model.specs.Footprints.{IsIn, Footprint, TouchesAtMost}
 use Rattle.art_model.proofs.lists.Lists.{each_in, in_map, in_left, in_right, in_either}
 use Rattle.art_model.proofs.stores.Canonical.{IsLaidOut}
 use Rattle.art_model.proofs.changes.Changes.{two_children}

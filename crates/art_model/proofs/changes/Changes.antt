@@ -2,10 +2,7 @@
 use Rattle.std.proofs.Common.{◌≡◌, ℕ, suc, ◌<◌, ◌≤◌, List, [], ◌∷◌, ◌++◌, length, refl, ap, sym, ◌∙◌, append_assoc, append-nil, arith, length-append, subst, cond, ltb, ◌⊎◌, inl, inr}
 use Rattle.std.specs.List.{AllByRecursion as Each}
 use Rattle.std.proofs.lemmas.Bool.{cases_order, le-ltb, lt-ltb}
-use Rattle.art_model.specs.Keys.{IsFront, Precedes}
-use Rattle.art_model.specs.Trees.{Tree, leaf, inner, Subtrees, child, no_child, canonical_header, NodeHeader}
-use Rattle.art_model.specs.Radix.{IsRadix, AreRadix, BytesRise, bytes_of, pairs_of, pairs_below, join}
-use Rattle.art_model.specs.Pairs.{replace_key, remove_key}
+use Rattle.art_model.specs.Prelude.{IsFront, Precedes, Tree, leaf, inner, Subtrees, child, no_child, canonical_header, NodeHeader, IsRadix, AreRadix, BytesRise, bytes_of, pairs_of, pairs_below, join, replace_key, remove_key}
 use Rattle.art_model.proofs.lists.Lists.{front_cut, Each-weaker}
 use Rattle.art_model.proofs.radix.Rebuild.{radix_way}
 use Rattle.art_model.proofs.radix.Radix.{bytes_of-join, pairs_below-join, AreRadix-join, AreRadix-left, AreRadix-right, parts, PartsBelow, PartsAbove, all_below, all_above}

@@ -1,29 +1,11 @@
 -- A deletion that leaves a node one child, from the equations of the store's maps: the child replaces the node, with a longer prefix where it is an inner node.
-use Rattle.std.proofs.Common.{◌≡◌, ◌≢◌, ℕ, ◌≤◌, List, [], ◌∷◌, ◌++◌, length, take, map, Option, Some, None, refl, ap, sym, ◌∙◌, subst, arith, append-nil, ◌⊎◌, inl, inr}
+use Rattle.std.proofs.Common.{◌≡◌, ◌≢◌, ℕ, ◌≤◌, List, [], ◌∷◌, ◌++◌, length, take, map, Option, Some, None, refl, ap, sym, ◌∙◌, subst, arith, append-nil, ◌⊎◌, inl, inr, option_map}
 use Rattle.std.specs.List.{AllByRecursion as Each}
-use Rattle.std.specs.Option.{option_map}
 use Rattle.std.specs.FinMap.{get, remove}
-use Rattle.art_inner.specs.InnerChanges.{with_header}
+use Rattle.art_model.specs.Prelude.{with_header, leaf_name, inner_name, Nodes, change, NodeType, Leaf, LeafPtr, InnerPtr, LeafNode, OpaqueNodePtr, Tree, leaf, inner, Subtrees, child, no_child, NodeHeader, canonical_header, IsRadix, bytes_of, join, remove_key, Frame, plug, leaves_before, leaves_after, HoldsPath, Node, inner_node, name_of, slots_of, names_of, names_below, leaf_names_below, Holds, node_at, links_at, pair_of, Inners, as_inner, parent_of, with_child_at, ChangesInPlace, IsIn, TouchesAtMost}
 use Rattle.art_parts.specs.Headers as headers
-use Rattle.art_parts.specs.Names.{leaf_name, inner_name}
-use Rattle.art_nodes.specs.Nodes.{Nodes, change}
-use Rattle.art_parts.specs.declared.names.NodeType.{NodeType}
-use Rattle.art_parts.specs.declared.names.NodeType.TheVariants.{Leaf}
-use Rattle.art_parts.specs.declared.names.LeafPtr.{LeafPtr}
-use Rattle.art_parts.specs.declared.names.InnerPtr.{InnerPtr}
-use Rattle.art_parts.specs.declared.leaf.LeafNode.{LeafNode}
-use Rattle.art_parts.specs.declared.names.OpaqueNodePtr.{OpaqueNodePtr}
 use Rattle.art_parts.proofs.NameLemmas.{inner_cmp_total, inner_cmp-IsAntisymmetric}
 use Rattle.art_nodes.proofs.StoreLaws.{inner_changed_at, inner_changed_elsewhere, inner_gone_elsewhere}
-use Rattle.art_model.specs.Trees.{Tree, leaf, inner, Subtrees, child, no_child, NodeHeader, canonical_header}
-use Rattle.art_model.specs.Radix.{IsRadix, bytes_of, join}
-use Rattle.art_model.specs.Pairs.{remove_key}
-use Rattle.art_model.specs.Paths.{Frame, plug, leaves_before, leaves_after, HoldsPath}
-use Rattle.art_model.specs.Layouts.{Node, inner_node, name_of, slots_of, names_of, names_below, leaf_names_below, Holds}
-use Rattle.art_model.specs.Stores.{node_at, links_at, pair_of}
-use Rattle.art_model.specs.Writes.{Inners, as_inner, parent_of, with_child_at}
-use Rattle.art_model.specs.Kept.{ChangesInPlace}
-use Rattle.art_model.specs.Footprints.{IsIn, TouchesAtMost}
 use Rattle.art_model.proofs.stores.Canonical.{IsLaidOut}
 use Rattle.art_model.proofs.changes.InPlace.{AreNames, in_place}
 use Rattle.art_model.proofs.lists.Lists.{each_in, in_left, in_right}

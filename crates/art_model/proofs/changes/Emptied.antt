@@ -1,15 +1,6 @@
 -- The only leaf of a tree is removed, from the equations of the store's maps.
-use Rattle.std.proofs.Common.{◌≡◌, ℕ, List, [], ◌∷◌, ◌++◌, Option, Some, None, refl, ap₂, sym, subst, arith, inr}
-use Rattle.std.specs.Option.{option_map}
-use Rattle.art_parts.specs.Names.{leaf_name}
-use Rattle.art_nodes.specs.Nodes.{Nodes}
-use Rattle.art_parts.specs.declared.names.LeafPtr.{LeafPtr}
-use Rattle.art_parts.specs.declared.leaf.LeafNode.{LeafNode}
-use Rattle.art_parts.specs.declared.names.OpaqueNodePtr.{OpaqueNodePtr}
-use Rattle.art_model.specs.Trees.{leaf}
-use Rattle.art_model.specs.Stores.{node_at, links_at, pair_of}
-use Rattle.art_model.specs.Kept.{ChangesInPlace}
-use Rattle.art_model.specs.Footprints.{TouchesAtMost}
+use Rattle.std.proofs.Common.{◌≡◌, ℕ, List, [], ◌∷◌, ◌++◌, Option, Some, None, refl, ap₂, sym, subst, arith, inr, option_map}
+use Rattle.art_model.specs.Prelude.{leaf_name, Nodes, LeafPtr, LeafNode, OpaqueNodePtr, leaf, node_at, links_at, pair_of, ChangesInPlace, TouchesAtMost}
 use Rattle.art_model.proofs.stores.Canonical.{IsLaidOut}
 use Rattle.art_model.proofs.changes.InPlace.{in_place}
 use Rattle.art_model.proofs.stores.Touches.{Touched, footprint_of, touches_at_most, touched_none}

@@ -1,11 +1,7 @@
 -- What a change in place keeps, from the lists of names that it touches and from the model's lists of nodes.
 use Rattle.std.proofs.Common.{◌≡◌, ℕ, List, [], refl, sym, Option, None, ◌⊎◌, inl, inr}
-use Rattle.art_nodes.specs.Nodes.{Nodes}
-use Rattle.art_parts.specs.declared.names.OpaqueNodePtr.{OpaqueNodePtr}
-use Rattle.art_model.specs.Trees.{Tree}
-use Rattle.art_model.specs.Stores.{content_at, IsUsed}
-use Rattle.art_model.specs.Footprints.{IsIn, Footprint}
-use Rattle.art_model.specs.Kept.{names_in, leaves_in, inners_in, KeepsOthers, ChangesInPlace}
+use Rattle.art_model.specs.Prelude.{Nodes, OpaqueNodePtr, Tree, content_at, IsUsed, IsIn, Footprint, names_in, KeepsOthers, ChangesInPlace}
+use Rattle.art_model.specs.Kept.{leaves_in, inners_in}
 use Rattle.art_model.proofs.lists.Lists.{each_in}
 use Rattle.art_model.proofs.changes.Kept.{KeepLeaves}
 use Rattle.art_model.proofs.places.Wholes.{KeepNames}

@@ -1,14 +1,7 @@
 -- Insertions from store to store: a branch replaces a subtree, or a node has one more child.
 use Rattle.std.proofs.Common.{◌≡◌, ◌≢◌, ℕ, suc, ◌+◌, ◌<◌, List, [], ◌∷◌, ◌++◌, length, refl, ap, sym, ◌∙◌, subst, length-append, arith, append-nil, Option, Some, None, true, false, Bool, cond, ltb, ◌⊎◌, inl, inr}
 use Rattle.std.specs.List.{AllByRecursion as Each}
-use Rattle.art_model.specs.Keys.{IsFront}
-use Rattle.art_model.specs.Trees.{Tree, leaf, inner, Subtrees, child, no_child, NodeHeader, canonical_header, kind_of}
-use Rattle.art_model.specs.Radix.{IsRadix, AreRadix, bytes_of, join, pairs_of}
-use Rattle.art_model.specs.Pairs.{replace_key}
-use Rattle.art_model.specs.Paths.{Frame, plug, leaves_before, leaves_after}
-use Rattle.art_model.specs.Places.{inner_nodes}
-use Rattle.art_model.specs.Layouts.{Node, leaf_node, inner_node, slots_of, names_of, leaf_names, leaf_names_below, entries_of, entries_below, names_below, HoldsBelow, AreDistinct, Links}
-use Rattle.art_model.specs.Footprints.{IsIn}
+use Rattle.art_model.specs.Prelude.{IsFront, Tree, leaf, inner, Subtrees, child, no_child, NodeHeader, canonical_header, kind_of, IsRadix, AreRadix, bytes_of, join, pairs_of, replace_key, Frame, plug, leaves_before, leaves_after, inner_nodes, Node, leaf_node, inner_node, slots_of, names_of, leaf_names, leaf_names_below, entries_of, entries_below, names_below, HoldsBelow, AreDistinct, Links, IsIn}
 use Rattle.art_model.proofs.lists.Lists.{each_in, each_from, in_left, in_around}
 use Rattle.art_model.proofs.pairs.Between.{replace_key-between}
 use Rattle.art_model.proofs.places.Paths.{IsHole, root_with, leaf_names_below-three, entries_below-three, entries_below-join, same_pairs_of, same_leaf_names}

@@ -2,24 +2,9 @@
 use Rattle.std.proofs.Common.{◌≡◌, ◌≢◌, ℕ, suc, ◌≤◌, List, [], ◌∷◌, ◌++◌, length, Some, None, ap, sym, ◌∙◌, subst, arith, inl, inr}
 use Rattle.std.specs.List.{AllByRecursion as Each}
 use Rattle.std.specs.FinMap.{get, insert, remove}
-use Rattle.art_inner.specs.Inner.{Inner, put_child}
-use Rattle.art_parts.specs.Kinds.{kind_capacity, larger_kind}
-use Rattle.art_inner.specs.InnerChanges.{with_child}
-use Rattle.art_parts.specs.Names.{leaf_name}
-use Rattle.art_nodes.specs.Nodes.{Nodes}
-use Rattle.art_parts.specs.declared.names.NodeType.TheVariants.{Node256, Leaf}
-use Rattle.art_parts.specs.declared.names.LeafPtr.{LeafPtr}
-use Rattle.art_parts.specs.declared.leaf.LeafNode.{LeafNode}
-use Rattle.art_parts.specs.declared.names.OpaqueNodePtr.{OpaqueNodePtr}
+use Rattle.art_model.specs.Prelude.{Inner, put_child, kind_capacity, larger_kind, with_child, leaf_name, Nodes, Node256, Leaf, LeafPtr, LeafNode, OpaqueNodePtr, leaf, inner, Subtrees, NodeHeader, canonical_header, kind_of, bytes_of, join, Frame, plug, leaves_before, leaves_after, names_of, slots_of, leaf_names_below, header_at, node_at, links_at, pair_of, Inners, as_inner, parent_of, with_child_at, IsIn, TouchesAtMost}
 use Rattle.art_parts.proofs.NameLemmas.{inner_cmp_total, inner_cmp-IsAntisymmetric}
 use Rattle.art_nodes.proofs.StoreLaws.{inner_here, inner_elsewhere, inner_gone_elsewhere}
-use Rattle.art_model.specs.Trees.{leaf, inner, Subtrees, NodeHeader, canonical_header, kind_of}
-use Rattle.art_model.specs.Radix.{bytes_of, join}
-use Rattle.art_model.specs.Paths.{Frame, plug, leaves_before, leaves_after}
-use Rattle.art_model.specs.Layouts.{names_of, slots_of, leaf_names_below}
-use Rattle.art_model.specs.Stores.{header_at, node_at, links_at, pair_of}
-use Rattle.art_model.specs.Writes.{Inners, as_inner, parent_of, with_child_at}
-use Rattle.art_model.specs.Footprints.{IsIn, TouchesAtMost}
 use Rattle.art_model.proofs.changes.AddedChild.{ChildAdded, child_added, kind_of-larger}
 use Rattle.art_model.proofs.places.InHole.{both_in, parents_in}
 use Rattle.art_model.proofs.leaves.LeafChild.{names_with_both}

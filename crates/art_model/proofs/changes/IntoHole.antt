@@ -1,26 +1,10 @@
 -- A leaf replaces all that is in the hole, which is freed, from the equations of the store's maps: the new layout, and what is touched.
-use Rattle.std.proofs.Common.{◌≡◌, ◌≢◌, ℕ, List, [], ◌∷◌, ◌++◌, length, length-append, map, ◌+◌, ap₂, true, false, not, Some, None, refl, ap, sym, ◌∙◌, subst, arith, inl, inr}
+use Rattle.std.proofs.Common.{◌≡◌, ◌≢◌, ℕ, List, [], ◌∷◌, ◌++◌, length, length-append, map, ◌+◌, ap₂, true, false, not, Some, None, refl, ap, sym, ◌∙◌, subst, arith, inl, inr, option_map}
 use Rattle.std.specs.List.{AllByRecursion as Each}
-use Rattle.std.specs.Option.{option_map}
 use Rattle.std.specs.FinMap.{get}
 use Rattle.std.proofs.lemmas.List.{length-map}
-use Rattle.art_parts.specs.Names.{leaf_name, inner_name}
-use Rattle.art_nodes.specs.Nodes.{Nodes}
-use Rattle.art_parts.specs.declared.names.NodeType.TheVariants.{Leaf}
-use Rattle.art_parts.specs.declared.names.LeafPtr.{LeafPtr}
-use Rattle.art_parts.specs.declared.names.InnerPtr.{InnerPtr}
-use Rattle.art_parts.specs.declared.leaf.LeafNode.{LeafNode}
-use Rattle.art_parts.specs.declared.names.OpaqueNodePtr.{OpaqueNodePtr}
-use Rattle.art_model.specs.Keys.{are_related, are_same}
-use Rattle.art_model.specs.Pairs.{first_of, only_or_count, with_key, related_to, overwrite, overwrite_reply, replace_related, add_in_order}
-use Rattle.art_model.specs.Trees.{Tree, leaf, Subtrees}
-use Rattle.art_model.specs.Radix.{pairs_of}
-use Rattle.art_model.specs.Paths.{Frame, plug, leaves_before, leaves_after, names_before, names_after, HoldsPath}
-use Rattle.art_model.specs.Layouts.{leaf_node, names_of, names_below, leaf_names, leaf_names_below, entries_of, name_of, first_or, last_or, AreDistinct, AreLinked, Holds}
-use Rattle.art_model.specs.Stores.{content_at, node_at, tree_node, links_at, pair_of, IsUsed}
-use Rattle.art_model.specs.Writes.{as_inner, parent_of, with_child_at, with_leaf, IsThere}
-use Rattle.art_model.specs.Footprints.{IsIn, Footprint, PlacesOneFor}
-use Rattle.art_model.specs.Kept.{ChangesInPlace, Frees}
+use Rattle.art_model.specs.Prelude.{leaf_name, inner_name, Nodes, Leaf, LeafPtr, InnerPtr, LeafNode, OpaqueNodePtr, are_related, are_same, first_of, only_or_count, with_key, related_to, overwrite, overwrite_reply, replace_related, add_in_order, Tree, leaf, Subtrees, pairs_of, Frame, plug, leaves_before, leaves_after, names_before, names_after, HoldsPath, leaf_node, names_of, names_below, leaf_names, leaf_names_below, entries_of, name_of, first_or, last_or, AreDistinct, AreLinked, Holds, content_at, node_at, tree_node, links_at, pair_of, IsUsed, as_inner, parent_of, with_child_at, with_leaf, IsThere, IsIn, Footprint, ChangesInPlace, Frees}
+use Rattle.art_model.specs.Footprints.{PlacesOneFor}
 use Rattle.art_model.proofs.pairs.Between.{replace_related-between}
 use Rattle.art_model.proofs.stores.Canonical.{IsLaidOut}
 use Rattle.art_model.proofs.places.InHole.{both_in, names_around, parents_in, with_key-hole}

@@ -1,24 +1,9 @@
 -- A leaf gets another value, or another pair, from the equations of the store's maps: the new layout, and what is touched.
-use Rattle.std.proofs.Common.{◌≡◌, ◌≢◌, ℕ, List, [], ◌∷◌, Some, None, refl, ap, sym, ◌∙◌, subst, arith, true, inl, inr}
-use Rattle.std.specs.Option.{option_map}
+use Rattle.std.proofs.Common.{◌≡◌, ◌≢◌, ℕ, List, [], ◌∷◌, Some, None, refl, ap, sym, ◌∙◌, subst, arith, true, inl, inr, option_map}
 use Rattle.std.specs.FinMap.{get}
-use Rattle.art_nodes.specs.LeafChanges.{with_pair}
-use Rattle.art_parts.specs.Names.{leaf_name}
-use Rattle.art_nodes.specs.Nodes.{Nodes, change}
-use Rattle.art_parts.specs.declared.names.LeafPtr.{LeafPtr}
-use Rattle.art_parts.specs.declared.leaf.LeafNode.{LeafNode}
-use Rattle.art_parts.specs.declared.names.OpaqueNodePtr.{OpaqueNodePtr}
+use Rattle.art_model.specs.Prelude.{with_pair, leaf_name, Nodes, change, LeafPtr, LeafNode, OpaqueNodePtr, IsFront, are_related, are_same, first_of, only_or_count, related_to, with_key, overwrite, overwrite_reply, put, put_reply, replace_key, replace_related, stored_for, leaf, Frame, plug, HoldsPath, leaf_node, node_at, links_at, pair_of, as_inner, Footprint, TouchesAtMost, ChangesInPlace}
 use Rattle.art_parts.proofs.NameLemmas.{leaf_cmp_total, leaf_cmp-IsAntisymmetric}
 use Rattle.art_nodes.proofs.StoreLaws.{leaf_changed_at, leaf_changed_elsewhere}
-use Rattle.art_model.specs.Keys.{IsFront, are_related, are_same}
-use Rattle.art_model.specs.Pairs.{first_of, only_or_count, related_to, with_key, overwrite, overwrite_reply, put, put_reply, replace_key, replace_related, stored_for}
-use Rattle.art_model.specs.Trees.{leaf}
-use Rattle.art_model.specs.Paths.{Frame, plug, HoldsPath}
-use Rattle.art_model.specs.Layouts.{leaf_node}
-use Rattle.art_model.specs.Stores.{node_at, links_at, pair_of}
-use Rattle.art_model.specs.Writes.{as_inner}
-use Rattle.art_model.specs.Footprints.{Footprint, TouchesAtMost}
-use Rattle.art_model.specs.Kept.{ChangesInPlace}
 use Rattle.art_model.proofs.pairs.Between.{IsLocal, replace_key-between, replace_related-between}
 use Rattle.art_model.proofs.stores.Canonical.{IsLaidOut}
 use Rattle.art_model.proofs.leaves.Chains.{links_leaf, links_inner}

@@ -1,25 +1,9 @@
 -- An insertion into a node that has room, from the equations of the store's maps: the new layout, and what is touched.
-use Rattle.std.proofs.Common.{◌≡◌, ◌≢◌, ℕ, suc, ◌<◌, List, [], ◌∷◌, ◌++◌, length, Some, None, refl, ap, sym, ◌∙◌, subst, arith, inl, inr}
-use Rattle.std.specs.Option.{option_map}
+use Rattle.std.proofs.Common.{◌≡◌, ◌≢◌, ℕ, suc, ◌<◌, List, [], ◌∷◌, ◌++◌, length, Some, None, refl, ap, sym, ◌∙◌, subst, arith, inl, inr, option_map}
 use Rattle.std.specs.FinMap.{get}
-use Rattle.art_inner.specs.Inner.{put_child}
-use Rattle.art_parts.specs.Kinds.{kind_capacity}
-use Rattle.art_inner.specs.InnerChanges.{with_child}
-use Rattle.art_parts.specs.Names.{leaf_name, inner_name}
-use Rattle.art_nodes.specs.Nodes.{Nodes, change}
-use Rattle.art_parts.specs.declared.names.NodeType.TheVariants.{Leaf}
-use Rattle.art_parts.specs.declared.names.LeafPtr.{LeafPtr}
-use Rattle.art_parts.specs.declared.leaf.LeafNode.{LeafNode}
-use Rattle.art_parts.specs.declared.names.OpaqueNodePtr.{OpaqueNodePtr}
+use Rattle.art_model.specs.Prelude.{put_child, kind_capacity, with_child, leaf_name, inner_name, Nodes, change, Leaf, LeafPtr, LeafNode, OpaqueNodePtr, leaf, inner, Subtrees, NodeHeader, kind_of, bytes_of, join, Frame, plug, leaves_before, leaves_after, names_of, slots_of, leaf_names_below, node_at, links_at, pair_of, as_inner, IsIn, TouchesAtMost}
 use Rattle.art_parts.proofs.NameLemmas.{inner_cmp_total, inner_cmp-IsAntisymmetric}
 use Rattle.art_nodes.proofs.StoreLaws.{inner_changed_at, inner_changed_elsewhere}
-use Rattle.art_model.specs.Trees.{leaf, inner, Subtrees, NodeHeader, kind_of}
-use Rattle.art_model.specs.Radix.{bytes_of, join}
-use Rattle.art_model.specs.Paths.{Frame, plug, leaves_before, leaves_after}
-use Rattle.art_model.specs.Layouts.{names_of, slots_of, leaf_names_below}
-use Rattle.art_model.specs.Stores.{node_at, links_at, pair_of}
-use Rattle.art_model.specs.Writes.{as_inner}
-use Rattle.art_model.specs.Footprints.{IsIn, TouchesAtMost}
 use Rattle.art_model.proofs.stores.Canonical.{IsLaidOut}
 use Rattle.art_model.proofs.stores.Stores.{path_holds, parent_apart}
 use Rattle.art_model.proofs.changes.Inserted.{ChildInserted, IsGap}

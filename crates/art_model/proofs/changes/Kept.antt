@@ -1,14 +1,7 @@
 -- The nodes that stay at each change keep their names: those in the hole, and so all, inner nodes and leaves.
 use Rattle.std.proofs.Common.{◌≡◌, ◌≢◌, ℕ, ◌+◌, List, [], ◌∷◌, ◌++◌, length, take, map, refl, ap, ap₂, sym, ◌∙◌, subst, append-nil, true, false, Bool, cond, ltb, inl, inr}
 use Rattle.std.proofs.lemmas.Bool.{true≢false}
-use Rattle.art_model.specs.Keys.{Precedes}
-use Rattle.art_model.specs.Pairs.{Pairwise, IsMap}
-use Rattle.art_model.specs.Trees.{Tree, leaf, inner, Subtrees, child, no_child, NodeHeader}
-use Rattle.art_model.specs.Radix.{IsRadix, bytes_of, join}
-use Rattle.art_model.specs.Layouts.{entries_of}
-use Rattle.art_model.specs.Paths.{Frame, plug}
-use Rattle.art_model.specs.Places.{least_below, inner_nodes, inner_nodes_below}
-use Rattle.art_model.specs.Footprints.{IsIn}
+use Rattle.art_model.specs.Prelude.{Precedes, Pairwise, IsMap, Tree, leaf, inner, Subtrees, child, no_child, NodeHeader, IsRadix, bytes_of, join, entries_of, Frame, plug, least_below, inner_nodes, inner_nodes_below, IsIn}
 use Rattle.art_model.proofs.lists.Lists.{Each-weaker, each_unmap, in_left}
 use Rattle.art_model.proofs.keys.Keys.{front_related}
 use Rattle.art_model.proofs.radix.Radix.{radix_map}

@@ -1,31 +1,11 @@
 -- A deletion below a node that keeps two or more children, from the equations of the store's maps: the new layout, which names stay, and what is touched.
-use Rattle.std.proofs.Common.{◌≡◌, ◌≢◌, ℕ, suc, ◌<◌, ◌≤◌, List, [], ◌∷◌, ◌++◌, length, Some, None, refl, ap, sym, ◌∙◌, subst, append_assoc, arith, length-append, eq-eqb, inl, inr}
+use Rattle.std.proofs.Common.{◌≡◌, ◌≢◌, ℕ, suc, ◌<◌, ◌≤◌, List, [], ◌∷◌, ◌++◌, length, Some, None, refl, ap, sym, ◌∙◌, subst, append_assoc, arith, length-append, eq-eqb, inl, inr, option_map}
 use Rattle.std.specs.List.{AllByRecursion as Each}
-use Rattle.std.specs.Option.{option_map}
 use Rattle.std.specs.FinMap.{get, insert, remove}
 use Rattle.std.proofs.lemmas.Bool.{ne_eqb}
-use Rattle.art_inner.specs.Inner.{Inner, remove_child}
-use Rattle.art_parts.specs.Kinds.{kind_capacity, kind_least, larger_kind, smaller_kind}
-use Rattle.art_inner.specs.InnerChanges.{without_child}
-use Rattle.art_parts.specs.Names.{leaf_name, inner_name}
-use Rattle.art_nodes.specs.Nodes.{Nodes, change}
-use Rattle.art_parts.specs.declared.names.NodeType.{NodeType}
-use Rattle.art_parts.specs.declared.names.NodeType.TheVariants.{Node4, Node16, Node48, Node256, Leaf}
-use Rattle.art_parts.specs.declared.names.InnerPtr.{InnerPtr}
-use Rattle.art_parts.specs.declared.names.LeafPtr.{LeafPtr}
-use Rattle.art_parts.specs.declared.leaf.LeafNode.{LeafNode}
-use Rattle.art_parts.specs.declared.names.OpaqueNodePtr.{OpaqueNodePtr}
+use Rattle.art_model.specs.Prelude.{Inner, remove_child, kind_capacity, kind_least, larger_kind, smaller_kind, without_child, leaf_name, inner_name, Nodes, change, NodeType, Node4, Node16, Node48, Node256, Leaf, InnerPtr, LeafPtr, LeafNode, OpaqueNodePtr, Tree, leaf, inner, Subtrees, child, no_child, canonical_header, kind_of, bytes_of, join, pairs_below, BytesRise, remove_key, Frame, fill, plug, leaves_before, leaves_after, HoldsPath, name_of, slots_of, names_of, node_at, links_at, pair_of, header_at, Inners, as_inner, parent_of, with_child_at, without_leaf, IsThere, IsIn, TouchesAtMost, ChangesInPlace}
 use Rattle.art_parts.proofs.NameLemmas.{inner_cmp_total, inner_cmp-IsAntisymmetric}
 use Rattle.art_nodes.proofs.StoreLaws.{inner_here, inner_elsewhere, inner_gone_elsewhere, inner_changed_at, inner_changed_elsewhere}
-use Rattle.art_model.specs.Trees.{Tree, leaf, inner, Subtrees, child, no_child, canonical_header, kind_of}
-use Rattle.art_model.specs.Radix.{bytes_of, join, pairs_below, BytesRise}
-use Rattle.art_model.specs.Pairs.{remove_key}
-use Rattle.art_model.specs.Paths.{Frame, fill, plug, leaves_before, leaves_after, HoldsPath}
-use Rattle.art_model.specs.Layouts.{name_of, slots_of, names_of}
-use Rattle.art_model.specs.Stores.{node_at, links_at, pair_of, header_at}
-use Rattle.art_model.specs.Writes.{Inners, as_inner, parent_of, with_child_at, without_leaf, IsThere}
-use Rattle.art_model.specs.Footprints.{IsIn, TouchesAtMost}
-use Rattle.art_model.specs.Kept.{ChangesInPlace}
 use Rattle.art_model.proofs.places.InHole.{both_in, in_hole, names_around, parents_in}
 use Rattle.art_model.proofs.stores.Canonical.{IsLaidOut}
 use Rattle.art_model.proofs.changes.InPlace.{AreNames, in_place, names_back}

@@ -1,11 +1,6 @@
 -- A leaf replaces all that is in the hole.
 use Rattle.std.proofs.Common.{◌≡◌, ℕ, List, [], ◌∷◌, sym, ◌∙◌, subst, Option, Some, None, ◌⊎◌}
-use Rattle.art_model.specs.Trees.{Tree, leaf}
-use Rattle.art_model.specs.Radix.{pairs_of}
-use Rattle.art_model.specs.Paths.{Frame, plug}
-use Rattle.art_model.specs.Places.{inner_nodes}
-use Rattle.art_model.specs.Layouts.{Node, leaf_node, names_of, leaf_names, AreLinked, Links, entries_of}
-use Rattle.art_model.specs.Footprints.{IsIn}
+use Rattle.art_model.specs.Prelude.{Tree, leaf, pairs_of, Frame, plug, inner_nodes, Node, leaf_node, names_of, leaf_names, AreLinked, Links, entries_of, IsIn}
 use Rattle.art_model.proofs.pairs.Between.{IsLocal}
 use Rattle.art_model.proofs.places.Paths.{IsHole, root_with, leaf_names-plug}
 use Rattle.art_model.proofs.changes.Kept.{KeepLeaves, kept_leaves}

@@ -1,11 +1,7 @@
 -- The nodes and names of each change: what is in the hole afterwards is held, under distinct names that are old ones or were free.
 use Rattle.std.proofs.Common.{◌≡◌, ◌≢◌, ℕ, List, [], ◌∷◌, ◌++◌, ap, sym, ◌∙◌, subst, append_assoc, append-nil, Option, Some, None, true, false, Bool, cond, ltb, ◌⊎◌, inl, inr}
 use Rattle.std.specs.List.{AllByRecursion as Each}
-use Rattle.art_model.specs.Trees.{Tree, leaf, inner, Subtrees, child, no_child, NodeHeader}
-use Rattle.art_model.specs.Radix.{join}
-use Rattle.art_model.specs.Paths.{Frame, plug}
-use Rattle.art_model.specs.Layouts.{Node, leaf_node, inner_node, slots_of, names_of, names_below, Holds, HoldsBelow, AreDistinct}
-use Rattle.art_model.specs.Footprints.{IsIn}
+use Rattle.art_model.specs.Prelude.{Tree, leaf, inner, Subtrees, child, no_child, NodeHeader, join, Frame, plug, Node, leaf_node, inner_node, slots_of, names_of, names_below, Holds, HoldsBelow, AreDistinct, IsIn}
 use Rattle.art_model.proofs.lists.Lists.{Each-append, Each-left, Each-right, Each-weaker, each_in, each_from, in_left, in_right, in_either}
 use Rattle.art_model.proofs.lists.Pairwises.{Pairwise-append, Pairwise-right}
 use Rattle.art_model.proofs.places.Paths.{names_below-join}

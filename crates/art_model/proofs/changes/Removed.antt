@@ -1,12 +1,6 @@
 -- Deletions from store to store: a leaf is removed from a node that keeps two or more children, or of which one child is left.
 use Rattle.std.proofs.Common.{◌≡◌, ℕ, ◌+◌, ◌≤◌, List, [], ◌∷◌, ◌++◌, length, length-append, arith, refl, ap, sym, ◌∙◌, subst, append-nil, Option, Some, None, ◌⊎◌, inl, inr}
-use Rattle.art_model.specs.Trees.{Tree, leaf, inner, Subtrees, child, no_child, NodeHeader, canonical_header, kind_of}
-use Rattle.art_model.specs.Radix.{IsRadix, bytes_of, join, pairs_of}
-use Rattle.art_model.specs.Pairs.{remove_key}
-use Rattle.art_model.specs.Paths.{Frame, plug, leaves_before, leaves_after}
-use Rattle.art_model.specs.Places.{inner_nodes}
-use Rattle.art_model.specs.Layouts.{Node, inner_node, name_of, slots_of, names_of, leaf_names, leaf_names_below, Holds, Links, entries_of, entries_below}
-use Rattle.art_model.specs.Footprints.{IsIn}
+use Rattle.art_model.specs.Prelude.{Tree, leaf, inner, Subtrees, child, no_child, NodeHeader, canonical_header, kind_of, IsRadix, bytes_of, join, pairs_of, remove_key, Frame, plug, leaves_before, leaves_after, inner_nodes, Node, inner_node, name_of, slots_of, names_of, leaf_names, leaf_names_below, Holds, Links, entries_of, entries_below, IsIn}
 use Rattle.art_model.proofs.lists.Lists.{in_around}
 use Rattle.art_model.proofs.pairs.Between.{remove_key-between}
 use Rattle.art_model.proofs.places.Paths.{IsHole, root_with, leaf_names_below-three, entries_below-three, entries_below-join, same_pairs_of, same_leaf_names}

@@ -1,11 +1,7 @@
 -- The theorem that every operation uses: with another tree in the hole of a path, and the links updated, the root is canonical for the changed pairs.
 use Rattle.std.proofs.Common.{◌≡◌, ◌≢◌, ℕ, List, ◌++◌, sym, ap, ◌∙◌, subst, append_assoc, Option, None}
 use Rattle.std.specs.List.{AllByRecursion as Each}
-use Rattle.art_model.specs.Keys.{IsFront}
-use Rattle.art_model.specs.Trees.{Tree}
-use Rattle.art_model.specs.Radix.{pairs_of, IsRadix}
-use Rattle.art_model.specs.Paths.{Frame, plug, IsPath, leaves_before, leaves_after}
-use Rattle.art_model.specs.Layouts.{Node, name_of, names_of, leaf_names, AreDistinct, Links, AreLinked}
+use Rattle.art_model.specs.Prelude.{IsFront, Tree, pairs_of, IsRadix, Frame, plug, IsPath, leaves_before, leaves_after, Node, name_of, names_of, leaf_names, AreDistinct, Links, AreLinked}
 use Rattle.art_model.proofs.pairs.Between.{IsLocal}
 use Rattle.art_model.proofs.stores.Canonical.{IsLaidOut}
 use Rattle.art_model.proofs.leaves.Links.{Relinked, relink}

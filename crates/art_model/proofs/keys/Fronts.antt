@@ -1,7 +1,7 @@
 -- The length of the common prefix of two keys, and where they differ.
 use Rattle.std.proofs.Common.{◌≡◌, ◌≢◌, ℕ, suc, zero, ◌<◌, ◌≤◌, List, [], ◌∷◌, ◌++◌, length, drop, refl, ap, ap₂, sym, ◌∙◌, arith, append_assoc, append-nil, length-append, eqb, eq-eqb, eqb-true, cond, Bool, true, false, ◌⊎◌, inl, inr}
 use Rattle.std.proofs.lemmas.Bool.{cases_lt, true≢false}
-use Rattle.art_model.specs.Keys.{are_related, common_front, IsFront}
+use Rattle.art_model.specs.Prelude.{are_related, common_front, IsFront}
 use Rattle.art_model.proofs.keys.KeyLaws.{common_front_is_longest}
 use Rattle.art_model.proofs.keys.Keys.{front_related, related_sym}
 use Rattle.art_model.proofs.lists.Lists.{common_front_left, common_front_right}

@@ -1,12 +1,9 @@
 -- the laws of keys
-use Rattle.std.proofs.Common.{◌≡◌, ℕ, ◌<◌, List, [], ◌∷◌, ◌++◌, refl, ap, ap₂, sym, ◌∙◌, append-nil, true, false, Bool, ◌||◌, ◌⊎◌, inl, inr}
+use Rattle.std.proofs.Common.{◌≡◌, ℕ, ◌<◌, List, [], ◌∷◌, ◌++◌, refl, ap, ap₂, sym, ◌∙◌, append-nil, true, false, Bool, ◌||◌, ◌⊎◌, inl, inr, nat_cmp, is_lt, Ordering, Less, Equal, Greater}
 use Rattle.std.specs.Cmp.Lexicographic.{slice_cmp}
-use Rattle.std.specs.Ordering.{nat_cmp, is_lt}
-use Rattle.std.specs.declared.cmp.Ordering.{Ordering}
-use Rattle.std.specs.declared.cmp.Ordering.TheVariants.{Less, Equal, Greater}
 use Rattle.std.proofs.lemmas.Cmp.{nat_list_cmp_total}
 use Rattle.std.proofs.lemmas.Bool.{false≢true, lt-ltb, cases_order}
-use Rattle.art_model.specs.Keys.{IsFront, is_front, are_related, is_before, common_front}
+use Rattle.art_model.specs.Prelude.{IsFront, is_front, are_related, is_before, common_front}
 use Rattle.art_model.specs.KeyLaws.{IsProperFront, HasSmallerByte, FrontsAreDecided, RelationIsDecided, SamenessIsDecided, OrderIsDecided, OrderIsStrict, OrderIsTransitive, OrderIsTotal, CommonFrontIsLongest}
 use Rattle.art_model.proofs.lists.Lists.{common_front_left, common_front_right, common_front-append}
 use Rattle.art_model.proofs.keys.Keys.{front_is, front_from, front_same, front_related, related_sym, same_equal, first_less, cmp-append}

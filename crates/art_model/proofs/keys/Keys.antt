@@ -1,11 +1,9 @@
 -- the order of keys
-use Rattle.std.proofs.Common.{◌≡◌, ◌≢◌, ℕ, ◌<◌, ◌≤◌, List, [], ◌∷◌, ◌++◌, refl, sym, arith, eqb, eq-eqb, eqb-true, length, length-append, ap, ap₂, ◌∙◌, true, false, Bool, ◌&&◌, ◌||◌, append-nil, ◌⊎◌, inl, inr}
+use Rattle.std.proofs.Common.{◌≡◌, ◌≢◌, ℕ, ◌<◌, ◌≤◌, List, [], ◌∷◌, ◌++◌, refl, sym, arith, eqb, eq-eqb, eqb-true, length, length-append, ap, ap₂, ◌∙◌, true, false, Bool, ◌&&◌, ◌||◌, append-nil, ◌⊎◌, inl, inr, nat_cmp}
 use Rattle.std.specs.List.{AllByRecursion as Each}
 use Rattle.std.specs.Cmp.Lexicographic.{slice_cmp}
-use Rattle.std.specs.Ordering.{nat_cmp}
 use Rattle.std.proofs.lemmas.Bool.{and_parts, ne_eqb, le-ltb, lt-ltb, true≢false, false≢true, cases_order}
-use Rattle.art_model.specs.Keys.{IsFront, is_before, is_front, are_related, are_same, Precedes}
-use Rattle.art_model.specs.Pairs.{IsMap}
+use Rattle.art_model.specs.Prelude.{IsFront, is_before, is_front, are_related, are_same, Precedes, IsMap}
 use Rattle.art_model.proofs.lists.Lists.{Each-append, Each-left}
 
 pub cmp-append : (p a b : List ℕ) → slice_cmp nat_cmp (p ++ a) (p ++ b) ≡ slice_cmp nat_cmp a b

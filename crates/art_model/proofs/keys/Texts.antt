@@ -1,8 +1,7 @@
 -- Texts and their end byte, and prefixes of texts.
 use Rattle.std.proofs.Common.{◌≡◌, ℕ, ◌<◌, ◌≤◌, ◌⊎◌, List, [], ◌∷◌, ◌++◌, length, length-append, append-nil, append_assoc, refl, ap, ap₂, sym, ◌∙◌, subst, arith, Bool, true, false, inl, inr}
 use Rattle.std.specs.List.{AllByRecursion as Each}
-use Rattle.art_model.specs.Keys.{IsFront, Precedes, is_front}
-use Rattle.art_model.specs.Pairs.{without_last}
+use Rattle.art_model.specs.Prelude.{IsFront, Precedes, is_front, without_last}
 use Rattle.art_model.proofs.keys.Keys.{front_from, front_is, parts_left, precedes_byte}
 use Rattle.art_model.proofs.lists.Lists.{Each-left, Each-right}
 

@@ -1,23 +1,11 @@
 -- The chain where a leaf is inserted between two others of a store, or removed.
-use Rattle.std.proofs.Common.{◌≡◌, ◌≢◌, List, [], ◌∷◌, ◌++◌, Option, Some, None, refl, ap, sym, ◌∙◌, subst, inl, inr}
-use Rattle.std.specs.Option.{option_map, option_and_then}
+use Rattle.std.proofs.Common.{◌≡◌, ◌≢◌, List, [], ◌∷◌, ◌++◌, Option, Some, None, refl, ap, sym, ◌∙◌, subst, inl, inr, option_map, option_and_then}
 use Rattle.std.specs.FinMap.{get}
-use Rattle.art_inner.specs.Inner.{Inner}
-use Rattle.art_parts.specs.Names.{leaf_name}
-use Rattle.art_nodes.specs.Nodes.{Nodes}
-use Rattle.art_parts.specs.declared.names.NodeType.TheVariants.{Leaf}
-use Rattle.art_parts.specs.declared.names.LeafPtr.{LeafPtr}
-use Rattle.art_parts.specs.declared.names.OpaqueNodePtr.{OpaqueNodePtr}
-use Rattle.art_parts.specs.declared.leaf.LeafNode.{LeafNode}
-use Rattle.art_model.specs.Layouts.{leaf_node, leaf_names, Holds, Links, AreLinked, AreDistinct, first_or, last_or}
-use Rattle.art_model.specs.Stores.{node_at, pair_of, held_leaf, held_inner, links_at, links_of}
-use Rattle.art_model.specs.Writes.{IsThere, with_next, with_previous, with_links_around, with_leaf, without_leaf}
-use Rattle.art_model.specs.Footprints.{IsIn}
+use Rattle.art_model.specs.Prelude.{Inner, leaf_name, Nodes, Leaf, LeafPtr, OpaqueNodePtr, LeafNode, leaf_node, leaf_names, Holds, Links, AreLinked, AreDistinct, first_or, last_or, node_at, pair_of, held_leaf, held_inner, links_at, links_of, IsThere, with_next, with_previous, with_links_around, with_leaf, without_leaf, IsIn, Tree}
 use Rattle.art_model.proofs.lists.Lists.{each_in, in_left, in_right, in_either}
 use Rattle.art_model.proofs.lists.Pairwises.{Pairwise-without, Pairwise-before}
 use Rattle.art_model.proofs.stores.Names.{apart_after, IsTaken, all_taken, among, takes_leaves}
 use Rattle.art_model.proofs.leaves.Links.{Relinked, last_in, first_in, last_not_first}
-use Rattle.art_model.specs.Trees.{Tree}
 use Rattle.art_model.proofs.stores.Writes.{node_at-leaf}
 use Rattle.art_model.proofs.stores.Views.{held_in_inner, leaf_or}
 use Rattle.art_model.proofs.leaves.Leaves.{listed, in_listed, named_leaf, joined_before, joined_after, joined_elsewhere, with_leaf_here, with_leaf_elsewhere, without_leaf_elsewhere}

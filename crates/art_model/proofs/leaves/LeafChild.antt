@@ -1,9 +1,6 @@
 -- A leaf among the children of a node: the names of the node with it and without it.
 use Rattle.std.proofs.Common.{◌≡◌, ℕ, [], ◌∷◌, sym, subst, ◌⊎◌, inl, inr}
-use Rattle.art_model.specs.Trees.{leaf, inner, Subtrees, child, NodeHeader}
-use Rattle.art_model.specs.Radix.{join}
-use Rattle.art_model.specs.Layouts.{names_of, names_below}
-use Rattle.art_model.specs.Footprints.{IsIn}
+use Rattle.art_model.specs.Prelude.{leaf, inner, Subtrees, child, NodeHeader, join, names_of, names_below, IsIn}
 use Rattle.art_model.proofs.changes.InPlace.{AreNames}
 use Rattle.art_model.proofs.lists.Lists.{in_left, in_right, in_either}
 use Rattle.art_model.proofs.places.Paths.{names_below-join}

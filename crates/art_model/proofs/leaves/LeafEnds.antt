@@ -1,11 +1,6 @@
 -- The first and the last leaf of a tree whose inner nodes have children, with the path to each.
 use Rattle.std.proofs.Common.{◌≡◌, ◌++◌, ◌≤◌, length, List, [], ◌∷◌, Option, Some, None, refl, ap, sym, ◌∙◌, subst, arith, append-nil, ◌⊎◌, inl, inr}
-use Rattle.art_model.specs.Trees.{Tree, leaf, inner, Subtrees, child, no_child, NodeHeader}
-use Rattle.art_model.specs.Radix.{bytes_of, join, pairs_of, pairs_below, HaveChildren, HaveChildrenBelow}
-use Rattle.art_model.specs.Pairs.{first_of, last_of}
-use Rattle.art_model.specs.Paths.{Frame, plug}
-use Rattle.art_model.specs.Layouts.{leaf_names, leaf_names_below, first_or, last_or}
-use Rattle.art_model.specs.Lookups.{HasFirstLeaf, HasLastLeaf}
+use Rattle.art_model.specs.Prelude.{Tree, leaf, inner, Subtrees, child, no_child, NodeHeader, bytes_of, join, pairs_of, pairs_below, HaveChildren, HaveChildrenBelow, first_of, last_of, Frame, plug, leaf_names, leaf_names_below, first_or, last_or, HasFirstLeaf, HasLastLeaf}
 use Rattle.art_model.proofs.places.PlaceLaws.{join_assoc}
 
 module _ {X : Type 0} where

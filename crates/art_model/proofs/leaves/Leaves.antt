@@ -1,17 +1,10 @@
 -- A leaf is inserted between two others, or removed: what the map of leaves has under each name then, and which names are touched.
-use Rattle.std.proofs.Common.{◌≡◌, ◌≢◌, ℕ, List, [], ◌∷◌, ◌++◌, length, ◌≤◌, arith, Option, Some, None, refl, ap, sym, ◌∙◌, ◌⊎◌, inl, inr}
+use Rattle.std.proofs.Common.{◌≡◌, ◌≢◌, ℕ, List, [], ◌∷◌, ◌++◌, length, ◌≤◌, arith, Option, Some, None, refl, ap, sym, ◌∙◌, ◌⊎◌, inl, inr, option_map}
 use Rattle.std.proofs.lemmas.Bool.{cases_eq}
-use Rattle.std.specs.Option.{option_map}
 use Rattle.std.specs.FinMap.{get, insert}
-use Rattle.art_parts.specs.Names.{leaf_name}
-use Rattle.art_parts.specs.declared.names.LeafPtr.{LeafPtr}
-use Rattle.art_parts.specs.declared.names.OpaqueNodePtr.{OpaqueNodePtr}
-use Rattle.art_parts.specs.declared.leaf.LeafNode.{LeafNode}
+use Rattle.art_model.specs.Prelude.{leaf_name, LeafPtr, OpaqueNodePtr, LeafNode, pair_of, IsThere, Leaves, with_next, with_previous, change_some, with_links_around, with_leaf, without_leaf, IsIn}
 use Rattle.art_parts.proofs.NameLemmas.{leaf_cmp_total, leaf_cmp-IsAntisymmetric}
 use Rattle.art_nodes.proofs.StoreLaws.{leaf_here, leaf_elsewhere, leaf_gone_elsewhere, leaf_changed_at, leaf_changed_elsewhere}
-use Rattle.art_model.specs.Stores.{pair_of}
-use Rattle.art_model.specs.Writes.{IsThere, Leaves, with_next, with_previous, change_some, with_links_around, with_leaf, without_leaf}
-use Rattle.art_model.specs.Footprints.{IsIn}
 use Rattle.art_model.proofs.lists.Lists.{in_either}
 use Rattle.art_model.proofs.stores.Touches.{Touched, touched_none, then_placed, then_changed, then_freed, still_placed, still_changed}
 

@@ -1,8 +1,7 @@
 -- The chain of leaves: its parts, and the chain after the leaves in the middle change.
 use Rattle.std.proofs.Common.{◌≡◌, ◌≢◌, List, [], ◌∷◌, ◌++◌, refl, ap, sym, ◌∙◌, Option, Some, None, ◌⊎◌, inl, inr, subst, append_assoc}
 use Rattle.std.specs.List.{AllByRecursion as Each}
-use Rattle.art_model.specs.Layouts.{Links, AreLinked, first_or, last_or, AreDistinct}
-use Rattle.art_model.specs.Footprints.{IsIn}
+use Rattle.art_model.specs.Prelude.{Links, AreLinked, first_or, last_or, AreDistinct, IsIn}
 use Rattle.art_model.proofs.lists.Lists.{each_from, in_left, in_right}
 use Rattle.art_model.proofs.lists.Pairwises.{Pairwise-left}
 use Rattle.art_model.proofs.stores.Names.{apart_in}

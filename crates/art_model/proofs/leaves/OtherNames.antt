@@ -2,10 +2,7 @@
 use Rattle.std.proofs.Common.{◌≡◌, ◌≢◌, ℕ, List, [], ◌∷◌, ◌++◌, map, Option, Some, option_map, refl, ap, ap₂, sym, ◌∙◌, inl, inr}
 use Rattle.std.proofs.lemmas.List.{map-append}
 use Rattle.std.specs.List.{AllByRecursion as Each}
-use Rattle.art_model.specs.Footprints.{IsIn}
-use Rattle.art_model.specs.Layouts.{Node, inner_node, Links, AreDistinct, AreLinked, Holds, HoldsBelow, first_or, name_of, slots_of, names_of, names_below, leaf_names, leaf_names_below}
-use Rattle.art_model.specs.Radix.{unmarked, all_unmarked}
-use Rattle.art_model.specs.Trees.{Tree, leaf, inner, Subtrees, child, no_child, NodeHeader}
+use Rattle.art_model.specs.Prelude.{IsIn, Node, inner_node, Links, AreDistinct, AreLinked, Holds, HoldsBelow, first_or, name_of, slots_of, names_of, names_below, leaf_names, leaf_names_below, unmarked, all_unmarked, Tree, leaf, inner, Subtrees, child, no_child, NodeHeader}
 use Rattle.art_model.proofs.lists.Lists.{Each-left, Each-right, each_in, each_from, out_map}
 
 module _ {N : Type 0} (rename : N → N) where

@@ -1,17 +1,7 @@
 -- A leaf is placed among those of a layout, or removed from them: from the equation of the store's leaves to the chain, the pairs and what is touched.
-use Rattle.std.proofs.Common.{◌≡◌, ◌≢◌, List, [], ◌∷◌, ◌++◌, Some, None, refl, ap, sym, ◌∙◌, subst, append_assoc, inl}
-use Rattle.std.specs.Option.{option_map}
+use Rattle.std.proofs.Common.{◌≡◌, ◌≢◌, List, [], ◌∷◌, ◌++◌, Some, None, refl, ap, sym, ◌∙◌, subst, append_assoc, inl, option_map}
 use Rattle.std.specs.FinMap.{get}
-use Rattle.art_parts.specs.Names.{leaf_name}
-use Rattle.art_nodes.specs.Nodes.{Nodes}
-use Rattle.art_parts.specs.declared.names.LeafPtr.{LeafPtr}
-use Rattle.art_parts.specs.declared.leaf.LeafNode.{LeafNode}
-use Rattle.art_parts.specs.declared.names.OpaqueNodePtr.{OpaqueNodePtr}
-use Rattle.art_model.specs.Trees.{Tree}
-use Rattle.art_model.specs.Layouts.{leaf_node, leaf_names, Holds, AreDistinct, AreLinked, names_of, first_or, last_or}
-use Rattle.art_model.specs.Stores.{node_at, links_at, pair_of}
-use Rattle.art_model.specs.Writes.{IsThere, with_leaf, without_leaf}
-use Rattle.art_model.specs.Footprints.{IsIn}
+use Rattle.art_model.specs.Prelude.{leaf_name, Nodes, LeafPtr, LeafNode, OpaqueNodePtr, Tree, leaf_node, leaf_names, Holds, AreDistinct, AreLinked, names_of, first_or, last_or, node_at, links_at, pair_of, IsThere, with_leaf, without_leaf, IsIn}
 use Rattle.art_model.proofs.lists.Lists.{in_right}
 use Rattle.art_model.proofs.stores.Names.{apart_in, taken_distinct, taken_in, takes_leaves}
 use Rattle.art_model.proofs.leaves.Links.{Relinked, last_in, first_in}

@@ -2,23 +2,9 @@
 use Rattle.std.proofs.Common.{◌≡◌, ◌≢◌, ℕ, List, [], ◌∷◌, map, Option, Some, None, option_map, option_and_then, IsSomeAnd, refl, ap, sym, ◌∙◌, subst, ◌⊎◌, inl, inr}
 use Rattle.std.specs.List.{AllByRecursion as Each}
 use Rattle.std.specs.FinMap.{get}
-use Rattle.art_inner.specs.Inner.{Inner}
+use Rattle.art_model.specs.Prelude.{Inner, Nodes, leaf_name, LeafNode, LeafPtr, NodeType, Node4, Node16, Node48, Node256, Leaf, OpaqueNodePtr, IsCanonicalTree, IsIn, AreDistinct, AreLinked, Links, first_or, leaf_names, leaf_node, inner_node, names_of, first_of, Held, content_at, held_leaf, held_inner, links_at, links_of, node_at, pair_of, Tree, NodeHeader, as_inner}
 use Rattle.art_inner.specs.InnerRenamed.{renamed_in, child_renamed, children_renamed, inner_renamed}
-use Rattle.art_nodes.specs.Nodes.{Nodes}
 use Rattle.art_nodes.specs.Renamed.{AreRenamed, IsRow, leaf_renamed}
-use Rattle.art_parts.specs.Names.{leaf_name}
-use Rattle.art_parts.specs.declared.leaf.LeafNode.{LeafNode}
-use Rattle.art_parts.specs.declared.names.LeafPtr.{LeafPtr}
-use Rattle.art_parts.specs.declared.names.NodeType.{NodeType}
-use Rattle.art_parts.specs.declared.names.NodeType.TheVariants.{Node4, Node16, Node48, Node256, Leaf}
-use Rattle.art_parts.specs.declared.names.OpaqueNodePtr.{OpaqueNodePtr}
-use Rattle.art_model.specs.Canonical.{IsCanonicalTree}
-use Rattle.art_model.specs.Footprints.{IsIn}
-use Rattle.art_model.specs.Layouts.{AreDistinct, AreLinked, Links, first_or, leaf_names, leaf_node, inner_node, names_of}
-use Rattle.art_model.specs.Pairs.{first_of}
-use Rattle.art_model.specs.Stores.{Held, content_at, held_leaf, held_inner, links_at, links_of, node_at, pair_of}
-use Rattle.art_model.specs.Trees.{Tree, NodeHeader}
-use Rattle.art_model.specs.Writes.{as_inner}
 use Rattle.art_model.proofs.leaves.Chains.{links_leaf, links_inner}
 use Rattle.art_model.proofs.leaves.LeafEnds.{first_or_of}
 use Rattle.art_model.proofs.leaves.OtherNames.{IsOwn, distinct_renamed, holds_renamed, linked_renamed, links_renamed, leaf_names-renamed, name_of-renamed, names_of-renamed, renamed, unmarked-renamed}

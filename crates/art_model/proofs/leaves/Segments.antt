@@ -1,11 +1,7 @@
 -- Parts of a segment are segments, and the leaves of a tree are one.
 use Rattle.std.proofs.Common.{◌≡◌, ◌≢◌, List, [], ◌∷◌, ◌++◌, Option, Some, None, ap, inl, inr}
 use Rattle.std.specs.List.{AllByRecursion as Each}
-use Rattle.art_model.specs.Footprints.{IsIn}
-use Rattle.art_model.specs.Layouts.{Links, AreDistinct, AreLinked, first_or, last_or, names_of, leaf_names}
-use Rattle.art_model.specs.Pairs.{last_of, without_last}
-use Rattle.art_model.specs.Segments.{IsSegment}
-use Rattle.art_model.specs.Trees.{Tree}
+use Rattle.art_model.specs.Prelude.{IsIn, Links, AreDistinct, AreLinked, first_or, last_or, names_of, leaf_names, last_of, without_last, IsSegment, Tree}
 use Rattle.art_model.proofs.leaves.Links.{linked-frame, linked_front, linked_rest}
 use Rattle.art_model.proofs.stores.Names.{taken_distinct, takes_leaves}
 use Rattle.art_model.proofs.lists.Pairwises.{Pairwise-left, Pairwise-right}

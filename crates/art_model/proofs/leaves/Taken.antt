@@ -1,18 +1,7 @@
 -- A leaf among those of a layout, before it is removed: its neighbours.
-use Rattle.std.proofs.Common.{◌≡◌, List, [], ◌∷◌, ◌++◌, ℕ, arith, Option, Some, None, refl, ap, sym, ◌∙◌, subst, append_assoc, inl, inr}
-use Rattle.std.specs.Option.{option_map}
+use Rattle.std.proofs.Common.{◌≡◌, List, [], ◌∷◌, ◌++◌, ℕ, arith, Option, Some, None, refl, ap, sym, ◌∙◌, subst, append_assoc, inl, inr, option_map}
 use Rattle.std.specs.FinMap.{get}
-use Rattle.art_parts.specs.Names.{leaf_name}
-use Rattle.art_nodes.specs.Nodes.{Nodes}
-use Rattle.art_parts.specs.declared.names.LeafPtr.{LeafPtr}
-use Rattle.art_parts.specs.declared.leaf.LeafNode.{LeafNode}
-use Rattle.art_parts.specs.declared.names.OpaqueNodePtr.{OpaqueNodePtr}
-use Rattle.art_model.specs.Trees.{Tree, leaf, inner, Subtrees, child, no_child}
-use Rattle.art_model.specs.Radix.{IsRadix, pairs_of, pairs_below}
-use Rattle.art_model.specs.Layouts.{Links, leaf_names, leaf_names_below, names_of, Holds, HoldsBelow, AreLinked, first_or, last_or}
-use Rattle.art_model.specs.Stores.{node_at, links_at, pair_of}
-use Rattle.art_model.specs.Writes.{IsThere}
-use Rattle.art_model.specs.Footprints.{IsIn}
+use Rattle.art_model.specs.Prelude.{leaf_name, Nodes, LeafPtr, LeafNode, OpaqueNodePtr, Tree, leaf, inner, Subtrees, child, no_child, IsRadix, pairs_of, pairs_below, Links, leaf_names, leaf_names_below, names_of, Holds, HoldsBelow, AreLinked, first_or, last_or, node_at, links_at, pair_of, IsThere, IsIn}
 use Rattle.art_model.proofs.lists.Lists.{in_left, in_right, in_either, in_around}
 use Rattle.art_model.proofs.stores.Names.{taken_in, takes_leaves}
 use Rattle.art_model.proofs.leaves.Links.{link_of}

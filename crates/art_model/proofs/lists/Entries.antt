@@ -1,7 +1,6 @@
 -- Lists of nodes' keys and names: an entry that stays keeps its name.
 use Rattle.std.proofs.Common.{◌≡◌, ◌≢◌, ℕ, List, [], ◌∷◌, ◌++◌, ap, sym, ◌∙◌, ◌⊎◌, inl, inr}
-use Rattle.art_model.specs.Pairs.{Pairwise}
-use Rattle.art_model.specs.Footprints.{IsIn}
+use Rattle.art_model.specs.Prelude.{Pairwise, IsIn}
 use Rattle.art_model.proofs.lists.Lists.{each_in, in_left, in_right, in_either}
 
 -- the bytes by which an entry is identified, its name, and which entries are of one sort

@@ -2,9 +2,8 @@
 use Rattle.std.proofs.Common.{◌≡◌, ℕ, ◌+◌, List, [], ◌∷◌, length, filter, refl, ap, sym, ◌∙◌, arith, true, false, cond, Bool, subst, Some}
 use Rattle.std.specs.List.{AllByRecursion as Each}
 use Rattle.std.proofs.lemmas.Bool.{true≢false}
-use Rattle.art_model.specs.Keys.{is_before}
+use Rattle.art_model.specs.Prelude.{is_before, Pairwise, last_of, without_last, add_in_order}
 use Rattle.art_model.proofs.lists.Lists.{filter_none}
-use Rattle.art_model.specs.Pairs.{Pairwise, last_of, without_last, add_in_order}
 
 module _ {A : Type 0} where
   pub Each-both : (P Q R : A → Type 0) → ((x : A) → P x → Q x → R x) → (xs : List A) → Each P xs → Each Q xs → Each R xs

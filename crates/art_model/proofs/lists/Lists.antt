@@ -3,9 +3,7 @@ use Rattle.std.proofs.Common.{filter, ◌≡◌, ℕ, List, [], ◌∷◌, ◌++
 use Rattle.std.proofs.Common.{◌∙◌, append_assoc, drop_at, eqb, eq-eqb, true, false, cond, Bool, ap₂, eqb-true, subst, map, ◌⊎◌, inl, inr}
 use Rattle.std.specs.List.{AllByRecursion as Each}
 use Rattle.std.proofs.lemmas.List.{reverse-append}
-use Rattle.art_model.specs.Keys.{IsFront, common_front}
-use Rattle.art_model.specs.Footprints.{IsIn}
-use Rattle.art_model.specs.Pairs.{first_of, last_of}
+use Rattle.art_model.specs.Prelude.{IsFront, common_front, IsIn, first_of, last_of}
 
 module _ {A : Type 0} where
   -- what holds of each element of both lists holds of each of the joined list

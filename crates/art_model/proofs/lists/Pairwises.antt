@@ -1,8 +1,7 @@
 -- relations between each element and each later one
 use Rattle.std.proofs.Common.{List, [], ◌∷◌, ◌++◌}
 use Rattle.std.specs.List.{AllByRecursion as Each}
-use Rattle.art_model.specs.Pairs.{Pairwise}
-use Rattle.art_model.specs.Footprints.{IsIn}
+use Rattle.art_model.specs.Prelude.{Pairwise, IsIn}
 use Rattle.art_model.proofs.lists.Lists.{Each-append, Each-left, Each-right, each_in}
 
 module _ {X : Type 0} (R : X → X → Type 0) where

@@ -2,8 +2,7 @@
 use Rattle.std.proofs.Common.{◌≡◌, ℕ, List, [], ◌∷◌, ◌++◌, refl, ap, ◌∙◌, true, false, not, Bool, cond}
 use Rattle.std.specs.List.{AllByRecursion as Each}
 use Rattle.std.proofs.lemmas.List.Elements.{filter-append}
-use Rattle.art_model.specs.Keys.{Precedes, are_related, are_same, is_before}
-use Rattle.art_model.specs.Pairs.{add_in_order, remove_key, remove_related, replace_key, replace_related}
+use Rattle.art_model.specs.Prelude.{Precedes, are_related, are_same, is_before, add_in_order, remove_key, remove_related, replace_key, replace_related}
 use Rattle.art_model.proofs.lists.Lists.{Each-weaker}
 use Rattle.art_model.proofs.lists.Filters.{filter_all}
 use Rattle.art_model.proofs.keys.Keys.{precedes_apart, related_sym, same_related}

@@ -1,13 +1,10 @@
 -- the laws of maps
-use Rattle.std.proofs.Common.{◌≡◌, ◌≢◌, ℕ, ◌+◌, ◌≤◌, List, [], ◌∷◌, length, filter, map, Option, Some, None, is_some, refl, ap, sym, ◌∙◌, subst, append-nil, eq-eqb, arith, true, false, not, ◌&&◌, ◌||◌, cond, Bool, ◌⊎◌, inl, inr}
+use Rattle.std.proofs.Common.{◌≡◌, ◌≢◌, ℕ, ◌+◌, ◌≤◌, List, [], ◌∷◌, length, filter, map, Option, Some, None, is_some, refl, ap, sym, ◌∙◌, subst, append-nil, eq-eqb, arith, true, false, not, ◌&&◌, ◌||◌, cond, Bool, ◌⊎◌, inl, inr, option_map}
 use Rattle.std.specs.List.{AllByRecursion as Each, list_any, cons_option}
 use Rattle.std.specs.Bool.{Decides}
-use Rattle.std.specs.Option.{option_map}
 use Rattle.std.proofs.lemmas.Bool.{true≢false, false≢true}
 use Rattle.std.proofs.lemmas.List.Filters.{length-filter_both}
-use Rattle.art_model.specs.Keys.{IsFront, is_front, are_related, are_same, is_before, Precedes}
-use Rattle.art_model.specs.Pairs.{first_of, only_or_count, IsMap, with_key, related_to, is_conflict, stored_for, put}
-use Rattle.art_model.specs.Pairs.{overwrite, overwrite_reply, replace_key, replace_related, remove_key, remove_related, add_in_order, of_key}
+use Rattle.art_model.specs.Prelude.{IsFront, is_front, are_related, are_same, is_before, Precedes, first_of, only_or_count, IsMap, with_key, related_to, is_conflict, stored_for, put, overwrite, overwrite_reply, replace_key, replace_related, remove_key, remove_related, add_in_order, of_key}
 use Rattle.art_model.specs.Changes.{Change, put_pair, overwrite_with, remove_at, remove_first, remove_last, changed}
 use Rattle.art_model.specs.MapLaws.{Tells, KeysAreOnce, MatchesAreOne, MapsAreWhatIsFound, KeysAreDecided, ConflictsAreDecided, MapsStayMaps, PutIsFound, OverwriteIsFound, RemovedIsGone, FirstIsRemovedByKey, LastIsRemovedByKey, PutIsUndone, StoredKeyStays, NewKeyComes, PutKeepsKeys, OverwriteOfKeyIsPut, PutTells, OverwriteTells, RemovalTells, PutCounts, OverwriteCounts, RemovalCounts}
 use Rattle.art_model.proofs.pairs.Between.{add_in_order_first}

@@ -2,10 +2,7 @@
 use Rattle.std.proofs.Common.{◌≡◌, ℕ, zero, List, [], ◌∷◌, Option, Some, None, is_some, Bool, true, false, not, cond, ◌&&◌, ◌||◌, refl, ap, sym, ◌∙◌, subst}
 use Rattle.std.proofs.lemmas.Bool.{true≢false, false≢true}
 use Rattle.std.specs.List.{AllByRecursion as Each}
-use Rattle.art_model.specs.Footprints.{IsIn}
-use Rattle.art_model.specs.Keys.{Precedes, are_related, are_same, is_before}
-use Rattle.art_model.specs.Pairs.{IsMap, add_in_order, first_of, only_or_count, with_key, has_key, related_to, remove_key}
-use Rattle.art_model.specs.Pairs.{remove_related, is_conflict, stored_for, put, put_reply, overwrite, overwrite_reply, of_key}
+use Rattle.art_model.specs.Prelude.{IsIn, Precedes, are_related, are_same, is_before, IsMap, add_in_order, first_of, only_or_count, with_key, has_key, related_to, remove_key, remove_related, is_conflict, stored_for, put, put_reply, overwrite, overwrite_reply, of_key}
 use Rattle.art_model.proofs.keys.Keys.{related_sym, same_equal, same_related}
 use Rattle.art_model.proofs.lists.Lists.{each_in, filter_none, Each-weaker}
 use Rattle.art_model.proofs.pairs.Puts.{first_none, has_is_stored, overwrite-new, overwrite-put, overwrite_reply-new, overwrite_reply-put, put-new, put_reply-new, stored_bytes}

@@ -1,9 +1,7 @@
 -- What a put and an overwrite are, where it is known whether an equal key is stored.
-use Rattle.std.proofs.Common.{◌≡◌, ℕ, List, [], ◌∷◌, ◌++◌, append-nil, filter, Option, Some, None, Bool, true, false, cond, is_some, refl, ap, sym, ◌∙◌}
+use Rattle.std.proofs.Common.{◌≡◌, ℕ, List, [], ◌∷◌, ◌++◌, append-nil, filter, Option, Some, None, Bool, true, false, cond, is_some, refl, ap, sym, ◌∙◌, option_map}
 use Rattle.std.specs.List.{AllByRecursion as Each, list_any}
-use Rattle.std.specs.Option.{option_map}
-use Rattle.art_model.specs.Keys.{Precedes, are_same}
-use Rattle.art_model.specs.Pairs.{add_in_order, first_of, only_or_count, with_key, has_key, remove_key, related_to, replace_key, replace_related, stored_for, put, put_reply, overwrite, overwrite_reply, of_key}
+use Rattle.art_model.specs.Prelude.{Precedes, are_same, add_in_order, first_of, only_or_count, with_key, has_key, remove_key, related_to, replace_key, replace_related, stored_for, put, put_reply, overwrite, overwrite_reply, of_key}
 use Rattle.art_model.proofs.lists.Filters.{filter_passes}
 use Rattle.art_model.proofs.keys.Keys.{related_sym, same_equal, same_related}
 use Rattle.art_model.proofs.pairs.Between.{add_in_order-after}

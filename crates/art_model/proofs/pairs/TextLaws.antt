@@ -1,9 +1,8 @@
 -- The last and the first of the texts that are prefixes of a query.
 use Rattle.std.proofs.Common.{◌≡◌, ℕ, ◌≤◌, ◌⊎◌, List, [], ◌∷◌, ◌++◌, length, arith, ap, sym, subst, ◌∙◌, append_assoc, append-nil, Some, true, inl, inr}
 use Rattle.std.specs.List.{AllByRecursion as Each}
-use Rattle.art_model.specs.Keys.{IsFront, is_before, is_front}
+use Rattle.art_model.specs.Prelude.{IsFront, is_before, is_front, Pairwise, first_of, last_of, match_of}
 use Rattle.art_model.specs.KeyLaws.{HasSmallerByte, IsProperFront}
-use Rattle.art_model.specs.Pairs.{Pairwise, first_of, last_of, match_of}
 use Rattle.art_model.specs.Texts.{FirstIsShortest, LastHasAll, LastIsLongest}
 use Rattle.art_model.proofs.keys.KeyLaws.{order_is_decided}
 use Rattle.art_model.proofs.keys.Keys.{front_from}

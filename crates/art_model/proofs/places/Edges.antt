@@ -1,21 +1,7 @@
 -- the descent along the first or the last children
 use Rattle.std.proofs.Common.{◌≡◌, ◌≢◌, ℕ, suc, ◌-◌, ◌<◌, ◌≤◌, List, [], ◌∷◌, ◌++◌, length, slice_get, refl, ap, sym, ◌∙◌, arith, subst, append-nil, Some, None}
 use Rattle.std.specs.FinMap as map
-use Rattle.art_inner.specs.Inner.{Inner}
-use Rattle.art_parts.specs.Names.{leaf_name, inner_name}
-use Rattle.art_nodes.specs.Nodes.{Nodes}
-use Rattle.art_parts.specs.declared.names.NodeType.TheVariants.{Leaf}
-use Rattle.art_parts.specs.declared.names.LeafPtr.{LeafPtr}
-use Rattle.art_parts.specs.declared.names.InnerPtr.{InnerPtr}
-use Rattle.art_parts.specs.declared.names.OpaqueNodePtr.{OpaqueNodePtr}
-use Rattle.art_model.specs.Trees.{Tree, leaf, inner, Subtrees, child, no_child}
-use Rattle.art_model.specs.Radix.{join, pairs_of, HaveChildren, HaveChildrenBelow}
-use Rattle.art_model.specs.Pairs.{first_of, last_of}
-use Rattle.art_model.specs.Layouts.{name_of, slots_of, leaf_names, Holds}
-use Rattle.art_model.specs.Stores.{node_at, header_at}
-use Rattle.art_model.specs.Paths.{Frame, plug, leaves_before, leaves_after, pairs_before, pairs_after}
-use Rattle.art_model.specs.Heights.{height, tree_height, height_below}
-use Rattle.art_model.specs.Roots.{IsFullTree}
+use Rattle.art_model.specs.Prelude.{Inner, leaf_name, inner_name, Nodes, Leaf, LeafPtr, InnerPtr, OpaqueNodePtr, Tree, leaf, inner, Subtrees, child, no_child, join, pairs_of, HaveChildren, HaveChildrenBelow, first_of, last_of, name_of, slots_of, leaf_names, Holds, node_at, header_at, Frame, plug, leaves_before, leaves_after, pairs_before, pairs_after, height, tree_height, height_below, IsFullTree}
 use Rattle.art_model.proofs.stores.Stores.{HoldsBelow-right}
 use Rattle.art_model.proofs.places.Paths.{leaf_names-plug, pairs_of-plug}
 use Rattle.art_model.proofs.stores.Heights.{height_is, enough_steps}

@@ -1,17 +1,7 @@
 -- A change in the hole of a path: the names of the whole trees, the root, and the pairs with a key.
 use Rattle.std.proofs.Common.{◌≡◌, ℕ, List, [], ◌∷◌, ◌++◌, map, refl, ap, sym, ◌∙◌, subst, append-nil, false, ◌⊎◌, inl, inr}
 use Rattle.std.proofs.lemmas.List.Elements.{filter-append}
-use Rattle.art_parts.specs.Names.{leaf_name, inner_name}
-use Rattle.art_parts.specs.declared.names.LeafPtr.{LeafPtr}
-use Rattle.art_parts.specs.declared.names.InnerPtr.{InnerPtr}
-use Rattle.art_parts.specs.declared.names.OpaqueNodePtr.{OpaqueNodePtr}
-use Rattle.art_model.specs.Keys.{IsFront, are_same, Precedes}
-use Rattle.art_model.specs.Pairs.{with_key}
-use Rattle.art_model.specs.Trees.{Tree}
-use Rattle.art_model.specs.Radix.{pairs_of}
-use Rattle.art_model.specs.Paths.{Frame, plug, IsPath, pairs_before, pairs_after, names_before, names_after}
-use Rattle.art_model.specs.Layouts.{name_of, names_of, names_below}
-use Rattle.art_model.specs.Footprints.{IsIn}
+use Rattle.art_model.specs.Prelude.{leaf_name, inner_name, LeafPtr, InnerPtr, OpaqueNodePtr, IsFront, are_same, Precedes, with_key, Tree, pairs_of, Frame, plug, IsPath, pairs_before, pairs_after, names_before, names_after, name_of, names_of, names_below, IsIn}
 use Rattle.art_model.proofs.changes.InPlace.{AreNames}
 use Rattle.art_model.proofs.keys.Keys.{related_sym, same_related}
 use Rattle.art_model.proofs.lists.Lists.{Each-append, Each-weaker, each_from, each_in, each_map, filter_none, in_left, in_right, in_either}

@@ -4,14 +4,7 @@ use Rattle.std.specs.List.{AllByRecursion as Each}
 use Rattle.std.proofs.lemmas.List.Elements.{filter-append}
 use Rattle.std.proofs.lemmas.List.{get_or_at}
 use Rattle.std.proofs.lemmas.Bool.{eqb-false}
-use Rattle.art_inner.specs.Inner.{child_at}
-use Rattle.art_parts.specs.declared.names.OpaqueNodePtr.{OpaqueNodePtr}
-use Rattle.art_model.specs.Keys.{IsFront, is_front}
-use Rattle.art_model.specs.Pairs.{match_of}
-use Rattle.art_model.specs.Trees.{Tree, Subtrees, child, no_child}
-use Rattle.art_model.specs.Radix.{pairs_of, pairs_below, AreRadix, BytesRise, bytes_of, join}
-use Rattle.art_model.specs.Layouts.{name_of, slots_of}
-use Rattle.art_model.specs.Places.{places, places_below}
+use Rattle.art_model.specs.Prelude.{child_at, OpaqueNodePtr, IsFront, is_front, match_of, Tree, Subtrees, child, no_child, pairs_of, pairs_below, AreRadix, BytesRise, bytes_of, join, name_of, slots_of, places, places_below}
 use Rattle.art_model.proofs.lists.Lists.{filter_none, Each-append, Each-weaker, front_cut, front_trans}
 use Rattle.art_model.proofs.keys.Keys.{front_from}
 use Rattle.art_model.proofs.radix.Radix.{AreRadix-left, AreRadix-right, pairs_below-join}

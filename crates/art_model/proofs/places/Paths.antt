@@ -3,13 +3,7 @@ use Rattle.std.proofs.Common.{◌≡◌, ℕ, ◌+◌, ◌<◌, ◌≤◌, List,
 use Rattle.std.specs.List.{AllByRecursion as Each}
 use Rattle.std.proofs.lemmas.List.{map-append}
 use Rattle.std.proofs.lemmas.List.Elements.{filter-append}
-use Rattle.art_model.specs.Keys.{IsFront, Precedes, are_related}
-use Rattle.art_model.specs.Pairs.{related_to}
-use Rattle.art_model.specs.Trees.{Tree, leaf, inner, Subtrees, child, no_child, canonical_header}
-use Rattle.art_model.specs.Radix.{IsRadix, BytesRise, bytes_of, join, pairs_of, pairs_below}
-use Rattle.art_model.specs.Layouts.{name_of, slots_of, names_of, names_below, leaf_names, leaf_names_below, entries_of, entries_below}
-use Rattle.art_model.specs.Paths.{Frame, fill, plug, pairs_before, pairs_after, names_before, names_after, leaves_before, leaves_after, IsPath}
-use Rattle.art_model.specs.Footprints.{IsIn}
+use Rattle.art_model.specs.Prelude.{IsFront, Precedes, are_related, related_to, Tree, leaf, inner, Subtrees, child, no_child, canonical_header, IsRadix, BytesRise, bytes_of, join, pairs_of, pairs_below, name_of, slots_of, names_of, names_below, leaf_names, leaf_names_below, entries_of, entries_below, Frame, fill, plug, pairs_before, pairs_after, names_before, names_after, leaves_before, leaves_after, IsPath, IsIn}
 use Rattle.art_model.proofs.radix.Rebuild.{radix_way}
 use Rattle.art_model.proofs.lists.Lists.{each_in, Each-append, filter_none, front_cut, Each-weaker}
 use Rattle.art_model.proofs.keys.Keys.{related_sym}

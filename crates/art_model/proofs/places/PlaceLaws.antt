@@ -2,13 +2,7 @@
 use Rattle.std.proofs.Common.{◌≡◌, ℕ, ◌+◌, ◌<◌, ◌≤◌, List, [], ◌∷◌, ◌++◌, length, take, refl, ap, sym, ◌∙◌, subst, arith, append_assoc, true, false, Bool, inl, inr}
 use Rattle.std.specs.List.{AllByRecursion as Each}
 use Rattle.std.proofs.lemmas.Bool.{true≢false}
-use Rattle.art_model.specs.Keys.{IsFront, is_front, is_before}
-use Rattle.art_model.specs.Pairs.{Pairwise}
-use Rattle.art_model.specs.Trees.{Tree, leaf, inner, Subtrees, child, no_child, NodeHeader, canonical_header}
-use Rattle.art_model.specs.Radix.{bytes_of, join, IsRadix, AreRadix, BytesRise}
-use Rattle.art_model.specs.Layouts.{name_of}
-use Rattle.art_model.specs.Paths.{Frame, fill, plug, IsPath}
-use Rattle.art_model.specs.Places.{depth_of, place_of, places, places_below, IsEndNode}
+use Rattle.art_model.specs.Prelude.{IsFront, is_front, is_before, Pairwise, Tree, leaf, inner, Subtrees, child, no_child, NodeHeader, canonical_header, bytes_of, join, IsRadix, AreRadix, BytesRise, name_of, Frame, fill, plug, IsPath, depth_of, place_of, places, places_below, IsEndNode}
 use Rattle.art_model.specs.PlaceLaws.{PlacesAreReadOff, PrefixesAreReadOff, PlacesRise, HasEndNode, HasOneEnd}
 use Rattle.art_model.proofs.lists.Lists.{each_in, each_from, Each-left, Each-right, Each-weaker}
 use Rattle.art_model.proofs.lists.Pairwises.{Pairwise-append}

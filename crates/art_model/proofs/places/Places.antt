@@ -2,13 +2,8 @@
 use Rattle.std.proofs.Common.{◌≡◌, ℕ, ◌+◌, ◌<◌, ◌≤◌, List, [], ◌∷◌, ◌++◌, length, take, refl, ap, sym, ◌∙◌, arith, subst, append_assoc, append-nil, length-append, take_at, inl, inr}
 use Rattle.std.specs.List.{AllByRecursion as Each}
 use Rattle.std.proofs.lemmas.List.{append_cancel_left}
-use Rattle.art_model.specs.Trees.{Tree, leaf, inner, Subtrees, child, no_child, NodeHeader}
-use Rattle.art_model.specs.Radix.{IsRadix, AreRadix, bytes_of, join}
-use Rattle.art_model.specs.Keys.{IsFront}
-use Rattle.art_model.specs.Paths.{Frame, fill, plug, IsPath}
-use Rattle.art_model.specs.Places.{least_key, least_below, places, places_below, prefix_of}
+use Rattle.art_model.specs.Prelude.{Tree, leaf, inner, Subtrees, child, no_child, NodeHeader, IsRadix, AreRadix, bytes_of, join, IsFront, Frame, fill, plug, IsPath, least_key, least_below, places, places_below, prefix_of, IsIn}
 use Rattle.art_model.proofs.places.Paths.{fill_radix}
-use Rattle.art_model.specs.Footprints.{IsIn}
 use Rattle.art_model.proofs.lists.Lists.{each_in, Each-append, Each-left, Each-right, Each-weaker, front_cut, front_trans, after_front}
 use Rattle.art_model.proofs.lists.Pairwises.{Pairwise-before, Pairwise-after}
 

@@ -3,14 +3,7 @@ use Rattle.std.proofs.Common.{◌≡◌, ◌≢◌, ℕ, List, [], ◌∷◌, �
 use Rattle.std.proofs.Math.Seq.{take-append_seam, drop-append_seam}
 use Rattle.std.proofs.lemmas.List.{take_all}
 use Rattle.std.specs.List.{AllByRecursion as Each}
-use Rattle.art_inner.specs.Inner.{child_at}
-use Rattle.art_parts.specs.declared.names.OpaqueNodePtr.{OpaqueNodePtr}
-use Rattle.art_model.specs.Footprints.{IsIn}
-use Rattle.art_model.specs.Keys.{IsFront}
-use Rattle.art_model.specs.Layouts.{Node, leaf_node, name_of, slots_of, names_of, names_below, AreDistinct, Holds, HoldsBelow}
-use Rattle.art_model.specs.Radix.{IsRadix, AreRadix}
-use Rattle.art_model.specs.Trails.{bottom_of, end_of, IsDescent, IsPrefix, HasPrefix, IsTrail, IsReadAs}
-use Rattle.art_model.specs.Trees.{Tree, leaf, inner, Subtrees, child, no_child, NodeHeader}
+use Rattle.art_model.specs.Prelude.{child_at, OpaqueNodePtr, IsIn, IsFront, Node, leaf_node, name_of, slots_of, names_of, names_below, AreDistinct, Holds, HoldsBelow, IsRadix, AreRadix, bottom_of, end_of, IsDescent, IsPrefix, HasPrefix, IsTrail, IsReadAs, Tree, leaf, inner, Subtrees, child, no_child, NodeHeader}
 use Rattle.art_model.proofs.lists.Lists.{Each-weaker, each_in, in_left, in_right, front_cut}
 use Rattle.art_model.proofs.places.OnWay.{child_under}
 use Rattle.art_model.proofs.places.Paths.{names_below-join}

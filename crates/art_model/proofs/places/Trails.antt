@@ -1,9 +1,7 @@
 -- a path from a root is read in one manner, so that other places have other paths
 use Rattle.std.proofs.Common.{◌≡◌, ◌≢◌, ℕ, List, [], ◌∷◌, ◌++◌, length, take, drop, ap, ap₂, sym, ◌∙◌, arith, subst, Option, Some, inl, inr}
-use Rattle.art_inner.specs.Inner.{child_at}
-use Rattle.art_parts.specs.declared.names.OpaqueNodePtr.{OpaqueNodePtr}
-use Rattle.art_model.specs.Layouts.{Node, leaf_node}
-use Rattle.art_model.specs.Trails.{way_of, bottom_of, IsDescent, IsPrefix, HasPrefix, IsTrail, IsReadAs, IsReached}
+use Rattle.art_model.specs.Prelude.{child_at, OpaqueNodePtr, Node, leaf_node, bottom_of, IsDescent, IsPrefix, HasPrefix, IsTrail, IsReadAs}
+use Rattle.art_model.specs.Trails.{way_of, IsReached}
 
 module _ {A : Type 0} (at : OpaqueNodePtr → Option (Node OpaqueNodePtr A)) where
   -- descents from a name end at one leaf

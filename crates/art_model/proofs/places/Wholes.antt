@@ -1,14 +1,7 @@
 -- The whole bytes of inner nodes: no two nodes of a tree have the same ones, so names that stay are determined by them.
 use Rattle.std.proofs.Common.{◌≡◌, ◌≢◌, ℕ, ◌+◌, ◌<◌, ◌≤◌, List, [], ◌∷◌, ◌++◌, length, take, refl, ap, ap₂, sym, ◌∙◌, arith, subst, append_assoc, append-nil, length-append, inl, inr}
 use Rattle.std.specs.List.{AllByRecursion as Each}
-use Rattle.art_parts.specs.declared.names.NodeType.{NodeType}
-use Rattle.art_model.specs.Keys.{IsFront}
-use Rattle.art_model.specs.Trees.{Tree, leaf, inner, Subtrees, child, no_child, NodeHeader, canonical_header}
-use Rattle.art_model.specs.Radix.{IsRadix, AreRadix, BytesRise, bytes_of, join}
-use Rattle.art_model.specs.Pairs.{Pairwise}
-use Rattle.art_model.specs.Paths.{Frame, fill, plug, IsPath}
-use Rattle.art_model.specs.Places.{least_below, inner_nodes, inner_nodes_below}
-use Rattle.art_model.specs.Footprints.{IsIn}
+use Rattle.art_model.specs.Prelude.{NodeType, IsFront, Tree, leaf, inner, Subtrees, child, no_child, NodeHeader, canonical_header, IsRadix, AreRadix, BytesRise, bytes_of, join, Pairwise, Frame, fill, plug, IsPath, least_below, inner_nodes, inner_nodes_below, IsIn}
 use Rattle.art_model.proofs.lists.Lists.{Each-weaker, each_in}
 use Rattle.art_model.proofs.lists.Pairwises.{Pairwise-append}
 use Rattle.art_model.proofs.lists.Entries.{Keep, same_entry, keep_among, keep_between}

@@ -2,10 +2,8 @@
 use Rattle.std.proofs.Common.{◌≡◌, ℕ, suc, zero, ◌+◌, ◌<◌, ◌≤◌, List, [], ◌∷◌, ◌++◌, length, drop, refl, ap, sym, ◌∙◌, append_assoc, append-nil, arith, length-append, eqb, eqb-true, true, false, cond, Option, Some, Bool, map, subst}
 use Rattle.std.specs.List.{AllByRecursion as Each}
 use Rattle.std.proofs.lemmas.Bool.{eqb-false}
-use Rattle.art_model.specs.Keys.{IsFront, Precedes}
-use Rattle.art_model.specs.Trees.{shared_part, add_to_groups, groups, byte_at, Tree, leaf, inner, Subtrees, child, no_child, tree_within, tree_of, node_of, children_of, canonical_header}
-use Rattle.art_model.specs.Radix.{IsRadix, AreRadix, BytesRise, bytes_of, pairs_of, pairs_below}
-use Rattle.art_model.specs.Pairs.{IsMap}
+use Rattle.art_model.specs.Prelude.{IsFront, Precedes, shared_part, groups, Tree, leaf, inner, Subtrees, child, no_child, tree_of, node_of, canonical_header, IsRadix, AreRadix, BytesRise, bytes_of, pairs_of, pairs_below, IsMap}
+use Rattle.art_model.specs.Trees.{add_to_groups, byte_at, tree_within, children_of}
 use Rattle.art_model.proofs.lists.Lists.{Each-left, Each-right, after_front, Each-weaker}
 use Rattle.art_model.proofs.radix.Groups.{shared_part-front, shared_part_shared}
 use Rattle.art_model.proofs.keys.Keys.{precedes_byte, parts_left, parts_right, IsMap-left, IsMap-right}

@@ -1,15 +1,7 @@
 -- A tree with another's form and clones of its pairs: it is radix where the other is, and has clones of the pairs.
 use Rattle.std.proofs.Common.{◌≡◌, ◌≤◌, ℕ, List, [], ◌∷◌, ◌++◌, length, ap, sym, ◌∙◌, subst, refl}
 use Rattle.std.specs.List.{AllZip}
-use Rattle.art_nodes.specs.Nodes.{Nodes}
-use Rattle.art_parts.specs.declared.names.OpaqueNodePtr.{OpaqueNodePtr}
-use Rattle.art_model.specs.Keys.{IsFront}
-use Rattle.art_model.specs.Trees.{Tree, leaf, inner, Subtrees, child, no_child, canonical_header}
-use Rattle.art_model.specs.Radix.{IsRadix, AreRadix, BytesRise, bytes_of, join, pairs_of, pairs_below}
-use Rattle.art_model.specs.Layouts.{name_of}
-use Rattle.art_model.specs.Canonical.{IsCanonicalTree}
-use Rattle.art_model.specs.Clones.{IsCopy, AreCopies}
-use Rattle.art_model.specs.Gains.{Gains}
+use Rattle.art_model.specs.Prelude.{Nodes, OpaqueNodePtr, IsFront, Tree, leaf, inner, Subtrees, child, no_child, canonical_header, IsRadix, AreRadix, BytesRise, bytes_of, join, pairs_of, pairs_below, name_of, IsCanonicalTree, IsCopy, AreCopies, Gains}
 use Rattle.art_model.proofs.stores.Canonical.{tree_radix, canonical_from}
 
 AllZip-append : {A B : Type 0} (R : A → B → Type 0) (xs : List A) (ys : List B) (zs : List A) (ws : List B) → AllZip R xs ys →

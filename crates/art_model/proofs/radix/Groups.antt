@@ -1,8 +1,8 @@
 -- groups of neighbours, and the shared part
 use Rattle.std.proofs.Common.{◌≡◌, ℕ, List, [], ◌∷◌, ◌++◌, length, drop, refl, ap, sym, ◌∙◌, append_assoc, append-nil, eqb, eq-eqb, false}
 use Rattle.std.specs.List.{AllByRecursion as Each}
-use Rattle.art_model.specs.Keys.{IsFront}
-use Rattle.art_model.specs.Trees.{shared_part, add_to_groups, groups}
+use Rattle.art_model.specs.Prelude.{IsFront, shared_part, groups}
+use Rattle.art_model.specs.Trees.{add_to_groups}
 use Rattle.art_model.proofs.lists.Lists.{front_trans, after_front, common_front-append, common_front_left, common_front_right, Each-weaker}
 
 module _ {A : Type 0} where

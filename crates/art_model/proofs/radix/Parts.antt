@@ -3,12 +3,7 @@ use Rattle.std.proofs.Common.{◌≡◌, ℕ, List, [], ◌∷◌, ◌++◌, map
 use Rattle.std.specs.List.{AllByRecursion as Each}
 use Rattle.std.proofs.lemmas.List.{map-append}
 use Rattle.std.proofs.lemmas.List.Elements.{filter-append}
-use Rattle.art_model.specs.Keys.{IsFront}
-use Rattle.art_model.specs.Layouts.{entries_of, leaf_names}
-use Rattle.art_model.specs.Parts.{leaves_where}
-use Rattle.art_model.specs.Paths.{Frame, plug, pairs_before, pairs_after, leaves_before, leaves_after}
-use Rattle.art_model.specs.Radix.{AreRadix, bytes_of, pairs_of, pairs_below}
-use Rattle.art_model.specs.Trees.{Tree, inner, Subtrees, child, no_child}
+use Rattle.art_model.specs.Prelude.{IsFront, entries_of, leaf_names, leaves_where, Frame, plug, pairs_before, pairs_after, leaves_before, leaves_after, AreRadix, bytes_of, pairs_of, pairs_below, Tree, inner, Subtrees, child, no_child}
 use Rattle.art_model.proofs.lists.Filters.{filter_all}
 use Rattle.art_model.proofs.lists.Lists.{Each-append, Each-weaker, each_unmap, filter_none}
 use Rattle.art_model.proofs.places.Paths.{entries_before, entries_after, entries_of-plug, pairs_of-leaves, leaf_names-leaves}

@@ -1,10 +1,7 @@
 -- joined children, and the map of a radix tree
 use Rattle.std.proofs.Common.{◌≡◌, ℕ, ◌<◌, List, [], ◌∷◌, ◌++◌, length, refl, ap, sym, ◌∙◌, append_assoc, arith}
 use Rattle.std.specs.List.{AllByRecursion as Each}
-use Rattle.art_model.specs.Keys.{IsFront, Precedes}
-use Rattle.art_model.specs.Trees.{Tree, leaf, inner, Subtrees, child, no_child}
-use Rattle.art_model.specs.Radix.{IsRadix, AreRadix, BytesRise, bytes_of, pairs_of, pairs_below, join}
-use Rattle.art_model.specs.Pairs.{IsMap}
+use Rattle.art_model.specs.Prelude.{IsFront, Precedes, Tree, leaf, inner, Subtrees, child, no_child, IsRadix, AreRadix, BytesRise, bytes_of, pairs_of, pairs_below, join, IsMap}
 use Rattle.art_model.proofs.lists.Lists.{Each-append, Each-weaker}
 use Rattle.art_model.proofs.keys.Keys.{precedes_at, IsMap-append}
 use Rattle.art_model.proofs.radix.Rebuild.{radix_way}

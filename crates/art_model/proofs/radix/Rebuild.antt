@@ -3,9 +3,8 @@ use Rattle.std.proofs.Common.{◌≡◌, ℕ, suc, zero, ◌+◌, ◌<◌, ◌�
 use Rattle.std.specs.List.{AllByRecursion as Each}
 use Rattle.std.proofs.lemmas.Bool.{ne_eqb}
 use Rattle.std.proofs.lemmas.List.{get_or_at}
-use Rattle.art_model.specs.Keys.{IsFront}
-use Rattle.art_model.specs.Trees.{shared_part, groups, byte_at, Tree, leaf, inner, Subtrees, child, no_child, NodeHeader, tree_within, tree_of, node_of, children_of}
-use Rattle.art_model.specs.Radix.{IsRadix, AreRadix, BytesRise, bytes_of, pairs_of, pairs_below, unmarked, all_unmarked}
+use Rattle.art_model.specs.Prelude.{IsFront, shared_part, groups, Tree, leaf, inner, Subtrees, child, no_child, NodeHeader, tree_of, node_of, IsRadix, AreRadix, BytesRise, bytes_of, pairs_of, pairs_below, unmarked, all_unmarked}
+use Rattle.art_model.specs.Trees.{byte_at, tree_within, children_of}
 use Rattle.art_model.proofs.lists.Lists.{Each-append, Each-left, Each-right, front_cut, after_front, Each-weaker}
 use Rattle.art_model.proofs.radix.Groups.{StartsApart, groups-block, shared_part-front, shared_part_shared}
 

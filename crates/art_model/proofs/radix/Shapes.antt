@@ -1,15 +1,9 @@
 -- a tree whose leaves are not to be read
-use Rattle.std.proofs.Common.{◌≡◌, ℕ, List, ◌∷◌, ◌++◌, refl, ap, ap₂, sym, ◌∙◌, subst, Option, Some, None}
-use Rattle.std.specs.Option.{option_map}
+use Rattle.std.proofs.Common.{◌≡◌, ℕ, List, ◌∷◌, ◌++◌, refl, ap, ap₂, sym, ◌∙◌, subst, Option, Some, None, option_map}
 use Rattle.std.specs.FinMap as map
-use Rattle.art_inner.specs.Inner.{Inner}
-use Rattle.art_nodes.specs.Nodes.{Nodes}
-use Rattle.art_parts.specs.declared.names.NodeType.{NodeType}
-use Rattle.art_parts.specs.declared.names.NodeType.TheVariants.{Node4, Node16, Node48, Node256, Leaf}
-use Rattle.art_parts.specs.declared.names.OpaqueNodePtr.{OpaqueNodePtr}
-use Rattle.art_model.specs.Trees.{Tree, leaf, inner, Subtrees, child, no_child, NodeHeader}
-use Rattle.art_model.specs.Layouts.{leaf_node, inner_node, name_of, slots_of, names_of, names_below, leaf_names, leaf_names_below, inner_names, inner_names_below, shape_of, shape_below, Holds, HoldsBelow, AreDistinct}
-use Rattle.art_model.specs.Stores.{held_inner, content_in, tree_node, inner_seen, header_at, node_at, shape_in, shape_at}
+use Rattle.art_model.specs.Prelude.{Inner, Nodes, NodeType, Node4, Node16, Node48, Node256, Leaf, OpaqueNodePtr, Tree, leaf, inner, Subtrees, child, no_child, NodeHeader, leaf_node, inner_node, name_of, slots_of, names_of, names_below, leaf_names, leaf_names_below, inner_names, inner_names_below, shape_of, Holds, HoldsBelow, AreDistinct, held_inner, content_in, tree_node, header_at, node_at, shape_at}
+use Rattle.art_model.specs.Layouts.{shape_below}
+use Rattle.art_model.specs.Stores.{inner_seen, shape_in}
 use Rattle.art_model.specs.StoreLaws.{HasShape}
 use Rattle.art_model.proofs.stores.Views.{seen_no_leaf, seen_no_inner}
 

@@ -1,9 +1,6 @@
 -- the laws of the tree of a map
 use Rattle.std.proofs.Common.{◌≡◌, ℕ, ◌+◌, ◌≤◌, List, [], ◌∷◌, ◌++◌, length, drop, refl, ap, ap₂, sym, ◌∙◌, arith, length-append, subst, Some}
-use Rattle.art_model.specs.Keys.{IsFront, common_front}
-use Rattle.art_model.specs.Trees.{Tree, leaf, inner, Subtrees, child, no_child, shared_part, node_of, tree_of}
-use Rattle.art_model.specs.Radix.{pairs_of, unmarked, all_unmarked, bytes_of, HaveChildren, HaveChildrenBelow, IsRadix, AreRadix}
-use Rattle.art_model.specs.Layouts.{leaf_names, leaf_names_below, inner_names, inner_names_below}
+use Rattle.art_model.specs.Prelude.{IsFront, common_front, Tree, leaf, inner, Subtrees, child, no_child, shared_part, node_of, tree_of, pairs_of, unmarked, all_unmarked, bytes_of, HaveChildren, HaveChildrenBelow, IsRadix, AreRadix, leaf_names, leaf_names_below, inner_names, inner_names_below}
 use Rattle.art_model.specs.TreeLaws.{PartIsShared, PartIsLongest, IsBuiltByGrouping, HasTree, IsTreeOfItsPairs, IsOneTree, HaveTwoChildren, HasFewInnerNodes}
 use Rattle.art_model.proofs.lists.Lists.{common_front-append}
 use Rattle.art_model.proofs.radix.Groups.{shared_part_shared}

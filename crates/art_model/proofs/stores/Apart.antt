@@ -1,17 +1,8 @@
 -- A canonical tree stays where its own nodes do, so a change of one tree in place leaves those that are disjoint from it.
-use Rattle.std.proofs.Common.{◌≡◌, ℕ, List, Option, Some, None, ap, ap₂, sym, subst}
+use Rattle.std.proofs.Common.{◌≡◌, ℕ, List, Option, Some, None, ap, ap₂, sym, subst, option_map, option_and_then}
 use Rattle.std.specs.List.{AllByRecursion as Each}
-use Rattle.std.specs.Option.{option_map, option_and_then}
-use Rattle.art_nodes.specs.Nodes.{Nodes}
-use Rattle.art_parts.specs.declared.names.OpaqueNodePtr.{OpaqueNodePtr}
-use Rattle.art_model.specs.Apart.{HasBoth, IsNodeOf, KeepsApart, StandsApart}
-use Rattle.art_model.specs.Canonical.{IsCanonical, IsCanonicalTree}
-use Rattle.art_model.specs.Footprints.{IsIn}
-use Rattle.art_model.specs.Kept.{ChangesInPlace, KeepsOthers, names_in}
-use Rattle.art_model.specs.Layouts.{leaf_names, names_of}
-use Rattle.art_model.specs.Roots.{ForRoot, ForTree, IsCanonicalRoot, IsRootOf}
-use Rattle.art_model.specs.Stores.{content_at, links_at, links_of, node_at, tree_node}
-use Rattle.art_model.specs.Trees.{Tree}
+use Rattle.art_model.specs.Prelude.{Nodes, OpaqueNodePtr, KeepsApart, IsCanonical, IsCanonicalTree, IsIn, ChangesInPlace, KeepsOthers, names_in, leaf_names, names_of, ForRoot, ForTree, IsCanonicalRoot, IsRootOf, content_at, links_at, links_of, node_at, tree_node, Tree}
+use Rattle.art_model.specs.Apart.{HasBoth, IsNodeOf, StandsApart}
 use Rattle.art_model.proofs.leaves.Links.{linked-frame}
 use Rattle.art_model.proofs.lists.Lists.{Each-weaker, each_from, each_in}
 use Rattle.art_model.proofs.stores.Names.{IsTaken, all_taken, among, takes_leaves}

@@ -1,8 +1,6 @@
 -- what a name stands for by cases is what it stands for by a layout
 use Rattle.std.proofs.Common.{◌≡◌, ◌≢◌, ℕ, List, ◌∷◌, ◌++◌, refl, ap, ap₂, sym, ◌∙◌, subst, Option, Some}
-use Rattle.art_model.specs.Trees.{Tree, leaf, inner, Subtrees, child, no_child}
-use Rattle.art_model.specs.Radix.{unmarked, all_unmarked}
-use Rattle.art_model.specs.Layouts.{Node, inner_node, name_of, slots_of, names_of, names_below, leaf_names, leaf_names_below, Holds, HoldsBelow, AreDistinct}
+use Rattle.art_model.specs.Prelude.{Tree, leaf, inner, Subtrees, child, no_child, unmarked, all_unmarked, Node, inner_node, name_of, slots_of, names_of, names_below, leaf_names, leaf_names_below, Holds, HoldsBelow, AreDistinct}
 use Rattle.art_model.specs.ByCases.{Stands, StandBelow}
 use Rattle.art_model.proofs.lists.Pairwises.{Pairwise-left, Pairwise-right, Pairwise-append, Pairwise-across}
 

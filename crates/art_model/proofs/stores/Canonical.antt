@@ -1,13 +1,6 @@
 -- a canonical root's layout is a radix tree, and a layout that is one makes the root canonical
 use Rattle.std.proofs.Common.{◌≡◌, ℕ, ◌≤◌, List, [], ◌∷◌, ◌++◌, length, refl, ap, ap₂, sym, ◌∙◌, arith, subst, Option, Some, None}
-use Rattle.art_model.specs.Trees.{Tree, leaf, inner, Subtrees, child, no_child, canonical_header, tree_of}
-use Rattle.art_model.specs.Radix.{unmarked, all_unmarked, pairs_of, pairs_below, IsRadix, AreRadix, BytesRise, bytes_of}
-use Rattle.art_model.specs.Pairs.{IsMap}
-use Rattle.art_model.specs.Layouts.{Node, name_of, names_of, leaf_names, Holds, AreDistinct, Links, AreLinked}
-use Rattle.art_nodes.specs.Nodes.{Nodes}
-use Rattle.art_parts.specs.declared.names.OpaqueNodePtr.{OpaqueNodePtr}
-use Rattle.art_model.specs.Canonical.{IsCanonicalTree}
-use Rattle.art_model.specs.Stores.{node_at, links_at}
+use Rattle.art_model.specs.Prelude.{Tree, leaf, inner, Subtrees, child, no_child, canonical_header, tree_of, unmarked, all_unmarked, pairs_of, pairs_below, IsRadix, AreRadix, BytesRise, bytes_of, IsMap, Node, name_of, names_of, leaf_names, Holds, AreDistinct, Links, AreLinked, Nodes, OpaqueNodePtr, IsCanonicalTree, node_at, links_at}
 use Rattle.art_model.proofs.radix.Build.{build_root}
 use Rattle.art_model.proofs.radix.Rebuild.{rebuild_root}
 use Rattle.art_model.proofs.radix.Radix.{radix_map}

@@ -1,27 +1,13 @@
 -- No fault that a check may find is true of a canonical root.
-use Rattle.std.proofs.Common.{append_assoc, map, ◌≡◌, ◌≢◌, ℕ, ◌+◌, ◌<◌, ◌≤◌, List, [], ◌∷◌, ◌++◌, length, take, refl, ap, ap₂, sym, ◌∙◌, arith, subst, length-append, Option, Some, None, ◌⊎◌, inl, inr}
+use Rattle.std.proofs.Common.{append_assoc, map, ◌≡◌, ◌≢◌, ℕ, ◌+◌, ◌<◌, ◌≤◌, List, [], ◌∷◌, ◌++◌, length, take, refl, ap, ap₂, sym, ◌∙◌, arith, subst, length-append, Option, Some, None, ◌⊎◌, inl, inr, Ordering, Less, Greater}
 use Rattle.std.proofs.lemmas.List.{length-take-le}
 use Rattle.std.proofs.lemmas.Cmp.{nat_list_cmp_total}
 use Rattle.std.specs.Cmp.Lexicographic.{slice_cmp}
 use Rattle.std.specs.Ordering.{nat_cmp, ordering_reverse}
-use Rattle.art_inner.specs.Inner.{child_at}
+use Rattle.art_model.specs.Prelude.{child_at, kind_least, Nodes, NodeType, Node4, Node16, Node48, Node256, Leaf, OpaqueNodePtr, wrong_children_count, IsTrueOf, Reaches, HasSibling, StoresOthers, IsUnreadable, IsIn, IsFront, Precedes, Node, Links, leaf_node, inner_node, name_of, names_of, names_below, leaf_names, entries_of, entries_below, slots_of, AreDistinct, Holds, HoldsBelow, first_or, last_or, AreLinked, IsMap, join, bytes_of, pairs_of, IsRadix, AreRadix, node_at, links_at, end_of, IsDescent, IsTrail, IsReadAs, HasPrefix, Tree, leaf, inner, Subtrees, child, no_child, NodeHeader, kind_of}
 use Rattle.std.specs.List.{AllByRecursion as Each}
-use Rattle.art_parts.specs.Kinds.{kind_least}
-use Rattle.art_nodes.specs.Nodes.{Nodes}
-use Rattle.art_parts.specs.declared.names.NodeType.{NodeType}
-use Rattle.art_parts.specs.declared.names.NodeType.TheVariants.{Node4, Node16, Node48, Node256, Leaf}
-use Rattle.art_parts.specs.declared.names.OpaqueNodePtr.{OpaqueNodePtr}
-use Rattle.art_model.specs.Faults.{Fault, loop_found, wrong_children_count, prefix_mismatch, empty_tree_with_len, leaf_sibling_wrong_order, wrong_sibling_links, dead_name, unreadable_prefix, stored_prefix_mismatch, out_of_memory, IsTrueOf, IsLoop, HasWrongOrder, Reaches, HasWrongCount, HasForeignKey, HasWrongLinks, HasSibling, IsDead, StoresOthers, EndsBadly, IsUnreadable}
-use Rattle.std.specs.declared.cmp.Ordering.{Ordering}
-use Rattle.std.specs.declared.cmp.Ordering.TheVariants.{Less, Greater}
-use Rattle.art_model.specs.Footprints.{IsIn}
-use Rattle.art_model.specs.Keys.{IsFront, Precedes}
-use Rattle.art_model.specs.Layouts.{Node, Links, leaf_node, inner_node, name_of, names_of, names_below, leaf_names, entries_of, entries_below, slots_of, AreDistinct, Holds, HoldsBelow, first_or, last_or, AreLinked}
-use Rattle.art_model.specs.Pairs.{IsMap}
-use Rattle.art_model.specs.Radix.{join, bytes_of, pairs_of, IsRadix, AreRadix}
-use Rattle.art_model.specs.Stores.{node_at, links_at}
-use Rattle.art_model.specs.Trails.{end_of, way_of, HasChild, IsDescent, IsTrail, IsReadAs, HasPrefix}
-use Rattle.art_model.specs.Trees.{Tree, leaf, inner, Subtrees, child, no_child, NodeHeader, kind_of}
+use Rattle.art_model.specs.Faults.{Fault, loop_found, prefix_mismatch, empty_tree_with_len, leaf_sibling_wrong_order, wrong_sibling_links, dead_name, unreadable_prefix, stored_prefix_mismatch, out_of_memory, IsLoop, HasWrongOrder, HasWrongCount, HasForeignKey, HasWrongLinks, IsDead, EndsBadly}
+use Rattle.art_model.specs.Trails.{way_of, HasChild}
 use Rattle.art_model.proofs.stores.Canonical.{IsLaidOut}
 use Rattle.std.proofs.lemmas.List.{map-append}
 use Rattle.art_model.proofs.keys.KeyLaws.{before_less}

@@ -1,29 +1,13 @@
 -- A store that gains or loses a tree: what is held under each name then, and how a gained tree grows by a child.
-use Rattle.std.proofs.Common.{◌≡◌, ◌≢◌, ℕ, ◌<◌, List, [], ◌∷◌, ◌++◌, map, Option, Some, None, refl, ap, sym, ◌∙◌, subst, append-nil, append_assoc, inl, inr}
+use Rattle.std.proofs.Common.{◌≡◌, ◌≢◌, ℕ, ◌<◌, List, [], ◌∷◌, ◌++◌, map, Option, Some, None, refl, ap, sym, ◌∙◌, subst, append-nil, append_assoc, inl, inr, option_map, option_and_then}
 use Rattle.std.specs.List.{AllByRecursion as Each}
-use Rattle.std.specs.Option.{option_map, option_and_then}
 use Rattle.std.specs.FinMap.{get, insert}
 use Rattle.std.proofs.lemmas.Bool.{lt-ltb}
 use Rattle.std.proofs.lemmas.List.{map-append}
-use Rattle.art_inner.specs.InnerChanges.{with_child}
-use Rattle.art_inner.specs.Inner.{Inner, put_child}
-use Rattle.art_parts.specs.Names.{leaf_name, inner_name}
-use Rattle.art_nodes.specs.Nodes.{Nodes, change}
-use Rattle.art_parts.specs.declared.names.NodeType.TheVariants.{Leaf}
-use Rattle.art_parts.specs.declared.names.LeafPtr.{LeafPtr}
-use Rattle.art_parts.specs.declared.leaf.LeafNode.{LeafNode}
-use Rattle.art_parts.specs.declared.names.InnerPtr.{InnerPtr}
-use Rattle.art_parts.specs.declared.names.OpaqueNodePtr.{OpaqueNodePtr}
+use Rattle.art_model.specs.Prelude.{with_child, Inner, put_child, leaf_name, inner_name, Nodes, change, Leaf, LeafPtr, LeafNode, InnerPtr, OpaqueNodePtr, Tree, leaf, inner, Subtrees, child, no_child, NodeHeader, join, bytes_of, leaf_node, inner_node, name_of, slots_of, names_of, names_below, leaf_names, leaf_names_below, inner_names, inner_names_below, Holds, HoldsBelow, AreDistinct, AreLinked, first_or, last_or, content_at, held_leaf, held_inner, tree_node, node_at, links_at, links_of, pair_of, header_at, Leaves, as_inner, with_links_around, change_some, with_next, with_previous, IsIn, KeepsOthers, Frees, without, Gains}
 use Rattle.art_parts.proofs.NameLemmas.{leaf_cmp_total, inner_cmp_total, leaf_cmp-IsAntisymmetric, inner_cmp-IsAntisymmetric}
 use Rattle.art_nodes.proofs.StoreLaws.{leaf_here, inner_here, inner_changed_here, inner_changed_elsewhere}
-use Rattle.art_model.specs.Trees.{Tree, leaf, inner, Subtrees, child, no_child, NodeHeader}
-use Rattle.art_model.specs.Radix.{join, bytes_of}
-use Rattle.art_model.specs.Layouts.{leaf_node, inner_node, name_of, slots_of, names_of, names_below, leaf_names, leaf_names_below, inner_names, inner_names_below, Holds, HoldsBelow, AreDistinct, AreLinked, first_or, last_or}
-use Rattle.art_model.specs.Stores.{content_at, held_leaf, held_inner, tree_node, node_at, links_at, links_of, pair_of, header_at}
-use Rattle.art_model.specs.Writes.{Leaves, as_inner, with_links_around, change_some, with_next, with_previous}
-use Rattle.art_model.specs.Footprints.{IsIn}
-use Rattle.art_model.specs.Kept.{KeepsOthers, Frees}
-use Rattle.art_model.specs.Gains.{as_leaf, without, Loses, Gains}
+use Rattle.art_model.specs.Gains.{as_leaf, Loses}
 use Rattle.art_model.proofs.leaves.Chains.{links_leaf, relinked_beside}
 use Rattle.art_model.proofs.leaves.Leaves.{joined_pair}
 use Rattle.art_model.proofs.leaves.Links.{link_up, linked-frame, first_in, last_in}

@@ -1,21 +1,13 @@
 -- heights read off a store, and why the store's count of inner nodes is enough steps
-use Rattle.std.proofs.Common.{◌≡◌, ◌≢◌, ℕ, suc, zero, ◌-◌, ◌≤◌, max, List, [], ◌∷◌, length, refl, ap, ap₂, sym, ◌∙◌, arith, length-append, Option, true, cond, is_some}
+use Rattle.std.proofs.Common.{◌≡◌, ◌≢◌, ℕ, suc, zero, ◌-◌, ◌≤◌, max, List, [], ◌∷◌, length, refl, ap, ap₂, sym, ◌∙◌, arith, length-append, Option, true, cond, is_some, Ordering}
 use Rattle.std.specs.List.{AllByRecursion as Each}
 use Rattle.std.specs.Cmp.{IsTotalOrder}
 use Rattle.std.specs.FinMap as map
-use Rattle.std.specs.declared.cmp.Ordering.{Ordering}
 use Rattle.std.proofs.lemmas.Bool.{false≢true}
-use Rattle.art_inner.specs.Inner.{Inner}
-use Rattle.art_nodes.specs.Nodes.{Nodes}
-use Rattle.art_parts.specs.Names.{inner_cmp}
-use Rattle.art_parts.specs.declared.names.OpaqueNodePtr.{OpaqueNodePtr}
+use Rattle.art_model.specs.Prelude.{Inner, Nodes, inner_cmp, OpaqueNodePtr, Tree, leaf, inner, Subtrees, child, no_child, Node, name_of, slots_of, names_of, inner_names, inner_names_below, Holds, HoldsBelow, AreDistinct, height, tree_height, height_below, node_at, as_inner}
 use Rattle.art_parts.proofs.NameLemmas.{inner_cmp_total, inner_cmp-IsAntisymmetric}
 use Rattle.art_nodes.proofs.StoreLaws.{gone_elsewhere}
-use Rattle.art_model.specs.Trees.{Tree, leaf, inner, Subtrees, child, no_child}
-use Rattle.art_model.specs.Layouts.{Node, name_of, slots_of, names_of, inner_names, inner_names_below, Holds, HoldsBelow, AreDistinct}
-use Rattle.art_model.specs.Heights.{highest, height, tree_height, height_below}
-use Rattle.art_model.specs.Stores.{node_at}
-use Rattle.art_model.specs.Writes.{as_inner}
+use Rattle.art_model.specs.Heights.{highest}
 use Rattle.art_model.proofs.stores.Views.{inner_is_used}
 use Rattle.art_model.proofs.lists.Lists.{Each-append, Each-weaker}
 use Rattle.art_model.proofs.stores.Names.{taken_distinct, takes_inners}

@@ -1,10 +1,7 @@
 -- Promises of which ever less is left.
 use Rattle.std.proofs.Common.{◌≡◌, ℕ, zero, suc, Bool, true, false, ◌&&◌, cond, leb, eqb, eqb-true, eq-eqb, Option, Some, None, refl, ◌∙◌, arith}
 use Rattle.std.proofs.lemmas.Bool.{le-leb, leb-true}
-use Rattle.art_nodes.specs.Nodes.{Promise, covers, promises, no_promise, take_leaf, take_inner}
-use Rattle.art_parts.specs.Kinds.{kind_index}
-use Rattle.art_parts.specs.declared.names.NodeType.{NodeType}
-use Rattle.art_model.specs.Promises.{IsLessened}
+use Rattle.art_model.specs.Prelude.{Promise, covers, promises, no_promise, take_leaf, take_inner, kind_index, NodeType, IsLessened}
 
 both : (a b : Bool) → (a && b) ≡ true → (a ≡ true) × (b ≡ true)
 both true true e = (refl, refl)

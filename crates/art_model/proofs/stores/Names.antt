@@ -1,9 +1,7 @@
 -- The names of a layout: those of its leaves and of its inner nodes are among them, distinct ones stay distinct, and all are in use.
 use Rattle.std.proofs.Common.{◌≡◌, ◌≢◌, ℕ, List, [], ◌∷◌, ◌++◌, refl, ap, sym, ◌∙◌, subst, Option, None, ◌⊎◌, inl, inr}
 use Rattle.std.specs.List.{AllByRecursion as Each}
-use Rattle.art_model.specs.Trees.{Tree, leaf, inner, Subtrees, child, no_child, NodeHeader}
-use Rattle.art_model.specs.Layouts.{Node, AreDistinct, Holds, HoldsBelow, name_of, names_of, names_below, leaf_names, leaf_names_below, inner_names, inner_names_below}
-use Rattle.art_model.specs.Footprints.{IsIn}
+use Rattle.art_model.specs.Prelude.{Tree, leaf, inner, Subtrees, child, no_child, NodeHeader, Node, AreDistinct, Holds, HoldsBelow, name_of, names_of, names_below, leaf_names, leaf_names_below, inner_names, inner_names_below, IsIn}
 use Rattle.art_model.proofs.lists.Lists.{Each-append, Each-left, Each-right, Each-weaker, each_in, each_from}
 use Rattle.art_model.proofs.lists.Pairwises.{Pairwise-left, Pairwise-right, Pairwise-append, Pairwise-across, Pairwise-after, Pairwise-in}
 

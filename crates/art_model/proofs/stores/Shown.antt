@@ -1,17 +1,7 @@
 -- what a store has under the name of a node of a layout
 use Rattle.std.proofs.Common.{◌≡◌, ◌≢◌, ap, ap₂, sym, subst, ◌∙◌, Option, Some, None}
 use Rattle.std.specs.FinMap as map
-use Rattle.art_inner.specs.Inner.{Inner}
-use Rattle.art_parts.specs.Names.{leaf_name, inner_name}
-use Rattle.art_nodes.specs.Nodes.{Nodes}
-use Rattle.art_parts.specs.declared.names.NodeType.TheVariants.{Leaf}
-use Rattle.art_parts.specs.declared.names.LeafPtr.{LeafPtr}
-use Rattle.art_parts.specs.declared.names.InnerPtr.{InnerPtr}
-use Rattle.art_parts.specs.declared.names.OpaqueNodePtr.{OpaqueNodePtr}
-use Rattle.art_parts.specs.declared.leaf.LeafNode.{LeafNode}
-use Rattle.art_model.specs.Trees.{Tree, leaf, inner, Subtrees}
-use Rattle.art_model.specs.Layouts.{name_of, slots_of, Holds}
-use Rattle.art_model.specs.Stores.{node_at, header_at, pair_of}
+use Rattle.art_model.specs.Prelude.{Inner, leaf_name, inner_name, Nodes, Leaf, LeafPtr, InnerPtr, OpaqueNodePtr, LeafNode, Tree, leaf, inner, Subtrees, name_of, slots_of, Holds, node_at, header_at, pair_of}
 use Rattle.art_model.proofs.stores.Views.{leaf_there, leaf_name_is, inner_there, inner_name_is}
 
 -- the inner node of a layout under this name, as the store has it

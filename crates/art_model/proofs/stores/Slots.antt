@@ -2,14 +2,7 @@
 use Rattle.std.proofs.Common.{◌≡◌, ◌≢◌, ℕ, suc, ◌<◌, ◌≤◌, List, [], ◌∷◌, ◌++◌, length, Some, false, refl, ap, sym, arith, leb, eq-eqb, subst, inl, inr}
 use Rattle.std.specs.List.{AllByRecursion as Each}
 use Rattle.std.proofs.lemmas.Bool.{cases_Bool, cases_order, le-ltb, lt-ltb, ne_eqb, le-leb, leb-true, leb-false}
-use Rattle.art_inner.specs.Inner.{put_child, child_at}
-use Rattle.art_parts.specs.Kinds.{kind_capacity, kind_least}
-use Rattle.art_parts.specs.declared.names.NodeType.{NodeType}
-use Rattle.art_parts.specs.declared.names.NodeType.TheVariants.{Node4, Node16, Node48, Node256, Leaf}
-use Rattle.art_parts.specs.declared.names.OpaqueNodePtr.{OpaqueNodePtr}
-use Rattle.art_model.specs.Trees.{Tree, Subtrees, child, no_child, kind_of}
-use Rattle.art_model.specs.Radix.{bytes_of, join}
-use Rattle.art_model.specs.Layouts.{slots_of, name_of}
+use Rattle.art_model.specs.Prelude.{put_child, child_at, kind_capacity, kind_least, NodeType, Node4, Node16, Node48, Node256, Leaf, OpaqueNodePtr, Tree, Subtrees, child, no_child, kind_of, bytes_of, join, slots_of, name_of}
 use Rattle.art_model.proofs.changes.Changes.{two_children}
 
 module _ {N A : Type 0} where

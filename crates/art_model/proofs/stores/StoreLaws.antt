@@ -1,10 +1,7 @@
 -- the laws of names that stand for trees, of canonical roots and of footprints
 use Rattle.std.proofs.Common.{[], ◌≡◌, ℕ, refl, ap, sym, ◌∙◌, subst, Option, Some, None}
-use Rattle.art_model.specs.Trees.{Tree, leaf, inner, Subtrees, child, no_child}
-use Rattle.art_model.specs.Radix.{pairs_of}
-use Rattle.art_model.specs.Layouts.{Node, inner_node, name_of, slots_of, names_of, leaf_names, Holds, HoldsBelow, AreDistinct}
+use Rattle.art_model.specs.Prelude.{Tree, leaf, inner, Subtrees, child, no_child, pairs_of, Node, inner_node, name_of, slots_of, names_of, leaf_names, Holds, HoldsBelow, AreDistinct, content_at, node_at, IsUsed}
 use Rattle.art_model.specs.ByCases.{Stands}
-use Rattle.art_model.specs.Stores.{content_at, node_at, IsUsed}
 use Rattle.art_model.specs.StoreLaws.{CasesHaveLayout, LayoutsHaveCases, HasOneLayout, HasRadixLayout, HaveSameTree, HasChildren, HasOneMap, OthersStayFree, OthersWereFree}
 use Rattle.art_model.proofs.stores.ByCases.{layout_of, stands_from}
 use Rattle.art_model.proofs.stores.Canonical.{tree_radix}

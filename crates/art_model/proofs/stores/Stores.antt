@@ -1,11 +1,7 @@
 -- Layouts in a store: what is held stays held where nodes stay (the frame law), and a change in the hole of a path leaves a layout (replacement).
 use Rattle.std.proofs.Common.{◌≡◌, ◌≢◌, List, [], ◌∷◌, ◌++◌, sym, ◌∙◌, subst, Option, Some, None, inl, inr}
 use Rattle.std.specs.List.{AllByRecursion as Each}
-use Rattle.art_model.specs.Trees.{Tree, leaf, inner, Subtrees, child, no_child}
-use Rattle.art_model.specs.Radix.{join}
-use Rattle.art_model.specs.Paths.{Frame, fill, plug, HoldsPath, names_before, names_after}
-use Rattle.art_model.specs.Layouts.{Node, inner_node, name_of, slots_of, names_of, names_below, Holds, HoldsBelow, AreDistinct}
-use Rattle.art_model.specs.Footprints.{IsIn}
+use Rattle.art_model.specs.Prelude.{Tree, leaf, inner, Subtrees, child, no_child, join, Frame, fill, plug, HoldsPath, names_before, names_after, Node, inner_node, name_of, slots_of, names_of, names_below, Holds, HoldsBelow, AreDistinct, IsIn}
 use Rattle.art_model.proofs.lists.Lists.{Each-left, Each-right, each_in, each_from, in_left, in_right}
 use Rattle.art_model.proofs.lists.Pairwises.{Pairwise-left, Pairwise-right}
 use Rattle.art_model.proofs.places.Paths.{slots_of-join, names_of-plug}

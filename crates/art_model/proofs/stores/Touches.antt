@@ -1,23 +1,12 @@
 -- Footprints: what each write to a map touches, one write after another, and what the writes to both maps of a store touch together.
-use Rattle.std.proofs.Common.{◌≡◌, ◌≢◌, ℕ, ◌+◌, ◌≤◌, List, [], ◌∷◌, ◌++◌, length, map, Bool, true, false, cond, Option, Some, None, IsSome, refl, ap, ap₂, sym, ◌∙◌, subst, length-append, inl, inr}
+use Rattle.std.proofs.Common.{◌≡◌, ◌≢◌, ℕ, ◌+◌, ◌≤◌, List, [], ◌∷◌, ◌++◌, length, map, Bool, true, false, cond, Option, Some, None, IsSome, refl, ap, ap₂, sym, ◌∙◌, subst, length-append, inl, inr, option_map, Ordering}
 use Rattle.std.specs.List.{AllByRecursion as Each}
 use Rattle.std.proofs.lemmas.List.{length-map}
-use Rattle.std.specs.Option.{option_map}
 use Rattle.std.specs.Ordering.{eq_by_cmp}
 use Rattle.std.specs.Cmp.{IsTotalOrder}
 use Rattle.std.specs.FinMap.{FinMap, IsAntisymmetric, get, insert, remove, get-insert, get-remove}
-use Rattle.std.specs.declared.cmp.Ordering.{Ordering}
-use Rattle.art_inner.specs.Inner.{Inner}
-use Rattle.art_parts.specs.declared.leaf.LeafNode.{LeafNode}
-use Rattle.art_parts.specs.Names.{leaf_name, inner_name}
-use Rattle.art_nodes.specs.Nodes.{Nodes, change}
-use Rattle.art_parts.specs.declared.names.NodeType.TheVariants.{Leaf}
-use Rattle.art_parts.specs.declared.names.LeafPtr.{LeafPtr}
-use Rattle.art_parts.specs.declared.names.InnerPtr.{InnerPtr}
-use Rattle.art_parts.specs.declared.names.OpaqueNodePtr.{OpaqueNodePtr}
+use Rattle.art_model.specs.Prelude.{Inner, LeafNode, leaf_name, inner_name, Nodes, change, Leaf, LeafPtr, InnerPtr, OpaqueNodePtr, Held, held_leaf, held_inner, content_at, IsIn, Footprint, TouchesAtMost}
 use Rattle.art_nodes.proofs.StoreLaws.{elsewhere, here, gone, gone_elsewhere, changed_from, changed_elsewhere}
-use Rattle.art_model.specs.Stores.{Held, held_leaf, held_inner, content_at}
-use Rattle.art_model.specs.Footprints.{IsIn, Footprint, TouchesAtMost}
 use Rattle.art_model.proofs.lists.Lists.{Each-append, Each-weaker, each_in, each_from, in_left, in_right, in_map, each_map}
 use Rattle.art_model.proofs.stores.Views.{held_in_inner, leaf_or}
 

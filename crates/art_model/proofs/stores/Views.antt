@@ -1,19 +1,7 @@
 -- a store's maps from what a tree sees in them
-use Rattle.std.proofs.Common.{◌≡◌, ◌≢◌, ℕ, List, Option, Some, None, refl, ap, sym, ◌∙◌, is_some, true, ◌⊎◌, inl, inr}
-use Rattle.std.specs.Option.{option_map}
+use Rattle.std.proofs.Common.{◌≡◌, ◌≢◌, ℕ, List, Option, Some, None, refl, ap, sym, ◌∙◌, is_some, true, ◌⊎◌, inl, inr, option_map}
 use Rattle.std.specs.FinMap as map
-use Rattle.art_inner.specs.Inner.{Inner}
-use Rattle.art_parts.specs.Names.{leaf_name, inner_name}
-use Rattle.art_nodes.specs.Nodes.{Nodes}
-use Rattle.art_parts.specs.declared.names.NodeType.{NodeType}
-use Rattle.art_parts.specs.declared.names.NodeType.TheVariants.{Node4, Node16, Node48, Node256, Leaf}
-use Rattle.art_parts.specs.declared.names.LeafPtr.{LeafPtr}
-use Rattle.art_parts.specs.declared.names.InnerPtr.{InnerPtr}
-use Rattle.art_parts.specs.declared.names.OpaqueNodePtr.{OpaqueNodePtr}
-use Rattle.art_parts.specs.declared.leaf.LeafNode.{LeafNode}
-use Rattle.art_model.specs.Trees.{NodeHeader}
-use Rattle.art_model.specs.Layouts.{Node, leaf_node, inner_node}
-use Rattle.art_model.specs.Stores.{Held, held_leaf, held_inner, content_in, tree_node, node_at, header_at, pair_of}
+use Rattle.art_model.specs.Prelude.{Inner, leaf_name, inner_name, Nodes, NodeType, Node4, Node16, Node48, Node256, Leaf, LeafPtr, InnerPtr, OpaqueNodePtr, LeafNode, NodeHeader, Node, leaf_node, inner_node, Held, held_leaf, held_inner, content_in, tree_node, node_at, header_at, pair_of}
 
 module _ {K V : Type 0} where
   seen_leaf : (o : Option (LeafNode K V)) (x : K × V) → option_map (tree_node Leaf) (option_map held_leaf o) ≡ Some (leaf_node x) →

@@ -1,13 +1,10 @@
 -- A map without some names: what it has under a name, and how such maps result from writes.
-use Rattle.std.proofs.Common.{◌≡◌, List, [], ◌∷◌, ◌++◌, None, refl, ap, sym, ◌∙◌, ◌⊎◌, inl, inr, subst}
+use Rattle.std.proofs.Common.{◌≡◌, List, [], ◌∷◌, ◌++◌, None, refl, ap, sym, ◌∙◌, ◌⊎◌, inl, inr, subst, Ordering}
 use Rattle.std.specs.Cmp.{IsTotalOrder}
 use Rattle.std.specs.FinMap.{FinMap, IsAntisymmetric, get, insert, remove, same_map}
-use Rattle.std.specs.declared.cmp.Ordering.{Ordering}
-use Rattle.art_nodes.specs.Nodes.{change}
+use Rattle.art_model.specs.Prelude.{change, IsIn, without}
 use Rattle.art_parts.proofs.NameLemmas.{same_or_not}
 use Rattle.art_nodes.proofs.StoreLaws.{elsewhere, gone, gone_elsewhere, changed_elsewhere}
-use Rattle.art_model.specs.Footprints.{IsIn}
-use Rattle.art_model.specs.Gains.{without}
 use Rattle.art_model.proofs.lists.Lists.{in_left, in_right, in_either}
 use Rattle.art_model.proofs.stores.Touches.{still_gone}
 

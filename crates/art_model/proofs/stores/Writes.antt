@@ -1,26 +1,10 @@
 -- Writes of a store as a change in the hole of a path: which names keep their nodes, and what the parent has.
-use Rattle.std.proofs.Common.{◌≡◌, ◌≢◌, ℕ, ◌+◌, ◌<◌, ◌≤◌, List, [], ◌∷◌, ◌++◌, length, Option, Some, None, IsSomeAnd, IfSome, refl, ap, sym, ◌∙◌, subst, arith, inl, inr}
+use Rattle.std.proofs.Common.{◌≡◌, ◌≢◌, ℕ, ◌+◌, ◌<◌, ◌≤◌, List, [], ◌∷◌, ◌++◌, length, Option, Some, None, IsSomeAnd, IfSome, refl, ap, sym, ◌∙◌, subst, arith, inl, inr, option_map}
 use Rattle.std.specs.List.{AllByRecursion as Each}
-use Rattle.std.specs.Option.{option_map}
 use Rattle.std.specs.FinMap.{get}
-use Rattle.art_inner.specs.Inner.{Inner, put_child, child_at}
-use Rattle.art_inner.specs.InnerChanges.{with_child}
-use Rattle.art_parts.specs.Names.{leaf_name}
-use Rattle.art_nodes.specs.Nodes.{Nodes}
-use Rattle.art_parts.specs.declared.names.NodeType.TheVariants.{Leaf}
-use Rattle.art_parts.specs.declared.names.LeafPtr.{LeafPtr}
-use Rattle.art_parts.specs.declared.leaf.LeafNode.{LeafNode}
-use Rattle.art_parts.specs.declared.names.InnerPtr.{InnerPtr}
-use Rattle.art_parts.specs.declared.names.OpaqueNodePtr.{OpaqueNodePtr}
+use Rattle.art_model.specs.Prelude.{Inner, put_child, child_at, with_child, leaf_name, Nodes, Leaf, LeafPtr, LeafNode, InnerPtr, OpaqueNodePtr, NodeHeader, canonical_header, kind_of, bytes_of, Frame, IsPath, HoldsPath, Node, leaf_node, inner_node, slots_of, held_leaf, held_inner, tree_node, header_at, node_at, pair_of, Inners, as_inner, parent_of, with_child_at, IsIn}
 use Rattle.art_parts.proofs.NameLemmas.{inner_cmp_total, inner_cmp-IsAntisymmetric}
 use Rattle.art_nodes.proofs.StoreLaws.{inner_changed_at, inner_changed_elsewhere}
-use Rattle.art_model.specs.Trees.{NodeHeader, canonical_header, kind_of}
-use Rattle.art_model.specs.Radix.{bytes_of}
-use Rattle.art_model.specs.Paths.{Frame, IsPath, HoldsPath}
-use Rattle.art_model.specs.Layouts.{Node, leaf_node, inner_node, slots_of}
-use Rattle.art_model.specs.Stores.{held_leaf, held_inner, tree_node, header_at, node_at, pair_of}
-use Rattle.art_model.specs.Writes.{Inners, as_inner, parent_of, with_child_at}
-use Rattle.art_model.specs.Footprints.{IsIn}
 use Rattle.art_model.proofs.lists.Pairwises.{Pairwise-before}
 use Rattle.art_model.proofs.stores.Slots.{put_child-there, child_at-there}
 use Rattle.art_model.proofs.stores.Stores.{IsParent, ParentHas, SameBut}

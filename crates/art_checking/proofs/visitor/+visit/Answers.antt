@@ -1,5 +1,5 @@
 use Rattle.std.proofs.Common.{ℕ, ◌≡◌, ◌<◌, rules, sym, ◌∙◌, arith, subst}
-use Rattle.art_inner.specs.Views.{ref_kind, ref_view}
+use Rattle.art_model.specs.Prelude.{ref_kind, ref_view}
 use Rattle.art_checking.proofs.Folded.{HasJoined, folds_leaf, full_inner, full_leaf, full_shown, full_some, full_held, first_child, started, more_child, stepped, ended}
 use Rattle.art_checking.proofs.visitor.+visit.Goals as goal
 

@@ -1,10 +1,5 @@
 use Rattle.std.specs.FinMap as map
-use Rattle.art_inner.specs.Views.{ref_kind, ref_view}
-use Rattle.art_parts.specs.declared.names.OpaqueNodePtr.{OpaqueNodePtr}
-use Rattle.art_model.specs.Heights.{height}
-use Rattle.art_model.specs.Roots.{IsFullTree}
-use Rattle.art_model.specs.Stores.{node_at}
-use Rattle.art_model.specs.Trees.{Tree}
+use Rattle.art_model.specs.Prelude.{ref_kind, ref_view, OpaqueNodePtr, height, IsFullTree, node_at, Tree}
 use Rattle.art_checking.proofs.Folded.{HasJoined}
 use Rattle.art_checking.proofs.visitor.+visit.Given as goal
 

@@ -1,5 +1,5 @@
 use Rattle.std.proofs.Common.{rules}
-use Rattle.art_model.specs.Pairs.{of_key}
+use Rattle.art_model.specs.Prelude.{of_key}
 use Rattle.art_model.proofs.stores.StoreLaws.{has_children}
 use Rattle.art_checking.proofs.visitor.visit_with.Goals as goal
 

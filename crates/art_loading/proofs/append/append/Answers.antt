@@ -3,9 +3,7 @@ use Rattle.art_loading.specs.declared.edge.Step.{Step}
 use Rattle.art_loading.specs.Edges.{IsEdge}
 use Rattle.art_loading.specs.NextKeys.{IsReason}
 use Rattle.art_loading.specs.declared.append.AppendError.{AppendError}
-use Rattle.art_model.specs.Kept.{ChangesInPlace}
-use Rattle.art_model.specs.Apart.{KeepsApart}
-use Rattle.art_model.specs.Pairs.{of_key}
+use Rattle.art_model.specs.Prelude.{ChangesInPlace, KeepsApart, of_key}
 use Rattle.art_loading.proofs.Edges.{at_deref, edge_after, edge_at, edge_last, edge_same, last_point, leaf_met, memory_after, next_here, not_kept}
 use Rattle.art_loading.proofs.Next.{next_precedes}
 use Rattle.art_loading.proofs.append.append.Goals as goal

@@ -2,9 +2,7 @@ use Rattle.std.proofs.Common.{subst, sym, List, ◌∷◌, [], None, Some}
 use Rattle.art_loading.specs.Edges.{IsEdge}
 use Rattle.art_loading.specs.declared.edge.Step.{Step}
 use Rattle.art_loading.proofs.Edges.{edge_begun}
-use Rattle.art_model.specs.Apart.{KeepsApart}
-use Rattle.art_model.specs.Pairs.{of_key}
-use Rattle.art_parts.specs.Names.{leaf_name}
+use Rattle.art_model.specs.Prelude.{KeepsApart, of_key, leaf_name}
 use Rattle.art_loading.proofs.append.begin.Goals as goal
 
 pub returns-clause-begun : goal.returns-clause-begun

@@ -1,5 +1,5 @@
 use Rattle.std.proofs.Common.{sym, subst}
-use Rattle.art_model.specs.Roots.{IsFullTree}
+use Rattle.art_model.specs.Prelude.{IsFullTree}
 use Rattle.art_loading.proofs.append.least_if_long.Goals as goal
 
 pub returns : goal.returns

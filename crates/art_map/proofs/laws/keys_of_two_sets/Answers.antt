@@ -1,6 +1,6 @@
 use Rattle.std.proofs.Common.{not, ap}
 use Rattle.art_map.specs.SetAlgebra.{has_equal}
-use Rattle.art_model.specs.Pairs.{has_key}
+use Rattle.art_model.specs.Prelude.{has_key}
 use Rattle.art_map.proofs.SetMembers.{filtered, merged, parted, same_member}
 use Rattle.art_map.proofs.laws.keys_of_two_sets.Goals as goal
 

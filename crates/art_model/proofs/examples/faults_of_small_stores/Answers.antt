@@ -1,23 +1,9 @@
 -- the trails, descents and readings that show each fault
-use Rattle.std.proofs.Common.{T, ◌≡◌, ℕ, List, [], ◌∷◌, Some, None, refl, ap, inl, inr, arith}
+use Rattle.std.proofs.Common.{T, ◌≡◌, ℕ, List, [], ◌∷◌, Some, None, refl, ap, inl, inr, arith, option_map, option_and_then, Less}
 use Rattle.std.specs.FinMap as map
-use Rattle.std.specs.Option.{option_map, option_and_then}
-use Rattle.std.specs.declared.cmp.Ordering.TheVariants.{Less}
-use Rattle.art_inner.specs.Inner.{Inner, child_at}
-use Rattle.art_nodes.specs.Nodes.{Nodes}
-use Rattle.art_parts.specs.Names.{leaf_cmp, inner_cmp}
-use Rattle.art_parts.specs.declared.names.InnerPtr.{InnerPtr}
-use Rattle.art_parts.specs.declared.leaf.LeafNode.{LeafNode}
-use Rattle.art_parts.specs.declared.names.LeafPtr.{LeafPtr}
-use Rattle.art_parts.specs.declared.names.NodeType.TheVariants.{Node4, Leaf}
-use Rattle.art_parts.specs.declared.names.OpaqueNodePtr.{OpaqueNodePtr}
+use Rattle.art_model.specs.Prelude.{Inner, child_at, Nodes, leaf_cmp, inner_cmp, InnerPtr, LeafNode, LeafPtr, Node4, Leaf, OpaqueNodePtr, Reaches, IsFront, inner_node, leaf_node, Links, IsLayout, held_leaf, held_inner, tree_node, links_of, node_at, links_at, leaf}
 use Rattle.art_model.specs.Examples.{Key, bytes_of_pair, of_length, node4, leaf_at}
 use Rattle.art_model.specs.FaultExamples.{store_of, leaf_in, leaf_between, node4_over, looped, shared, self_linked, linked_to_nothing, misplaced, unreadable, misstored}
-use Rattle.art_model.specs.Faults.{Reaches}
-use Rattle.art_model.specs.Keys.{IsFront}
-use Rattle.art_model.specs.Layouts.{inner_node, leaf_node, Links, IsLayout}
-use Rattle.art_model.specs.Stores.{held_leaf, held_inner, tree_node, links_of, node_at, links_at}
-use Rattle.art_model.specs.Trees.{leaf}
 use Rattle.art_model.proofs.examples.faults_of_small_stores.Goals as goal
 
 module _ (leaves : List (LeafPtr × LeafNode Key ℕ)) (inners : List (InnerPtr × Inner)) where

@@ -1,24 +1,11 @@
 -- what each store holds under a name, and the names that differ
-use Rattle.std.proofs.Common.{T, ◌≡◌, ◌≢◌, ◌∙◌, ℕ, cond, is_eq, List, [], ◌∷◌, get_or, Option, Some, None, refl, sym, ap, subst, inl, inr, arith}
+use Rattle.std.proofs.Common.{T, ◌≡◌, ◌≢◌, ◌∙◌, ℕ, cond, is_eq, List, [], ◌∷◌, get_or, Option, Some, None, refl, sym, ap, subst, inl, inr, arith, option_map, Ordering, Less, Equal, Greater}
 use Rattle.std.specs.FinMap as map
-use Rattle.std.specs.Option.{option_map}
-use Rattle.std.specs.declared.cmp.Ordering.{Ordering}
-use Rattle.std.specs.declared.cmp.Ordering.TheVariants.{Less, Equal, Greater}
-use Rattle.art_inner.specs.Inner.{Inner}
-use Rattle.art_parts.specs.Names.{leaf_cmp, inner_cmp}
-use Rattle.art_parts.specs.declared.names.InnerPtr.{InnerPtr}
-use Rattle.art_parts.specs.declared.leaf.LeafNode.{LeafNode}
-use Rattle.art_parts.specs.declared.names.LeafPtr.{LeafPtr}
-use Rattle.art_parts.specs.declared.names.NodeType.{NodeType}
-use Rattle.art_parts.specs.declared.names.NodeType.TheVariants.{Node4, Node16, Node48, Node256, Leaf}
-use Rattle.art_parts.specs.declared.names.OpaqueNodePtr.{OpaqueNodePtr}
+use Rattle.art_model.specs.Prelude.{Inner, leaf_cmp, inner_cmp, InnerPtr, LeafNode, LeafPtr, NodeType, Node4, Node16, Node48, Node256, Leaf, OpaqueNodePtr, IsIn, Footprint, names_of, Held, held_leaf, held_inner, content_at}
 use Rattle.art_model.specs.Examples.{Key, bytes_of_pair, node4, leaf_at}
 use Rattle.art_model.specs.FaultExamples.{store_of, leaf_in, leaf_between, node4_over}
-use Rattle.art_model.specs.Footprints.{IsIn, Footprint}
 use Rattle.art_model.specs.Kept.{KeepsLeaves, KeepsInners}
-use Rattle.art_model.specs.Layouts.{names_of}
 use Rattle.art_model.specs.NameExamples.{two_keys, tree_of_two, three_keys, tree_of_three}
-use Rattle.art_model.specs.Stores.{Held, held_leaf, held_inner, content_at}
 use Rattle.art_model.proofs.examples.stored_nodes_with_new_names.Goals as goal
 
 -- the leaves and the inner node of each store

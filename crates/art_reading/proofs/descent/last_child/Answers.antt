@@ -1,5 +1,5 @@
 use Rattle.std.proofs.Common.{rules, sym}
-use Rattle.art_inner.specs.Views.{ref_view}
+use Rattle.art_model.specs.Prelude.{ref_view}
 use Rattle.art_reading.proofs.descent.last_child.Goals as goal
 
 pub last_step-requires : goal.last_step-requires

@@ -1,5 +1,5 @@
 use Rattle.std.proofs.Common.{◌≡◌, ◌+◌, ◌≤◌, [], ◌∷◌, ◌++◌, IsSome, ap, arith, length, length-append, refl, rules, subst, sym, ◌∙◌}
-use Rattle.art_inner.specs.Inner.{Inner}
+use Rattle.art_model.specs.Prelude.{Inner}
 use Rattle.std.specs.List.{cons_option}
 use Rattle.std.proofs.lemmas.Bool.{false≢true}
 use Rattle.art_model.proofs.stores.Shown.{leaf_met, inner_met}

@@ -1,5 +1,5 @@
 use Rattle.std.proofs.Common.{◌+◌, ap, arith, refl, rules, sym, ◌∙◌}
-use Rattle.art_inner.specs.Inner.{child_at}
+use Rattle.art_model.specs.Prelude.{child_at}
 use Rattle.art_model.proofs.stores.Shown.{inner_met, leaf_named, shown_met}
 use Rattle.art_reading.proofs.Below.{at_end, at_gap, at_leaf, goes_down, way_begins}
 use Rattle.art_reading.proofs.Counts.{count_both}

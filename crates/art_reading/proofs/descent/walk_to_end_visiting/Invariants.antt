@@ -1,10 +1,6 @@
 use Rattle.std.proofs.Common.{◌+◌, ◌≤◌}
 use Rattle.std.specs.FinMap as map
-use Rattle.art_parts.specs.declared.names.OpaqueNodePtr.{OpaqueNodePtr}
-use Rattle.art_model.specs.Trees.{Tree}
-use Rattle.art_model.specs.Stores.{node_at}
-use Rattle.art_model.specs.Heights.{height}
-use Rattle.art_model.specs.Roots.{IsFullTree}
+use Rattle.art_model.specs.Prelude.{OpaqueNodePtr, Tree, node_at, height, IsFullTree}
 use Rattle.art_model.proofs.places.Edges.{IsAtEdge}
 use Rattle.art_reading.specs.Readings.{CountsReadings, levels}
 use Rattle.art_reading.specs.PathSteps.{path_after}

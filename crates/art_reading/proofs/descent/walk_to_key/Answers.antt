@@ -1,6 +1,6 @@
 use Rattle.std.proofs.Common.{arith, Some, None}
 use Rattle.std.proofs.lemmas.Bool.{false≢true}
-use Rattle.art_model.specs.Pairs.{of_key}
+use Rattle.art_model.specs.Prelude.{of_key}
 use Rattle.art_reading.proofs.Ends.{counted, counts, found, lost, none_asked}
 use Rattle.art_reading.proofs.descent.walk_to_key.Goals as goal
 

@@ -1,5 +1,5 @@
 use Rattle.std.proofs.Common.{arith, subst}
-use Rattle.art_model.specs.Pairs.{of_key}
+use Rattle.art_model.specs.Prelude.{of_key}
 use Rattle.art_reading.specs.Guides.{MayGuide}
 use Rattle.art_reading.proofs.guide.guide_from.Goals as goal
 

@@ -1,5 +1,5 @@
 use Rattle.std.proofs.Common.{arith, ap, refl, rules, sym, ◌∙◌}
-use Rattle.art_inner.specs.Inner.{child_at}
+use Rattle.art_model.specs.Prelude.{child_at}
 use Rattle.art_model.proofs.stores.Shown.{inner_met, leaf_named, shown_met}
 use Rattle.art_reading.proofs.EndNodes.{inside}
 use Rattle.art_reading.proofs.Endings.{byte_is, byte_within, past}

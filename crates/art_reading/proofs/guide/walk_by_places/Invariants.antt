@@ -1,6 +1,5 @@
 use Rattle.std.proofs.Common.{◌≡◌, ◌+◌, ◌-◌, ◌≤◌, length}
-use Rattle.art_model.specs.Pairs.{of_key}
-use Rattle.art_model.specs.Roots.{ForTree}
+use Rattle.art_model.specs.Prelude.{of_key, ForTree}
 use Rattle.art_reading.specs.Readings.{levels}
 use Rattle.art_reading.proofs.Guides.{IsByPlaces}
 use Rattle.art_reading.proofs.guide.walk_by_places.Given as goal

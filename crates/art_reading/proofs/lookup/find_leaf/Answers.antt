@@ -1,5 +1,4 @@
-use Rattle.art_model.specs.Pairs.{of_key}
-use Rattle.art_model.specs.Stores.{pair_of}
+use Rattle.art_model.specs.Prelude.{of_key, pair_of}
 use Rattle.art_reading.proofs.Found.{has_found}
 use Rattle.art_reading.proofs.lookup.find_leaf.Goals as goal
 

@@ -1,5 +1,5 @@
 use Rattle.std.proofs.Common.{ap, sym}
-use Rattle.art_model.specs.Pairs.{first_of}
+use Rattle.art_model.specs.Prelude.{first_of}
 use Rattle.art_reading.proofs.lookup.find_visiting.Goals as goal
 
 pub returns-in_err-found-clause-leaf : goal.returns-in_err-found-clause-leaf

@@ -1,6 +1,6 @@
 use Rattle.std.proofs.Common.{◌≡◌, ◌+◌, ◌<◌, ◌≤◌, ℕ, zero, suc, List, [], ◌∷◌, length, take, drop, min, arith, eq-eqb, ◌⊎◌, inl, inr}
 use Rattle.std.proofs.lemmas.Bool.{cases_lt}
-use Rattle.art_model.specs.Keys.{common_front}
+use Rattle.art_model.specs.Prelude.{common_front}
 use Rattle.art_model.proofs.keys.Fronts.{shared_end}
 use Rattle.art_reading.proofs.matching.shared_len.Goals as goal
 

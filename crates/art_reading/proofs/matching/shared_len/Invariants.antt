@@ -1,5 +1,5 @@
 use Rattle.std.proofs.Common.{◌≡◌, ◌+◌, length, drop}
-use Rattle.art_model.specs.Keys.{common_front}
+use Rattle.art_model.specs.Prelude.{common_front}
 use Rattle.art_reading.proofs.matching.shared_len.Given as goal
 
 abbrev pub invariant-loop-i : goal.invariant-loop-i

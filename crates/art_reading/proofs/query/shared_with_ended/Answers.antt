@@ -1,6 +1,5 @@
-use Rattle.std.proofs.Common.{◌≡◌, ◌≤◌, ◌++◌, ◌∷◌, [], ◌∙◌, List, ℕ, ap, arith, drop, get_or, length, length-append, length-drop, sym}
+use Rattle.std.proofs.Common.{◌≡◌, ◌≤◌, ◌++◌, ◌∷◌, [], ◌∙◌, List, ℕ, ap, arith, drop, get_or, length, length-append, length-drop, sym, slice_range}
 use Rattle.std.proofs.lemmas.List.{drop-append-le, take_rest}
-use Rattle.std.specs.List.{slice_range}
 use Rattle.art_reading.specs.Matching.{shared_len}
 use Rattle.art_reading.proofs.LongestTexts.{shared_short}
 use Rattle.art_reading.proofs.Shared.{end_apart, end_shared}

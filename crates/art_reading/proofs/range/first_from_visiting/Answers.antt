@@ -1,8 +1,6 @@
 use Rattle.std.proofs.Common.{arith, rules, ap, sym, ◌∙◌}
 use Rattle.std.specs.Range.Bound.{bound_map}
-use Rattle.art_model.specs.Keys.{is_before}
-use Rattle.art_model.specs.Pairs.{first_of}
-use Rattle.art_model.specs.Parts.{is_from, leaves_where}
+use Rattle.art_model.specs.Prelude.{is_before, first_of, is_from, leaves_where}
 use Rattle.art_model.proofs.stores.StoreLaws.{has_children}
 use Rattle.art_reading.proofs.Bounds.{first_there, where_any, where_same}
 use Rattle.art_reading.proofs.Levels.{root_levels}

@@ -1,7 +1,6 @@
 use Rattle.std.proofs.Common.{arith, rules, ap, sym, ◌∙◌}
 use Rattle.std.specs.Range.Bound.{bound_map}
-use Rattle.art_model.specs.Pairs.{last_of}
-use Rattle.art_model.specs.Parts.{is_up_to, leaves_where}
+use Rattle.art_model.specs.Prelude.{last_of, is_up_to, leaves_where}
 use Rattle.art_model.proofs.stores.StoreLaws.{has_children}
 use Rattle.art_reading.proofs.Bounds.{last_there, where_any}
 use Rattle.art_reading.proofs.Levels.{root_levels}

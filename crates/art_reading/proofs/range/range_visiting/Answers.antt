@@ -1,9 +1,6 @@
-use Rattle.std.proofs.Common.{arith, ◌+◌, rules, ap, sym, ◌∙◌}
-use Rattle.std.specs.Option.{option_map}
+use Rattle.std.proofs.Common.{arith, ◌+◌, rules, ap, sym, ◌∙◌, option_map}
 use Rattle.std.specs.Range.Bound.{bound_map}
-use Rattle.art_parts.specs.Names.{leaf_name}
-use Rattle.art_model.specs.Pairs.{of_key}
-use Rattle.art_model.specs.Parts.{is_between, is_from, is_up_to, leaves_where}
+use Rattle.art_model.specs.Prelude.{leaf_name, of_key, is_between, is_from, is_up_to, leaves_where}
 use Rattle.art_reading.specs.Readings.{nodes_to}
 use Rattle.art_reading.proofs.Bounds.{first_past, last_is_there, none_after, span_walk}
 use Rattle.art_reading.proofs.Counts.{count_both, if_any_most, if_no_first, if_none}

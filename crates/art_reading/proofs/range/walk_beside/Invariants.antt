@@ -1,6 +1,5 @@
 use Rattle.std.proofs.Common.{◌≡◌, ◌-◌, ◌≤◌, length}
-use Rattle.art_model.specs.Pairs.{of_key}
-use Rattle.art_model.specs.Roots.{ForTree}
+use Rattle.art_model.specs.Prelude.{of_key, ForTree}
 use Rattle.art_reading.specs.Guides.{MayGuide}
 use Rattle.art_reading.specs.Readings.{CountsReadings}
 use Rattle.art_reading.proofs.Beside.{IsReadOnKey}

@@ -1,6 +1,5 @@
 use Rattle.std.proofs.Common.{rules}
-use Rattle.art_model.specs.Pairs.{of_key}
-use Rattle.art_model.specs.Radix.{pairs_of}
+use Rattle.art_model.specs.Prelude.{of_key, pairs_of}
 use Rattle.art_model.proofs.stores.StoreLaws.{has_children}
 use Rattle.art_running.proofs.Moves.{any_from_root}
 use Rattle.art_running.proofs.GoneOver.{over_step, uncloned_step}

@@ -1,8 +1,5 @@
 use Rattle.std.proofs.Common.{sym, subst, Some}
-use Rattle.art_model.specs.Canonical.{IsCanonical}
-use Rattle.art_parts.specs.LeafClones.{IsPairClone}
-use Rattle.art_model.specs.Pairs.{of_key, remove_key}
-use Rattle.art_model.specs.Radix.{pairs_of}
+use Rattle.art_model.specs.Prelude.{IsCanonical, IsPairClone, of_key, remove_key, pairs_of}
 use Rattle.art_running.specs.declared.run.Reply.TheVariants.{Deleted}
 use Rattle.art_running.proofs.Moves.{StepFrom, from_root}
 use Rattle.art_running.proofs.Stepped.{deleted_step}

@@ -1,8 +1,6 @@
-use Rattle.std.proofs.Common.{◌≡◌, rules, ap₂, refl, ◌∙◌}
+use Rattle.std.proofs.Common.{◌≡◌, rules, ap₂, refl, ◌∙◌, option_map}
 use Rattle.std.proofs.lemmas.Bool.{false≢true}
-use Rattle.std.specs.Option.{option_map}
-use Rattle.art_model.specs.Radix.{pairs_of}
-use Rattle.art_model.specs.Stores.{pair_of}
+use Rattle.art_model.specs.Prelude.{pairs_of, pair_of}
 use Rattle.art_running.proofs.Moves.{from_root}
 use Rattle.art_running.proofs.Stepped.{inserted_step, refused_step, conflict_step, no_bytes_step, at_root}
 use Rattle.art_running.proofs.run.insert.Goals as goal

@@ -1,5 +1,5 @@
 use Rattle.std.proofs.Common.{◌∙◌, sym, ap, length, map, [], ◌∷◌}
-use Rattle.art_model.specs.Pairs.{of_key, match_of}
+use Rattle.art_model.specs.Prelude.{of_key, match_of}
 use Rattle.art_writing.proofs.KeysFound.{match_found}
 use Rattle.art_running.proofs.run.longest_match.Goals as goal
 

@@ -1,7 +1,6 @@
-use Rattle.std.proofs.Common.{◌≡◌, ◌+◌, ◌≤◌, ◌++◌, vec_len}
-use Rattle.std.specs.Vec.{vec_capacity}
+use Rattle.std.proofs.Common.{◌≡◌, ◌+◌, ◌≤◌, ◌++◌, vec_len, vec_capacity}
 use Rattle.std.specs.Vec.Iter.{into_iter_items, into_iter_len}
-use Rattle.art_parts.specs.LeafClones.{IsPairClone}
+use Rattle.art_model.specs.Prelude.{IsPairClone}
 use Rattle.art_running.specs.Runs.{IsRun, on}
 use Rattle.art_running.specs.declared.run.Side.TheVariants.{First}
 use Rattle.art_running.proofs.run.run.Given as goal

@@ -1,6 +1,5 @@
-use Rattle.std.proofs.Common.{◌≡◌, ◌∙◌, ap, sym, Some}
-use Rattle.std.specs.Option.{option_map}
-use Rattle.art_model.specs.Writes.{with_links_around}
+use Rattle.std.proofs.Common.{◌≡◌, ◌∙◌, ap, sym, Some, option_map}
+use Rattle.art_model.specs.Prelude.{with_links_around}
 use Rattle.art_writing.specs.declared.clone.LeafEnds.{LeafEnds}
 use Rattle.art_writing.proofs.clone.add_copy.Goals.{in-Some, in-None}
 use Rattle.art_writing.proofs.clone.add_copy.Goals as goal

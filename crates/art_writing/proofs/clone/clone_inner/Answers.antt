@@ -1,7 +1,7 @@
 use Rattle.std.proofs.Common.{◌∙◌, ◌++◌, [], ◌∷◌, reverse, Ok, None, IfSome, ap, sym, subst, rules}
 use Rattle.std.specs.FinMap as map
 use Rattle.std.specs.declared.alloc.AllocError.{AllocError}
-use Rattle.art_parts.specs.LeafClones.{IsPairClone}
+use Rattle.art_model.specs.Prelude.{IsPairClone}
 use Rattle.art_model.proofs.stores.Lessened.{lessened_twice}
 use Rattle.art_writing.specs.declared.clone.Above.{Above}
 use Rattle.art_writing.specs.Cloned.{IsBegun, IsCloned}

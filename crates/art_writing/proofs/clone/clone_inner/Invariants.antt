@@ -1,10 +1,5 @@
 use Rattle.std.proofs.Common.{◌+◌, ◌*◌, length, reverse}
-use Rattle.art_parts.specs.LeafClones.{IsPairClone}
-use Rattle.art_parts.specs.Names.{inner_name}
-use Rattle.art_parts.specs.declared.names.OpaqueNodePtr.{OpaqueNodePtr}
-use Rattle.art_model.specs.Promises.{IsLessened}
-use Rattle.art_model.specs.Roots.{IsFullTree}
-use Rattle.art_model.specs.Trees.{Tree}
+use Rattle.art_model.specs.Prelude.{IsPairClone, inner_name, OpaqueNodePtr, IsLessened, IsFullTree, Tree}
 use Rattle.art_writing.proofs.Cloning.{first_leaf, last_leaf}
 use Rattle.art_writing.proofs.Copying.{IsCopying, IsRefusedAt, left_above, sizes_at}
 use Rattle.art_writing.proofs.clone.clone_inner.Given as goal

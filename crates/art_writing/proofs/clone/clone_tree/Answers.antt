@@ -1,7 +1,6 @@
 use Rattle.std.proofs.Common.{rules, sym, subst}
 use Rattle.std.specs.declared.alloc.AllocError.{AllocError}
-use Rattle.art_parts.specs.LeafClones.{IsPairClone}
-use Rattle.art_model.specs.Roots.{IsFullTree}
+use Rattle.art_model.specs.Prelude.{IsPairClone, IsFullTree}
 use Rattle.art_writing.specs.Cloned.{IsCloned}
 use Rattle.art_writing.proofs.Copying.{leaf_there_of}
 use Rattle.art_writing.proofs.clone.clone_tree.Goals as goal

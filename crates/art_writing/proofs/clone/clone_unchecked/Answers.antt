@@ -1,5 +1,5 @@
 use Rattle.std.proofs.Common.{rules}
-use Rattle.art_model.specs.Pairs.{of_key}
+use Rattle.art_model.specs.Prelude.{of_key}
 use Rattle.art_model.proofs.stores.StoreLaws.{has_children}
 use Rattle.art_writing.proofs.Cloned.{apart_kept, cloned_canonical, each_copied, first_named, last_named, others_kept}
 use Rattle.art_writing.proofs.clone.clone_unchecked.Goals as goal

@@ -1,7 +1,6 @@
 use Rattle.std.proofs.Common.{ap, ◌∙◌}
 use Rattle.std.specs.FinMap as map
-use Rattle.art_inner.specs.Inner.{childless}
-use Rattle.art_nodes.specs.Nodes.{take_inner}
+use Rattle.art_model.specs.Prelude.{childless, take_inner}
 use Rattle.art_model.proofs.stores.Lessened.{lessened_inner, lessened_same}
 use Rattle.art_writing.proofs.clone.place_one_like.Goals as goal
 

@@ -1,6 +1,5 @@
 use Rattle.std.proofs.Common.{rules, [], Some, None, refl}
-use Rattle.art_model.specs.Layouts.{shape_of}
-use Rattle.art_model.specs.Pairs.{of_key}
+use Rattle.art_model.specs.Prelude.{shape_of, of_key}
 use Rattle.art_model.proofs.stores.Apart.{tree_apart}
 use Rattle.art_writing.proofs.FreedTrees.{all_can, all_counted, all_go}
 use Rattle.art_writing.proofs.deallocate.deallocate_tree.Goals as goal

@@ -1,7 +1,5 @@
 use Rattle.std.proofs.Common.{rules, [], None, Some, subst}
-use Rattle.art_model.specs.Footprints.{IsIn}
-use Rattle.art_model.specs.Layouts.{inner_names, shape_of}
-use Rattle.art_model.specs.Pairs.{of_key}
+use Rattle.art_model.specs.Prelude.{IsIn, inner_names, shape_of, of_key}
 use Rattle.art_model.proofs.stores.Apart.{others_apart}
 use Rattle.art_model.proofs.stores.Names.{taken_in, takes_inners}
 use Rattle.art_model.proofs.radix.Shapes.{has_shape}

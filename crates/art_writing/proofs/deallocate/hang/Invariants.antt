@@ -1,7 +1,6 @@
 use Rattle.std.proofs.Common.{◌≡◌}
 use Rattle.std.specs.FinMap as map
-use Rattle.art_parts.specs.declared.names.InnerPtr.{InnerPtr}
-use Rattle.art_parts.specs.declared.names.NodeType.TheVariants.{Leaf}
+use Rattle.art_model.specs.Prelude.{InnerPtr, Leaf}
 use Rattle.art_writing.specs.Freed.{CanBothGo}
 use Rattle.art_writing.proofs.FreedTrees.{Shape, count_at}
 use Rattle.art_writing.proofs.OneTree.{AreMoved}

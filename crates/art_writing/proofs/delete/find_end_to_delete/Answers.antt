@@ -1,5 +1,5 @@
 use Rattle.std.proofs.Common.{rules, sym}
-use Rattle.art_model.specs.Pairs.{of_key}
+use Rattle.art_model.specs.Prelude.{of_key}
 use Rattle.art_model.proofs.stores.Canonical.{tree_radix}
 use Rattle.art_model.proofs.stores.StoreLaws.{has_children}
 use Rattle.art_writing.proofs.DeletePoints.{has_delete_point, point_at_end, point_there}

@@ -1,5 +1,5 @@
 use Rattle.std.proofs.Common.{ap}
-use Rattle.art_model.specs.Pairs.{first_of, of_key}
+use Rattle.art_model.specs.Prelude.{first_of, of_key}
 use Rattle.art_writing.proofs.DeletePoints.{has_key_point, leads_to, point_there}
 use Rattle.art_writing.proofs.delete.search_from.Goals as goal
 

@@ -1,5 +1,5 @@
 use Rattle.std.proofs.Common.{◌∙◌, ap, sym, subst, rules}
-use Rattle.art_model.specs.Writes.{IsThere, change_some, with_next, with_previous}
+use Rattle.art_model.specs.Prelude.{IsThere, change_some, with_next, with_previous}
 use Rattle.art_model.proofs.leaves.Leaves.{there_changed}
 use Rattle.art_writing.proofs.writes.link.Goals as goal
 

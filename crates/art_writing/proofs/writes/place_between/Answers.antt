@@ -1,5 +1,5 @@
 use Rattle.std.proofs.Common.{Some, ap, sym, ◌∙◌, subst, rules}
-use Rattle.art_model.specs.Writes.{IsThere, change_some, with_leaf, with_next, with_previous}
+use Rattle.art_model.specs.Prelude.{IsThere, change_some, with_leaf, with_next, with_previous}
 use Rattle.art_model.proofs.leaves.Leaves.{there_changed}
 use Rattle.art_writing.proofs.LeafWrites.{there_placed}
 use Rattle.art_writing.proofs.writes.place_between.Goals as goal

@@ -1,5 +1,5 @@
 use Rattle.std.proofs.Common.{◌≡◌, ap, sym, ◌∙◌}
-use Rattle.art_model.specs.Writes.{change_some}
+use Rattle.art_model.specs.Prelude.{change_some}
 use Rattle.art_writing.specs.ParentWrites.{with_beside}
 use Rattle.art_writing.proofs.LeafWrites.{change_as}
 use Rattle.art_writing.proofs.writes.set_beside.Goals.{in-Before, in-After}

@@ -1,6 +1,6 @@
 use Rattle.std.proofs.Common.{◌≡◌, IsSome, IsSomeAnd, ap, sym, ◌∙◌, subst, rules}
 use Rattle.std.specs.FinMap.{get, remove}
-use Rattle.art_model.specs.Writes.{without_leaf}
+use Rattle.art_model.specs.Prelude.{without_leaf}
 use Rattle.art_writing.specs.Inserted.{unlinked_leaf}
 use Rattle.art_writing.proofs.LeafWrites.{joined_there, joined_keeps}
 use Rattle.art_writing.proofs.writes.take_from_between.Goals as goal

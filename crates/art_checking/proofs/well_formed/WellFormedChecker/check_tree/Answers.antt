@@ -1,11 +1,8 @@
 use Rattle.std.proofs.Common.{rules, sym, ◌∙◌, ap, subst, arith, None, IsSome}
 use Rattle.std.specs.FinMap as map
 use Rattle.std.specs.List.{AllByRecursion as Each}
-use Rattle.art_model.specs.Layouts.{AreLinked}
-use Rattle.art_model.specs.Stores.{links_at}
+use Rattle.art_model.specs.Prelude.{AreLinked, links_at, IsTrueOf, of_key}
 use Rattle.art_checking.specs.Checked.{names_of_leaves}
-use Rattle.art_model.specs.Faults.{IsTrueOf}
-use Rattle.art_model.specs.Pairs.{of_key}
 use Rattle.art_checking.specs.Checks.{fault_of}
 use Rattle.art_checking.proofs.Faulty.{canonical_error, passed_on}
 use Rattle.art_checking.proofs.Passed.{met_layout, met_leaves_there, fewer_leaves, well_formed}

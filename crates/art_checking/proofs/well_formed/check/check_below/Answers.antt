@@ -1,11 +1,6 @@
 use Rattle.std.proofs.Common.{◌≡◌, ◌∙◌, ◌≤◌, true, [], ◌∷◌, length, reverse, is_some, Some, IfSome, ap, sym, refl, subst, rules, arith}
 use Rattle.std.specs.FinMap as map
-use Rattle.art_parts.specs.Kinds.{kind_least}
-use Rattle.art_parts.specs.Names.{inner_name}
-use Rattle.art_model.specs.Faults.{Reaches}
-use Rattle.art_model.specs.Keys.{is_before}
-use Rattle.art_model.specs.Pairs.{of_key}
-use Rattle.art_model.specs.Stores.{IsUsed}
+use Rattle.art_model.specs.Prelude.{kind_least, inner_name, Reaches, is_before, of_key, IsUsed}
 use Rattle.art_checking.specs.Checked.{IsEntered, IsFirstLeast, IsFirstMet, IsLeafAt, IsLeastLeaf}
 use Rattle.art_checking.specs.Meetings.{place_in}
 use Rattle.art_checking.specs.declared.well_formed.check.Above.{Above}

@@ -1,8 +1,6 @@
 use Rattle.std.proofs.Common.{ℕ, ◌+◌, ◌*◌, is_some, length, reverse}
 use Rattle.std.specs.FinMap as map
-use Rattle.art_inner.specs.Inner.{Inner}
-use Rattle.art_parts.specs.Names.{inner_cmp, inner_name}
-use Rattle.art_model.specs.Pairs.{of_key}
+use Rattle.art_model.specs.Prelude.{Inner, inner_cmp, inner_name, of_key}
 use Rattle.art_checking.specs.Checked.{IsFirstLeast}
 use Rattle.art_checking.specs.Meetings.{place_in}
 use Rattle.art_checking.specs.Untried.{untried}

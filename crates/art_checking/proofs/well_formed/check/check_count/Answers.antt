@@ -1,7 +1,5 @@
 use Rattle.std.proofs.Common.{◌<◌, ◌≤◌, ◌∙◌, ap, length, subst}
-use Rattle.art_inner.specs.Views.{ref_kind, ref_view}
-use Rattle.art_parts.specs.Kinds.{kind_least}
-use Rattle.art_model.specs.Faults.{wrong_children_count}
+use Rattle.art_model.specs.Prelude.{ref_kind, ref_view, kind_least, wrong_children_count}
 use Rattle.art_checking.specs.Checked.{Says}
 use Rattle.art_checking.proofs.well_formed.check.check_count.Goals as goal
 

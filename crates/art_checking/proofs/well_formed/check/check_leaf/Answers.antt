@@ -1,20 +1,9 @@
-use Rattle.std.proofs.Common.{ap, sym, ◌≡◌, ◌∙◌, List, ℕ, refl, subst, inl, inr, Option, Some, None, Result, Ok, Err, IfErr, IfSome}
+use Rattle.std.proofs.Common.{ap, sym, ◌≡◌, ◌∙◌, List, ℕ, refl, subst, inl, inr, Option, Some, None, Result, Ok, Err, IfErr, IfSome, option_map, option_and_then, Ordering, Less, Greater}
 use Rattle.std.proofs.lemmas.Bool.{false≢true}
 use Rattle.std.proofs.lemmas.Result.{on_ok_weaker}
 use Rattle.std.specs.FinMap as map
-use Rattle.std.specs.Option.{option_map, option_and_then}
-use Rattle.std.specs.declared.cmp.Ordering.{Ordering}
-use Rattle.std.specs.declared.cmp.Ordering.TheVariants.{Less, Greater}
-use Rattle.art_parts.specs.Names.{leaf_name}
-use Rattle.art_parts.specs.declared.leaf.LeafNode.{LeafNode}
-use Rattle.art_parts.specs.declared.names.LeafPtr.{LeafPtr}
-use Rattle.art_parts.specs.declared.names.OpaqueNodePtr.{OpaqueNodePtr}
-use Rattle.art_nodes.specs.Nodes.{Nodes}
-use Rattle.art_model.specs.Faults.{HasSibling, IsTrueOf, ReachesLeaf}
-use Rattle.art_model.specs.Layouts.{Links}
-use Rattle.art_model.specs.Pairs.{of_key}
-use Rattle.art_model.specs.Keys.{IsFront}
-use Rattle.art_model.specs.Stores.{held_leaf, links_at, links_of, pair_of}
+use Rattle.art_model.specs.Prelude.{leaf_name, LeafNode, LeafPtr, OpaqueNodePtr, Nodes, HasSibling, IsTrueOf, Links, of_key, IsFront, held_leaf, links_at, links_of, pair_of}
+use Rattle.art_model.specs.Faults.{ReachesLeaf}
 use Rattle.art_checking.specs.Checked.{IsBetween, IsInOrder, IsTrueAt}
 use Rattle.art_checking.specs.Checks.{between, fault_of}
 use Rattle.art_checking.specs.declared.well_formed.fault.MalformedTreeError.{MalformedTreeError}

@@ -3,15 +3,9 @@ use Rattle.std.proofs.lemmas.Bool.{false≢true, true≢false}
 use Rattle.std.specs.FinMap as map
 use Rattle.std.specs.List.{AllByRecursion as Each, slice_get}
 use Rattle.std.specs.Option.{option_eq, option_map, option_and_then}
-use Rattle.art_parts.specs.Names.{leaf_name}
+use Rattle.art_model.specs.Prelude.{leaf_name, LeafNode, LeafPtr, OpaqueNodePtr, Nodes, AreLinked, Links, first_or, held_leaf, links_at, links_of, pair_of}
 use Rattle.art_parts.specs.contracts.names.LeafPtrPartialEq.TheImpl as derived
-use Rattle.art_parts.specs.declared.leaf.LeafNode.{LeafNode}
-use Rattle.art_parts.specs.declared.names.LeafPtr.{LeafPtr}
-use Rattle.art_parts.specs.declared.names.OpaqueNodePtr.{OpaqueNodePtr}
-use Rattle.art_nodes.specs.Nodes.{Nodes}
-use Rattle.art_model.specs.Layouts.{AreLinked, Links, first_or}
 use Rattle.art_model.specs.Pairs.{first_of as first_name, last_of, of_key}
-use Rattle.art_model.specs.Stores.{held_leaf, links_at, links_of, pair_of}
 use Rattle.art_checking.specs.Checked.{names_of_leaves}
 use Rattle.art_checking.specs.Checks.{between}
 use Rattle.art_checking.proofs.Descents.{leaf_at}

@@ -1,12 +1,7 @@
-use Rattle.std.proofs.Common.{◌≡◌, ◌++◌, List, length, None, IsSome}
+use Rattle.std.proofs.Common.{◌≡◌, ◌++◌, List, length, None, IsSome, option_map}
 use Rattle.std.specs.FinMap as map
 use Rattle.std.specs.List.{AllByRecursion as Each}
-use Rattle.std.specs.Option.{option_map}
-use Rattle.art_parts.specs.Names.{leaf_name}
-use Rattle.art_parts.specs.declared.names.LeafPtr.{LeafPtr}
-use Rattle.art_model.specs.Pairs.{last_of}
-use Rattle.art_model.specs.Layouts.{AreLinked}
-use Rattle.art_model.specs.Stores.{links_at}
+use Rattle.art_model.specs.Prelude.{leaf_name, LeafPtr, last_of, AreLinked, links_at}
 use Rattle.art_checking.specs.Checked.{names_of_leaves}
 use Rattle.art_checking.proofs.well_formed.check.check_links.Given as goal
 

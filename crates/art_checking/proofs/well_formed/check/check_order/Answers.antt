@@ -1,13 +1,8 @@
-use Rattle.std.proofs.Common.{refl, ap, sym, ◌∙◌, inr, subst, ◌≡◌, ℕ, zero, suc, None, IfSome, eq-eqb}
+use Rattle.std.proofs.Common.{refl, ap, sym, ◌∙◌, inr, subst, ◌≡◌, ℕ, zero, suc, None, IfSome, eq-eqb, Ordering, Less, Equal, Greater}
 use Rattle.std.proofs.lemmas.Bool.{false≢true, eqb-true}
 use Rattle.std.specs.Cmp.Lexicographic.{slice_cmp}
 use Rattle.std.specs.Ordering.{nat_cmp, ordering_index}
-use Rattle.std.specs.declared.cmp.Ordering.{Ordering}
-use Rattle.std.specs.declared.cmp.Ordering.TheVariants.{Less, Equal, Greater}
-use Rattle.art_parts.specs.Names.{leaf_name}
-use Rattle.art_model.specs.Faults.{HasSibling}
-use Rattle.art_model.specs.Pairs.{of_key}
-use Rattle.art_model.specs.Stores.{node_at, pair_of}
+use Rattle.art_model.specs.Prelude.{leaf_name, HasSibling, of_key, node_at, pair_of}
 use Rattle.art_checking.specs.Checked.{IsInOrder}
 use Rattle.art_checking.proofs.Descents.{leaf_at, none_at_leaf}
 use Rattle.art_checking.proofs.Faulty.{said}

@@ -1,9 +1,6 @@
 use Rattle.std.proofs.Common.{◌∙◌, [], ap, is_some, sym, subst, rules}
 use Rattle.std.proofs.lemmas.Result.{IfErr-weaker, on_ok_weaker}
-use Rattle.art_parts.specs.Names.{leaf_name}
-use Rattle.art_model.specs.Faults.{IsTrueOf, Reaches}
-use Rattle.art_model.specs.Pairs.{of_key}
-use Rattle.art_model.specs.Stores.{IsUsed}
+use Rattle.art_model.specs.Prelude.{leaf_name, IsTrueOf, Reaches, of_key, IsUsed}
 use Rattle.art_checking.specs.Checked.{IsFirstMet, IsTrueAt}
 use Rattle.art_checking.specs.Checks.{fault_of}
 use Rattle.art_checking.proofs.Faulty.{passed_on}

@@ -1,8 +1,5 @@
 use Rattle.std.proofs.Common.{sym, subst}
-use Rattle.art_inner.specs.Views.{ref_view}
-use Rattle.art_parts.specs.Names.{inner_name}
-use Rattle.art_model.specs.Pairs.{of_key}
-use Rattle.art_model.specs.Stores.{header_at}
+use Rattle.art_model.specs.Prelude.{ref_view, inner_name, of_key, header_at}
 use Rattle.art_checking.specs.Checked.{IsFirstLeast}
 use Rattle.art_checking.proofs.Descents.{inner_at}
 use Rattle.art_checking.proofs.Walked.{first_least}

@@ -1,19 +1,11 @@
-use Rattle.std.proofs.Common.{◌≡◌, ◌⊎◌, inl, inr, Bool, true, false, cond, not, [], refl, sym, ◌∙◌, ap, rules, Bor, Option, Some, None}
-use Rattle.std.specs.Option.{option_map, option_copied}
-use Rattle.art_parts.specs.declared.names.LeafPtr.{LeafPtr}
+use Rattle.std.proofs.Common.{◌≡◌, ◌⊎◌, inl, inr, Bool, true, false, cond, not, [], refl, sym, ◌∙◌, ap, rules, Bor, Option, Some, None, option_map, option_copied, is_eq}
+use Rattle.art_model.specs.Prelude.{LeafPtr, ref_view, inner_name, InnerPtr, inner_node, of_key, node_at, header_at}
 use Rattle.std.proofs.lemmas.Bool.{false≢true}
 use Rattle.std.specs.List.{list_any}
-use Rattle.std.specs.Ordering.{is_eq}
 use Rattle.std.specs.BTreeMap.{is_at}
 use Rattle.std.specs.BTreeSet.{contains}
 use Rattle.std.specs.FinMap as map
-use Rattle.art_inner.specs.Views.{ref_view}
 use Rattle.art_parts.specs.contracts.names.InnerPtrOrd.TheImpl as derived
-use Rattle.art_parts.specs.Names.{inner_name}
-use Rattle.art_parts.specs.declared.names.InnerPtr.{InnerPtr}
-use Rattle.art_model.specs.Layouts.{inner_node}
-use Rattle.art_model.specs.Pairs.{of_key}
-use Rattle.art_model.specs.Stores.{node_at, header_at}
 use Rattle.art_model.specs.Trails.{HasLeast}
 use Rattle.art_checking.proofs.Descents.{inner_at, down_more, ends_at_leaf, ends_nowhere, ends_again, ends_childless}
 use Rattle.art_checking.proofs.Meetings.{same_inner}

@@ -1,6 +1,5 @@
 use Rattle.std.proofs.Common.{◌∙◌}
-use Rattle.art_inner.specs.Views.{ref_view}
-use Rattle.art_model.specs.Pairs.{of_key}
+use Rattle.art_model.specs.Prelude.{ref_view, of_key}
 use Rattle.art_checking.proofs.Faulty.{too_few_at}
 use Rattle.art_checking.proofs.well_formed.check.leave.Goals as goal
 

@@ -1,6 +1,5 @@
 use Rattle.std.proofs.Common.{sym, ◌≡◌, Some}
-use Rattle.art_model.specs.Pairs.{of_key}
-use Rattle.art_model.specs.Stores.{node_at}
+use Rattle.art_model.specs.Prelude.{of_key, node_at}
 use Rattle.art_model.proofs.places.Trails.{other_way}
 use Rattle.art_checking.specs.Meetings.{place_in}
 use Rattle.art_checking.proofs.Faulty.{said}

@@ -1,8 +1,5 @@
-use Rattle.std.proofs.Common.{◌≡◌, ◌∙◌, ◌+◌, ◌-◌, ◌<◌, ◌≤◌, ◌⊎◌, inl, inr, ℕ, List, length, take, drop, Bor, Option, Some, None, ap, arith, sym, subst}
-use Rattle.std.specs.List.{slice_range}
-use Rattle.std.specs.Option.{MatchOption}
-use Rattle.art_model.specs.Layouts.{Node, leaf_node}
-use Rattle.art_parts.specs.declared.names.OpaqueNodePtr.{OpaqueNodePtr}
+use Rattle.std.proofs.Common.{◌≡◌, ◌∙◌, ◌+◌, ◌-◌, ◌<◌, ◌≤◌, ◌⊎◌, inl, inr, ℕ, List, length, take, drop, Bor, Option, Some, None, ap, arith, sym, subst, slice_range, MatchOption}
+use Rattle.art_model.specs.Prelude.{Node, leaf_node, OpaqueNodePtr}
 use Rattle.art_checking.specs.Checked.{IsPartOf}
 use Rattle.art_checking.proofs.Descents.{leaf_at}
 use Rattle.art_checking.proofs.well_formed.check.part_of.Goals as goal

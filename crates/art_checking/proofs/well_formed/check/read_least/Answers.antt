@@ -1,6 +1,5 @@
 use Rattle.std.proofs.Common.{◌≡◌, sym, ◌∙◌, subst, Some, IfSome}
-use Rattle.art_parts.specs.Names.{inner_name}
-use Rattle.art_model.specs.Pairs.{of_key}
+use Rattle.art_model.specs.Prelude.{inner_name, of_key}
 use Rattle.art_checking.specs.Checked.{IsLeastLeaf, IsReadFrom}
 use Rattle.art_checking.proofs.Readings.{read_none, read_part}
 use Rattle.art_checking.proofs.well_formed.check.read_least.Goals as goal

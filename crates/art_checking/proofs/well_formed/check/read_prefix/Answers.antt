@@ -1,9 +1,5 @@
 use Rattle.std.proofs.Common.{sym, subst, ◌++◌}
-use Rattle.art_inner.specs.Views.{ref_view}
-use Rattle.art_parts.specs.Names.{inner_name}
-use Rattle.art_model.specs.Faults.{Reaches}
-use Rattle.art_model.specs.Pairs.{of_key}
-use Rattle.art_model.specs.Stores.{header_at}
+use Rattle.art_model.specs.Prelude.{ref_view, inner_name, Reaches, of_key, header_at}
 use Rattle.art_checking.specs.Checked.{IsRead}
 use Rattle.art_checking.proofs.Faulty.{passed_on}
 use Rattle.art_checking.proofs.well_formed.check.read_prefix.Goals as goal

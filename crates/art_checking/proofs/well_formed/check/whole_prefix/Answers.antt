@@ -3,10 +3,7 @@ use Rattle.std.proofs.lemmas.Bool.{true≢false, false≢true}
 use Rattle.std.proofs.lemmas.Bool.Decides.{Decides-eqb}
 use Rattle.std.proofs.lemmas.Slice.Eq.{slice_eq-Decides}
 use Rattle.std.specs.Cmp.Lexicographic.{pointwise}
-use Rattle.art_inner.specs.Views.{ref_view}
-use Rattle.art_parts.specs.Names.{inner_name}
-use Rattle.art_model.specs.Faults.{IsUnreadable, StoresOthers}
-use Rattle.art_model.specs.Pairs.{of_key}
+use Rattle.art_model.specs.Prelude.{ref_view, inner_name, IsUnreadable, StoresOthers, of_key}
 use Rattle.art_checking.proofs.Faulty.{passed_on, said}
 use Rattle.art_checking.proofs.Readings.{least_if, read_found, read_long, read_whole, stores_others, unreadable}
 use Rattle.art_checking.proofs.well_formed.check.whole_prefix.Goals as goal

@@ -1,5 +1,5 @@
 use Rattle.std.proofs.Common.{ap, sym, ◌∙◌, subst, arith, [], ◌∷◌, ◌++◌, append_assoc, append-nil, length}
-use Rattle.art_model.specs.Pairs.{of_key, put, without_first}
+use Rattle.art_model.specs.Prelude.{of_key, put, without_first}
 use Rattle.art_model.proofs.pairs.Puts.{first_none}
 use Rattle.art_map.specs.MapAnswers.{IsRefusalOf}
 use Rattle.art_map.specs.MapCalls.{put_all}

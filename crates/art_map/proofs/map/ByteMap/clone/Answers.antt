@@ -1,5 +1,5 @@
 use Rattle.std.proofs.Common.{subst}
-use Rattle.art_model.specs.Clones.{AreClones}
+use Rattle.art_model.specs.Prelude.{AreClones}
 use Rattle.art_map.specs.MapPairs.{pairs_at}
 use Rattle.art_map.proofs.Copied.{copies_read}
 use Rattle.art_map.proofs.map.ByteMap.clone.Goals as goal

@@ -1,6 +1,5 @@
 use Rattle.std.proofs.Common.{ap, sym, ◌∙◌, subst, [], Some, None}
-use Rattle.art_model.specs.Clones.{AreClones}
-use Rattle.art_model.specs.Pairs.{of_key}
+use Rattle.art_model.specs.Prelude.{AreClones, of_key}
 use Rattle.art_map.specs.MapPairs.{pairs_at}
 use Rattle.art_map.proofs.Items.{no_pairs}
 use Rattle.art_map.proofs.Views.{holds, new_holds, view_of}

@@ -1,9 +1,7 @@
-use Rattle.std.proofs.Common.{filter, ap, ◌∙◌}
-use Rattle.std.specs.Option.{option_map}
+use Rattle.std.proofs.Common.{filter, ap, ◌∙◌, option_map}
 use Rattle.std.specs.Range.Bound.{bound_map}
 use Rattle.std.specs.declared.ops.Bound.TheVariants.{Unbounded}
-use Rattle.art_model.specs.Pairs.{first_of, of_key}
-use Rattle.art_model.specs.Parts.{between, is_from}
+use Rattle.art_model.specs.Prelude.{first_of, of_key, between, is_from}
 use Rattle.art_map.specs.MapItems.{deref_pair}
 use Rattle.art_map.specs.MapPairs.{pairs_at}
 use Rattle.art_map.proofs.Puts.{at_some}

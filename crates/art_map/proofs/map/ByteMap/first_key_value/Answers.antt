@@ -1,5 +1,5 @@
 use Rattle.std.proofs.Common.{rules}
-use Rattle.art_model.specs.Pairs.{first_of}
+use Rattle.art_model.specs.Prelude.{first_of}
 use Rattle.art_model.proofs.stores.StoreLaws.{has_children}
 use Rattle.art_map.proofs.Puts.{at_some}
 use Rattle.art_map.proofs.Takings.{first_named, named_there, named_pair}

@@ -1,7 +1,5 @@
 use Rattle.std.proofs.Common.{ap, refl, rules, subst, sym, ◌∙◌}
-use Rattle.art_model.specs.Keys.{is_front}
-use Rattle.art_model.specs.Pairs.{of_key}
-use Rattle.art_model.specs.Parts.{below, not_below}
+use Rattle.art_model.specs.Prelude.{is_front, of_key, below, not_below}
 use Rattle.art_map.specs.MapCalls.{ChangesPairs}
 use Rattle.art_map.specs.MapPairs.{pairs_at}
 use Rattle.art_map.proofs.Items.{no_pairs}

@@ -1,7 +1,6 @@
 use Rattle.std.proofs.Common.{ap, refl, rules, subst, sym, ◌∙◌}
 use Rattle.std.specs.Range.Bound.{bound_map}
-use Rattle.art_model.specs.Pairs.{of_key}
-use Rattle.art_model.specs.Parts.{between, is_between}
+use Rattle.art_model.specs.Prelude.{of_key, between, is_between}
 use Rattle.art_map.specs.MapCalls.{ChangesPairs}
 use Rattle.art_map.specs.MapPairs.{pairs_at}
 use Rattle.art_map.specs.MapParts.{not_between}

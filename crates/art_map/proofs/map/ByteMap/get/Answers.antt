@@ -1,5 +1,4 @@
-use Rattle.std.proofs.Common.{ap}
-use Rattle.std.specs.Option.{option_map}
+use Rattle.std.proofs.Common.{ap, option_map}
 use Rattle.art_map.proofs.map.ByteMap.get.Goals as goal
 
 pub returns-clause-value : goal.returns-clause-value

@@ -1,5 +1,5 @@
 use Rattle.std.proofs.Common.{[], ◌≡◌, ap, sym, ◌∙◌, subst, rules}
-use Rattle.art_model.specs.Pairs.{first_of, of_key, with_key}
+use Rattle.art_model.specs.Prelude.{first_of, of_key, with_key}
 use Rattle.art_map.specs.MapChanges.{NamesLeafOf}
 use Rattle.art_map.specs.MapPairs.{pairs_at}
 use Rattle.art_map.proofs.Written.{is_there, pair_read}

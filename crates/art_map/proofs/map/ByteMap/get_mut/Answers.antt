@@ -1,5 +1,5 @@
 use Rattle.std.proofs.Common.{ap, sym, ◌∙◌, rules, is_some}
-use Rattle.art_model.specs.Pairs.{of_key}
+use Rattle.art_model.specs.Prelude.{of_key}
 use Rattle.art_map.specs.MapAnswers.{with_value_at}
 use Rattle.art_map.proofs.Puts.{canonical_root, is_some-map}
 use Rattle.art_map.proofs.Views.{holds, view_of}

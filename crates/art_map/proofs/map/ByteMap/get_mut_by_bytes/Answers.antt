@@ -1,6 +1,5 @@
-use Rattle.std.proofs.Common.{[], ◌≡◌, ap, inr, sym, ◌∙◌, subst, is_some}
-use Rattle.std.specs.Option.{option_map}
-use Rattle.art_model.specs.Pairs.{first_of, of_key, with_key}
+use Rattle.std.proofs.Common.{[], ◌≡◌, ap, inr, sym, ◌∙◌, subst, is_some, option_map}
+use Rattle.art_model.specs.Prelude.{first_of, of_key, with_key}
 use Rattle.art_map.specs.MapAnswers.{value_at, with_value_at}
 use Rattle.art_map.specs.MapChanges.{NamesLeafOf}
 use Rattle.art_map.specs.MapPairs.{pairs_at}

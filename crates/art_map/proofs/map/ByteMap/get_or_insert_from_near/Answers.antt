@@ -1,6 +1,5 @@
-use Rattle.std.proofs.Common.{Some, ap, subst, sym, ◌∙◌, is_some, inr}
-use Rattle.art_model.specs.Pairs.{of_key, put}
-use Rattle.std.specs.Option.{unwrap_or}
+use Rattle.std.proofs.Common.{Some, ap, subst, sym, ◌∙◌, is_some, inr, unwrap_or}
+use Rattle.art_model.specs.Prelude.{of_key, put}
 use Rattle.art_map.specs.MadeKeys.{IsSourceRefusal}
 use Rattle.art_map.specs.MapAnswers.{value_at, with_value_at}
 use Rattle.art_map.proofs.Entered.{entered_from_holds}

@@ -1,5 +1,5 @@
 use Rattle.std.proofs.Common.{rules, subst, Ok}
-use Rattle.art_model.specs.Pairs.{of_key}
+use Rattle.art_model.specs.Prelude.{of_key}
 use Rattle.art_map.specs.Reserved.{IsReserved}
 use Rattle.art_map.proofs.Reserving.{seen_after}
 use Rattle.art_map.proofs.Results.{put_holds, tells_put}

@@ -1,9 +1,7 @@
-use Rattle.std.proofs.Common.{ap, ◌∙◌}
-use Rattle.std.specs.Option.{option_map}
+use Rattle.std.proofs.Common.{ap, ◌∙◌, option_map}
 use Rattle.std.specs.Range.Bound.{bound_map}
 use Rattle.std.specs.declared.ops.Bound.TheVariants.{Unbounded}
-use Rattle.art_model.specs.Pairs.{last_of, of_key}
-use Rattle.art_model.specs.Parts.{between, is_up_to}
+use Rattle.art_model.specs.Prelude.{last_of, of_key, between, is_up_to}
 use Rattle.art_map.specs.MapItems.{deref_pair}
 use Rattle.art_map.proofs.Puts.{at_some}
 use Rattle.art_map.proofs.Ranges.{last_pair, no_last_pair}

@@ -1,7 +1,5 @@
-use Rattle.std.proofs.Common.{rules, ap, ◌∙◌}
-use Rattle.std.specs.Option.{option_map}
-use Rattle.art_model.specs.Pairs.{last_of, of_key}
-use Rattle.art_model.specs.Texts.{AreEnded, texts_in_front}
+use Rattle.std.proofs.Common.{rules, ap, ◌∙◌, option_map}
+use Rattle.art_model.specs.Prelude.{last_of, of_key, AreEnded, texts_in_front}
 use Rattle.art_map.specs.MapItems.{deref_pair}
 use Rattle.art_map.proofs.Puts.{canonical_root}
 use Rattle.art_map.proofs.Takings.{found_in, named_pair, tree_has}

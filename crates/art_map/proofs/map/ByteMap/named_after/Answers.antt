@@ -1,5 +1,5 @@
 use Rattle.std.proofs.Common.{◌≡◌, sym, subst, true, rules}
-use Rattle.art_model.specs.Pairs.{has_key, of_key}
+use Rattle.art_model.specs.Prelude.{has_key, of_key}
 use Rattle.art_model.proofs.stores.StoreLaws.{has_children}
 use Rattle.art_map.proofs.Near.{key_stored}
 use Rattle.art_map.proofs.Puts.{at_some}

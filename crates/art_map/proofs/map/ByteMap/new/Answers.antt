@@ -1,4 +1,4 @@
-use Rattle.art_model.specs.Pairs.{of_key}
+use Rattle.art_model.specs.Prelude.{of_key}
 use Rattle.art_map.proofs.Views.{holds, view_of, new_holds}
 use Rattle.art_map.proofs.map.ByteMap.new.Goals as goal
 

@@ -1,5 +1,5 @@
 use Rattle.std.proofs.Common.{refl}
-use Rattle.art_model.specs.Pairs.{first_of, of_key, without_first}
+use Rattle.art_model.specs.Prelude.{first_of, of_key, without_first}
 use Rattle.art_map.proofs.Results.{taken_holds, tells_taken}
 use Rattle.art_map.proofs.Views.{view_sorted}
 use Rattle.art_map.proofs.map.ByteMap.pop_first.Goals as goal

@@ -1,7 +1,5 @@
 use Rattle.std.proofs.Common.{ap, sym, ◌∙◌}
-use Rattle.art_model.specs.Keys.{is_front}
-use Rattle.art_model.specs.Pairs.{of_key}
-use Rattle.art_model.specs.Parts.{below}
+use Rattle.art_model.specs.Prelude.{is_front, of_key, below}
 use Rattle.art_map.specs.MapItems.{pairs_between}
 use Rattle.art_map.proofs.Items.{no_pairs}
 use Rattle.art_map.proofs.Puts.{at_some}

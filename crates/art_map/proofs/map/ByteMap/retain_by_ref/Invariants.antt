@@ -1,5 +1,5 @@
 use Rattle.std.proofs.Common.{length}
-use Rattle.art_model.specs.Pairs.{of_key}
+use Rattle.art_model.specs.Prelude.{of_key}
 use Rattle.art_map.specs.MapRetain.{pairs_after}
 use Rattle.art_map.proofs.Retained.{Retaining}
 use Rattle.art_map.proofs.map.ByteMap.retain_by_ref.Given as goal

@@ -1,7 +1,5 @@
-use Rattle.std.proofs.Common.{rules, ap, ◌∙◌}
-use Rattle.std.specs.Option.{option_map}
-use Rattle.art_model.specs.Pairs.{first_of, of_key}
-use Rattle.art_model.specs.Texts.{AreEnded}
+use Rattle.std.proofs.Common.{rules, ap, ◌∙◌, option_map}
+use Rattle.art_model.specs.Prelude.{first_of, of_key, AreEnded}
 use Rattle.art_reading.specs.ShortTexts.{texts_from}
 use Rattle.art_map.specs.MapItems.{deref_pair}
 use Rattle.art_map.proofs.Puts.{canonical_root}

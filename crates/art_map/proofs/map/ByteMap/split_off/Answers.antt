@@ -1,7 +1,6 @@
 use Rattle.std.proofs.Common.{ap, ap₂, sym, ◌∙◌}
 use Rattle.std.specs.declared.ops.Bound.TheVariants.{Included, Unbounded}
-use Rattle.art_model.specs.Pairs.{of_key}
-use Rattle.art_model.specs.Parts.{is_between}
+use Rattle.art_model.specs.Prelude.{of_key, is_between}
 use Rattle.art_map.specs.MapParts.{without}
 use Rattle.art_map.proofs.FirstOut.{fewer}
 use Rattle.art_map.proofs.Moved.{begins, done, goes_on, stopped}

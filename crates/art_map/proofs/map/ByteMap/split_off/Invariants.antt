@@ -1,7 +1,6 @@
 use Rattle.std.proofs.Common.{length}
 use Rattle.std.specs.declared.ops.Bound.TheVariants.{Included, Unbounded}
-use Rattle.art_model.specs.Pairs.{of_key}
-use Rattle.art_model.specs.Parts.{is_between}
+use Rattle.art_model.specs.Prelude.{of_key, is_between}
 use Rattle.art_map.proofs.FirstOut.{passing}
 use Rattle.art_map.proofs.Moved.{Moving}
 use Rattle.art_map.proofs.map.ByteMap.split_off.Given as goal

@@ -1,7 +1,6 @@
 use Rattle.std.proofs.Common.{◌≡◌, length}
 use Rattle.std.specs.Range.Bound.{bound_map}
-use Rattle.art_model.specs.Pairs.{of_key}
-use Rattle.art_model.specs.Parts.{is_between}
+use Rattle.art_model.specs.Prelude.{of_key, is_between}
 use Rattle.art_map.proofs.FirstOut.{failing, passing}
 use Rattle.art_map.proofs.map.ByteMap.take_all_in.Given as goal
 

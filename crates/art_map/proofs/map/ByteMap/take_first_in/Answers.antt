@@ -1,7 +1,6 @@
 use Rattle.std.proofs.Common.{ap, sym, ◌∙◌}
 use Rattle.std.specs.Range.Bound.{bound_map}
-use Rattle.art_model.specs.Pairs.{first_of, of_key}
-use Rattle.art_model.specs.Parts.{between}
+use Rattle.art_model.specs.Prelude.{first_of, of_key, between}
 use Rattle.art_map.specs.MapParts.{without}
 use Rattle.art_map.proofs.Results.{taken_holds, tells_taken}
 use Rattle.art_map.proofs.Views.{view_sorted}

@@ -1,5 +1,5 @@
 use Rattle.std.proofs.Common.{◌≡◌, rules, refl, sym, ◌∙◌, arith, None}
-use Rattle.art_model.specs.Pairs.{of_key}
+use Rattle.art_model.specs.Prelude.{of_key}
 use Rattle.art_map.proofs.Enough.{enough}
 use Rattle.art_map.proofs.Items.{no_pairs}
 use Rattle.art_map.proofs.Puts.{at_some, left_holds, pair_more, planted, same_many}

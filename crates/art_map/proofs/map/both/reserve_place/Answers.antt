@@ -1,8 +1,6 @@
 use Rattle.std.proofs.Common.{◌≡◌, refl, ap, sym, ◌∙◌, subst, false, true, Some}
 use Rattle.std.proofs.lemmas.Bool.{false≢true}
-use Rattle.art_model.specs.Canonical.{IsCanonicalTree}
-use Rattle.art_model.specs.Pairs.{is_conflict, of_key}
-use Rattle.art_model.specs.Promises.{is_covered}
+use Rattle.art_model.specs.Prelude.{IsCanonicalTree, is_conflict, of_key, is_covered}
 use Rattle.art_writing.proofs.KeysFound.{not_false}
 use Rattle.art_writing.proofs.Standing.{tree_stays}
 use Rattle.art_writing.proofs.Unstored.{refused_new}

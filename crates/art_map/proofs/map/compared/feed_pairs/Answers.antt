@@ -1,6 +1,5 @@
-use Rattle.std.proofs.Common.{◌++◌, sym, ap, ◌∙◌}
+use Rattle.std.proofs.Common.{◌++◌, sym, ap, ◌∙◌, flat_map, fold}
 use Rattle.std.specs.Hash.{HashWrites, fed_then}
-use Rattle.std.specs.List.{flat_map, fold}
 use Rattle.std.proofs.lemmas.List.Sums.{fold-append}
 use Rattle.art_map.proofs.map.compared.feed_pairs.Goals as goal
 

@@ -1,5 +1,4 @@
-use Rattle.std.proofs.Common.{◌≡◌, ◌++◌, length}
-use Rattle.std.specs.List.{flat_map, fold}
+use Rattle.std.proofs.Common.{◌≡◌, ◌++◌, length, flat_map, fold}
 use Rattle.art_map.proofs.map.compared.feed_pairs.Given as goal
 
 abbrev pub invariant-loop-key : goal.invariant-loop-key

@@ -1,5 +1,5 @@
 use Rattle.std.proofs.Common.{refl}
-use Rattle.art_nodes.specs.LeafCalls.{CalledOnPair}
+use Rattle.art_model.specs.Prelude.{CalledOnPair}
 use Rattle.art_map.specs.MapItems.{pairs_between}
 use Rattle.art_map.specs.MapPairs.{pairs_at}
 use Rattle.art_map.proofs.Changed.{begins, ends, fewer, goes_on}

@@ -1,4 +1,4 @@
-use Rattle.art_nodes.specs.LeafCalls.{CalledOnPair}
+use Rattle.art_model.specs.Prelude.{CalledOnPair}
 use Rattle.art_map.specs.MapItems.{pairs_between, walk_len}
 use Rattle.art_map.specs.MapPairs.{pairs_at}
 use Rattle.art_map.proofs.Changed.{Changing}

@@ -1,6 +1,5 @@
 use Rattle.std.proofs.Common.{rules, ap, sym, ◌∙◌, subst, length, None}
-use Rattle.art_model.specs.Layouts.{leaf_names}
-use Rattle.art_model.specs.Pairs.{of_key}
+use Rattle.art_model.specs.Prelude.{leaf_names, of_key}
 use Rattle.art_model.proofs.stores.StoreLaws.{has_children}
 use Rattle.art_reading.specs.Iterators.{IsIteratorOf}
 use Rattle.art_map.specs.MapItems.{pairs_left}

@@ -1,7 +1,5 @@
 use Rattle.std.proofs.Common.{◌≡◌, ◌+◌, [], ◌∷◌, rules, refl, ap, sym, ◌∙◌, arith, None}
-use Rattle.art_parts.specs.Names.{leaf_name}
-use Rattle.art_model.specs.Pairs.{of_key}
-use Rattle.art_model.specs.Trees.{leaf}
+use Rattle.art_model.specs.Prelude.{leaf_name, of_key, leaf}
 use Rattle.art_writing.proofs.KeysFound.{conflict_new, stored_free}
 use Rattle.art_writing.proofs.OneLeaf as one_leaf
 use Rattle.art_map.specs.MapPairs.{pairs_at}

@@ -1,6 +1,6 @@
 use Rattle.std.proofs.Common.{◌≡◌, ◌+◌, ◌&&◌, ◌∙◌, Bool, true, false, ap, ap₂, arith, is_some, not, refl, slice_get, sym}
 use Rattle.std.proofs.lemmas.Bool.{false≢true}
-use Rattle.art_model.specs.Keys.{is_front}
+use Rattle.art_model.specs.Prelude.{is_front}
 use Rattle.art_model.proofs.keys.Keys.{same_equal}
 use Rattle.art_model.proofs.keys.Texts.{true_front}
 use Rattle.art_reading.proofs.LongestTexts.{shared_short}

@@ -1,5 +1,5 @@
 use Rattle.std.proofs.Common.{Some, refl}
-use Rattle.art_model.specs.Pairs.{of_key, remove_reply, with_key}
+use Rattle.art_model.specs.Prelude.{of_key, remove_reply, with_key}
 use Rattle.art_model.proofs.pairs.Puts.{first_none}
 use Rattle.art_writing.proofs.KeysFound.{point_none, point_some, removed_key}
 use Rattle.art_map.specs.MapPairs.{pairs_at}

@@ -1,6 +1,6 @@
 use Rattle.std.proofs.Common.{◌≡◌, Ok, ap, false, is_some, refl, rules, subst, sym, ◌∙◌}
 use Rattle.std.proofs.lemmas.Bool.{false≢true}
-use Rattle.art_model.specs.Pairs.{has_key, of_key}
+use Rattle.art_model.specs.Prelude.{has_key, of_key}
 use Rattle.art_writing.proofs.KeysFound.{stored_free}
 use Rattle.art_map.specs.MapChanges.{HasEntered, HasKeyAt, NamesLeafOf}
 use Rattle.art_map.specs.MapPairs.{pairs_at}

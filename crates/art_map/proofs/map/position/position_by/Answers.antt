@@ -1,5 +1,5 @@
 use Rattle.std.proofs.Common.{◌≡◌, ap, refl, rules, sym, ◌∙◌, Some, true}
-use Rattle.art_model.specs.Pairs.{is_conflict, of_key}
+use Rattle.art_model.specs.Prelude.{is_conflict, of_key}
 use Rattle.art_writing.proofs.KeysFound.{conflict_new}
 use Rattle.art_map.specs.MapPairs.{pairs_at}
 use Rattle.art_map.proofs.Entered.{leaf_of_point, point_new}

@@ -1,6 +1,5 @@
 use Rattle.std.proofs.Common.{ap, sym, ◌∙◌, subst, length}
-use Rattle.art_model.specs.Pairs.{of_key}
-use Rattle.art_model.specs.Parts.{below, not_below}
+use Rattle.art_model.specs.Prelude.{of_key, below, not_below}
 use Rattle.art_map.specs.MapPairs.{HoldsPairs}
 use Rattle.art_map.proofs.PartsOut.{none_begins, none_held, others_hold, removed_few, removed_is}
 use Rattle.art_map.proofs.Puts.{at_some}

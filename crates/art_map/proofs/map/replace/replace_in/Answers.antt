@@ -1,5 +1,5 @@
 use Rattle.std.proofs.Common.{refl, rules, sym, subst}
-use Rattle.art_model.specs.Pairs.{of_key}
+use Rattle.art_model.specs.Prelude.{of_key}
 use Rattle.art_writing.proofs.KeysFound.{stored_free}
 use Rattle.art_map.specs.MapPairs.{HoldsPairs, pairs_at}
 use Rattle.art_map.proofs.Entered.{new_replaces, position_new}

@@ -1,12 +1,8 @@
-use Rattle.std.proofs.Common.{◌≡◌, ap, ◌∙◌, sym, subst, refl, Some, true, false, rules, is_some}
-use Rattle.std.specs.Option.{option_map}
+use Rattle.std.proofs.Common.{◌≡◌, ap, ◌∙◌, sym, subst, refl, Some, true, false, rules, is_some, option_map}
 use Rattle.std.specs.Range.Bound.{bound_map}
 use Rattle.std.specs.declared.ops.Bound.TheVariants.{Unbounded}
-use Rattle.art_nodes.specs.LeafCalls.{CalledOnPair, CallsOnLeaf}
-use Rattle.art_model.specs.Pairs.{of_key, remove_reply}
-use Rattle.art_model.specs.Parts.{between, is_between}
-use Rattle.art_model.specs.Roots.{ForTree}
-use Rattle.art_model.specs.Stores.{pair_of}
+use Rattle.art_model.specs.Prelude.{CalledOnPair, of_key, remove_reply, between, is_between, ForTree, pair_of}
+use Rattle.art_nodes.specs.LeafCalls.{CallsOnLeaf}
 use Rattle.art_writing.specs.Deleted.{IsDeletePoint}
 use Rattle.art_map.specs.MapItems.{deref_pair, pairs_between}
 use Rattle.art_map.specs.MapPairs.{pairs_at}

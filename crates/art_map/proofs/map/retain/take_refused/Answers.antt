@@ -1,5 +1,5 @@
 use Rattle.std.proofs.Common.{ap, sym, subst, Some, None}
-use Rattle.art_model.specs.Pairs.{of_key}
+use Rattle.art_model.specs.Prelude.{of_key}
 use Rattle.art_map.specs.MapPairs.{HoldsPairs, pairs_at}
 use Rattle.art_map.specs.MapRetain.{CallsUpTo}
 use Rattle.art_map.proofs.Items.{no_pairs}

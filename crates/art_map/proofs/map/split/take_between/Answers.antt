@@ -1,7 +1,6 @@
 use Rattle.std.proofs.Common.{rules, refl, subst, sym, Some, None}
 use Rattle.std.specs.Range.Bound.{bound_map}
-use Rattle.art_model.specs.Pairs.{of_key, remove_reply}
-use Rattle.art_model.specs.Parts.{is_between}
+use Rattle.art_model.specs.Prelude.{of_key, remove_reply, is_between}
 use Rattle.art_reading.proofs.Parts.{some_there}
 use Rattle.art_writing.proofs.KeysFound.{point_none, point_some}
 use Rattle.art_map.specs.MapChanges.{HasTaken}

@@ -1,5 +1,5 @@
 use Rattle.std.proofs.Common.{ap, sym, subst, ◌∙◌, [], ◌∷◌, ◌++◌, append_assoc, append-nil}
-use Rattle.art_model.specs.Pairs.{without_first}
+use Rattle.art_model.specs.Prelude.{without_first}
 use Rattle.art_model.proofs.pairs.Puts.{first_none}
 use Rattle.art_map.specs.SetKeys.{IsKeyRefusal, add_all, add_key}
 use Rattle.art_map.proofs.Extended.{add_last}

@@ -1,5 +1,5 @@
 use Rattle.std.proofs.Common.{ap, ◌∙◌, is_some, not, subst, sym}
-use Rattle.art_model.specs.Pairs.{has_key}
+use Rattle.art_model.specs.Prelude.{has_key}
 use Rattle.art_map.specs.MapItems.{keys_of}
 use Rattle.art_map.specs.SetKeys.{IsKeyRefusal, add_key}
 use Rattle.art_map.proofs.SetLaws.{flipped, key_refused, keys_put, reply_has}

@@ -1,5 +1,5 @@
 use Rattle.std.proofs.Common.{subst}
-use Rattle.art_model.specs.Pairs.{IsMap}
+use Rattle.art_model.specs.Prelude.{IsMap}
 use Rattle.art_map.proofs.SetLaws.{keys_rise}
 use Rattle.art_map.proofs.set.ByteSet.len.Goals as goal
 

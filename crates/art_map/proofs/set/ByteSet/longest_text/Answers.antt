@@ -1,7 +1,5 @@
-use Rattle.std.proofs.Common.{rules, ap, subst, sym, ◌∙◌}
-use Rattle.std.specs.Option.{option_map}
-use Rattle.art_model.specs.Pairs.{last_of}
-use Rattle.art_model.specs.Texts.{AreEnded, IsEndedBy, texts_in_front}
+use Rattle.std.proofs.Common.{rules, ap, subst, sym, ◌∙◌, option_map}
+use Rattle.art_model.specs.Prelude.{last_of, AreEnded, IsEndedBy, texts_in_front}
 use Rattle.art_map.proofs.SetLaws.{keys_each, keys_longest}
 use Rattle.art_map.proofs.set.ByteSet.longest_text.Goals as goal
 

@@ -1,5 +1,5 @@
 use Rattle.std.proofs.Common.{ap, ◌∙◌, is_some}
-use Rattle.art_model.specs.Pairs.{has_key}
+use Rattle.art_model.specs.Prelude.{has_key}
 use Rattle.art_map.proofs.SetLaws.{removed_has}
 use Rattle.art_map.proofs.set.ByteSet.remove_by.Goals as goal
 

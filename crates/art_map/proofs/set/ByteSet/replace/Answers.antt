@@ -1,5 +1,5 @@
 use Rattle.std.proofs.Common.{ap, ◌∙◌}
-use Rattle.art_model.specs.Pairs.{replace_key}
+use Rattle.art_model.specs.Prelude.{replace_key}
 use Rattle.art_map.specs.MapItems.{keys_of}
 use Rattle.art_map.proofs.SetLaws.{keys_replaced}
 use Rattle.art_map.proofs.set.ByteSet.replace.Goals as goal

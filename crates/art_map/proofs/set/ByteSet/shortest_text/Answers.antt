@@ -1,7 +1,5 @@
-use Rattle.std.proofs.Common.{rules, ap, subst, sym, ◌∙◌}
-use Rattle.std.specs.Option.{option_map}
-use Rattle.art_model.specs.Pairs.{first_of}
-use Rattle.art_model.specs.Texts.{AreEnded, IsEndedBy}
+use Rattle.std.proofs.Common.{rules, ap, subst, sym, ◌∙◌, option_map}
+use Rattle.art_model.specs.Prelude.{first_of, AreEnded, IsEndedBy}
 use Rattle.art_reading.specs.ShortTexts.{texts_from}
 use Rattle.art_map.proofs.SetLaws.{keys_each, keys_shortest}
 use Rattle.art_map.proofs.set.ByteSet.shortest_text.Goals as goal

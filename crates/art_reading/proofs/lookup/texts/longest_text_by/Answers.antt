@@ -1,6 +1,5 @@
 use Rattle.std.proofs.Common.{rules, length-take, ap, subst, sym, ◌∙◌, arith}
-use Rattle.art_model.specs.Lookups.{FindsLast}
-use Rattle.art_model.specs.Pairs.{of_key}
+use Rattle.art_model.specs.Prelude.{FindsLast, of_key}
 use Rattle.art_reading.specs.Matching.{shared_len}
 use Rattle.art_reading.proofs.EndNodes.{start}
 use Rattle.art_reading.proofs.Found.{has_found_last}

@@ -1,5 +1,5 @@
 use Rattle.std.proofs.Common.{ap, sym, ◌∙◌}
-use Rattle.art_model.specs.Pairs.{without_last}
+use Rattle.art_model.specs.Prelude.{without_last}
 use Rattle.art_model.proofs.keys.Texts.{ended_text}
 use Rattle.art_reading.proofs.lookup.texts.text_of.Goals as goal
 

@@ -1,7 +1,6 @@
 use Rattle.std.proofs.Common.{◌-◌, ◌++◌, [], ◌∷◌, ap, arith, drop, is_ok, length, length-append, sym, take, ◌∙◌}
 use Rattle.std.proofs.Math.Seq.{get_or-append_seam}
-use Rattle.art_inner.specs.Views.{ref_view}
-use Rattle.art_parts.specs.Headers.{Prefix}
+use Rattle.art_model.specs.Prelude.{ref_view, Prefix}
 use Rattle.art_reading.specs.Matching.{behavior_after, prefix_match}
 use Rattle.art_reading.proofs.Endings.{behavior_passed, child_passed, last_rest, none_parted, prefix_same, rest_of}
 use Rattle.art_reading.proofs.matching.PrefixMatchBehavior.last_step.Goals as goal

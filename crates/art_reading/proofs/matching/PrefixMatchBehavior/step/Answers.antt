@@ -1,5 +1,5 @@
 use Rattle.std.proofs.Common.{◌<◌, ap, arith, length, refl, sym, ◌+◌, ◌∙◌}
-use Rattle.art_inner.specs.Views.{ref_view}
+use Rattle.art_model.specs.Prelude.{ref_view}
 use Rattle.art_reading.proofs.Endings.{behavior_passed, child_passed, ended_there, front_byte, front_within, none_parted, rest_of}
 use Rattle.art_reading.proofs.matching.PrefixMatchBehavior.step.Goals as goal
 

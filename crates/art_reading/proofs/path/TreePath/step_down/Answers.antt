@@ -1,5 +1,5 @@
 use Rattle.std.proofs.Common.{◌≡◌, ℕ, Some, None, ap, refl, sym, ◌∙◌}
-use Rattle.art_parts.specs.declared.names.InnerPtr.{InnerPtr}
+use Rattle.art_model.specs.Prelude.{InnerPtr}
 use Rattle.art_reading.specs.declared.path.TreePath.{TreePath}
 use Rattle.art_reading.specs.declared.path.TreePath.TheVariants.{Root, ChildOfRoot, Normal}
 use Rattle.art_reading.specs.PathSteps.{last_step, step_down}

@@ -1,5 +1,5 @@
 use Rattle.std.proofs.Common.{rules, ◌∙◌}
-use Rattle.art_model.specs.Pairs.{of_key}
+use Rattle.art_model.specs.Prelude.{of_key}
 use Rattle.art_writing.specs.Deleted.{is_compressed}
 use Rattle.art_writing.proofs.Below.{is_below, let_go}
 use Rattle.art_writing.proofs.Deletions.{taken_out_of}

@@ -1,5 +1,5 @@
 use Rattle.std.proofs.Common.{rules, ◌≡◌, refl, sym, ◌∙◌, subst}
-use Rattle.art_model.specs.Pairs.{of_key}
+use Rattle.art_model.specs.Prelude.{of_key}
 use Rattle.art_writing.specs.Deleted.{parent_change, no_parent}
 use Rattle.art_writing.specs.TakenOut.{IsLetGo}
 use Rattle.art_writing.proofs.Deletions.{taken_out_of}

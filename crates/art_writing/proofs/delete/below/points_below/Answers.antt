@@ -1,6 +1,5 @@
 use Rattle.std.proofs.Common.{rules, ◌≡◌, ap, sym, ◌∙◌, subst}
-use Rattle.art_model.specs.Keys.{is_front}
-use Rattle.art_model.specs.Pairs.{of_key}
+use Rattle.art_model.specs.Prelude.{is_front, of_key}
 use Rattle.art_reading.specs.PartEnds.{EndsBelow}
 use Rattle.art_reading.proofs.Parts.{first_is, leaf_is_there, node_full, node_holds}
 use Rattle.art_writing.proofs.PointsBelow.{points_there}

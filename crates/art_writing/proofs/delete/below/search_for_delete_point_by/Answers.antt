@@ -1,5 +1,5 @@
 use Rattle.std.proofs.Common.{arith, rules}
-use Rattle.art_model.specs.Pairs.{of_key}
+use Rattle.art_model.specs.Prelude.{of_key}
 use Rattle.art_writing.proofs.DeletePoints.{has_key_point}
 use Rattle.art_writing.proofs.EqualBelow.{longer, no_longer, none_starts, there}
 use Rattle.art_writing.proofs.delete.below.search_for_delete_point_by.Goals as goal

@@ -1,4 +1,4 @@
-use Rattle.art_model.specs.Pairs.{of_key}
+use Rattle.art_model.specs.Prelude.{of_key}
 use Rattle.art_model.proofs.stores.Canonical.{tree_radix}
 use Rattle.art_writing.proofs.DeletePoints.{has_delete_point, point_there}
 use Rattle.art_writing.proofs.PointsBelow.{first_gone, first_there}

@@ -1,5 +1,5 @@
 use Rattle.std.proofs.Common.{ap, ap₂, ◌∙◌, ◌+◌, ◌++◌, take}
-use Rattle.art_inner.specs.Views.{ref_view}
+use Rattle.art_model.specs.Prelude.{ref_view}
 use Rattle.art_writing.proofs.Compressions.{lengthened}
 use Rattle.art_writing.proofs.delete.compress.header_below.Goals as goal
 

@@ -1,10 +1,6 @@
 use Rattle.std.proofs.Common.{rules, refl, ◌≡◌, IsSome, IfSome, ap, ap₂, sym, ◌∙◌, subst}
 use Rattle.std.specs.FinMap as map
-use Rattle.art_inner.specs.InnerChanges.{with_header}
-use Rattle.art_parts.specs.Headers.{header_of}
-use Rattle.art_inner.specs.Views.{ref_view}
-use Rattle.art_nodes.specs.Nodes.{change}
-use Rattle.art_model.specs.Writes.{as_inner}
+use Rattle.art_model.specs.Prelude.{with_header, header_of, ref_view, change, as_inner}
 use Rattle.art_writing.proofs.Compressions.{leaf_there, node_there}
 use Rattle.art_writing.proofs.delete.compress.lengthen_prefix.Goals as goal
 

@@ -1,10 +1,7 @@
 use Rattle.std.proofs.Common.{rules, ◌∙◌, ap, refl, sym, subst, get_or, Some, IsTrue}
 use Rattle.std.specs.FinMap as map
-use Rattle.art_parts.specs.Kinds.{larger_kind}
-use Rattle.art_nodes.specs.Nodes.{covers, promises, take_leaf}
-use Rattle.art_model.specs.Pairs.{of_key}
-use Rattle.art_model.specs.Promises.{inner_taken, is_covered}
-use Rattle.art_model.specs.Writes.{IsThere}
+use Rattle.art_model.specs.Prelude.{larger_kind, covers, promises, take_leaf, of_key, is_covered, IsThere}
+use Rattle.art_model.specs.Promises.{inner_taken}
 use Rattle.art_writing.specs.Inserted.{placed_for}
 use Rattle.art_writing.specs.ParentWrites.{HasChild}
 use Rattle.art_reading.specs.PathSteps.{last_step}

@@ -1,8 +1,6 @@
 use Rattle.std.proofs.Common.{rules, refl, ap, ap₂, sym, ◌∙◌, subst}
 use Rattle.std.specs.FinMap as map
-use Rattle.art_inner.specs.InnerChanges.{with_child}
-use Rattle.art_inner.specs.Inner.{childless}
-use Rattle.art_model.specs.Writes.{with_child_at}
+use Rattle.art_model.specs.Prelude.{with_child, childless, with_child_at}
 use Rattle.art_writing.specs.ParentWrites.{HasChild}
 use Rattle.art_reading.specs.PathSteps.{last_step, root_with}
 use Rattle.art_writing.proofs.Larger.{child_stays}

@@ -1,6 +1,5 @@
 use Rattle.std.proofs.Common.{rules, ◌∙◌, ap, sym, subst, Some, IsTrue}
-use Rattle.art_parts.specs.declared.names.NodeType.TheVariants.{Node4}
-use Rattle.art_model.specs.Promises.{is_covered}
+use Rattle.art_model.specs.Prelude.{Node4, is_covered}
 use Rattle.art_writing.specs.Inserted.{placed_for}
 use Rattle.art_writing.proofs.Applied.{applied, granted, handed_back}
 use Rattle.art_writing.proofs.Branches.{end_parent, previous_is_there, next_is_there, read_for}

@@ -1,10 +1,5 @@
 use Rattle.std.proofs.Common.{rules, ap, sym, ◌∙◌, subst, Some, IsTrue}
-use Rattle.art_model.specs.Kept.{SameNodes}
-use Rattle.art_inner.specs.InnerChanges.{with_header}
-use Rattle.art_nodes.specs.Nodes.{change, take_inner, take_leaf}
-use Rattle.art_parts.specs.declared.names.NodeType.TheVariants.{Node4}
-use Rattle.art_model.specs.Writes.{IsThere}
-use Rattle.art_model.specs.Promises.{is_covered}
+use Rattle.art_model.specs.Prelude.{SameNodes, with_header, change, take_inner, take_leaf, Node4, IsThere, is_covered}
 use Rattle.art_writing.specs.Inserted.{placed_for}
 use Rattle.art_writing.proofs.Applied.{applied, granted, handed_back}
 use Rattle.art_writing.proofs.Branches.{previous_is_there, next_is_there, read_for}

@@ -1,5 +1,5 @@
 use Rattle.std.proofs.Common.{rules, ap, sym, ◌∙◌}
-use Rattle.art_model.specs.Promises.{promise_after}
+use Rattle.art_model.specs.Prelude.{promise_after}
 use Rattle.art_writing.specs.Overwritten.{placed_for_overwrite}
 use Rattle.art_writing.proofs.Applied.{granted, overwritten}
 use Rattle.art_writing.proofs.Overwrites.{related_leaf_there, leaf_pair_overwritten}

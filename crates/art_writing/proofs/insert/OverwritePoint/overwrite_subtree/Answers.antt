@@ -1,7 +1,5 @@
 use Rattle.std.proofs.Common.{◌∙◌, ap, refl, rules, sym, subst, IsTrue, None}
-use Rattle.art_model.specs.Kept.{SameNodes}
-use Rattle.art_parts.specs.declared.leaf.LeafNode.{LeafNode}
-use Rattle.art_model.specs.Promises.{is_covered}
+use Rattle.art_model.specs.Prelude.{SameNodes, LeafNode, is_covered}
 use Rattle.art_reading.specs.PathSteps.{root_with}
 use Rattle.art_writing.proofs.Applied.{granted, handed_back, overwritten}
 use Rattle.art_writing.proofs.Reserved.{after_reserve, leaf_promised, not_granted, not_refused, was_refused}

@@ -1,6 +1,5 @@
 use Rattle.std.proofs.Common.{ap, ◌∙◌}
-use Rattle.art_parts.specs.Names.{leaf_name}
-use Rattle.art_model.specs.Trees.{leaf}
+use Rattle.art_model.specs.Prelude.{leaf_name, leaf}
 use Rattle.art_writing.proofs.OneLeaf.{placed_alone, planted, planted_apart, planted_root}
 use Rattle.art_writing.proofs.insert.beginning.plant.Goals as goal
 

@@ -1,5 +1,5 @@
 use Rattle.std.proofs.Common.{rules}
-use Rattle.art_inner.specs.InnerChanges.{with_child}
+use Rattle.art_model.specs.Prelude.{with_child}
 use Rattle.art_reading.specs.PathSteps.{last_step}
 use Rattle.art_writing.proofs.Larger.{parent_stays}
 use Rattle.art_writing.proofs.insert.existing.put_larger.Goals as goal

@@ -1,11 +1,8 @@
-use Rattle.std.proofs.Common.{◌≡◌, ◌∙◌, ap, ap₂, sym, ℕ, List}
+use Rattle.std.proofs.Common.{◌≡◌, ◌∙◌, ap, ap₂, sym, ℕ, List, Ordering}
 use Rattle.std.specs.List.{AllZip}
-use Rattle.std.specs.declared.cmp.Ordering.{Ordering}
 use Rattle.std.proofs.lemmas.List.Elements.{same_from_all_zip}
-use Rattle.art_parts.specs.declared.names.NodeType.{NodeType}
-use Rattle.art_parts.specs.declared.names.OpaqueNodePtr.{OpaqueNodePtr}
-use Rattle.art_model.specs.Layouts.{Links}
-use Rattle.art_model.specs.Faults.{dead_name, leaf_sibling_wrong_order, loop_found, prefix_mismatch, stored_prefix_mismatch, unreadable_prefix, wrong_children_count, wrong_sibling_links}
+use Rattle.art_model.specs.Prelude.{NodeType, OpaqueNodePtr, Links, wrong_children_count}
+use Rattle.art_model.specs.Faults.{dead_name, leaf_sibling_wrong_order, loop_found, prefix_mismatch, stored_prefix_mismatch, unreadable_prefix, wrong_sibling_links}
 use Rattle.art_checking.specs.Checks.{fault_of}
 use Rattle.art_checking.proofs.well_formed.fault.MalformedTreeErrorClone.clone.Goals as goal
 use Rattle.art_checking.proofs.well_formed.fault.MalformedTreeErrorClone.clone.Goals.{}

@@ -1,8 +1,6 @@
-use Rattle.std.proofs.Common.{ℕ, Bool, true, false, List, Some, None, ◌≡◌, ◌<◌, cond, length, get_or, slice_get, refl, ap, ap₂, sym, ◌∙◌}
+use Rattle.std.proofs.Common.{ℕ, Bool, true, false, List, Some, None, ◌≡◌, ◌<◌, cond, length, get_or, slice_get, refl, ap, ap₂, sym, ◌∙◌, slice_range, option_map}
 use Rattle.std.proofs.lemmas.Option.{slice_get_read, slice_get-map}
-use Rattle.std.specs.List.{slice_range}
-use Rattle.std.specs.Option.{option_map}
-use Rattle.art_parts.specs.declared.names.OpaqueNodePtr.{OpaqueNodePtr}
+use Rattle.art_model.specs.Prelude.{OpaqueNodePtr}
 use Rattle.art_checking.specs.Marks.{marked, placed, place_under, same_name}
 use Rattle.art_checking.specs.declared.well_formed.met.Mark.{Mark}
 use Rattle.art_checking.proofs.Meetings.{eq_same}

@@ -1,6 +1,5 @@
 use Rattle.std.proofs.Common.{refl}
-use Rattle.art_model.specs.Keys.{is_front}
-use Rattle.art_model.specs.Pairs.{of_key}
+use Rattle.art_model.specs.Prelude.{is_front, of_key}
 use Rattle.art_map.proofs.Extracted.{extracts_below, step_goes}
 use Rattle.art_map.proofs.map.extract.ExtractPrefixOfByteMapIterator.next.Goals as goal
 

@@ -1,7 +1,6 @@
 use Rattle.std.proofs.Common.{refl}
 use Rattle.std.specs.Range.Bound.{bound_map}
-use Rattle.art_model.specs.Pairs.{of_key}
-use Rattle.art_model.specs.Parts.{is_between}
+use Rattle.art_model.specs.Prelude.{of_key, is_between}
 use Rattle.art_map.proofs.Extracted.{extracts, step_goes}
 use Rattle.art_map.proofs.map.extract.ExtractRangeOfByteMapIterator.next.Goals as goal
 

@@ -1,6 +1,5 @@
-use Rattle.std.proofs.Common.{ap}
-use Rattle.std.specs.Option.{option_map}
-use Rattle.art_model.specs.Stores.{pair_of}
+use Rattle.std.proofs.Common.{ap, option_map}
+use Rattle.art_model.specs.Prelude.{pair_of}
 use Rattle.art_map.proofs.Ranges.{first_taken, no_first}
 use Rattle.art_map.proofs.map.iter.NodeStoreLeaves.step.Goals as goal
 

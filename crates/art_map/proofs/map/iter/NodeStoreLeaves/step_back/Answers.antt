@@ -1,6 +1,5 @@
-use Rattle.std.proofs.Common.{ap}
-use Rattle.std.specs.Option.{option_map}
-use Rattle.art_model.specs.Stores.{pair_of}
+use Rattle.std.proofs.Common.{ap, option_map}
+use Rattle.art_model.specs.Prelude.{pair_of}
 use Rattle.art_map.proofs.Ranges.{last_left_over, last_taken, no_last}
 use Rattle.art_map.proofs.map.iter.NodeStoreLeaves.step_back.Goals as goal
 

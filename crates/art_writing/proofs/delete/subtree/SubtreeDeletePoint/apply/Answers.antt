@@ -1,6 +1,5 @@
 use Rattle.std.proofs.Common.{rules, ap₂, ◌∙◌}
-use Rattle.art_model.specs.Pairs.{of_key}
-use Rattle.art_model.specs.Promises.{promise_after}
+use Rattle.art_model.specs.Prelude.{of_key, promise_after}
 use Rattle.art_model.proofs.stores.Apart.{root_apart}
 use Rattle.art_writing.specs.Subtrees.{pairs_beside}
 use Rattle.art_writing.proofs.Subtrees.{one_point_in, same_placed, subtree_taken}

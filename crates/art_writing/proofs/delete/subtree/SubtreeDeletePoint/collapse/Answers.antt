@@ -1,7 +1,5 @@
 use Rattle.std.proofs.Common.{rules, ap, sym, ◌∙◌, Some, arith}
-use Rattle.art_parts.specs.Names.{leaf_name}
-use Rattle.art_model.specs.Layouts.{shape_of}
-use Rattle.art_model.specs.Writes.{with_links_around, with_child_at}
+use Rattle.art_model.specs.Prelude.{leaf_name, shape_of, with_links_around, with_child_at}
 use Rattle.art_reading.specs.PathSteps.{last_step, root_with}
 use Rattle.art_writing.proofs.Deletions.{leaf_at}
 use Rattle.art_writing.proofs.FreedTrees.{all_can, all_counted, all_go}
