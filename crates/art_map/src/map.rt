@@ -5,15 +5,10 @@ ghost use Rattle.std.specs.Borrow.{sem};
 ghost use Rattle.std.specs.Option.{option_copied_mut, option_map, unwrap_or};
 ghost use Rattle.std.specs.Range.Bound.{bound_map};
 ghost use Rattle.std.specs.declared.ops.Bound.TheVariants.{Unbounded};
-ghost use Rattle.art_model.specs.Clones.{KeepBytes};
 ghost use Rattle.art_model.specs.Pairs.{IsMap, first_of, has_key, is_conflict, last_of, match_of, of_key, overwrite, put, put_reply, related_to, remove_key, remove_reply, with_key, without_first, without_last};
 ghost use Rattle.art_model.specs.Parts.{below, between, not_below, without_below};
-ghost use Rattle.art_model.specs.Roots.{ForTree, IsCanonicalRoot};
 ghost use Rattle.art_model.specs.Stores.{pair_of};
 ghost use Rattle.art_reading.specs.Descents.{asked_of};
-ghost use Rattle.art_writing.specs.Deleted.{IsDeletePoint, IsDeletePointIn, LeadsTo};
-ghost use Rattle.art_map.specs.declared.map.MapInsertError.TheVariants as errors;
-ghost use Rattle.art_map.specs.MapChanges.{HasPlanted, HasPut, HasPutOver, HasTaken, HoldsClones, gone_count};
 ghost use Rattle.art_map.specs.MapItems.{deref_pair, keys_of, values_of};
 ghost use Rattle.art_map.specs.MapPairs.{HoldsPairs, pairs_at};
 
@@ -23,28 +18,22 @@ use art_reading::iterator::RawIterator;
 use art_reading::lookup::{Asked, KeyBytes, KeyQuery, find_unchecked, search_unchecked};
 use art_reading::minmax::{maximum_unchecked, minimum_unchecked};
 use art_reading::range::{first_from_unchecked, last_up_to_unchecked};
-use art_writing::clone::clone_unchecked;
-use art_writing::delete::{
-    DeletePoint, find_maximum_to_delete, find_minimum_to_delete, search_for_delete_point_by,
-    search_for_delete_point_by_lengths, search_for_first_delete_point_below,
-};
-use art_writing::insert::{
-    InsertPrefixError, InsertSearchError, PrefixInsertResult, plant, search_for_insert_point,
-    search_for_prefix_insert_point,
-};
-use std::alloc::{AllocError, Global};
+use art_writing::insert::InsertPrefixError;
+use std::alloc::Global;
 use std::fmt;
 use std::marker::Model;
 use std::ops::{Bound, Index, RangeBounds};
 use thiserror::Error;
 
 mod both;
+mod clone;
 mod compact;
 mod compared;
 mod each;
 mod entry;
 mod extend;
 mod extract;
+mod insert;
 mod iter;
 mod lend;
 mod near;
@@ -65,11 +54,13 @@ pub use art_writing::insert::PairRefused;
 pub use both::BothInsertError;
 pub use entry::{Entry, EntryOf};
 pub use extract::{ExtractPrefix, ExtractPrefixOf, ExtractRange, ExtractRangeOf};
+use insert::{put_in, put_over};
 pub use iter::{Leaves, MapIter, MapIterOf};
 use owned::whole_walk;
 pub use owned::{IntoIter, IntoKeys, IntoValues};
 pub use parts::{Keys, KeysOf, Values, ValuesOf};
 pub use range::{Range, RangeOf};
+use remove::{take_all, take_below, take_first, take_last};
 pub use split::SplitRefused;
 pub use to_key::{MapSourceError, ToKey};
 
@@ -491,50 +482,6 @@ impl<K: AsBytes + Drop, V: Drop, const P: usize> ByteMap<K, V, P> {
     }
 }
 
-impl<K: AsBytes + Clone + Drop, V: Clone + Drop, const P: usize> ByteMap<K, V, P> {
-    ghost use Rattle.art_model.specs.Clones.{AreClones, KeepBytes};
-
-    /// Returns a map with clones of all pairs, in a store of its own. It fails only if an allocation fails, such as
-    /// that of a node or of the clone of a key or a value.
-    ///
-    /// It copies slot by slot. If more than half of the slots for leaves are vacant, it copies node by node down the
-    /// tree.
-    pub fn clone(&self) -> Result<Self, AllocError>
-        requires { KeepBytes K.bytes K.is_clone }
-        ensures { IfOk result (AreClones K.is_clone V.is_clone self.now) }
-    {
-        let Some(store) = self.store.clone_nodes()? else {
-            return self.clone_tree();
-        };
-        Ok(ByteMap {
-            store,
-            root: self.root,
-            len: self.len,
-        })
-    }
-
-    // The same, node by node down the tree, with slots for these nodes alone.
-    fn clone_tree(&self) -> Result<Self, AllocError>
-        requires { KeepBytes K.bytes K.is_clone }
-        ensures { IfOk result (AreClones K.is_clone V.is_clone self.now) }
-    {
-        let mut store = NodeStore::new(self.store.alloc());
-        let Some(root) = self.root else {
-            return Ok(ByteMap {
-                store,
-                root: None,
-                len: 0,
-            });
-        };
-        let root = copy_tree(&self.store, root, self.len, &mut store)?;
-        Ok(ByteMap {
-            store,
-            root: Some(root),
-            len: self.len,
-        })
-    }
-}
-
 impl<'a, K: AsBytes + Drop, V: Drop, const P: usize> IntoIterator for &'a ByteMap<K, V, P> {
     type Item = (&'a K, &'a V);
 
@@ -594,303 +541,4 @@ fn pair_at<K: AsBytes + Drop, V: Drop, const P: usize>(
 {
     let leaf = store.leaf_at(leaf);
     (&leaf.key, &leaf.value)
-}
-
-// Inserts a pair into the tree. An equal stored key gets the value. The name is then that of the key's leaf, except of a
-// tree's first.
-fn put_in<K: AsBytes + Drop, V: Drop, const P: usize>(
-    store: &mut NodeStore<K, V, P>,
-    root: &mut Option<OpaqueNodePtr>,
-    len: &mut usize,
-    near: &mut Option<LeafPtr>,
-    key: K,
-    value: V,
-) -> Result<Option<(K, V)>, MapInsertError<K, V>>
-    requires { HoldsPairs (of_key K.bytes) P store.old root.old len.old
-        (pairs_at store.old root.old) }
-    ensures { HasPut K.bytes P (pairs_at store.old root.old) key value result
-        store.new root.new len.new }
-{
-    let Some(name) = *root else {
-        return match begin(store, root, len, key, value) {
-            Ok(()) => Ok(None),
-            Err(refused) => Err(without_memory(refused)),
-        };
-    };
-    let point = match search_for_insert_point(store, name, key.as_bytes()) {
-        Ok(point) => point,
-        Err(InsertSearchError::Prefix(error)) => {
-            return Err(MapInsertError::Conflict { key, value, error });
-        }
-        Err(InsertSearchError::Memory(_)) => return Err(MapInsertError::Memory { key, value }),
-    };
-    match point.apply(store, key, value) {
-        Ok(done) => {
-            *root = Some(done.new_root);
-            *near = Some(done.leaf_node_ptr);
-            let Some(leaf) = done.existing_leaf else {
-                *len = one_more(store, *len);
-                return Ok(None);
-            };
-            Ok(Some((leaf.key, leaf.value)))
-        }
-        Err(refused) => Err(without_memory(refused)),
-    }
-}
-
-// The error with the pair for which an allocation failed.
-fn without_memory<K, V>(refused: PairRefused<K, V>) -> MapInsertError<K, V>
-    ensures { result ≡ errors.Memory refused.key refused.value }
-{
-    MapInsertError::Memory {
-        key: refused.key,
-        value: refused.value,
-    }
-}
-
-// Inserts a pair into the tree, in place of all pairs with related keys.
-fn put_over<K: AsBytes + Drop, V: Drop, const P: usize>(
-    store: &mut NodeStore<K, V, P>,
-    root: &mut Option<OpaqueNodePtr>,
-    len: &mut usize,
-    key: K,
-    value: V,
-) -> Result<usize, PairRefused<K, V>>
-    requires { HoldsPairs (of_key K.bytes) P store.old root.old len.old
-        (pairs_at store.old root.old) }
-    ensures { HasPutOver K.bytes P (pairs_at store.old root.old) key value result
-        store.new root.new len.new }
-{
-    let Some(name) = *root else {
-        return match begin(store, root, len, key, value) {
-            Ok(()) => Ok(0),
-            Err(refused) => Err(refused),
-        };
-    };
-    let point = search_for_prefix_insert_point(store, name, key.as_bytes());
-    match point.apply(store, key, value) {
-        Ok(done) => {
-            let gone = count_gone(&done);
-            *root = Some(done.insert_result.new_root);
-            *len = one_more(store, *len - gone);
-            Ok(gone)
-        }
-        Err(refused) => Err(refused),
-    }
-}
-
-// How many pairs were replaced: the one that was returned, or those that were freed.
-fn count_gone<K, V>(done: &PrefixInsertResult<K, V>) -> usize
-    ensures { result ≡ gone_count done.now }
-{
-    match done.insert_result.existing_leaf {
-        None => done.leafs_removed,
-        Some(_) => 1,
-    }
-}
-
-// One more than a number that is less than that of the leaves.
-fn one_more<K: AsBytes + Drop, V: Drop, const P: usize>(
-    store: &NodeStore<K, V, P>,
-    len: usize,
-) -> usize
-    requires { len < map.len store.now.leaves }
-    ensures { result ≡ len + 1 }
-{
-    // Its contract states that the leaves are fewer than a `usize` can count.
-    let _count = store.leaf_count();
-    len + 1
-}
-
-// Plants the tree with a pair.
-fn begin<K: AsBytes + Drop, V: Drop, const P: usize>(
-    store: &mut NodeStore<K, V, P>,
-    root: &mut Option<OpaqueNodePtr>,
-    len: &mut usize,
-    key: K,
-    value: V,
-) -> Result<(), PairRefused<K, V>>
-    requires none { root.old ≡ None }
-    requires holds { HoldsPairs (of_key K.bytes) P store.old None len.old
-        (pairs_at store.old None) }
-    ensures { HasPlanted K.bytes P key value result store.new root.new len.new }
-{
-    match plant(store, key, value) {
-        Ok(leaf) => {
-            *root = Some(leaf.to_opaque());
-            *len = 1;
-            Ok(())
-        }
-        Err(refused) => Err(refused),
-    }
-}
-
-// Copies the tree into an empty store, and returns the root of the copy.
-fn copy_tree<K: AsBytes + Clone + Drop, V: Clone + Drop, const P: usize>(
-    store: &NodeStore<K, V, P>,
-    root: OpaqueNodePtr,
-    len: usize,
-    into: &mut NodeStore<K, V, P>,
-) -> Result<OpaqueNodePtr, AllocError>
-    requires holds { HoldsPairs (of_key K.bytes) P store.now (Some root) len
-        (pairs_at store.now (Some root)) }
-    requires no_leaves { into.old.leaves ≡ map.empty }
-    requires no_inners { into.old.inners ≡ map.empty }
-    requires clones { KeepBytes K.bytes K.is_clone }
-    ensures { IfOk result (λ copy.
-        HoldsClones K.bytes P (pairs_at store.now (Some root)) K.is_clone V.is_clone
-        into.new (Some copy) len) }
-{
-    into.reserve(len, None)?;
-    into.reserve_inners_like(store)?;
-    let copy = clone_unchecked(store, root, into)?;
-    Ok(copy.root)
-}
-
-// Removes the pair of a key from the tree.
-#[inline(always)]
-fn take_key<Q: KeyQuery, K: AsBytes + Drop, V: Drop, const P: usize>(
-    store: &mut NodeStore<K, V, P>,
-    root: &mut Option<OpaqueNodePtr>,
-    len: &mut usize,
-    query: Q,
-) -> Option<(K, V)>
-    requires { HoldsPairs (of_key K.bytes) P store.old root.old len.old
-        (pairs_at store.old root.old) }
-    ensures { HasTaken K.bytes P
-        (remove_reply (of_key K.bytes) (Q.key query) (pairs_at store.old root.old))
-        (remove_key (of_key K.bytes) (Q.key query) (pairs_at store.old root.old)) result
-        store.new root.new len.new }
-{
-    let Some(name) = *root else {
-        return None;
-    };
-    let Some(point) = search_for_delete_point_by_lengths(store, name, query) else {
-        return None;
-    };
-    Some(take_out(store, root, len, name, point))
-}
-
-// Removes the pair of a key whose bytes need not stand in a slice from the tree.
-fn take_bytes<B: KeyBytes + Drop, K: AsBytes + Drop, V: Drop, const P: usize>(
-    store: &mut NodeStore<K, V, P>,
-    root: &mut Option<OpaqueNodePtr>,
-    len: &mut usize,
-    bytes: &mut B,
-) -> Option<(K, V)>
-    requires { HoldsPairs (of_key K.bytes) P store.old root.old len.old
-        (pairs_at store.old root.old) }
-    ensures taken { HasTaken K.bytes P
-        (remove_reply (of_key K.bytes) (B.key bytes.old) (pairs_at store.old root.old))
-        (remove_key (of_key K.bytes) (B.key bytes.old) (pairs_at store.old root.old)) result
-        store.new root.new len.new }
-    ensures same { B.key bytes.new ≡ B.key bytes.old }
-{
-    let Some(name) = *root else {
-        return None;
-    };
-    let Some(point) = search_for_delete_point_by(store, name, bytes) else {
-        return None;
-    };
-    Some(take_out(store, root, len, name, point))
-}
-
-// Removes the first pair whose key starts with a prefix from the tree.
-fn take_below<K: AsBytes + Drop, V: Drop, const P: usize>(
-    store: &mut NodeStore<K, V, P>,
-    root: &mut Option<OpaqueNodePtr>,
-    len: &mut usize,
-    prefix: &[u8],
-) -> Option<(K, V)>
-    requires { HoldsPairs (of_key K.bytes) P store.old root.old len.old
-        (pairs_at store.old root.old) }
-    ensures { HasTaken K.bytes P
-        (first_of (below (of_key K.bytes) prefix.now (pairs_at store.old root.old)))
-        (without_below (of_key K.bytes) prefix.now 1 (pairs_at store.old root.old)) result
-        store.new root.new len.new }
-{
-    let Some(name) = *root else {
-        return None;
-    };
-    let Some(point) = search_for_first_delete_point_below(store, name, prefix) else {
-        return None;
-    };
-    Some(take_out(store, root, len, name, point))
-}
-
-// Removes the first pair from the tree.
-#[inline(always)]
-fn take_first<K: AsBytes + Drop, V: Drop, const P: usize>(
-    store: &mut NodeStore<K, V, P>,
-    root: &mut Option<OpaqueNodePtr>,
-    len: &mut usize,
-) -> Option<(K, V)>
-    requires { HoldsPairs (of_key K.bytes) P store.old root.old len.old
-        (pairs_at store.old root.old) }
-    ensures { HasTaken K.bytes P (first_of (pairs_at store.old root.old))
-        (without_first (pairs_at store.old root.old)) result store.new root.new len.new }
-{
-    let Some(name) = *root else {
-        return None;
-    };
-    let point = find_minimum_to_delete(store, name);
-    Some(take_out(store, root, len, name, point))
-}
-
-// Removes the last pair from the tree.
-#[inline(always)]
-fn take_last<K: AsBytes + Drop, V: Drop, const P: usize>(
-    store: &mut NodeStore<K, V, P>,
-    root: &mut Option<OpaqueNodePtr>,
-    len: &mut usize,
-) -> Option<(K, V)>
-    requires { HoldsPairs (of_key K.bytes) P store.old root.old len.old
-        (pairs_at store.old root.old) }
-    ensures { HasTaken K.bytes P (last_of (pairs_at store.old root.old))
-        (without_last (pairs_at store.old root.old)) result store.new root.new len.new }
-{
-    let Some(name) = *root else {
-        return None;
-    };
-    let point = find_maximum_to_delete(store, name);
-    Some(take_out(store, root, len, name, point))
-}
-
-// Removes all pairs, with the tree.
-fn take_all<K: AsBytes + Drop, V: Drop, const P: usize>(
-    store: &mut NodeStore<K, V, P>,
-    root: &mut Option<OpaqueNodePtr>,
-    len: &mut usize,
-)
-    requires { HoldsPairs (of_key K.bytes) P store.old root.old len.old
-        (pairs_at store.old root.old) }
-    ensures { HoldsPairs (of_key K.bytes) P store.new root.new len.new [] }
-{
-    store.clear();
-    *root = None;
-    *len = 0;
-}
-
-// Removes the pair of a point from the tree.
-#[inline(always)]
-fn take_out<K: AsBytes + Drop, V: Drop, const P: usize>(
-    store: &mut NodeStore<K, V, P>,
-    root: &mut Option<OpaqueNodePtr>,
-    len: &mut usize,
-    name: OpaqueNodePtr,
-    point: DeletePoint,
-) -> (K, V)
-    requires root { root.old ≡ Some name }
-    requires point { IsDeletePointIn (of_key K.bytes) P store.old name point }
-    requires holds { HoldsPairs (of_key K.bytes) P store.old (Some name) len.old
-        (pairs_at store.old (Some name)) }
-    ensures { ForTree (of_key K.bytes) P store.old name (λ pairs layout.
-        (x : K × V) → LeadsTo layout x point →
-        HasTaken K.bytes P (Some x) (remove_key (of_key K.bytes) (K.bytes x.0) pairs) (Some result)
-        store.new root.new len.new) }
-{
-    let done = point.apply(store, name).unwrap();
-    *root = done.new_root;
-    *len -= 1;
-    (done.deleted_leaf.key, done.deleted_leaf.value)
 }

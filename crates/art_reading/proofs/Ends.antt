@@ -71,71 +71,71 @@ module _ {A : Type 0} (bytes : A → List ℕ) (key : List ℕ) where
 module _ {K V : Type 0} {bytes : K × V → List ℕ} {P : ℕ} {start : PrefixMatchBehavior} {key : List ℕ} {pairs : List (K × V)}
     {layout : Tree OpaqueNodePtr (K × V)} {before after : ℕ}
     {last : LastLeaf K V} (h : IsLastLeaf bytes P start key pairs layout before after last) where
-  shared : IsShared (bytes (pair_of last.node.now)) key (compared_from last.behavior last.depth (bytes (pair_of last.node.now)) key)
-  shared = shared_front last.behavior last.depth h.place (bytes (pair_of last.node.now)) key h.depth_is h.is_short h.leads_to h.compared
+  shared : IsShared (bytes (pair_of last.leaf.node.now)) key (compared_from last.behavior last.depth (bytes (pair_of last.leaf.node.now)) key)
+  shared = shared_front last.behavior last.depth h.place (bytes (pair_of last.leaf.node.now)) key h.depth_is h.is_short h.leads_to h.compared
 
-  only_with_key : with_key bytes key pairs ≡ with_key bytes key (pair_of last.node.now ∷ [])
-  only_with_key = sym (with_key-match_of bytes key pairs) ∙ ap (with_key bytes key) h.only ∙ with_key-match_of bytes key (pair_of last.node.now ∷ [])
+  only_with_key : with_key bytes key pairs ≡ with_key bytes key (pair_of last.leaf.node.now ∷ [])
+  only_with_key = sym (with_key-match_of bytes key pairs) ∙ ap (with_key bytes key) h.only ∙ with_key-match_of bytes key (pair_of last.leaf.node.now ∷ [])
 
   -- the comparison of a search
-  module _ {r : Bool} (test : IsTrue r ↔ MatchesLeafKey last.behavior last.depth (bytes (pair_of last.node.now)) key) where
-    equal : r ≡ true → bytes (pair_of last.node.now) ≡ key
+  module _ {r : Bool} (test : IsTrue r ↔ MatchesLeafKey last.behavior last.depth (bytes (pair_of last.leaf.node.now)) key) where
+    equal : r ≡ true → bytes (pair_of last.leaf.node.now) ≡ key
     equal t = whole_same shared (test.0 t)
 
-    found_equal : r ≡ true → IsOnlyLeaf (with_key bytes key pairs) layout last
+    found_equal : r ≡ true → IsOnlyLeaf (with_key bytes key pairs) layout last.leaf
     found_equal t =
-        let is : are_same key (bytes (pair_of last.node.now)) ≡ true = ap (are_same key) (equal t) ∙ front_same key in
+        let is : are_same key (bytes (pair_of last.leaf.node.now)) ≡ true = ap (are_same key) (equal t) ∙ front_same key in
         record { only = only_with_key ∙ rw is refl; is_leaf = h.is_leaf; path_is = h.path_is }
 
     counted_equal : r ≡ true → before + length (nodes_on_way bytes key layout) ≡ after
     counted_equal t = h.exactly (subst (IsFront h.place) (equal t) h.leads_to)
 
     lost_equal : r ≡ false → with_key bytes key pairs ≡ []
-    lost_equal f = only_with_key ∙ go (are_same key (bytes (pair_of last.node.now))) refl
+    lost_equal f = only_with_key ∙ go (are_same key (bytes (pair_of last.leaf.node.now))) refl
       where
-        go : (t : Bool) → are_same key (bytes (pair_of last.node.now)) ≡ t → with_key bytes key (pair_of last.node.now ∷ []) ≡ []
+        go : (t : Bool) → are_same key (bytes (pair_of last.leaf.node.now)) ≡ t → with_key bytes key (pair_of last.leaf.node.now ∷ []) ≡ []
         go true e =
             absurd (false≢true (sym f ∙ test.1
-            (ap (λ leaf. drop (compared_from last.behavior last.depth (bytes (pair_of last.node.now)) key) leaf)
-            (same_equal key (bytes (pair_of last.node.now)) e))))
+            (ap (λ leaf. drop (compared_from last.behavior last.depth (bytes (pair_of last.leaf.node.now)) key) leaf)
+            (same_equal key (bytes (pair_of last.leaf.node.now)) e))))
         go false e = rw e refl
 
   -- the comparison of a prefix search
-  module _ {r : Bool} (test : IsTrue r ↔ LeafKeyIsPrefix last.behavior last.depth (bytes (pair_of last.node.now)) key) where
-    prefix : r ≡ true → IsFront (bytes (pair_of last.node.now)) key
+  module _ {r : Bool} (test : IsTrue r ↔ LeafKeyIsPrefix last.behavior last.depth (bytes (pair_of last.leaf.node.now)) key) where
+    prefix : r ≡ true → IsFront (bytes (pair_of last.leaf.node.now)) key
     prefix t = whole_front shared (test.0 t)
 
-    found_prefix : r ≡ true → IsOnlyLeaf (match_of bytes key pairs) layout last
+    found_prefix : r ≡ true → IsOnlyLeaf (match_of bytes key pairs) layout last.leaf
     found_prefix t =
         let (rest, e) = prefix t in
-        let is : is_front (bytes (pair_of last.node.now)) key ≡ true =
-        ap (is_front (bytes (pair_of last.node.now))) e ∙ front_is (bytes (pair_of last.node.now)) rest in
+        let is : is_front (bytes (pair_of last.leaf.node.now)) key ≡ true =
+        ap (is_front (bytes (pair_of last.leaf.node.now))) e ∙ front_is (bytes (pair_of last.leaf.node.now)) rest in
         record { only = h.only ∙ rw is refl; is_leaf = h.is_leaf; path_is = h.path_is }
 
     counted_prefix : r ≡ true → before + length (nodes_on_way bytes key layout) ≡ after
-    counted_prefix t = h.exactly (front_trans h.place (bytes (pair_of last.node.now)) key h.leads_to (prefix t))
+    counted_prefix t = h.exactly (front_trans h.place (bytes (pair_of last.leaf.node.now)) key h.leads_to (prefix t))
 
     lost_prefix : r ≡ false → match_of bytes key pairs ≡ []
-    lost_prefix f = h.only ∙ go (is_front (bytes (pair_of last.node.now)) key) refl
+    lost_prefix f = h.only ∙ go (is_front (bytes (pair_of last.leaf.node.now)) key) refl
       where
-        go : (t : Bool) → is_front (bytes (pair_of last.node.now)) key ≡ t → match_of bytes key (pair_of last.node.now ∷ []) ≡ []
-        go true e = absurd (false≢true (sym f ∙ test.1 (rest_front shared (front_from (bytes (pair_of last.node.now)) key e))))
+        go : (t : Bool) → is_front (bytes (pair_of last.leaf.node.now)) key ≡ t → match_of bytes key (pair_of last.leaf.node.now ∷ []) ≡ []
+        go true e = absurd (false≢true (sym f ∙ test.1 (rest_front shared (front_from (bytes (pair_of last.leaf.node.now)) key e))))
         go false e = rw e refl
 
   -- what the comparison that is asked for decides
-  module _ {r : Bool} (asked : Asked) (test : IsTrue r ↔ IsAskedFor asked last.behavior last.depth (bytes (pair_of last.node.now)) key) where
-    pub found : r ≡ true → IsOnlyLeaf (asked_of asked bytes key pairs) layout last
+  module _ {r : Bool} (asked : Asked) (test : IsTrue r ↔ IsAskedFor asked last.behavior last.depth (bytes (pair_of last.leaf.node.now)) key) where
+    pub found : r ≡ true → IsOnlyLeaf (asked_of asked bytes key pairs) layout last.leaf
     found t = go asked test
       where
-        go : (a : Asked) → (IsTrue r ↔ IsAskedFor a last.behavior last.depth (bytes (pair_of last.node.now)) key) →
-            IsOnlyLeaf (asked_of a bytes key pairs) layout last
+        go : (a : Asked) → (IsTrue r ↔ IsAskedFor a last.behavior last.depth (bytes (pair_of last.leaf.node.now)) key) →
+            IsOnlyLeaf (asked_of a bytes key pairs) layout last.leaf
         go Same is = found_equal is t
         go Front is = found_prefix is t
 
     pub counted : r ≡ true → before + length (nodes_on_way bytes key layout) ≡ after
     counted t = go asked test
       where
-        go : (a : Asked) → (IsTrue r ↔ IsAskedFor a last.behavior last.depth (bytes (pair_of last.node.now)) key) →
+        go : (a : Asked) → (IsTrue r ↔ IsAskedFor a last.behavior last.depth (bytes (pair_of last.leaf.node.now)) key) →
             before + length (nodes_on_way bytes key layout) ≡ after
         go Same is = counted_equal is t
         go Front is = counted_prefix is t
@@ -143,7 +143,7 @@ module _ {K V : Type 0} {bytes : K × V → List ℕ} {P : ℕ} {start : PrefixM
     pub lost : r ≡ false → asked_of asked bytes key pairs ≡ []
     lost f = go asked test
       where
-        go : (a : Asked) → (IsTrue r ↔ IsAskedFor a last.behavior last.depth (bytes (pair_of last.node.now)) key) → asked_of a bytes key pairs ≡ []
+        go : (a : Asked) → (IsTrue r ↔ IsAskedFor a last.behavior last.depth (bytes (pair_of last.leaf.node.now)) key) → asked_of a bytes key pairs ≡ []
         go Same is = lost_equal is f
         go Front is = lost_prefix is f
 

@@ -31,7 +31,10 @@ use Rattle.art_model.proofs.stores.Stores.{path_holds}
 use Rattle.art_model.proofs.stores.Views as views
 use Rattle.art_model.specs.Texts.{AreEnded, IsEndedBy, texts_in_front, text_of}
 use Rattle.art_model.specs.Lookups.{FindsLast}
+use Rattle.art_reading.specs.ShortTexts.{IsSought}
 use Rattle.art_reading.specs.TextWays.{EndsAt, EndsWalk, IsCovering, leaf_of_end}
+use Rattle.art_reading.specs.declared.descent.End.{End}
+use Rattle.art_reading.specs.declared.descent.End.TheVariants.{Last}
 use Rattle.art_reading.specs.declared.lookup.texts.TextEnd.{TextEnd}
 use Rattle.art_reading.specs.declared.lookup.texts.TextEnd.TheVariants.{Passed, Whole}
 use Rattle.art_model.proofs.keys.Texts.{ended_text, front_short, fronts_first, not_front, true_front}
@@ -62,15 +65,16 @@ shared_within a b = front_short (common_front a b) a (common_front_left a b)
 module _ {K V : Type 0} {s : Nodes K V} {bytes : K × V → List ℕ} {P : ℕ} {root : OpaqueNodePtr} {pairs : List (K × V)} {layout : Tree OpaqueNodePtr (K × V)}
     (by : IsCanonicalTree bytes P s root pairs layout) where
   -- what a descent ends at is this leaf, or none
-  pub ends_at : (query : List ℕ) {end to : Option LeafPtr} → end ≡ to → EndsWalk bytes query pairs layout end → EndsWalk bytes query pairs layout to
-  ends_at query = subst (EndsWalk bytes query pairs layout)
+  pub ends_at : (query : List ℕ) (at_least : ℕ) (kept : End) {end to : Option LeafPtr} → end ≡ to →
+      EndsWalk bytes query at_least kept pairs layout end → EndsWalk bytes query at_least kept pairs layout to
+  ends_at query at_least kept = subst (EndsWalk bytes query at_least kept pairs layout)
 
   -- wherever a descent along a query ends
-  pub ends_walk : (query : List ℕ) (end : TextEnd) {leaf : Option LeafPtr} → leaf ≡ leaf_of_end end → EndsAt bytes query pairs layout end →
-      EndsWalk bytes query pairs layout leaf
-  ends_walk query end is ends = ends_at query (sym is) (go end ends)
+  pub ends_walk : (query : List ℕ) (end : TextEnd) {leaf : Option LeafPtr} → leaf ≡ leaf_of_end end → EndsAt bytes query 0 Last pairs layout end →
+      EndsWalk bytes query 0 Last pairs layout leaf
+  ends_walk query end is ends = ends_at query 0 Last (sym is) (go end ends)
     where
-      go : (end : TextEnd) → EndsAt bytes query pairs layout end → EndsWalk bytes query pairs layout (leaf_of_end end)
+      go : (end : TextEnd) → EndsAt bytes query 0 Last pairs layout end → EndsWalk bytes query 0 Last pairs layout (leaf_of_end end)
       go (Whole name) (covering, on) = covering
       go (Passed passed) ends = ends
 
@@ -86,13 +90,19 @@ module _ {K V : Type 0} {s : Nodes K V} {bytes : K × V → List ℕ} {P : ℕ} 
 
   module _ (end : ℕ) (ended : AreEnded bytes end pairs) (query : List ℕ) where
     -- no text is a prefix of the query
-    none_found : EndsWalk bytes query pairs layout None → texts_in_front bytes query pairs ≡ []
+    none_found : EndsWalk bytes query 0 Last pairs layout None → texts_in_front bytes query pairs ≡ []
     none_found off = filter_none (λ x. is_front (text_of bytes x) query) pairs
-        (Each-weaker (λ x. IsFront (text_of bytes x) query → ⊥) (λ x. is_front (text_of bytes x) query ≡ false)
-        (λ x o. not_front (text_of bytes x) query o) pairs off)
+        (Each-weaker (λ x. IsSought bytes query 0 x → ⊥) (λ x. is_front (text_of bytes x) query ≡ false)
+        (λ x o. not_front (text_of bytes x) query (λ f. o (f, omega arith))) pairs off)
 
-    -- the text of the leaf is one, and continues with each other
-    pub last_found : {name : LeafPtr} (c : IsCovering bytes query pairs layout name) → IsFront (text_of bytes c.pair) query →
+    -- the text of the leaf continues with each that is one
+    covers_all : {name : LeafPtr} (c : IsCovering bytes query 0 Last pairs layout name) →
+        Each (λ x. IsFront (text_of bytes x) query → IsFront (text_of bytes x) (text_of bytes c.pair)) pairs
+    covers_all c = Each-weaker (λ x. IsSought bytes query 0 x → IsFront (text_of bytes x) (text_of bytes c.pair))
+        (λ x. IsFront (text_of bytes x) query → IsFront (text_of bytes x) (text_of bytes c.pair)) (λ x cover f. cover (f, omega arith)) pairs c.covers
+
+    -- and is one
+    pub last_found : {name : LeafPtr} (c : IsCovering bytes query 0 Last pairs layout name) → IsFront (text_of bytes c.pair) query →
         FindsLast layout (texts_in_front bytes query pairs) (Some name)
     last_found {name} c on = (c.pair, last, c.has)
       where
@@ -114,7 +124,7 @@ module _ {K V : Type 0} {s : Nodes K V} {bytes : K × V → List ℕ} {P : ℕ} 
             (subst (AreEnded bytes end) split ended) in
             let covers = Each-right (λ x. IsFront (text_of bytes x) query → IsFront (text_of bytes x) (text_of bytes c.pair))
             (pairs_before c.has.path ++ c.pair ∷ []) (pairs_after c.has.path)
-            (subst (Each (λ x. IsFront (text_of bytes x) query → IsFront (text_of bytes x) (text_of bytes c.pair))) split c.covers) in
+            (subst (Each (λ x. IsFront (text_of bytes x) query → IsFront (text_of bytes x) (text_of bytes c.pair))) split (covers_all c)) in
             Each-both (λ y. Precedes (bytes c.pair) (bytes y)) (λ y. IsFront (text_of bytes y) query → ⊥)
             (λ y. is_front (text_of bytes y) query ≡ false) (λ y p o. not_front (text_of bytes y) query o) (pairs_after c.has.path) rise
             (Each-both (λ y. Precedes (bytes c.pair) (bytes y))
@@ -141,7 +151,7 @@ module _ {K V : Type 0} {s : Nodes K V} {bytes : K × V → List ℕ} {P : ℕ} 
             ∙ last_snoc (filter test (pairs_before c.has.path)) c.pair
 
     -- the leaf's text differs from the query: what they share serves as well
-    module _ {name : LeafPtr} (c : IsCovering bytes query pairs layout name) where
+    module _ {name : LeafPtr} (c : IsCovering bytes query 0 Last pairs layout name) where
       shared_is : take (length (common_front (text_of bytes c.pair) query)) query ≡ common_front (text_of bytes c.pair) query
       shared_is =
           let (r, e) = common_front_right (text_of bytes c.pair) query in
@@ -156,7 +166,7 @@ module _ {K V : Type 0} {s : Nodes K V} {bytes : K × V → List ℕ} {P : ℕ} 
           (λ x cover. same_front (text_of bytes x) query (common_front (text_of bytes c.pair) query)
           (λ f. (common_front_is_longest (text_of bytes c.pair) query).2 (text_of bytes x) (cover f) f)
           (λ f. front_trans (text_of bytes x) (common_front (text_of bytes c.pair) query) query f
-          (common_front_right (text_of bytes c.pair) query))) pairs c.covers)
+          (common_front_right (text_of bytes c.pair) query))) pairs (covers_all c))
 
       -- it is a prefix of the leaf's key
       begins : IsFront (common_front (text_of bytes c.pair) query) (bytes c.pair)
@@ -176,24 +186,24 @@ module _ {K V : Type 0} {s : Nodes K V} {bytes : K × V → List ℕ} {P : ℕ} 
       ap pair_of is ∙ same
 
   module _ (end : ℕ) (ended : AreEnded bytes end pairs) (query : List ℕ) where
-    pub found_none : (result : Option LeafPtr) → result ≡ None → EndsWalk bytes query pairs layout None →
+    pub found_none : (result : Option LeafPtr) → result ≡ None → EndsWalk bytes query 0 Last pairs layout None →
         FindsLast layout (texts_in_front bytes query pairs) result
     found_none result is off = subst (FindsLast layout (texts_in_front bytes query pairs)) (sym is) (none_found end ended query off)
 
     -- all of the text is shared
-    pub found_whole : {name : LeafPtr} (c : IsCovering bytes query pairs layout name) →
+    pub found_whole : {name : LeafPtr} (c : IsCovering bytes query 0 Last pairs layout name) →
         length (common_front (text_of bytes c.pair) query) ≡ length (text_of bytes c.pair) →
         FindsLast layout (texts_in_front bytes query pairs) (Some name)
     found_whole c all = last_found end ended query c (shared_whole (text_of bytes c.pair) query (omega arith))
 
     -- the second descent, along what is shared
-    pub found_again : {name : LeafPtr} (c : IsCovering bytes query pairs layout name) (n : ℕ) → n ≡ length (common_front (text_of bytes c.pair) query) →
-        (result : Option LeafPtr) → EndsWalk bytes (take n query) pairs layout result → FindsLast layout (texts_in_front bytes query pairs) result
+    pub found_again : {name : LeafPtr} (c : IsCovering bytes query 0 Last pairs layout name) (n : ℕ) → n ≡ length (common_front (text_of bytes c.pair) query) →
+        (result : Option LeafPtr) → EndsWalk bytes (take n query) 0 Last pairs layout result → FindsLast layout (texts_in_front bytes query pairs) result
     found_again c n count result ends =
         let cut : take n query ≡ common_front (text_of bytes c.pair) query = ap (λ m. take m query) count ∙ shared_is end ended query c in
-        subst (λ xs. FindsLast layout xs result) (sym (same_fronts end ended query c)) (go result (subst (λ q. EndsWalk bytes q pairs layout result) cut ends))
+        subst (λ xs. FindsLast layout xs result) (sym (same_fronts end ended query c)) (go result (subst (λ q. EndsWalk bytes q 0 Last pairs layout result) cut ends))
       where
-        go : (result : Option LeafPtr) → EndsWalk bytes (common_front (text_of bytes c.pair) query) pairs layout result →
+        go : (result : Option LeafPtr) → EndsWalk bytes (common_front (text_of bytes c.pair) query) 0 Last pairs layout result →
             FindsLast layout (texts_in_front bytes (common_front (text_of bytes c.pair) query) pairs) result
         go None off = none_found end ended (common_front (text_of bytes c.pair) query) off
         go (Some other) d =

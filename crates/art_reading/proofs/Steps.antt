@@ -83,12 +83,12 @@ module _ {K V : Type 0} {s : Nodes K V} {bytes : K × V → List ℕ} {P : ℕ} 
 
   -- at a leaf the path ends
   pub last_leaf : {start : PrefixMatchBehavior} {key : List ℕ} {name : OpaqueNodePtr} {before now after : ℕ} (last : LastLeaf K V) →
-      IsOnWay bytes P start key layout last.path name last.depth last.behavior before now → leaf_name last.name ≡ name →
-      Some last.node.now ≡ map.get s.leaves last.name → last.depth ≤ length key → after ≡ now + 1 → IsLastLeaf bytes P start key pairs layout before after last
+      IsOnWay bytes P start key layout last.leaf.path name last.depth last.behavior before now → leaf_name last.leaf.name ≡ name →
+      Some last.leaf.node.now ≡ map.get s.leaves last.leaf.name → last.depth ≤ length key → after ≡ now + 1 → IsLastLeaf bytes P start key pairs layout before after last
   last_leaf last d is there short e =
-      let n = leaf_name last.name in
-      let x = pair_of last.node.now in
-      let at = leaf_shown s last.name d.node (d.named ∙ sym is) (node_there d).holds last.node.now there in
+      let n = leaf_name last.leaf.name in
+      let x = pair_of last.leaf.node.now in
+      let at = leaf_shown s last.leaf.name d.node (d.named ∙ sym is) (node_there d).holds last.leaf.node.now there in
       record {
         place = d.place;
         is_leaf = record { path = d.path; whole = leaf_whole d n x at };

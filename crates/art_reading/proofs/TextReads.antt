@@ -1,22 +1,26 @@
 -- what a search for a text reads
-use Rattle.std.proofs.Common.{◌≡◌, ℕ, ◌+◌, ◌-◌, ◌^◌, ◌<◌, ◌≤◌, ◌⊎◌, List, length, length-take, take, min, get_or, refl, ap, sym, ◌∙◌, subst, arith, Option, Some, None, inl, inr}
+use Rattle.std.proofs.Common.{◌≡◌, ℕ, ◌+◌, ◌-◌, ◌^◌, ◌<◌, ◌≤◌, ◌⊎◌, List, [], length, length-take, append-nil, drop, take, min, get_or, refl, ap, sym, ◌∙◌, subst, arith, Option, Some, None, inl, inr}
 use Rattle.std.specs.Bool.{⊤}
 use Rattle.std.specs.Option.{option_map}
 use Rattle.std.specs.Prelude.{IsSome}
 use Rattle.std.proofs.lemmas.Bool.{cases_lt}
-use Rattle.std.proofs.lemmas.List.{get_or-take}
+use Rattle.std.proofs.lemmas.List.{get_or_append_left, take-append-drop}
 use Rattle.art_inner.specs.Inner.{Inner, child_at}
 use Rattle.art_nodes.specs.Nodes.{Nodes}
 use Rattle.art_parts.specs.declared.names.InnerPtr.{InnerPtr}
 use Rattle.art_parts.specs.declared.names.LeafPtr.{LeafPtr}
 use Rattle.art_parts.specs.declared.names.OpaqueNodePtr.{OpaqueNodePtr}
 use Rattle.art_model.specs.Canonical.{IsCanonicalTree}
+use Rattle.art_model.specs.Keys.{IsFront}
 use Rattle.art_model.specs.Lookups.{nodes_on_way}
 use Rattle.art_model.specs.Roots.{ForTree}
 use Rattle.art_model.specs.Trees.{Tree, leaf}
+use Rattle.art_model.proofs.keys.Texts.{front_short}
 use Rattle.art_model.proofs.stores.Shown.{IsShown}
-use Rattle.art_reading.specs.Readings.{CountsReadings, CountsToText, CountsToTextLeaf, left_on_way}
-use Rattle.art_reading.specs.TextWays.{IsTextStep}
+use Rattle.art_reading.specs.Readings.{CountsReadings, CountsToText, left_on_way}
+use Rattle.art_reading.specs.TextWays.{IsTextStep, bytes_along}
+use Rattle.art_reading.specs.declared.descent.End.{End}
+use Rattle.art_reading.specs.declared.descent.End.TheVariants.{First, Last}
 use Rattle.art_reading.proofs.Counts.{count_both}
 use Rattle.art_reading.proofs.Descents.{IsDescent, down, start}
 use Rattle.art_reading.proofs.Left.{child_left, end_left, gap_left, leaf_left}
@@ -74,30 +78,47 @@ module _ {A : Type 0} {bytes : A → List ℕ} {P : ℕ} {key : List ℕ} {tree 
               omega arith
           go (inr short) = let all = read_end short in omega arith
 
-    -- a step along a query
-    module _ {end : ℕ} {before after : Option LeafPtr} {result : Option (OpaqueNodePtr × ℕ)} (step : IsTextStep shown key end depth before after result) where
+    -- a step along a query, which starts with the key
+    module _ {query : List ℕ} (along : IsFront key query) {end least : ℕ} {before after : Option LeafPtr} {result : Option (OpaqueNodePtr × ℕ)}
+        (step : IsTextStep shown query end least depth before after result) where
+      next_byte : depth + shown.prefix.len < length key →
+          get_or query (depth + shown.prefix.len) 0 ≡ get_or key (depth + shown.prefix.len) 0
+      next_byte less =
+          ap (λ bs. get_or bs (depth + shown.prefix.len) 0) along.1
+          ∙ get_or_append_left key along.0 0 (depth + shown.prefix.len) less
+
       -- to no child
       pub text_read : result ≡ None → IsAllBut
       text_read none = go (cases_lt (depth + shown.prefix.len) (length key))
         where
           go : (depth + shown.prefix.len < length key) ⊎ (length key ≤ depth + shown.prefix.len) → IsAllBut
           go (inr short) = read_end short
-          go (inl more) =
-              read_gap (get_or key (depth + shown.prefix.len) 0) (λ less. refl)
-              (unmapped _ (child_at shown.children (get_or key (depth + shown.prefix.len) 0)) (sym (step.below more) ∙ none))
+          go (inl less) =
+              let within = front_short key query along in
+              read_gap (get_or query (depth + shown.prefix.len) 0) next_byte
+              (unmapped _ (child_at shown.children (get_or query (depth + shown.prefix.len) 0)) (sym (step.below (omega arith)) ∙ none))
+
+      -- the first text is found
+      pub text_kept : length key ≤ least → before ≡ None → IsSome after → IsAllBut
+      text_kept short none some = go after refl some (cases_lt (depth + shown.prefix.len) least)
+        where
+          go : (a : Option LeafPtr) → after ≡ a → IsSome a → (depth + shown.prefix.len < least) ⊎ (least ≤ depth + shown.prefix.len) → IsAllBut
+          go a e some (inr enough) = read_end (omega arith)
+          go None e some (inl less) = absurd cc
+          go (Some name) e some (inl less) = let same = step.early less in absurd cc
 
       -- to this child
       pub text_reads_on : {to : OpaqueNodePtr} {below : ℕ} → ◌≡◌ {A = Option (OpaqueNodePtr × ℕ)} result (Some (to, below)) →
           IsReadTo bytes P key tree to below (number + 1)
-      text_reads_on {to} {below} is = go (cases_lt (length key) (depth + shown.prefix.len)) (cases_lt (depth + shown.prefix.len) (length key))
+      text_reads_on {to} {below} is = go (cases_lt (length query) (depth + shown.prefix.len)) (cases_lt (depth + shown.prefix.len) (length query))
         where
-          go : (length key < depth + shown.prefix.len) ⊎ (depth + shown.prefix.len ≤ length key) →
-              (depth + shown.prefix.len < length key) ⊎ (length key ≤ depth + shown.prefix.len) → IsReadTo bytes P key tree to below (number + 1)
+          go : (length query < depth + shown.prefix.len) ⊎ (depth + shown.prefix.len ≤ length query) →
+              (depth + shown.prefix.len < length query) ⊎ (length query ≤ depth + shown.prefix.len) → IsReadTo bytes P key tree to below (number + 1)
           go (inl less) o = let none = (step.short less).0 in absurd cc
           go (inr enough) (inr most) = let none = step.last (omega arith) in absurd cc
-          go (inr enough) (inl more) = from (child_at shown.children (get_or key (depth + shown.prefix.len) 0)) refl (sym is ∙ step.below more)
+          go (inr enough) (inl more) = from (child_at shown.children (get_or query (depth + shown.prefix.len) 0)) refl (sym is ∙ step.below more)
             where
-              from : (found : Option OpaqueNodePtr) → child_at shown.children (get_or key (depth + shown.prefix.len) 0) ≡ found →
+              from : (found : Option OpaqueNodePtr) → child_at shown.children (get_or query (depth + shown.prefix.len) 0) ≡ found →
                   ◌≡◌ {A = Option (OpaqueNodePtr × ℕ)} (Some (to, below)) (option_map (λ next. (next, depth + shown.prefix.len + 1)) found) →
                   IsReadTo bytes P key tree to below (number + 1)
               from None there e = absurd cc
@@ -105,20 +126,20 @@ module _ {A : Type 0} {bytes : A → List ℕ} {P : ℕ} {key : List ℕ} {tree 
                   let (at_child, at_depth) = same_parts e in
                   subst (λ n. IsReadTo bytes P key tree to n (number + 1)) (sym at_depth)
                   (subst (λ t. IsReadTo bytes P key tree t (depth + shown.prefix.len + 1) (number + 1)) (sym at_child)
-                  (read_child (get_or key (depth + shown.prefix.len) 0) (λ less. refl) there))
+                  (read_child (get_or query (depth + shown.prefix.len) 0) next_byte there))
 
--- the first bytes of a query have its byte at a place within them
-pub first_byte : (query : List ℕ) (n place : ℕ) → place < length (take n query) → get_or query place 0 ≡ get_or (take n query) place 0
-first_byte query n place less = let long = length-take n query in sym (get_or-take n query place 0 (omega arith))
+-- the bytes along which a descent goes at least are the query's first
+pub along_query : (kept : End) (least : ℕ) (query : List ℕ) → IsFront (bytes_along kept least query) query
+along_query First least query = (drop least query, sym (take-append-drop least query))
+along_query Last least query = ([], sym (append-nil query))
 
--- a leaf is looked for only where so many bytes lead
-pub long_enough : {place at_least : ℕ} (found : Option LeafPtr) → (place < at_least → found ≡ None) → IsSome found → at_least ≤ place
-long_enough {place} {at_least} found short some = go found refl some (cases_lt place at_least)
+-- to the first text they are so many at most
+pub along_least : (kept : End) → kept ≡ First → (least : ℕ) (query : List ℕ) → length (bytes_along kept least query) ≤ least
+along_least First first least query = short
   where
-    go : (r : Option LeafPtr) → found ≡ r → IsSome r → (place < at_least) ⊎ (at_least ≤ place) → at_least ≤ place
-    go r e some (inr enough) = enough
-    go None e some (inl less) = absurd cc
-    go (Some name) e some (inl less) = let none = short less in absurd cc
+    short : length (take least query) ≤ least
+    short = let cut = length-take least query in omega arith
+along_least Last first least query = absurd cc
 
 -- ---- the counter
 -- what was counted above a node, to which so many bytes lead
@@ -140,29 +161,10 @@ module _ {K V : Type 0} {s : Nodes K V} {bytes : K × V → List ℕ} {P : ℕ} 
           is_number = λ pairs layout by. (all pairs layout by _ (seen pairs layout by), omega arith);
         }
 
-    -- the node is a leaf, and not read
-    pub read_above : (name : LeafPtr) → depth ≤ most → CountsToTextLeaf bytes P s root key most (Some name) before now
-    read_above name room =
-        let (few, seen) = reads.is_number in
-        record {
-          number = reads.number;
-          counted = reads.counted;
-          is_number = λ pairs layout by. let last = all pairs layout by _ (seen pairs layout by) in (omega arith, omega arith);
-        }
-
-  -- with a leaf at most, which is not read
-  pub to_leaf : {most now : ℕ} (found : Option LeafPtr) → CountsToText bytes P s root key most before now → CountsToTextLeaf bytes P s root key most found before now
-  to_leaf None counts = counts
-  to_leaf (Some name) counts = record {
-    number = counts.number;
-    counted = counts.counted;
-    is_number = λ pairs layout by. let (seen, few) = counts.is_number pairs layout by in (omega arith, few);
-  }
-
-  -- a leaf was read besides
-  pub with_leaf : {most more now after : ℕ} (name : LeafPtr) → CountsToTextLeaf bytes P s root key most (Some name) before now →
+  -- one more was read
+  pub with_one : {most more now after : ℕ} → CountsToText bytes P s root key most before now →
       after ≡ now + min 1 (2 ^ 64 - 1 - now) → most + 1 ≤ more → CountsToText bytes P s root key more before after
-  with_leaf name counts one room = record {
+  with_one counts one room = record {
     number = counts.number + 1;
     counted = count_both _ _ _ counts.counted one;
     is_number = λ pairs layout by. let (seen, few) = counts.is_number pairs layout by in (omega arith, omega arith);

@@ -10,6 +10,7 @@ use Rattle.art_model.specs.Pairs.{match_of, with_key}
 use Rattle.art_model.specs.Roots.{ForTree}
 use Rattle.art_model.specs.Stores.{pair_of}
 use Rattle.art_model.specs.Trees.{Tree}
+use Rattle.art_reading.specs.declared.descent.FoundLeaf.{FoundLeaf}
 use Rattle.art_reading.specs.declared.descent.LastLeaf.{LastLeaf}
 use Rattle.art_reading.specs.declared.matching.PrefixMatchBehavior.{PrefixMatchBehavior}
 use Rattle.art_reading.specs.declared.matching.PrefixMatchBehavior.TheVariants.{Pessimistic}
@@ -27,14 +28,14 @@ module _ {K V : Type 0} (bytes : K × V → List ℕ) (P : ℕ) (start : PrefixM
   -- the only leaf that can match the key, and what is left to compare of it: the bytes after its place, or all of them
   pub record IsLastLeaf (last : LastLeaf K V) : Type 0 where
     pub place : List ℕ
-    pub is_leaf : HasLeaf layout (leaf_name last.name) (pair_of last.node.now)
-    pub path_is : last.path ≡ path_of is_leaf.path
-    pub leads_to : IsFront place (bytes (pair_of last.node.now))
+    pub is_leaf : HasLeaf layout (leaf_name last.leaf.name) (pair_of last.leaf.node.now)
+    pub path_is : last.leaf.path ≡ path_of is_leaf.path
+    pub leads_to : IsFront place (bytes (pair_of last.leaf.node.now))
     pub depth_is : length place ≡ last.depth
     pub is_short : last.depth ≤ length key
     pub compared : last.behavior ≡ Pessimistic → IsFront place key
     pub compares : ComparesAll P start layout → last.behavior ≡ Pessimistic
-    pub only : match_of bytes key pairs ≡ match_of bytes key (pair_of last.node.now ∷ [])
+    pub only : match_of bytes key pairs ≡ match_of bytes key (pair_of last.leaf.node.now ∷ [])
     pub at_least : before + length (nodes_on_way bytes key layout) ≤ after
     pub exactly : IsFront place key → before + length (nodes_on_way bytes key layout) ≡ after
 
@@ -71,15 +72,15 @@ IsAskedFor Same behavior depth leaf query = MatchesLeafKey behavior depth leaf q
 IsAskedFor Front behavior depth leaf query = LeafKeyIsPrefix behavior depth leaf query
 
 -- The leaf has the only one of these pairs, and the path leads to it.
-pub record IsOnlyLeaf {K V : Type 0} (asked : List (K × V)) (layout : Tree OpaqueNodePtr (K × V)) (last : LastLeaf K V) : Type 0 where
-  pub only : asked ≡ pair_of last.node.now ∷ []
-  pub is_leaf : HasLeaf layout (leaf_name last.name) (pair_of last.node.now)
-  pub path_is : last.path ≡ path_of is_leaf.path
+pub record IsOnlyLeaf {K V : Type 0} (asked : List (K × V)) (layout : Tree OpaqueNodePtr (K × V)) (leaf : FoundLeaf K V) : Type 0 where
+  pub only : asked ≡ pair_of leaf.node.now ∷ []
+  pub is_leaf : HasLeaf layout (leaf_name leaf.name) (pair_of leaf.node.now)
+  pub path_is : leaf.path ≡ path_of is_leaf.path
 
 -- the leaf of the only one of these pairs, with the path to it, or none where there is no such pair
-abbrev pub IsKeysLeaf : {K V : Type 0} → List (K × V) → Tree OpaqueNodePtr (K × V) → Option (LastLeaf K V) → Type 0
+abbrev pub IsKeysLeaf : {K V : Type 0} → List (K × V) → Tree OpaqueNodePtr (K × V) → Option (FoundLeaf K V) → Type 0
 IsKeysLeaf asked layout None = asked ≡ []
-IsKeysLeaf asked layout (Some last) = IsOnlyLeaf asked layout last
+IsKeysLeaf asked layout (Some leaf) = IsOnlyLeaf asked layout leaf
 
 -- the first of two, or the last
 abbrev pub of_two : {A : Type 0} → End → A × A → A

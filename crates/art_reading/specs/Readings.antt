@@ -75,12 +75,6 @@ module _ {K V : Type 0} (bytes : K × V → List ℕ) (P : ℕ) (s : Nodes K V) 
   CountsToText front most before after =
       CountsBetween (λ layout. length (nodes_on_way bytes front layout)) (λ layout. most) before after
 
-  -- its descent to a leaf, which is not read, or to none
-  abbrev pub CountsToTextLeaf : List ℕ → ℕ → Option LeafPtr → ℕ → ℕ → Type 0
-  CountsToTextLeaf front most None before after = CountsToText front most before after
-  CountsToTextLeaf front most (Some leaf) before after =
-      CountsBetween (λ layout. length (nodes_on_way bytes front layout) - 1) (λ layout. most) before after
-
   -- The search for the leaves between two bounds: that to the lower one, the first leaf from there on, and, if a leaf is
   -- between both, that to the upper one.
   abbrev pub CountsToBounds : Bound (List ℕ) → Bound (List ℕ) → ℕ → ℕ → Type 0

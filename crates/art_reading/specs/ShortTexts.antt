@@ -1,6 +1,5 @@
--- Where a descent ends that searches for the shortest text of at least so many bytes that is a prefix of a query.
+-- The texts of at least so many bytes that are prefixes of a query, and the first of some pairs.
 use Rattle.std.specs.Prelude.{◌≡◌, ◌≤◌, ℕ, List, [], filter, leb, length, Option, Some, None}
-use Rattle.std.specs.List.{AllByRecursion as Each}
 use Rattle.art_parts.specs.Names.{leaf_name}
 use Rattle.art_parts.specs.declared.names.LeafPtr.{LeafPtr}
 use Rattle.art_parts.specs.declared.names.OpaqueNodePtr.{OpaqueNodePtr}
@@ -23,15 +22,3 @@ module _ {A : Type 0} (bytes : A → List ℕ) where
   -- the text of the pair is a prefix of the query and has at least so many bytes
   abbrev pub IsSought : List ℕ → ℕ → A → Type 0
   IsSought query at_least x = IsFront (text_of bytes x) query × (at_least ≤ length (text_of bytes x))
-
-  -- A leaf whose text is a prefix of each text that is searched for. If there is such a text, the leaf's text has at
-  -- least so many bytes.
-  pub record IsBeforeAll (query : List ℕ) (at_least : ℕ) (pairs : List A) (layout : Tree OpaqueNodePtr A) (name : LeafPtr) : Type 0 where
-    pub pair : A
-    pub has : HasLeaf layout (leaf_name name) pair
-    pub leads : Each (λ x. IsSought query at_least x → IsFront (text_of bytes pair) (text_of bytes x) × (at_least ≤ length (text_of bytes pair))) pairs
-
-  -- such a leaf, or none if there is no text that is searched for
-  abbrev pub EndsAtFirst : List ℕ → ℕ → List A → Tree OpaqueNodePtr A → Option LeafPtr → Type 0
-  EndsAtFirst query at_least pairs layout None = Each (λ x. IsSought query at_least x → ⊥) pairs
-  EndsAtFirst query at_least pairs layout (Some name) = IsBeforeAll query at_least pairs layout name

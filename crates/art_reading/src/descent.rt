@@ -77,16 +77,21 @@ impl Visits {
     }
 }
 
-/// The leaf at which a descent ends, and how its key is to be compared there.
+/// The leaf of a key.
 #[derive(Clone, Copy)]
-pub struct LastLeaf<'a, K, V> {
+pub struct FoundLeaf<'a, K, V> {
     /// The nodes right above the leaf.
     pub path: TreePath,
     pub name: LeafPtr,
     pub node: &'a LeafNode<K, V>,
-    /// How many bytes of the key lead to the leaf.
-    pub depth: usize,
-    pub behavior: PrefixMatchBehavior,
+}
+
+// The leaf at which a descent ends, how many bytes of the key lead to it, and how the others are to be compared there.
+#[derive(Clone, Copy)]
+struct LastLeaf<'a, K, V> {
+    leaf: FoundLeaf<'a, K, V>,
+    depth: usize,
+    behavior: PrefixMatchBehavior,
 }
 
 /// Descends with a key to the leaf that is asked for, or to `None` if there is none.
@@ -102,7 +107,7 @@ pub fn walk_to_key<'a, Q: KeyQuery, K: AsBytes + Drop, V: Drop, const P: usize>(
     asked: Asked,
     start: PrefixMatchBehavior,
     visits: &mut Visits,
-) -> Option<LastLeaf<'a, K, V>>
+) -> Option<FoundLeaf<'a, K, V>>
     requires root { IsCanonicalRoot (of_key K.bytes) P store.now root }
     requires room { visits.old + length (Q.key query) + 1 < 2 ^ 64 }
     ensures leaf { ForTree (of_key K.bytes) P store.now root (λ pairs layout.
@@ -111,8 +116,8 @@ pub fn walk_to_key<'a, Q: KeyQuery, K: AsBytes + Drop, V: Drop, const P: usize>(
         (Q.key query) visits.old visits.new (IsSome result) }
 {
     let last = walk(store, root, query, start, visits)?;
-    if query.finds(last.behavior, asked, last.node, last.depth) {
-        Some(last)
+    if query.finds(last.behavior, asked, last.leaf.node, last.depth) {
+        Some(last.leaf)
     } else {
         None
     }
@@ -153,9 +158,7 @@ fn walk<'a, Q: KeyQuery, K: AsBytes + Drop, V: Drop, const P: usize>(
             let node = store.leaf_at(name);
             let path = steps.path();
             return Some(LastLeaf {
-                path,
-                name,
-                node,
+                leaf: FoundLeaf { path, name, node },
                 depth,
                 behavior,
             });
@@ -174,9 +177,11 @@ fn walk<'a, Q: KeyQuery, K: AsBytes + Drop, V: Drop, const P: usize>(
                 let node = store.leaf_at(name);
                 steps.step_down(inner, last);
                 return Some(LastLeaf {
-                    path: steps.path(),
-                    name,
-                    node,
+                    leaf: FoundLeaf {
+                        path: steps.path(),
+                        name,
+                        node,
+                    },
                     depth: front.len() + 1,
                     behavior,
                 });

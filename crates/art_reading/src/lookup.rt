@@ -7,7 +7,6 @@ ghost use Rattle.art_model.specs.Stores.{pair_of};
 ghost use Rattle.art_reading.specs.Descents.{CountsVisits, asked_of};
 ghost use Rattle.art_reading.specs.Found.{HasFound};
 
-mod shortest;
 mod texts;
 
 pub use crate::descent::Visits;
@@ -16,8 +15,10 @@ pub use crate::matching::{Asked, PrefixMatchBehavior};
 pub use crate::query::{EndedQuery, KeyBytes, KeyQuery, starts_with};
 use art_nodes::node::{AsBytes, LeafNode, OpaqueNodePtr, OptionalLeafPtr};
 use art_nodes::store::NodeStore;
-pub use shortest::{shortest_text_unchecked, shortest_text_visiting};
-pub use texts::{longest_text_by, longest_text_unchecked, longest_text_visiting};
+pub use texts::{
+    longest_text_by, longest_text_unchecked, longest_text_visiting, shortest_text_unchecked,
+    shortest_text_visiting,
+};
 
 /// Returns the leaf of a key, or `None` if no stored key is equal to it.
 ///

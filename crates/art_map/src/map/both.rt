@@ -10,7 +10,8 @@ ghost use Rattle.art_parts.specs.declared.names.NodeType.TheVariants.{Leaf};
 ghost use Rattle.art_reading.specs.declared.end_node.InsertKind.TheVariants as kinds;
 ghost use Rattle.art_writing.specs.Inserted.{placed_for};
 
-use super::{ByteMap, MapInsertError, one_more};
+use super::insert::one_more;
+use super::{ByteMap, MapInsertError};
 use art_nodes::node::{AsBytes, InnerPtr, NodeType, OpaqueNodePtr};
 use art_nodes::store::NodeStore;
 use art_writing::insert::{

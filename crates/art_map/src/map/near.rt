@@ -11,8 +11,9 @@ ghost use Rattle.art_map.specs.MapItems.{deref_pair};
 ghost use Rattle.art_map.specs.MapLends.{lends_value};
 ghost use Rattle.art_map.specs.MapPairs.{HoldsPairs, pairs_at};
 
+use super::insert::put_in;
 use super::position::{has_key_at, leaf_near};
-use super::{ByteMap, MapInsertError, pair_at, put_in};
+use super::{ByteMap, MapInsertError, pair_at};
 use art_nodes::node::{AsBytes, LeafPtr, OpaqueNodePtr};
 use art_nodes::store::NodeStore;
 use art_reading::lookup::KeyQuery;

@@ -10,8 +10,8 @@ ghost use Rattle.art_map.specs.MapItems.{deref_pair};
 ghost use Rattle.art_map.specs.MapLends.{lends_value};
 
 use super::position::leaf_by;
-use super::remove::take_all_below;
-use super::{ByteMap, Range, RangeOf, pair_at, take_bytes, take_key};
+use super::remove::{take_all_below, take_bytes, take_key};
+use super::{ByteMap, Range, RangeOf, pair_at};
 use art_nodes::node::AsBytes;
 use art_reading::iterator::RawIterator;
 use art_reading::lookup::{Asked, KeyBytes, KeyQuery, search_for};

@@ -6,7 +6,8 @@ ghost use Rattle.art_model.specs.Pairs.{of_key};
 ghost use Rattle.art_map.specs.MapPairs.{HoldsPairs, pairs_at};
 ghost use Rattle.art_map.specs.MapRetain.{FindsRefused, HasTakenRefused, RetainsAllPairs, RetainsPairs, TakesRefused, after_pair};
 
-use super::{ByteMap, pair_at, take_out};
+use super::remove::take_out;
+use super::{ByteMap, pair_at};
 use art_nodes::node::{AsBytes, OpaqueNodePtr};
 use art_nodes::store::NodeStore;
 use art_reading::range::range_unchecked;

@@ -9,7 +9,8 @@ ghost use Rattle.art_map.specs.MapChanges.{HasTaken};
 ghost use Rattle.art_map.specs.MapPairs.{HoldsPairs, pairs_at};
 ghost use Rattle.art_map.specs.MapParts.{PutsSome, keys_before, keys_from, not_between, without};
 
-use super::{ByteMap, MapInsertError, bound_of, pair_at, take_out};
+use super::remove::take_out;
+use super::{ByteMap, MapInsertError, bound_of, pair_at};
 use art_nodes::node::{AsBytes, OpaqueNodePtr};
 use art_nodes::store::NodeStore;
 use art_reading::range::range_unchecked;

@@ -15,7 +15,8 @@ ghost use Rattle.std.specs.FinMap as map;
 ghost use Rattle.art_parts.specs.declared.names.InnerPtr.{InnerPtr};
 ghost use Rattle.art_parts.specs.declared.names.NodeType.{NodeType};
 
-use super::{InnerSlabs, MOST_SLOTS, NodeStore};
+use super::room::MOST_SLOTS;
+use super::{InnerSlabs, NodeStore};
 use crate::node::{AsBytes, InnerNode, LeafNode, LeafPtr};
 use art_inner::renaming::new_name;
 use slab::Slab;

@@ -6,7 +6,7 @@ use Rattle.art_reading.proofs.Parts.{leaf_is_there}
 use Rattle.art_model.specs.Texts.{text_of}
 use Rattle.art_reading.proofs.LongestTexts.{ends_at, ends_walk, found_again, found_none, found_whole, last_found, own_pair, shared_short, shared_within}
 use Rattle.art_reading.proofs.Counts.{count_both}
-use Rattle.art_reading.proofs.TextReads.{at_most}
+use Rattle.art_reading.proofs.TextReads.{at_most, with_one}
 use Rattle.art_reading.proofs.lookup.texts.longest_text_visiting.Goals as goal
 
 pub returns-in-Whole-clause-found : goal.returns-in-Whole-clause-found
@@ -19,18 +19,18 @@ pub returns-in-Passed-None-clause-found : goal.returns-in-Passed-None-clause-fou
 returns-in-Passed-None-clause-found g c =
     has_found_last (of_key g.K.AsBytes.bytes) g.row.P c.requires.root (λ pairs layout by.
     found_none by c.args.end (c.requires.ended pairs layout by) c.args.query.now None refl
-    (ends_at by _ c.in-Passed-None.field-0-is (c.in-Passed-None.ensures.ends pairs layout by)))
+    (ends_at by _ _ _ c.in-Passed-None.field-0-is (c.in-Passed-None.ensures.ends pairs layout by)))
 
 pub leaf_at-node-requires : goal.leaf_at-node-requires
 leaf_at-node-requires g c =
     let (pairs, layout, by) = c.requires.root in
-    let covering = ends_at by _ c.in-Passed-Some.field-0-is (c.in-Passed-Some.ensures.ends pairs layout by) in
+    let covering = ends_at by _ _ _ c.in-Passed-Some.field-0-is (c.in-Passed-Some.ensures.ends pairs layout by) in
     (search rules, leaf_is_there c.args.store.now by.stands.0.holds covering.has)
 
 pub returns-then-shared-text-clause-found : goal.returns-then-shared-text-clause-found
 returns-then-shared-text-clause-found g c =
     has_found_last (of_key g.K.AsBytes.bytes) g.row.P c.requires.root (λ pairs layout by.
-    let covering = ends_at by _ c.in-Passed-Some.field-0-is (c.in-Passed-Some.ensures.ends pairs layout by) in
+    let covering = ends_at by _ _ _ c.in-Passed-Some.field-0-is (c.in-Passed-Some.ensures.ends pairs layout by) in
     let own =
     c.text_of-text.ensures ∙ ap without_last c.as_bytes.ensures
     ∙ ap (text_of (of_key g.K.AsBytes.bytes)) (own_pair by covering.has (sym c.leaf_at-node.ensures)) in
@@ -47,7 +47,7 @@ slice_bounds-walk_to_text-end g c =
 pub returns-clause-found : goal.returns-clause-found
 returns-clause-found g c =
     has_found_last (of_key g.K.AsBytes.bytes) g.row.P c.requires.root (λ pairs layout by.
-    let covering = ends_at by _ c.in-Passed-Some.field-0-is (c.in-Passed-Some.ensures.ends pairs layout by) in
+    let covering = ends_at by _ _ _ c.in-Passed-Some.field-0-is (c.in-Passed-Some.ensures.ends pairs layout by) in
     let own =
     c.text_of-text.ensures ∙ ap without_last c.as_bytes.ensures
     ∙ ap (text_of (of_key g.K.AsBytes.bytes)) (own_pair by covering.has (sym c.leaf_at-node.ensures)) in
@@ -63,13 +63,7 @@ pub returns-in-Passed-None-clause-visits : goal.returns-in-Passed-None-clause-vi
 returns-in-Passed-None-clause-visits g c = at_most c.in-Passed-None.ensures.visits (omega arith)
 
 pub returns-then-shared-text-clause-visits : goal.returns-then-shared-text-clause-visits
-returns-then-shared-text-clause-visits g c =
-    let first = c.in-Passed-Some.ensures.visits in
-    record {
-      number = first.number + 1;
-      counted = count_both _ _ _ first.counted c.count_one.ensures;
-      is_number = λ pairs layout by. let (seen, few) = first.is_number pairs layout by in (omega arith, omega arith);
-    }
+returns-then-shared-text-clause-visits g c = with_one c.in-Passed-Some.ensures.visits c.count_one.ensures (omega arith)
 
 pub returns-clause-visits : goal.returns-clause-visits
 returns-clause-visits g c =
@@ -79,7 +73,7 @@ returns-clause-visits g c =
       number = first.number + 1 + again.number;
       counted = count_both _ _ _ (count_both _ _ _ first.counted c.count_one.ensures) again.counted;
       is_number = λ pairs layout by.
-          let covering = ends_at by _ c.in-Passed-Some.field-0-is (c.in-Passed-Some.ensures.ends pairs layout by) in
+          let covering = ends_at by _ _ _ c.in-Passed-Some.field-0-is (c.in-Passed-Some.ensures.ends pairs layout by) in
           let own =
           c.text_of-text.ensures ∙ ap without_last c.as_bytes.ensures
           ∙ ap (text_of (of_key g.K.AsBytes.bytes)) (own_pair by covering.has (sym c.leaf_at-node.ensures)) in
