@@ -40,7 +40,7 @@ typedef struct {
 
 /* A map that is being built from pairs in the order of their keys. */
 typedef struct {
-    uint64_t words[39];
+    uint64_t words[35];
 } vokujin_builder;
 
 /* A pair whose key is in a buffer. */

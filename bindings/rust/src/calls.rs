@@ -13,7 +13,7 @@ pub struct FrozenPlace(pub MaybeUninit<[u64; 2]>);
 
 /// The memory of a builder.
 #[repr(C)]
-pub struct BuilderPlace(pub MaybeUninit<[u64; 39]>);
+pub struct BuilderPlace(pub MaybeUninit<[u64; 35]>);
 
 /// A pair whose key is in a buffer.
 #[repr(C)]

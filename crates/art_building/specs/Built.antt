@@ -1,4 +1,5 @@
 -- A tree that is being built, at its right edge. No public clause cites this module.
+use Rattle.std.specs.Global.{Box}
 use Rattle.std.specs.Prelude.{ℕ, List, [], ◌∷◌, ◌++◌, Option, Some, None, Result, Ok, Err, ⊤}
 use Rattle.std.specs.Option.{option_map}
 use Rattle.art_building.specs.Pushes.{IsPushError}
@@ -9,6 +10,10 @@ use Rattle.art_map.specs.MapPairs.{HoldsPairs}
 use Rattle.art_model.specs.Pairs.{of_key}
 use Rattle.art_nodes.specs.Nodes.{Nodes}
 use Rattle.art_parts.specs.declared.names.OpaqueNodePtr.{OpaqueNodePtr}
+
+-- the edge that a builder has, if there is a tree
+abbrev pub edge_in : Option (Box Edge) → Option Edge
+edge_in kept = option_map (λ (box : Box Edge). box.value) kept
 
 -- the root, if there is a tree
 abbrev pub root_of : Option Edge → Option OpaqueNodePtr

@@ -2,7 +2,7 @@
 ghost use Rattle.std.specs.Prelude.{◌≡◌, ◌+◌, ◌<◌, ◌↔◌, ◌++◌, ◌∷◌, [], Some, IfErr, IfOk, IsTrue, OnErr, OnOk, length};
 ghost use Rattle.std.specs.FinMap as map;
 ghost use Rattle.std.specs.Iterator.{IsFinite};
-ghost use Rattle.art_building.specs.Built.{HasAppended, HoldsEdge, root_of};
+ghost use Rattle.art_building.specs.Built.{HasAppended, HoldsEdge, edge_in, root_of};
 ghost use Rattle.art_building.specs.Pushes.{BuildsAll, BuildsUntil, IsPushError};
 ghost use Rattle.art_map.specs.MapPairs.{pairs_at};
 ghost use Rattle.art_model.specs.Pairs.{IsMap, of_key};
@@ -21,7 +21,8 @@ use std::marker::Model;
 #[derive(Drop)]
 pub struct MapBuilder<K: AsBytes, V, const P: usize> {
     store: NodeStore<K, V, P>,
-    edge: Option<Edge>,
+    // In a box, so that a builder is no larger than its map: a function that may name the map may make one.
+    edge: Option<Box<Edge>>,
     len: usize,
 }
 
@@ -34,13 +35,13 @@ impl<K: AsBytes, V, const P: usize> Model for MapBuilder<K, V, P> {
     ghost coded = { coded_list (coded× K.code V.code) };
 
     ghost use Rattle.art_model.specs.Pairs.{of_key};
-    ghost use Rattle.art_building.specs.Built.{HoldsEdge, root_of};
+    ghost use Rattle.art_building.specs.Built.{HoldsEdge, edge_in, root_of};
     ghost use Rattle.art_map.specs.MapPairs.{pairs_at};
 
-    ghost view = { λ m. pairs_at m.store (root_of m.edge) };
+    ghost view = { λ m. pairs_at m.store (root_of (edge_in m.edge)) };
 
-    ghost invariant = { λ m.
-        HoldsEdge (of_key K.bytes) P m.store m.edge m.len (pairs_at m.store (root_of m.edge)) };
+    ghost invariant = { λ m. HoldsEdge (of_key K.bytes) P m.store (edge_in m.edge) m.len
+        (pairs_at m.store (root_of (edge_in m.edge))) };
 }
 
 impl<K: AsBytes + Drop, V: Drop, const P: usize> MapBuilder<K, V, P> {
@@ -140,11 +141,11 @@ impl<K: AsBytes + Drop, V: Drop, const P: usize> MapBuilder<K, V, P> {
 ghost use Rattle.std.specs.Prelude.{List};
 ghost use Rattle.art_parts.specs.declared.names.OpaqueNodePtr.{OpaqueNodePtr};
 
-use art_nodes::node::OpaqueNodePtr;
+use art_nodes::node::{LeafPtr, OpaqueNodePtr};
 
 // The root of the tree with this edge, if there is one.
-fn root_in(edge: &Option<Edge>) -> Option<OpaqueNodePtr>
-    ensures { result ≡ root_of edge.now }
+fn root_in(edge: &Option<Box<Edge>>) -> Option<OpaqueNodePtr>
+    ensures { result ≡ root_of (edge_in edge.now) }
 {
     match edge {
         Some(edge) => Some(edge.root),
@@ -156,18 +157,18 @@ fn root_in(edge: &Option<Edge>) -> Option<OpaqueNodePtr>
 #[inline(always)]
 fn append_in<K: AsBytes + Drop, V: Drop, const P: usize>(
     store: &mut NodeStore<K, V, P>,
-    edge: &mut Option<Edge>,
+    edge: &mut Option<Box<Edge>>,
     len: &mut usize,
     key: K,
     value: V,
 ) -> Result<(), AppendError<K, V>>
-    requires { HoldsEdge (of_key K.bytes) P store.old edge.old len.old
-        (pairs_at store.old (root_of edge.old)) }
-    ensures { HasAppended K.bytes P (pairs_at store.old (root_of edge.old)) key value result
-        store.new edge.new len.new }
+    requires { HoldsEdge (of_key K.bytes) P store.old (edge_in edge.old) len.old
+        (pairs_at store.old (root_of (edge_in edge.old))) }
+    ensures { HasAppended K.bytes P (pairs_at store.old (root_of (edge_in edge.old))) key value result
+        store.new (edge_in edge.new) len.new }
 {
     let Some(right) = edge else {
-        return match begin(store, key, value) {
+        return match begin_in_box(store, key, value) {
             Ok(begun) => {
                 *edge = Some(begun);
                 *len = 1;
@@ -183,6 +184,39 @@ fn append_in<K: AsBytes + Drop, V: Drop, const P: usize>(
         }
         Err(error) => Err(error),
     }
+}
+
+ghost use Rattle.art_loading.specs.Edges.{IsEdge};
+ghost use Rattle.art_parts.specs.Names.{leaf_name};
+ghost use Rattle.art_writing.specs.ParentWrites.{IsPlanted};
+
+// Begins a tree with a pair. The box is allocated first, so that an error leaves the store unchanged.
+fn begin_in_box<K: AsBytes + Drop, V: Drop, const P: usize>(
+    store: &mut NodeStore<K, V, P>,
+    key: K,
+    value: V,
+) -> Result<Box<Edge>, PairRefused<K, V>>
+    ensures begun { IfOk result (λ edge. IsEdge (of_key K.bytes) P store.new
+        edge.value.root edge.value.steps.items edge.value.leaf ((key, value) ∷ [])) }
+    ensures root { IfOk result (λ edge. edge.value.root ≡ leaf_name edge.value.leaf) }
+    ensures planted { IfOk result (λ edge.
+        IsPlanted store.old store.new edge.value.leaf (key, value)) }
+    ensures handed_back { IfErr result (λ refused.
+        (refused.key ≡ key) × (refused.value ≡ value)) }
+    ensures same { OnErr result (store.new ≡ store.old) }
+{
+    let alloc = store.alloc();
+    let leaf = LeafPtr { slot: 0 };
+    let no_edge = Edge {
+        root: leaf.to_opaque(),
+        steps: Vec::new(alloc),
+        leaf,
+    };
+    let Ok(mut edge) = Box::new(alloc, no_edge) else {
+        return Err(PairRefused { key, value });
+    };
+    *edge = begin(store, key, value)?;
+    Ok(edge)
 }
 
 ghost use Rattle.art_loading.specs.declared.append.AppendReason.TheVariants.{Memory};

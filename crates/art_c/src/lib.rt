@@ -229,7 +229,7 @@ pub extern "C" fn vokujin_prefix_end(prefix: &mut [u8]) -> usize
 /// Returns the size of a builder in bytes. It is aligned to eight bytes.
 #[unsafe(no_mangle)]
 pub extern "C" fn vokujin_builder_size() -> usize
-    ensures { result ≡ 312 }
+    ensures { result ≡ 280 }
 {
     std::mem::size_of::<StringMapBuilder>()
 }

@@ -40,13 +40,13 @@ lowest a (byte ∷ bytes) small =
     ap (bytes_high_first (suc (length bytes))) whole ∙ ap₂ (λ x xs. x ∷ xs) first (lowest (a * 256 + byte) bytes small.1)
 
 -- the bytes of the number are these
-bytes_of_number : (bytes : List ℕ) → Each (λ byte. byte < 256) bytes → bytes_high_first (length bytes) (number_of bytes) ≡ bytes
+pub bytes_of_number : (bytes : List ℕ) → Each (λ byte. byte < 256) bytes → bytes_high_first (length bytes) (number_of bytes) ≡ bytes
 bytes_of_number bytes small =
     let none : 0 * 256 ^ length bytes + number_of bytes ≡ number_of bytes = omega arith in
     ap (bytes_high_first (length bytes)) (sym none) ∙ lowest 0 bytes small
 
 -- bytes that are read one by one are small
-small_each : (bytes : List ℕ) → ((i : ℕ) → get_or bytes i 0 < 256) → Each (λ byte. byte < 256) bytes
+pub small_each : (bytes : List ℕ) → ((i : ℕ) → get_or bytes i 0 < 256) → Each (λ byte. byte < 256) bytes
 small_each [] small = tt
 small_each (byte ∷ bytes) small = (small 0, small_each bytes (λ i. small (suc i)))
 

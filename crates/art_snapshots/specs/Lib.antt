@@ -1,1 +1,2 @@
 pub mod MapEntries
+pub mod ValueBytes

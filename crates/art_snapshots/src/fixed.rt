@@ -10,6 +10,7 @@ use std::alloc::{AllocError, Global};
 // Returns the bytes as an array, or `None` if their number is not `N`.
 pub(crate) fn all_of<const N: usize>(bytes: &[u8]) -> Option<[u8; N]>
     ensures all { IfSome result (λ all. all ≡ bytes.now) }
+    ensures count { IfSome result (λ all. length all ≡ N) }
     ensures none { IfNone result (length bytes.now ≢ N) }
 {
     if bytes.len() != N {

@@ -4,6 +4,7 @@
 mod fixed;
 mod giving;
 mod maps;
+mod numbers;
 mod sets;
 mod strings;
 mod taking;

@@ -10,6 +10,7 @@ ghost use Rattle.art_snapshots.specs.MapEntries.{IsEntry, entries_of};
 use crate::giving::Giving;
 use crate::taking::Taking;
 use crate::traits::{SnapshotKey, SnapshotValue};
+use art_building::tree_map::TreeMapBuilder;
 use art_keyed::map::TreeMap;
 use snapshot_format::{ReadError, read_snapshot, write_snapshot};
 use std::alloc::Global;
@@ -23,8 +24,11 @@ pub fn write_map<K: SnapshotKey + Drop, V: SnapshotValue + Drop, const P: usize,
     map: &TreeMap<K, V, P>,
     output: &mut W,
 ) -> io::Result<()>
-    ensures { OnOk result (Appends (W.contents output.old) (W.contents output.new)
+    ensures written { OnOk result (Appends (W.contents output.old) (W.contents output.new)
         (snapshot_of (entries_of K.bytes V.value_bytes map.now))) }
+
+    // So `read_map` reads it back.
+    ensures storable { OnOk result (IsStorable (entries_of K.bytes V.value_bytes map.now)) }
 {
     let mut giving = Giving { pairs: map.iter() };
     write_snapshot(alloc, output, &mut giving)
@@ -53,9 +57,9 @@ pub fn read_map<K: SnapshotKey + Drop, V: SnapshotValue + Drop, const P: usize, 
         IsExplained (IsEntry K.bytes V.value_bytes K.is_key) bytes malformed))) }
 {
     let mut taking = Taking {
-        map: TreeMap::new(alloc),
+        builder: TreeMapBuilder::new(alloc),
         alloc,
     };
     read_snapshot(alloc, input, &mut taking)?;
-    Ok(taking.map)
+    Ok(taking.builder.finish())
 }

@@ -24,8 +24,11 @@ pub fn write_set<K: SnapshotKey + Drop, const P: usize, W: Write>(
     set: &TreeSet<K, P>,
     output: &mut W,
 ) -> io::Result<()>
-    ensures { OnOk result (Appends (W.contents output.old) (W.contents output.new)
+    ensures written { OnOk result (Appends (W.contents output.old) (W.contents output.new)
         (snapshot_of (key_entries K.bytes set.now))) }
+
+    // So `read_set` reads it back.
+    ensures storable { OnOk result (IsStorable (key_entries K.bytes set.now)) }
 {
     let mut giving = GivingKeys { keys: set.iter() };
     write_snapshot(alloc, output, &mut giving)

@@ -4,20 +4,20 @@ ghost use Rattle.snapshot_format.specs.Snapshots.{entry};
 ghost use Rattle.art_snapshots.specs.MapEntries.{IsEntry, entries_of};
 
 use crate::traits::{SnapshotKey, SnapshotValue};
-use art_keyed::map::TreeMap;
+use art_building::tree_map::TreeMapBuilder;
 use snapshot_format::{TakeEntries, TakeError};
 use std::alloc::Global;
 
-/// The map of the entries that were taken.
+/// The map of the entries that were taken. It is built in the order of its keys, without a descent for each.
 #[derive(Drop)]
 pub struct Taking<K: SnapshotKey, V: SnapshotValue, const P: usize> {
-    pub map: TreeMap<K, V, P>,
+    pub builder: TreeMapBuilder<K, V, P>,
     pub alloc: Global,
 }
 
 impl<K: SnapshotKey + Drop, V: SnapshotValue + Drop, const P: usize> TakeEntries
     for Taking<K, V, P> {
-    ghost entries = { λ taking. entries_of K.bytes V.value_bytes taking.map };
+    ghost entries = { λ taking. entries_of K.bytes V.value_bytes taking.builder };
 
     ghost takes = { IsEntry K.bytes V.value_bytes K.is_key };
 
@@ -34,9 +34,7 @@ impl<K: SnapshotKey + Drop, V: SnapshotValue + Drop, const P: usize> TakeEntries
         let Some(value) = value else {
             return Err(TakeError::BadEntry);
         };
-        // No effect at run time. The proof reads from this call that the keys of the map are of the type.
-        let _ = self.map.as_byte_map();
-        let Ok(_) = self.map.insert(key, value) else {
+        let Ok(()) = self.builder.push(key, value) else {
             return Err(TakeError::Memory);
         };
         Ok(())

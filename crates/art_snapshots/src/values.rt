@@ -1,6 +1,6 @@
 //! Values that are written to snapshots.
-ghost use Rattle.std.specs.Prelude.{[], ◌∷◌};
-ghost use Rattle.std.specs.Int.{to_be_bytes, w16, w32, w64};
+ghost use Rattle.std.specs.Prelude.{[], string_bytes};
+ghost use Rattle.art_snapshots.specs.ValueBytes.{array_bytes};
 
 use crate::fixed::all_of;
 use crate::traits::SnapshotValue;
@@ -36,66 +36,31 @@ impl SnapshotValue for Vec<u8> {
     }
 }
 
-/// A number, as one byte.
-impl SnapshotValue for u8 {
-    ghost value_bytes = { λ value. value ∷ [] };
+/// A text, in UTF-8.
+impl SnapshotValue for String {
+    ghost value_bytes = { λ value. string_bytes value };
 
     fn append_bytes(&self, out: &mut Vec<u8>) -> Result<(), AllocError> {
-        out.extend_from_slice(&[*self])
+        out.extend_from_slice(self.as_bytes())
     }
 
     fn from_snapshot(alloc: Global, bytes: &[u8]) -> Result<Option<Self>, AllocError> {
-        match bytes {
-            [value] => Ok(Some(*value)),
-            _ => Ok(None),
+        match str::from_utf8(bytes) {
+            Ok(text) => Ok(Some(String::from_str(alloc, text)?)),
+            Err(_) => Ok(None),
         }
     }
 }
 
-/// A number, as two bytes, the highest first.
-impl SnapshotValue for u16 {
-    ghost value_bytes = { to_be_bytes w16 };
+/// `N` bytes.
+impl<const N: usize> SnapshotValue for [u8; N] {
+    ghost value_bytes = { array_bytes N };
 
     fn append_bytes(&self, out: &mut Vec<u8>) -> Result<(), AllocError> {
-        out.extend_from_slice(&self.to_be_bytes())
+        out.extend_from_slice(self)
     }
 
     fn from_snapshot(alloc: Global, bytes: &[u8]) -> Result<Option<Self>, AllocError> {
-        let Some(bytes) = all_of(bytes) else {
-            return Ok(None);
-        };
-        Ok(Some(u16::from_be_bytes(bytes)))
-    }
-}
-
-/// A number, as four bytes, the highest first.
-impl SnapshotValue for u32 {
-    ghost value_bytes = { to_be_bytes w32 };
-
-    fn append_bytes(&self, out: &mut Vec<u8>) -> Result<(), AllocError> {
-        out.extend_from_slice(&self.to_be_bytes())
-    }
-
-    fn from_snapshot(alloc: Global, bytes: &[u8]) -> Result<Option<Self>, AllocError> {
-        let Some(bytes) = all_of(bytes) else {
-            return Ok(None);
-        };
-        Ok(Some(u32::from_be_bytes(bytes)))
-    }
-}
-
-/// A number, as eight bytes, the highest first.
-impl SnapshotValue for u64 {
-    ghost value_bytes = { to_be_bytes w64 };
-
-    fn append_bytes(&self, out: &mut Vec<u8>) -> Result<(), AllocError> {
-        out.extend_from_slice(&self.to_be_bytes())
-    }
-
-    fn from_snapshot(alloc: Global, bytes: &[u8]) -> Result<Option<Self>, AllocError> {
-        let Some(bytes) = all_of(bytes) else {
-            return Ok(None);
-        };
-        Ok(Some(u64::from_be_bytes(bytes)))
+        Ok(all_of(bytes))
     }
 }

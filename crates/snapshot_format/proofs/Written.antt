@@ -6,9 +6,9 @@ use Rattle.snapshot_format.specs.Numbers.{number_within, FitsWithin}
 use Rattle.std.specs.Io.KnownBytes.{Appends}
 use Rattle.sha2.specs.declared.Sha256.{Sha256}
 use Rattle.sha2.specs.Sha256.{sha256}
-use Rattle.snapshot_format.specs.Snapshots.{Entry, body_of, entries_bytes, entry_bytes, head_bytes, last_key, shared_len, snapshot_of}
+use Rattle.snapshot_format.specs.Snapshots.{Entry, FitsEntry, body_of, entries_bytes, entry_bytes, head_bytes, last_key, shared_len, snapshot_of}
 use Rattle.snapshot_format.specs.Writing.{HasWritten, Writes}
-use Rattle.snapshot_format.proofs.Parts.{entries_more, last_more}
+use Rattle.snapshot_format.proofs.Parts.{each_more, entries_more, last_more}
 use Rattle.text_lines.proofs.Writing.{appends_none, appends_more}
 use Rattle.snapshot_format.proofs.Numbers.{fits_last, fits_more, within_large}
 
@@ -66,16 +66,18 @@ module _ {W : Type 0} (contents : W → Option (List ℕ)) where
     are = refl;
     counted = refl;
     written = record { appended = appends_none (contents a); held = λ m of_m. rw append-nil of_m };
+    fits = tt;
     last = none;
   }
 
   pub writing_goes_on : (a b c : W) (x y z : Sha256) (entries left others : List Entry) (key : List ℕ) (one : Entry) (count : ℕ) → HasWritten contents a b x y entries left key count →
-      left ≡ one ∷ others → Writes contents b c y z (entry_bytes key one) → HasWritten contents a c x z entries others one.key (count + 1)
-  writing_goes_on a b c x y z entries left others key one count h is more = record {
+      left ≡ one ∷ others → Writes contents b c y z (entry_bytes key one) → FitsEntry one → HasWritten contents a c x z entries others one.key (count + 1)
+  writing_goes_on a b c x y z entries left others key one count h is more fits = record {
     done = h.done ++ one ∷ [];
     are = h.are ∙ ap (λ es. h.done ++ es) is ∙ sym (append_assoc h.done (one ∷ []) others);
     counted = let n = h.counted in omega (arith, length-append h.done (one ∷ []));
     written = rw (entries_more [] h.done one, ← h.last) (writes_more a b c x y z (entries_bytes [] h.done) (entry_bytes key one) h.written more);
+    fits = each_more FitsEntry h.done one h.fits fits;
     last = sym (last_more [] h.done one);
   }
 

@@ -1,9 +1,10 @@
 //! Writes a snapshot.
-ghost use Rattle.std.specs.Prelude.{◌≡◌, ◌≤◌, ◌++◌, ◌∷◌, [], OnOk, length, take};
+ghost use Rattle.std.specs.Prelude.{◌≡◌, ◌<◌, ◌≤◌, ◌^◌, ◌++◌, ◌∷◌, [], OnOk, length, take};
+ghost use Rattle.std.specs.List.{AllByRecursion as Each};
 ghost use Rattle.std.specs.Io.KnownBytes.{Appends};
 ghost use Rattle.snapshot_format.specs.Numbers.{FitsWithin, number_bytes, number_within};
 ghost use Rattle.snapshot_format.specs.Writing.{Writes};
-ghost use Rattle.snapshot_format.specs.Snapshots.{entries_bytes, entry, entry_bytes, head_bytes, shared_len, sized, snapshot_of};
+ghost use Rattle.snapshot_format.specs.Snapshots.{FitsEntry, IsRising, IsStorable, entries_bytes, entry, entry_bytes, head_bytes, shared_len, sized, snapshot_of};
 
 use crate::entries::GiveEntries;
 use crate::reading::{MAGIC, VERSION};
@@ -98,9 +99,14 @@ fn write_entry<W: Write>(
     key: &[u8],
     value: &[u8],
 ) -> io::Result<()>
-    ensures { OnOk result (Writes W.contents output.old output.new digest.old digest.new
+    ensures written { OnOk result (Writes W.contents output.old output.new digest.old digest.new
         (entry_bytes before.now (entry key.now value.now))) }
+    ensures key { length key.now < 2 ^ 64 }
+    ensures value { length value.now < 2 ^ 64 }
 {
+    // No effect at run time. The proof reads from these calls that the lengths are numbers of 64 bits.
+    let _key_len = key.len();
+    let _value_len = value.len();
     line.clear();
     push_entry(line, before, key, value)?;
     write_part(output, digest, line)
@@ -115,8 +121,9 @@ fn write_entries<W: Write, G: GiveEntries>(
     count: u64,
 ) -> io::Result<()>
     requires { count ≡ length (G.entries entries.old) }
-    ensures { OnOk result (Writes W.contents output.old output.new digest.old digest.new
+    ensures written { OnOk result (Writes W.contents output.old output.new digest.old digest.new
         (entries_bytes [] (G.entries entries.old))) }
+    ensures fits { OnOk result (Each FitsEntry (G.entries entries.old)) }
 {
     let mut before = Vec::new(alloc);
     let mut key = Vec::new(alloc);
@@ -142,8 +149,11 @@ pub fn write_snapshot<W: Write, G: GiveEntries>(
     output: &mut W,
     entries: &mut G,
 ) -> io::Result<()>
-    ensures { OnOk result (Appends (W.contents output.old) (W.contents output.new)
+    ensures written { OnOk result (Appends (W.contents output.old) (W.contents output.new)
         (snapshot_of (G.entries entries.old))) }
+
+    // It is read back if the keys rise.
+    ensures storable { OnOk result (IsRising (G.entries entries.old) → IsStorable (G.entries entries.old)) }
 {
     let mut digest = Sha256::new();
     let count = entries.count();

@@ -40,8 +40,8 @@ static SIGNED_BYTES: [u8; 80] = [
     0x3a, 0x97, 0xd6, 0x24, 0x62, 0x73, 0xee, 0x2a, 0x22, 0xf1, 0xf8, 0x1c, 0x4f, 0xe6, 0x6d, 0x4f,
 ];
 
-// Returns whether these are the bytes of the map's snapshot.
-fn is_written<K: SnapshotKey + Drop, V: SnapshotValue + Drop>(
+/// Returns whether these are the bytes of the map's snapshot.
+pub fn is_written<K: SnapshotKey + Drop, V: SnapshotValue + Drop>(
     alloc: Global,
     map: &TreeMap<K, V, 10>,
     bytes: &[u8],
@@ -50,14 +50,17 @@ fn is_written<K: SnapshotKey + Drop, V: SnapshotValue + Drop>(
     write_map(alloc, map, &mut written).is_ok() && written.as_slice() == bytes
 }
 
-// Returns whether a map is read from the bytes, and written as the same bytes again.
-fn is_read<K: SnapshotKey + Drop, V: SnapshotValue + Drop>(alloc: Global, bytes: &[u8]) -> bool {
+/// Returns whether a map is read from the bytes, and written as the same bytes again.
+pub fn is_read<K: SnapshotKey + Drop, V: SnapshotValue + Drop>(
+    alloc: Global,
+    bytes: &[u8],
+) -> bool {
     let read: Result<TreeMap<K, V, 10>, ReadError> = read_map(alloc, bytes);
     read.is_ok_and(|map| is_written(alloc, &map, bytes))
 }
 
-// Returns what is wrong with bytes that are the snapshot of no such map.
-fn fault_of<K: SnapshotKey + Drop, V: SnapshotValue + Drop>(
+/// Returns what is wrong with bytes that are the snapshot of no such map.
+pub fn fault_of<K: SnapshotKey + Drop, V: SnapshotValue + Drop>(
     alloc: Global,
     bytes: &[u8],
 ) -> Option<Fault> {
@@ -68,11 +71,11 @@ fn fault_of<K: SnapshotKey + Drop, V: SnapshotValue + Drop>(
     }
 }
 
-// Returns the bytes with the lowest bit of one of them flipped.
-fn flipped<const N: usize>(bytes: &[u8; N], place: usize) -> [u8; N] {
+// Returns the bytes with a bit of one of them flipped.
+fn flipped<const N: usize>(bytes: &[u8; N], place: usize, bit: u8) -> [u8; N] {
     let mut flipped = *bytes;
     if let Some(byte) = flipped.get_mut(place) {
-        *byte ^= 1;
+        *byte ^= bit;
     }
     flipped
 }
@@ -99,7 +102,7 @@ fn maps_of_escaped_strings(rt: HostRuntime) {
         (30, Fault::BadEntry),
         (14, Fault::WrongChecksum),
     ] {
-        let other = flipped(bytes, place);
+        let other = flipped(bytes, place, 1);
         assert!(rt;
             fault_of::<Escaped, u32>(alloc, &other) == Some(fault),
             "byte {place}"
@@ -125,7 +128,7 @@ fn maps_of_unsigned_numbers(rt: HostRuntime) {
     assert!(rt; fault_of::<U32Key, u16>(alloc, bytes) == Some(Fault::BadEntry));
     assert!(rt; fault_of::<I16Key, u8>(alloc, bytes) == Some(Fault::BadEntry));
     assert!(rt; fault_of::<U32Key, u8>(alloc, &bytes[..54]) == Some(Fault::CutShort));
-    let other = flipped(bytes, 14);
+    let other = flipped(bytes, 14, 1);
     assert!(rt; fault_of::<U32Key, u8>(alloc, &other) == Some(Fault::WrongChecksum));
 }
 
@@ -145,7 +148,7 @@ fn maps_of_signed_numbers(rt: HostRuntime) {
     assert!(rt; is_read::<I16Key, u64>(alloc, bytes));
     assert!(rt; fault_of::<I16Key, u32>(alloc, bytes) == Some(Fault::BadEntry));
     assert!(rt; fault_of::<I16Key, u64>(alloc, &bytes[..79]) == Some(Fault::CutShort));
-    let other = flipped(bytes, 12);
+    let other = flipped(bytes, 12, 1);
     assert!(rt; fault_of::<I16Key, u64>(alloc, &other) == Some(Fault::WrongChecksum));
 }
 
@@ -179,10 +182,19 @@ fn sets_of_words(rt: HostRuntime) {
     let bytes = &SET_BYTES;
     assert!(rt; words(alloc).is_some_and(|set| is_set_written(alloc, &set, bytes)));
     assert!(rt; is_set_read(alloc, bytes));
-    assert!(rt; !is_set_read(alloc, &bytes[..59]));
-    for place in 0..60usize {
-        assert!(rt; !is_set_read(alloc, &flipped(bytes, place)), "byte {place}");
-    }
     // A map with values is no set.
     assert!(rt; !is_set_read(alloc, &UNSIGNED_BYTES));
+}
+
+#[test]
+fn damaged_sets(rt: HostRuntime) {
+    let alloc = rt.alloc();
+    let bytes = &SET_BYTES;
+    for place in 0..60usize {
+        assert!(rt; !is_set_read(alloc, &bytes[..place]), "{place} bytes");
+        for bit in [1, 2, 4, 8, 16, 32, 64, 128u8] {
+            let other = flipped(bytes, place, bit);
+            assert!(rt; !is_set_read(alloc, &other), "bit {bit} of byte {place}");
+        }
+    }
 }
