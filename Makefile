@@ -3,7 +3,7 @@
 
 PREFIX ?= /usr/local
 DESTDIR ?=
-PROGRAMS = dial_plan path_index route_table word_count
+PROGRAMS = artrun dial_plan path_index route_table word_count
 BUILT = $(foreach name,$(PROGRAMS),crates/$(name)/out/$(name))
 BIN = $(DESTDIR)$(PREFIX)/bin
 MAN = $(DESTDIR)$(PREFIX)/share/man/man1

@@ -1,7 +1,6 @@
 -- Lines that are answered one after another.
-use Rattle.std.proofs.Common.{◌≡◌, ℕ, ◌+◌, List, [], ◌∷◌, ◌++◌, length, Option, Some, None, IfSome, Result, Ok, Err, IfOk, IsOk, IsOkAnd}
-use Rattle.std.proofs.Common.{◌≢◌, refl, ap, sym, subst, inl, inr, arith, append_assoc, append-nil}
-use Rattle.std.proofs.lemmas.Bool.{false≢true}
+use Rattle.std.proofs.Common.{◌≡◌, ℕ, ◌+◌, List, [], ◌∷◌, ◌++◌, length, Option, Some, None, IfSome}
+use Rattle.std.proofs.Common.{refl, ap, sym, subst, inl, inr, append_assoc, append-nil}
 use Rattle.std.specs.Io.KnownBytes.{Appends, Keeps}
 use Rattle.art_engine.specs.declared.lines.Request.{Request}
 use Rattle.art_engine.specs.declared.keeping.status.Ending.{Ending}
@@ -39,7 +38,7 @@ module _ (number : ℕ) (first tree : KeptTree) (old now : Option (List ℕ)) (l
       GoesOn number first tree old now before → AreServed (before ++ line ∷ after) 1 first tree old BadLine new
   refused_here new nothing appends before after n goes = goes (line ∷ after) tree BadLine new (inl (nothing, refl, refl, appends))
 
--- ---- what the status reports of the lines
+-- ---- what the end reports of the lines
 
 -- lines that are served to their end all ask for something
 all_ask : (ls : List (List ℕ)) (number : ℕ) (tree last : KeptTree) (old new : Option (List ℕ)) → AreServed ls number tree last old Input new → AllAsk ls
@@ -66,47 +65,22 @@ still_served (line ∷ ls) number tree last old now new why (inl (nothing, is, s
 still_served (line ∷ ls) number tree last old now new why (inr (request, left, replied, kept, asked, reply, same, served)) keeps =
     inr (request, left, replied, kept, asked, reply, same, still_served ls (number + 1) left last kept now new why served keeps)
 
-module _ (text : Option (List ℕ)) (tree last_tree : KeptTree) (old new : Option (List ℕ)) where
-  -- what is known of the lines where they were served to this end
-  abbrev pub Served : Ending → Type 0
-  Served why = IfSome text (λ bs. AreServed (lines bs) 1 tree last_tree old why new)
+module _ (tree last_tree : KeptTree) (old new : Option (List ℕ)) where
+  -- what is known of the lines of a text that were served to this end
+  abbrev pub Served : Option (List ℕ) → Ending → Type 0
+  Served text why = IfSome text (λ bs. AreServed (lines bs) 1 tree last_tree old why new)
 
-  served_whole : (text : Option (List ℕ)) → IfSome text (λ bs. AreServed (lines bs) 1 tree last_tree old Input new) → IfSome text (λ bs. AllAsk (lines bs))
-  served_whole None h = tt
-  served_whole (Some bs) h = all_ask (lines bs) 1 tree last_tree old new h
+  pub ended : (text : Option (List ℕ)) (why : Ending) → Served text why → why ≡ Input → IfSome text (λ bs. AllAsk (lines bs))
+  ended None why served is = tt
+  ended (Some bs) Input served is = all_ask (lines bs) 1 tree last_tree old new served
+  ended (Some bs) BadLine served is = absurd cc
 
-  served_in_part : (text : Option (List ℕ)) → IfSome text (λ bs. AreServed (lines bs) 1 tree last_tree old BadLine new) → IfSome text (λ bs. OneAsksForNothing (lines bs))
-  served_in_part None h = tt
-  served_in_part (Some bs) h = one_asks_for_nothing (lines bs) 1 tree last_tree old new h
+  pub refused : (text : Option (List ℕ)) (why : Ending) → Served text why → why ≡ BadLine → IfSome text (λ bs. OneAsksForNothing (lines bs))
+  refused None why served is = tt
+  refused (Some bs) Input served is = absurd cc
+  refused (Some bs) BadLine served is = one_asks_for_nothing (lines bs) 1 tree last_tree old new served
 
-  pub ended : {E F : Type 0} (end : Result Ending E) (written : Result (Unit {0}) F) (status : ℕ) → IfOk end Served →
-      (IsOkAnd end (λ why. why ≡ BadLine) → IsOk written → status ≡ 2) → (¬ (IsOk end × IsOk written) → status ≡ 1) → status ≡ 0 →
-      IfSome text (λ bs. AllAsk (lines bs))
-  ended (Ok Input) (Ok u) status served bad failed zero = served_whole text served
-  ended (Ok BadLine) (Ok u) status served bad failed zero = absurd (omega (arith, bad refl refl))
-  ended (Ok why) (Err e) status served bad failed zero = absurd (omega (arith, failed (λ both. false≢true both.1)))
-  ended (Err e) written status served bad failed zero = absurd (omega (arith, failed (λ both. false≢true both.0)))
-
-  pub refused : {E F : Type 0} (end : Result Ending E) (written : Result (Unit {0}) F) (status : ℕ) → IfOk end Served →
-      (IsOkAnd end (λ why. why ≡ Input) → IsOk written → status ≡ 0) → (¬ (IsOk end × IsOk written) → status ≡ 1) → status ≡ 2 →
-      IfSome text (λ bs. OneAsksForNothing (lines bs))
-  refused (Ok BadLine) (Ok u) status served whole failed two = served_in_part text served
-  refused (Ok Input) (Ok u) status served whole failed two = absurd (omega (arith, whole refl refl))
-  refused (Ok why) (Err e) status served whole failed two = absurd (omega (arith, failed (λ both. false≢true both.1)))
-  refused (Err e) written status served whole failed two = absurd (omega (arith, failed (λ both. false≢true both.0)))
-
-  pub served : {E F : Type 0} (end : Result Ending E) (written : Result (Unit {0}) F) (status : ℕ) (last : Option (List ℕ)) → IfOk end Served → Keeps new last →
-      (state_of tree).root ≡ None → (¬ (IsOk end × IsOk written) → status ≡ 1) → status ≢ 1 → IfSome text (λ bs. AreServedAnew (lines bs) old last)
-  served (Ok why) (Ok u) status last done keeps empty failed other = anew text done
-    where
-      anew : (text : Option (List ℕ)) → IfSome text (λ bs. AreServed (lines bs) 1 tree last_tree old why new) → IfSome text (λ bs. AreServedAnew (lines bs) old last)
-      anew None h = tt
-      anew (Some bs) h = (tree, last_tree, why, empty, still_served (lines bs) 1 tree last_tree old new last why h keeps)
-  served (Ok why) (Err e) status last done keeps empty failed other = absurd (other (failed (λ both. false≢true both.1)))
-  served (Err e) written status last done keeps empty failed other = absurd (other (failed (λ both. false≢true both.0)))
-
--- a status other than 1 reports that the last write succeeded
-pub was_written : {E F : Type 0} (end : Result Ending E) (written : Result (Unit {0}) F) (status : ℕ) →
-    (¬ (IsOk end × IsOk written) → status ≡ 1) → status ≢ 1 → IsOk written
-was_written end (Ok u) status failed other = refl
-was_written end (Err e) status failed other = absurd (other (failed (λ both. false≢true both.1)))
+  pub served : (text : Option (List ℕ)) (why : Ending) (last : Option (List ℕ)) → Served text why → Keeps new last → (state_of tree).root ≡ None →
+      IfSome text (λ bs. AreServedAnew (lines bs) why old last)
+  served None why last done keeps empty = tt
+  served (Some bs) why last done keeps empty = (tree, last_tree, empty, still_served (lines bs) 1 tree last_tree old new last why done keeps)

@@ -7,4 +7,5 @@ pub mod NodeWalks
 pub mod Texts
 pub mod NodeLines
 pub mod Shown
+pub mod Endings
 pub mod Served

@@ -54,6 +54,6 @@ AreServed (line ∷ lines) number tree last old why new =
     AreServed lines (number + 1) left last kept why new)
 
 -- each line is answered in its turn, the first one from no tree
-abbrev pub AreServedAnew : List (List ℕ) → Option (List ℕ) → Option (List ℕ) → Type 0
-AreServedAnew lines old new =
-    (tree : KeptTree) × (last : KeptTree) × (why : Ending) × ((state_of tree).root ≡ None) × AreServed lines 1 tree last old why new
+abbrev pub AreServedAnew : List (List ℕ) → Ending → Option (List ℕ) → Option (List ℕ) → Type 0
+AreServedAnew lines why old new =
+    (tree : KeptTree) × (last : KeptTree) × ((state_of tree).root ≡ None) × AreServed lines 1 tree last old why new

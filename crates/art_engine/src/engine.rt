@@ -1,16 +1,17 @@
 //! Lines in, replies out.
-ghost use Rattle.std.specs.Prelude.{◌≡◌, ◌≢◌, ◌≤◌, [], None, IfOk, IfSome, OnOk};
+ghost use Rattle.std.specs.Prelude.{◌≡◌, [], None, IfOk, IfSome, OnOk};
 ghost use Rattle.std.specs.Io.Buffered.{reader_remaining, writer_buffer, writer_contents};
 ghost use Rattle.art_parts.specs.LeafClones.{IsPairClone};
 ghost use Rattle.art_engine.specs.Commands.{IsAnswered, IsCommandFor};
 ghost use Rattle.art_engine.specs.KeptTrees.{IsKept};
 ghost use Rattle.art_engine.specs.Served.{AllAsk, AreServed, AreServedAnew, OneAsksForNothing};
 ghost use Rattle.art_engine.specs.Shown.{IsReplied, IsShown};
+ghost use Rattle.art_engine.specs.declared.keeping.status.Ending.TheVariants.{Input, BadLine};
 ghost use Rattle.text_lines.specs.Lines.{lines};
 
 use crate::checks::write_check;
 use crate::keeping::commands::command_of;
-use crate::keeping::status::{Ending, status_of};
+use crate::keeping::status::Ending;
 use crate::keeping::tree::KeptTree;
 use crate::lines::Request;
 use crate::nodes::write_nodes;
@@ -21,28 +22,27 @@ use std::io;
 use std::io::{BufReader, BufWriter, ErrorKind, Read, Write};
 use text_lines::lines::{next_line, write_out};
 
-/// Answers each line of the input on the output, by commands on a new tree, and flushes the output. Returns the status:
-/// 0 at the end of the input, 2 after a line that is no valid request, and 1 if the input can't be read, the output
-/// can't be written, or an allocation fails.
+/// Answers each line of the input on the output, by commands on a new tree, and flushes the output. Returns why no further
+/// line is read: the input is at its end, or a line is no valid request. Fails if the input can't be read, the output
+/// can't be written, or the allocation of a line fails.
 pub fn serve<R: Read, W: Write + Drop>(
     alloc: Global,
     input: &mut BufReader<R>,
     output: &mut BufWriter<W>,
-) -> u8
-    ensures served { result ≢ 1 → IfSome (reader_remaining R.remaining input.old) (λ text.
-        AreServedAnew (lines text) (writer_contents W.contents output.old)
-        (writer_contents W.contents output.new)) }
-    ensures flushed { result ≢ 1 → writer_buffer output.new ≡ [] }
-    ensures ended { result ≡ 0 → IfSome (reader_remaining R.remaining input.old) (λ text.
-        AllAsk (lines text)) }
-    ensures refused { result ≡ 2 → IfSome (reader_remaining R.remaining input.old) (λ text.
-        OneAsksForNothing (lines text)) }
-    ensures few { result ≤ 2 }
+) -> io::Result<Ending>
+    ensures served { IfOk result (λ why. IfSome (reader_remaining R.remaining input.old) (λ text.
+        AreServedAnew (lines text) why (writer_contents W.contents output.old)
+        (writer_contents W.contents output.new))) }
+    ensures flushed { OnOk result (writer_buffer output.new ≡ []) }
+    ensures ended { IfOk result (λ why. why ≡ Input → IfSome (reader_remaining R.remaining input.old) (λ text.
+        AllAsk (lines text))) }
+    ensures refused { IfOk result (λ why. why ≡ BadLine → IfSome (reader_remaining R.remaining input.old) (λ text.
+        OneAsksForNothing (lines text))) }
 {
     let mut tree = KeptTree::new(alloc);
-    let end = answer_lines(alloc, &mut tree, input, output);
-    let written = output.flush();
-    status_of(end, written)
+    let why = answer_lines(alloc, &mut tree, input, output)?;
+    output.flush()?;
+    Ok(why)
 }
 
 /// Answers each line of the input on the output, by commands on the tree. Returns why no further line is read. Fails if

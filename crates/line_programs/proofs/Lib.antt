@@ -2,4 +2,5 @@ mod EntryLemmas
 mod ReadLemmas
 mod ServeLemmas
 mod CheckLemmas
+mod JsonLemmas
 mod Examples

@@ -10,7 +10,7 @@ use Rattle.line_programs.specs.declared.line_tables.Outcome.{Outcome}
 use Rattle.line_programs.specs.declared.line_tables.Outcome.TheVariants.{Found, NotFound, Invalid}
 use Rattle.line_programs.specs.declared.serving.Rules.{Rules}
 use Rattle.line_programs.specs.Outcomes.{worse, worst}
-use Rattle.line_programs.specs.Served.{Answer, AreAnswered, IsAnsweredFor, IsAnswerTo, IsWhole, message_for, messages}
+use Rattle.line_programs.specs.Served.{Answer, AreAnswered, IsAnsweredFor, IsAnswerTo, IsWhole, message_for, messages, shown_answer}
 
 -- ---- the worst outcome
 
@@ -62,7 +62,7 @@ module _ (IsReply : List ℕ → List ℕ → Type 0) (Finds AsksForNothing : Li
     pub are : Each (λ answer. IsAnswerTo IsReply Finds AsksForNothing answer.line answer.outcome answer.reply) answers
     pub goes_on : rules.is_strict ≡ true → Each (λ outcome. outcome ≢ Invalid) (outcomes answers)
     pub outcome_is : outcome ≡ worst (outcomes answers)
-    pub written : Appends old new (flat_map (λ answer. answer.reply) answers)
+    pub written : Appends old new (flat_map (shown_answer rules.format) answers)
     pub told : Appends old_errors new_errors (messages rules 1 answers)
 
   pub none_so_far : (old old_errors : Option (List ℕ)) → AreAnsweredSoFar Found old old old_errors old_errors []
@@ -86,7 +86,7 @@ module _ (IsReply : List ℕ → List ℕ → Type 0) (Finds AsksForNothing : Li
     answered = subst (λ l. IsAnsweredFor IsReply Finds AsksForNothing rules number l outcome now new now_errors new_errors) same answered_as
 
     abbrev Last : Answer
-    Last = record { line = line; outcome = outcome; reply = answered.0 }
+    Last = record { line = line; outcome = outcome; reply = answered.0.0 }
 
     place_is : number ≡ 1 + length h.answers
     place_is = let l = ap length h.lines_are ∙ length-map h.answers (λ answer. answer.line) in omega arith
@@ -95,7 +95,7 @@ module _ (IsReply : List ℕ → List ℕ → Type 0) (Finds AsksForNothing : Li
     lines_then = ap (λ ls. ls ++ line ∷ []) h.lines_are ∙ sym (map-append (λ answer. answer.line) h.answers (Last ∷ []))
 
     are_then : Each (λ answer. IsAnswerTo IsReply Finds AsksForNothing answer.line answer.outcome answer.reply) (h.answers ++ Last ∷ [])
-    are_then = each-append _ h.answers (Last ∷ []) h.are (answered.1, tt)
+    are_then = each-append _ h.answers (Last ∷ []) h.are (answered.0.1, tt)
 
     outcomes_then : outcomes (h.answers ++ Last ∷ []) ≡ outcomes h.answers ++ outcome ∷ []
     outcomes_then = map-append (λ answer. answer.outcome) h.answers (Last ∷ [])
@@ -104,18 +104,18 @@ module _ (IsReply : List ℕ → List ℕ → Type 0) (Finds AsksForNothing : Li
     worst_then worst_now e =
         e ∙ ap (λ o. worse o outcome) h.outcome_is ∙ sym (worst_of_more (outcomes h.answers) outcome) ∙ sym (ap worst outcomes_then)
 
-    written_then : Appends old new (flat_map (λ answer. answer.reply) (h.answers ++ Last ∷ []))
+    written_then : Appends old new (flat_map (shown_answer rules.format) (h.answers ++ Last ∷ []))
     written_then =
         subst (Appends old new)
-        (sym (flat_map-append (λ answer. answer.reply) h.answers (Last ∷ [])
-        ∙ ap (λ bs. flat_map (λ answer. answer.reply) h.answers ++ bs) (append-nil answered.0)))
-        (appends_more old now new _ _ h.written answered.2)
+        (sym (flat_map-append (shown_answer rules.format) h.answers (Last ∷ [])
+        ∙ ap (λ bs. flat_map (shown_answer rules.format) h.answers ++ bs) (append-nil (shown_answer rules.format Last))))
+        (appends_more old now new _ _ h.written answered.0.2)
 
     told_then : Appends old_errors new_errors (messages rules 1 (h.answers ++ Last ∷ []))
     told_then =
         subst (Appends old_errors new_errors)
         (sym (messages_of_more rules 1 h.answers Last ∙ ap (λ n. messages rules 1 h.answers ++ message_for rules n line outcome) (sym place_is)))
-        (appends_more old_errors now_errors new_errors _ _ h.told answered.3)
+        (appends_more old_errors now_errors new_errors _ _ h.told answered.1)
 
     pub one_more : (worst_now : Outcome) (kept : Option (List ℕ)) → worst_now ≡ worse worst_of outcome → Keeps new kept →
         (rules.is_strict ≡ true → outcome ≢ Invalid) →

@@ -4,7 +4,10 @@ use Rattle.std.specs.List.{AllByRecursion as Each}
 use Rattle.std.specs.Io.KnownBytes.{Appends}
 use Rattle.line_programs.specs.declared.line_tables.Outcome.{Outcome}
 use Rattle.line_programs.specs.declared.line_tables.Outcome.TheVariants.{Found, NotFound, Invalid}
+use Rattle.line_programs.specs.declared.serving.Format.{Format}
+use Rattle.line_programs.specs.declared.serving.Format.TheVariants.{Plain, Json}
 use Rattle.line_programs.specs.declared.serving.Rules.{Rules}
+use Rattle.line_programs.specs.Json.{json_reply}
 use Rattle.line_programs.specs.Messages.{message}
 use Rattle.line_programs.specs.Outcomes.{worst}
 
@@ -21,6 +24,17 @@ module _ (IsReply : List ℕ → List ℕ → Type 0) (Finds AsksForNothing : Li
   IsAnswerTo line NotFound reply = (¬ Finds line) × IsReply line reply
   IsAnswerTo line Invalid reply = AsksForNothing line × (reply ≡ [])
 
+-- a reply as it is written: as it is, or as a JSON object that has the line too
+abbrev pub shown : Format → List ℕ → Outcome → List ℕ → List ℕ
+shown Plain line outcome reply = reply
+shown Json line outcome reply = json_reply line outcome reply
+
+-- a line got its reply, or asks for nothing
+abbrev pub IsRepliedFor : (List ℕ → List ℕ → Type 0) → (List ℕ → Type 0) → (List ℕ → Type 0) → Format → List ℕ → Outcome →
+    Option (List ℕ) → Option (List ℕ) → Type 0
+IsRepliedFor IsReply Finds AsksForNothing format line outcome old new =
+    (reply : List ℕ) × IsAnswerTo IsReply Finds AsksForNothing line outcome reply × Appends old new (shown format line outcome reply)
+
 -- what is written about a line: a message if it is invalid
 abbrev pub message_for : Rules → ℕ → List ℕ → Outcome → List ℕ
 message_for rules number line Found = []
@@ -31,8 +45,12 @@ message_for rules number line Invalid = message rules.place number rules.fault.n
 abbrev pub IsAnsweredFor : (List ℕ → List ℕ → Type 0) → (List ℕ → Type 0) → (List ℕ → Type 0) → Rules → ℕ → List ℕ → Outcome →
     Option (List ℕ) → Option (List ℕ) → Option (List ℕ) → Option (List ℕ) → Type 0
 IsAnsweredFor IsReply Finds AsksForNothing rules number line outcome old new old_errors new_errors =
-    (reply : List ℕ) × IsAnswerTo IsReply Finds AsksForNothing line outcome reply
-    × Appends old new reply × Appends old_errors new_errors (message_for rules number line outcome)
+    IsRepliedFor IsReply Finds AsksForNothing rules.format line outcome old new
+    × Appends old_errors new_errors (message_for rules number line outcome)
+
+-- what is written in reply
+abbrev pub shown_answer : Format → Answer → List ℕ
+shown_answer format answer = shown format answer.line answer.outcome answer.reply
 
 -- what is written about lines, of which the first has this number
 abbrev pub messages : Rules → ℕ → List Answer → List ℕ
@@ -59,5 +77,5 @@ pub record AreAnswered (IsReply : List ℕ → List ℕ → Type 0) (Finds AsksF
   pub are : Each (λ answer. IsAnswerTo IsReply Finds AsksForNothing answer.line answer.outcome answer.reply) answers
   pub whole : IsWhole rules.is_strict (map (λ answer. answer.outcome) answers) left
   pub outcome_is : outcome ≡ worst (map (λ answer. answer.outcome) answers)
-  pub written : Appends old new (flat_map (λ answer. answer.reply) answers)
+  pub written : Appends old new (flat_map (shown_answer rules.format) answers)
   pub told : Appends old_errors new_errors (messages rules 1 answers)

@@ -3,8 +3,12 @@
 
 pub mod checking;
 pub mod entries;
+pub mod json;
 pub mod line_tables;
 pub mod messages;
+pub mod progress;
 pub mod reading;
 pub mod running;
+pub mod saved_tables;
 pub mod serving;
+pub mod watching;

@@ -1,6 +1,6 @@
-//! Reads a table from the lines of a text.
+//! Reads a table from the lines of a text, or from other pieces of it.
 ghost use Rattle.std.specs.Prelude.{◌≡◌, IfErr, IfOk, IfSome, OnErr, OnOk, ℕ, List, [], ◌∷◌, ◌++◌};
-ghost use Rattle.text_lines.specs.Lines.{lines};
+ghost use Rattle.text_lines.specs.Lines.{pieces};
 ghost use Rattle.line_programs.specs.Entries.{entries};
 ghost use Rattle.line_programs.specs.LineTables.{IsFaultOf, IsRefusedFor};
 
@@ -8,7 +8,7 @@ use crate::line_tables::LineTable;
 use std::alloc::Global;
 use std::io;
 use std::io::{BufRead, ErrorKind};
-use text_lines::lines::next_line;
+use text_lines::lines::{End, next_piece};
 
 /// Why there is no table.
 #[derive(Debug, Drop)]
@@ -20,20 +20,21 @@ pub enum ReadError<F> {
     Input(io::Error),
 }
 
-/// Reads a table to the end of its text.
+/// Reads a table to the end of its text: an entry of each line, or of each piece with another end.
 pub fn read<T: LineTable + Drop, R: BufRead>(
     alloc: Global,
+    end: End,
     input: &mut R,
 ) -> Result<T, ReadError<T::Fault>>
     ensures table { IfOk result (λ table. IfSome (R.remaining input.old) (λ text.
-        T.IsRead table (entries T.entry_of 1 (lines text)))) }
+        T.IsRead table (entries T.entry_of 1 (pieces end text)))) }
     ensures refused { IfErr result (λ error. IfSome (R.remaining input.old) (λ text.
-        IsRefusedFor T.IsFaultAfter T.IsOutOfMemory (entries T.entry_of 1 (lines text)) error)) }
+        IsRefusedFor T.IsFaultAfter T.IsOutOfMemory (entries T.entry_of 1 (pieces end text)) error)) }
 {
     let mut table = T::start(alloc);
     let mut line = Vec::new(alloc);
     for number in 1..u64::MAX {
-        match next_line(input, &mut line) {
+        match next_piece(input, end, &mut line) {
             Ok(true) => {}
             Ok(false) => return finished(alloc, table),
             Err(error) => return Err(ReadError::Input(error)),

@@ -1,17 +1,22 @@
 //! Runs a program that reads a table from a file, and answers the words of its command line or the lines of standard
 //! input.
 
+mod forms;
+
 use crate::checking::check;
 use crate::line_tables::{LineTable, Outcome};
 use crate::messages::{Place, write_message};
+use crate::progress;
 use crate::reading::{ReadError, read};
-use crate::serving::{Rules, ServeError, serve, serve_words};
+use crate::serving::{Format, Rules, ServeError, serve, serve_words};
 use clap::{Arg, ArgAction, ArgMatches, Command};
+pub use forms::run_with_forms;
 use std::alloc::{AllocError, Global};
 use std::fmt::Display;
 use std::io::{BufReader, BufWriter, ErrorKind, Read, Stderr, Write};
 use std::process::ExitCode;
-use std::{env, fs, io};
+use std::{env, io};
+use text_lines::lines::End;
 
 /// The version of the programs.
 pub const VERSION: &str = "0.2.0";
@@ -98,12 +103,18 @@ fn command(alloc: Global, texts: Texts<'_>) -> Result<Command<'_>, AllocError> {
         .long("strict")
         .action(ArgAction::SetTrue)
         .help("Stop at the first line that asks for nothing");
+    let json = Arg::new(alloc, "json")
+        .long("json")
+        .action(ArgAction::SetTrue)
+        .help("Print each reply as a line of JSON: 'query', 'found' and 'lines'");
     let check = Arg::new(alloc, "check")
         .long("check")
         .action(ArgAction::SetTrue)
         .conflicts_with("queries")?
         .conflicts_with("strict")?
+        .conflicts_with("json")?
         .help("Report each invalid line of the table, and answer nothing");
+    let progress = progress::option(alloc);
     Command::new(alloc, texts.name)
         .bin_name(texts.name)?
         .version(VERSION)
@@ -113,7 +124,9 @@ fn command(alloc: Global, texts: Texts<'_>) -> Result<Command<'_>, AllocError> {
         .arg(table)?
         .arg(queries)?
         .arg(strict)?
-        .arg(check)
+        .arg(json)?
+        .arg(check)?
+        .arg(progress)
 }
 
 /// Prints what is wrong with a command line, or its help or version. Returns the exit status.
@@ -131,23 +144,40 @@ where
     T::Fault: Display + Drop,
 {
     let path = matches.get_str("table").unwrap_or("-");
-    let queries = matches.get_strs("queries");
+    let is_shown = matches.get_flag("progress");
     if matches.get_flag("check") {
-        return check_table::<T>(rt, texts.name, path);
+        return check_table::<T>(rt, texts.name, path, is_shown);
     }
-    if path == "-" && queries.is_none() {
+    if are_both_input(rt, texts, matches) {
+        return ERROR;
+    }
+    match read_table::<T>(rt, texts.name, path, is_shown) {
+        Ok(table) => answer_all(rt, texts, matches, &table),
+        Err(status) => status,
+    }
+}
+
+// Returns whether the table and the lines would both be standard input, and prints that they can't.
+fn are_both_input(rt: &HostRuntime, texts: Texts<'_>, matches: &ArgMatches<'_>) -> bool {
+    let are_both = matches.get_str("table") == Some("-") && matches.get_strs("queries").is_none();
+    if are_both {
         let _ = eprintln!(rt;
             "{}: {} and the lines can't both be standard input",
             texts.name, texts.table
         );
-        return ERROR;
     }
-    let table = match read_table::<T>(rt, texts.name, path) {
-        Ok(table) => table,
-        Err(status) => return status,
-    };
-    let answered = answer(rt, texts, matches.get_flag("strict"), queries, &table);
-    match answered {
+    are_both
+}
+
+// Answers what the command line asks, and prints what went wrong. Returns the exit status.
+fn answer_all<T: LineTable>(
+    rt: &HostRuntime,
+    texts: Texts<'_>,
+    matches: &ArgMatches<'_>,
+    table: &T,
+) -> u8 {
+    let queries = matches.get_strs("queries");
+    match answer(rt, texts, matches, queries, table) {
         Ok(worst) => worst.status(),
         Err(ServeError::Read(error)) => report(rt, texts.name, "standard input", error),
         Err(ServeError::Write(error)) => report_unwritten(rt, texts.name, error),
@@ -155,13 +185,13 @@ where
 }
 
 // Checks the table of a file, or of standard input if that is `-`.
-fn check_table<T>(rt: &HostRuntime, program: &str, path: &str) -> u8
+fn check_table<T>(rt: &HostRuntime, program: &str, path: &str, is_shown: bool) -> u8
 where
     T: LineTable + Drop,
     T::Fault: Display + Drop,
 {
     let source = source_of(path);
-    match check_file::<T>(rt, Place { program, source }, path) {
+    match check_file::<T>(rt, Place { program, source }, path, is_shown) {
         Ok(true) => 0,
         Ok(false) => ERROR,
         Err(ServeError::Read(error)) => report(rt, program, source, error),
@@ -169,7 +199,12 @@ where
     }
 }
 
-fn check_file<T>(rt: &HostRuntime, place: Place<'_>, path: &str) -> Result<bool, ServeError>
+fn check_file<T>(
+    rt: &HostRuntime,
+    place: Place<'_>,
+    path: &str,
+    is_shown: bool,
+) -> Result<bool, ServeError>
 where
     T: LineTable + Drop,
     T::Fault: Display + Drop,
@@ -178,8 +213,7 @@ where
     if path == "-" {
         return check_opened::<T, _>(rt, place, BufReader::new(alloc, rt.reader()));
     }
-    let opened = fs::open(rt, path).and_then(|file| BufReader::new(alloc, file));
-    check_opened::<T, _>(rt, place, opened)
+    check_opened::<T, _>(rt, place, progress::open(rt, place, is_shown))
 }
 
 fn check_opened<T, R>(
@@ -209,14 +243,15 @@ where
 }
 
 // Reads the table of a file, or of standard input if that is `-`.
-fn read_table<T>(rt: &HostRuntime, program: &str, path: &str) -> Result<T, u8>
+fn read_table<T>(rt: &HostRuntime, program: &str, path: &str, is_shown: bool) -> Result<T, u8>
 where
     T: LineTable + Drop,
     T::Fault: Display + Drop,
 {
-    match read_file::<T>(rt, path) {
+    let source = source_of(path);
+    match read_file::<T>(rt, End::LineFeed, Place { program, source }, path, is_shown) {
         Ok(table) => Ok(table),
-        Err(error) => Err(report_unread::<T>(rt, program, source_of(path), error)),
+        Err(error) => Err(report_unread::<T>(rt, program, source, error)),
     }
 }
 
@@ -225,23 +260,27 @@ pub fn source_of(path: &str) -> &str {
     if path == "-" { "standard input" } else { path }
 }
 
-fn read_file<T>(rt: &HostRuntime, path: &str) -> Result<T, ReadError<T::Fault>>
+fn read_file<T>(
+    rt: &HostRuntime,
+    end: End,
+    place: Place<'_>,
+    path: &str,
+    is_shown: bool,
+) -> Result<T, ReadError<T::Fault>>
 where
     T: LineTable + Drop,
     T::Fault: Drop,
 {
     let alloc = rt.alloc();
     if path == "-" {
-        return read_opened(alloc, BufReader::new(alloc, rt.reader()));
+        return read_opened(alloc, end, BufReader::new(alloc, rt.reader()));
     }
-    read_opened(
-        alloc,
-        fs::open(rt, path).and_then(|file| BufReader::new(alloc, file)),
-    )
+    read_opened(alloc, end, progress::open(rt, place, is_shown))
 }
 
 fn read_opened<T, R>(
     alloc: Global,
+    end: End,
     opened: io::Result<BufReader<R>>,
 ) -> Result<T, ReadError<T::Fault>>
 where
@@ -250,7 +289,7 @@ where
     R: Read + Drop,
 {
     match opened {
-        Ok(mut input) => read(alloc, &mut input),
+        Ok(mut input) => read(alloc, end, &mut input),
         Err(error) => Err(ReadError::Input(error)),
     }
 }
@@ -276,7 +315,7 @@ where
 fn answer<T: LineTable>(
     rt: &HostRuntime,
     texts: Texts<'_>,
-    is_strict: bool,
+    matches: &ArgMatches<'_>,
     queries: Option<&[&str]>,
     table: &T,
 ) -> Result<Outcome, ServeError> {
@@ -289,15 +328,20 @@ fn answer<T: LineTable>(
         "standard input"
     };
     let rules = Rules {
+        format: if matches.get_flag("json") {
+            Format::Json
+        } else {
+            Format::Plain
+        },
         place: Place {
             program: texts.name,
             source,
         },
         fault: texts.fault,
-        is_strict,
+        is_strict: matches.get_flag("strict"),
     };
     match queries {
-        Some(words) => serve_words(table, rules, words, &mut output, &mut errors),
+        Some(words) => serve_words(alloc, table, rules, words, &mut output, &mut errors),
         None => {
             let mut input = BufReader::new(alloc, rt.reader())?;
             serve(alloc, table, rules, &mut input, &mut output, &mut errors)
@@ -317,13 +361,4 @@ pub fn report_unwritten(rt: &HostRuntime, program: &str, error: io::Error) -> u8
         return CLOSED;
     }
     report(rt, program, "write error", error)
-}
-
-/// Prints what went wrong in reading or writing, unless the output was closed. Returns the exit status.
-pub fn report_failed(rt: &HostRuntime, program: &str, error: io::Error) -> u8 {
-    if error.kind() == ErrorKind::BrokenPipe {
-        return CLOSED;
-    }
-    let _ = eprintln!(rt; "{program}: {error}");
-    ERROR
 }

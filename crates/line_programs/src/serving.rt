@@ -3,8 +3,10 @@ ghost use Rattle.std.specs.Prelude.{◌≡◌, ◌≢◌, [], IfOk, IfSome, OnOk
 ghost use Rattle.std.specs.Io.Buffered.{reader_remaining, writer_buffer, writer_contents};
 ghost use Rattle.text_lines.specs.Lines.{lines};
 ghost use Rattle.line_programs.specs.declared.line_tables.Outcome.TheVariants.{Invalid};
-ghost use Rattle.line_programs.specs.Served.{AreAnswered, IsAnsweredFor};
+ghost use Rattle.line_programs.specs.declared.serving.Format.TheVariants.{Json};
+ghost use Rattle.line_programs.specs.Served.{AreAnswered, IsAnsweredFor, IsRepliedFor};
 
+use crate::json;
 use crate::line_tables::{LineTable, Outcome};
 use crate::messages::{Place, write_message};
 use std::alloc::Global;
@@ -13,9 +15,20 @@ use std::io::{BufReader, BufWriter, ErrorKind, Read, Write};
 use text_lines::lines::{next_line, write_out};
 use thiserror::Error;
 
-/// What is done about a line that asks for nothing.
+/// How a reply is written.
+#[derive(Clone, Copy)]
+pub enum Format {
+    /// As the table writes it.
+    Plain,
+    /// As a JSON object, a line each.
+    Json,
+}
+
+/// How replies are written, and what is done about a line that asks for nothing.
 #[derive(Clone, Copy)]
 pub struct Rules<'a> {
+    /// How a reply is written.
+    pub format: Format,
     /// Where the lines are.
     pub place: Place<'a>,
     /// What is wrong with the line.
@@ -66,6 +79,7 @@ pub fn answer_lines<T: LineTable, R: Read, W: Write, E: Write>(
         (W.contents output.old) (W.contents output.new) (E.contents errors.old) (E.contents errors.new))) }
 {
     let mut line = Vec::new(alloc);
+    let mut reply = Vec::new(alloc);
     let mut worst = Outcome::Found;
     for number in 1..u64::MAX {
         match next_line(input, &mut line) {
@@ -73,7 +87,7 @@ pub fn answer_lines<T: LineTable, R: Read, W: Write, E: Write>(
             Ok(false) => return Ok(worst),
             Err(error) => return Err(ServeError::Read(error)),
         }
-        let outcome = answer_line(table, rules, number, &line, output, errors)?;
+        let outcome = answer_line(table, rules, number, &line, &mut reply, output, errors)?;
         worst = worst.worse(outcome);
         if rules.end_at(outcome) {
             return Ok(worst);
@@ -85,6 +99,7 @@ pub fn answer_lines<T: LineTable, R: Read, W: Write, E: Write>(
 
 /// Answers each word as a line, and writes a message about each that asks for nothing. Returns the worst outcome.
 pub fn answer_words<T: LineTable, W: Write, E: Write>(
+    alloc: Global,
     table: &T,
     rules: Rules<'_>,
     words: &[&str],
@@ -95,10 +110,19 @@ pub fn answer_words<T: LineTable, W: Write, E: Write>(
         rules.entry (map (λ word. word.now) words.now) worst
         (W.contents output.old) (W.contents output.new) (E.contents errors.old) (E.contents errors.new)) }
 {
+    let mut reply = Vec::new(alloc);
     let mut worst = Outcome::Found;
     for (index, word) in words.iter().enumerate() {
         let number = index as u64 + 1;
-        let outcome = answer_line(table, rules, number, word.as_bytes(), output, errors)?;
+        let outcome = answer_line(
+            table,
+            rules,
+            number,
+            word.as_bytes(),
+            &mut reply,
+            output,
+            errors,
+        )?;
         worst = worst.worse(outcome);
         if rules.end_at(outcome) {
             return Ok(worst);
@@ -107,12 +131,13 @@ pub fn answer_words<T: LineTable, W: Write, E: Write>(
     Ok(worst)
 }
 
-// Answers a line, or writes a message about it.
+// Answers a line, or writes a message about it. The buffer may have any bytes.
 fn answer_line<T: LineTable, W: Write, E: Write>(
     table: &T,
     rules: Rules<'_>,
     number: u64,
     line: &[u8],
+    buffer: &mut Vec<u8>,
     output: &mut W,
     errors: &mut E,
 ) -> io::Result<Outcome>
@@ -120,12 +145,47 @@ fn answer_line<T: LineTable, W: Write, E: Write>(
         IsAnsweredFor (T.IsReplyTo table.now) (T.Finds table.now) T.AsksForNothing rules.entry number line.now outcome
         (W.contents output.old) (W.contents output.new) (E.contents errors.old) (E.contents errors.new)) }
 {
-    let outcome = table.answer(line, output)?;
+    let outcome = write_reply(table, rules.format, line, buffer, output)?;
     if outcome == Outcome::Invalid {
         output.flush()?;
         write_message(errors, rules.place, number, rules.fault, line)?;
         errors.flush()?;
     }
+    Ok(outcome)
+}
+
+// Writes the reply to a line. The buffer may have any bytes.
+fn write_reply<T: LineTable, W: Write>(
+    table: &T,
+    format: Format,
+    line: &[u8],
+    buffer: &mut Vec<u8>,
+    output: &mut W,
+) -> io::Result<Outcome>
+    ensures { IfOk result (λ outcome.
+        IsRepliedFor (T.IsReplyTo table.now) (T.Finds table.now) T.AsksForNothing format line.now outcome
+        (W.contents output.old) (W.contents output.new)) }
+{
+    match format {
+        Format::Plain => table.answer(line, output),
+        Format::Json => write_json(table, line, buffer, output),
+    }
+}
+
+// Writes the reply to a line as a JSON object. The buffer may have any bytes.
+fn write_json<T: LineTable, W: Write>(
+    table: &T,
+    line: &[u8],
+    buffer: &mut Vec<u8>,
+    output: &mut W,
+) -> io::Result<Outcome>
+    ensures { IfOk result (λ outcome.
+        IsRepliedFor (T.IsReplyTo table.now) (T.Finds table.now) T.AsksForNothing Json line.now outcome
+        (W.contents output.old) (W.contents output.new)) }
+{
+    buffer.clear();
+    let outcome = table.answer(line, buffer)?;
+    json::write_reply(output, line, outcome, buffer)?;
     Ok(outcome)
 }
 
@@ -153,6 +213,7 @@ pub fn serve<T: LineTable, R: Read, W: Write + Drop, E: Write + Drop>(
 
 /// Does what `answer_words` does, and flushes both outputs.
 pub fn serve_words<T: LineTable, W: Write + Drop, E: Write + Drop>(
+    alloc: Global,
     table: &T,
     rules: Rules<'_>,
     words: &[&str],
@@ -166,7 +227,7 @@ pub fn serve_words<T: LineTable, W: Write + Drop, E: Write + Drop>(
     ensures flushed { OnOk result (writer_buffer output.new ≡ []) }
     ensures told { OnOk result (writer_buffer errors.new ≡ []) }
 {
-    let worst = answer_words(table, rules, words, output, errors)?;
+    let worst = answer_words(alloc, table, rules, words, output, errors)?;
     output.flush()?;
     errors.flush()?;
     Ok(worst)

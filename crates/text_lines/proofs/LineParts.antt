@@ -1,19 +1,111 @@
--- A text that is read line by line.
+-- A text that is read line by line, or piece by piece.
 use Rattle.std.proofs.Common.{◌≡◌, ℕ, zero, suc, ◌+◌, ◌-◌, ◌<◌, Bool, true, false, cond, eqb, eqb-true, eq-eqb, ne_eqb, List, [], ◌∷◌, ◌++◌, length, take, Option, Some, None, IfSome, refl, ap, sym, ◌∙◌, subst, arith, length-append}
 use Rattle.std.specs.List.{slice_get, slice_split, onto_first}
 use Rattle.std.specs.Io.BufRead.{DropsThrough, take_through, drop_through}
 use Rattle.std.specs.Io.KnownBytes.{IsAtEnd}
 use Rattle.std.proofs.lemmas.Bool.{eqb-false, false≢true}
 use Rattle.std.specs.Prelude.{◌↔◌, IsTrue}
-use Rattle.text_lines.specs.Lines.{IsLineRead, lines, lines_of, without_return}
+use Rattle.text_lines.specs.Lines.{IsLineRead, IsPartRead, ended_by, ended_parts, lines, lines_of, without_return}
 
-abbrev parts : List ℕ → List (List ℕ)
-parts = slice_split (λ b. eqb b 10)
+-- a byte is put before the first of some parts
+onto_more : (x : ℕ) (ps : List (List ℕ)) (front : List ℕ) (rest : List (List ℕ)) → ps ≡ front ∷ rest → onto_first x ps ≡ (x ∷ front) ∷ rest
+onto_more x ps front rest e = ap (onto_first x) e
+
+module _ (end : ℕ) where
+  abbrev parts : List ℕ → List (List ℕ)
+  parts = slice_split (λ b. eqb b end)
+
+  -- a part that the byte ends comes first
+  ended_part : (text part : List ℕ) → take_through end text ≡ part ++ end ∷ [] → parts text ≡ part ∷ parts (drop_through end text)
+  ended_part [] part e = absurd (let l = ap length e in omega (arith, simp length-append at l))
+  ended_part (x ∷ xs) part e = go (eqb x end) refl part e (ended_part xs)
+    where
+      go : (t : Bool) → eqb x end ≡ t → (part : List ℕ) → cond t (x ∷ []) (x ∷ take_through end xs) ≡ part ++ end ∷ [] →
+          ((part : List ℕ) → take_through end xs ≡ part ++ end ∷ [] → parts xs ≡ part ∷ parts (drop_through end xs)) →
+          cond t ([] ∷ parts xs) (onto_first x (parts xs)) ≡ part ∷ parts (cond t xs (drop_through end xs))
+      go true b [] h ih = refl
+      go true b (y ∷ part) h ih = absurd (let l = ap length h in omega (arith, simp length-append at l))
+      go false b [] h ih = let is : x ≡ end = cc in absurd (eqb-false x end b is)
+      go false b (y ∷ part) h ih =
+          let same : x ≡ y = cc in
+          let rest : take_through end xs ≡ part ++ end ∷ [] = cc in
+          onto_more x (parts xs) part (parts (drop_through end xs)) (ih part rest) ∙ ap (λ z. (z ∷ part) ∷ parts (drop_through end xs)) same
+
+  -- what the byte does not end is the only part
+  last_part : (text : List ℕ) → ((part : List ℕ) → take_through end text ≡ part ++ end ∷ [] → ⊥) →
+      (parts text ≡ take_through end text ∷ []) × (drop_through end text ≡ [])
+  last_part [] unended = (refl, refl)
+  last_part (x ∷ xs) unended = go (eqb x end) refl unended (last_part xs)
+    where
+      go : (t : Bool) → eqb x end ≡ t → ((part : List ℕ) → cond t (x ∷ []) (x ∷ take_through end xs) ≡ part ++ end ∷ [] → ⊥) →
+          (((part : List ℕ) → take_through end xs ≡ part ++ end ∷ [] → ⊥) → (parts xs ≡ take_through end xs ∷ []) × (drop_through end xs ≡ [])) →
+          (cond t ([] ∷ parts xs) (onto_first x (parts xs)) ≡ cond t (x ∷ []) (x ∷ take_through end xs) ∷ []) × (cond t xs (drop_through end xs) ≡ [])
+      go true b h ih = absurd (h [] (ap (λ z. z ∷ []) (eqb-true x end b)))
+      go false b h ih =
+          let rest = ih (λ part e. h (x ∷ part) (ap (λ bs. x ∷ bs) e)) in
+          (onto_more x (parts xs) (take_through end xs) [] rest.0, rest.1)
+
+  ends_not : (part : List ℕ) (k : ℕ) → length (part ++ end ∷ []) ≡ suc k → slice_get (part ++ end ∷ []) k ≡ Some end
+  ends_not [] zero l = refl
+  ends_not [] (suc k) l = absurd (omega arith)
+  ends_not (x ∷ part) zero l = absurd (omega (arith, simp length-append at l))
+  ends_not (x ∷ part) (suc k) l = ends_not part k (omega arith)
+
+  -- what was read up to the byte or the end, where the byte is not the last one
+  not_ended : (text got : List ℕ) → got ≡ take_through end text → (slice_get got (length got - 1) ≡ Some end → ⊥) →
+      (part : List ℕ) → take_through end text ≡ part ++ end ∷ [] → ⊥
+  not_ended text got all unended part e =
+      unended (subst (λ bs. slice_get bs (length bs - 1) ≡ Some end) (sym (all ∙ e))
+      (ends_not part _ (let l = length-append part (end ∷ []) in omega arith)))
+
+  -- ---- pieces
+
+  -- a first part before others is a piece
+  first_piece : (part bs : List ℕ) → ended_parts (part ∷ parts bs) ≡ part ∷ ended_parts (parts bs)
+  first_piece part [] = refl
+  first_piece part (b ∷ bs) = go (eqb b end) (parts bs)
+    where
+      go : (t : Bool) (ps : List (List ℕ)) → ended_parts (part ∷ cond t ([] ∷ ps) (onto_first b ps))
+          ≡ part ∷ ended_parts (cond t ([] ∷ ps) (onto_first b ps))
+      go true ps = refl
+      go false [] = refl
+      go false (p ∷ ps) = refl
+
+  -- what was read is a piece that the byte ends
+  pub piece_ended : (old new : Option (List ℕ)) (empty got piece : List ℕ) → empty ≡ [] → IfSome old (λ xs. got ≡ empty ++ take_through end xs) →
+      DropsThrough old new end → got ≡ piece ++ end ∷ [] → IfSome old (λ text. IsPartRead (ended_by end) true text piece new)
+  piece_ended None new empty got piece z is drops e = tt
+  piece_ended (Some text) new empty got piece z is drops e = (
+    drop_through end text,
+    drops,
+    ap ended_parts (ended_part text piece (sym (is ∙ ap (λ bs. bs ++ take_through end text) z) ∙ e)) ∙ first_piece piece (drop_through end text),
+  )
+
+  -- or the last one, which the byte does not end
+  pub piece_last : (old new : Option (List ℕ)) (empty got : List ℕ) → empty ≡ [] → IfSome old (λ xs. got ≡ empty ++ take_through end xs) →
+      DropsThrough old new end → 0 < length got → (slice_get got (length got - 1) ≡ Some end → ⊥) →
+      IfSome old (λ text. IsPartRead (ended_by end) true text got new)
+  piece_last None new empty got z is drops some unended = tt
+  piece_last (Some text) new empty got z is drops some unended =
+      let all : got ≡ take_through end text = is ∙ ap (λ bs. bs ++ take_through end text) z in
+      let alone = last_part text (not_ended text got all unended) in (
+        drop_through end text,
+        drops,
+        ap ended_parts (alone.0 ∙ ap (λ bs. bs ∷ []) (sym all))
+            ∙ ap (λ t. cond t [] (got ∷ [])) (ne_eqb (length got) 0 (λ z. omega arith))
+            ∙ ap (λ bs. got ∷ ended_by end bs) (sym alone.1),
+      )
+
+  pub piece_none : (old new : Option (List ℕ)) (piece : List ℕ) → IsAtEnd old → IfSome old (λ text. IsPartRead (ended_by end) false text piece new)
+  piece_none None new piece e = tt
+  piece_none (Some text) new piece e = ap (ended_by end) e
+
+-- ---- lines
 
 -- a first part before others is a line
-first_stays : (line bs : List ℕ) → lines_of (line ∷ parts bs) ≡ without_return line ∷ lines_of (parts bs)
+first_stays : (line bs : List ℕ) → lines_of (line ∷ parts 10 bs) ≡ without_return line ∷ lines_of (parts 10 bs)
 first_stays line [] = refl
-first_stays line (b ∷ bs) = go (eqb b 10) (parts bs)
+first_stays line (b ∷ bs) = go (eqb b 10) (parts 10 bs)
   where
     go : (t : Bool) (ps : List (List ℕ)) → lines_of (line ∷ cond t ([] ∷ ps) (onto_first b ps))
         ≡ without_return line ∷ lines_of (cond t ([] ∷ ps) (onto_first b ps))
@@ -21,49 +113,15 @@ first_stays line (b ∷ bs) = go (eqb b 10) (parts bs)
     go false [] = refl
     go false (p ∷ ps) = refl
 
--- a byte is put before the first of some parts
-onto_more : (x : ℕ) (ps : List (List ℕ)) (front : List ℕ) (rest : List (List ℕ)) → ps ≡ front ∷ rest → onto_first x ps ≡ (x ∷ front) ∷ rest
-onto_more x ps front rest e = ap (onto_first x) e
-
--- a part that a line feed ends comes first
-ended_part : (text line : List ℕ) → take_through 10 text ≡ line ++ 10 ∷ [] → parts text ≡ line ∷ parts (drop_through 10 text)
-ended_part [] line e = absurd (let l = ap length e in omega (arith, simp length-append at l))
-ended_part (x ∷ xs) line e = go (eqb x 10) refl line e (ended_part xs)
-  where
-    go : (t : Bool) → eqb x 10 ≡ t → (line : List ℕ) → cond t (x ∷ []) (x ∷ take_through 10 xs) ≡ line ++ 10 ∷ [] →
-        ((line : List ℕ) → take_through 10 xs ≡ line ++ 10 ∷ [] → parts xs ≡ line ∷ parts (drop_through 10 xs)) →
-        cond t ([] ∷ parts xs) (onto_first x (parts xs)) ≡ line ∷ parts (cond t xs (drop_through 10 xs))
-    go true b [] h ih = refl
-    go true b (y ∷ line) h ih = absurd (let l = ap length h in omega (arith, simp length-append at l))
-    go false b [] h ih = let is : x ≡ 10 = cc in absurd (eqb-false x 10 b is)
-    go false b (y ∷ line) h ih =
-        let same : x ≡ y = cc in
-        let rest : take_through 10 xs ≡ line ++ 10 ∷ [] = cc in
-        onto_more x (parts xs) line (parts (drop_through 10 xs)) (ih line rest) ∙ ap (λ z. (z ∷ line) ∷ parts (drop_through 10 xs)) same
-
 -- a line that a line feed ends comes first
 ended_line : (text line : List ℕ) → take_through 10 text ≡ line ++ 10 ∷ [] → lines text ≡ without_return line ∷ lines (drop_through 10 text)
-ended_line text line e = ap lines_of (ended_part text line e) ∙ first_stays line (drop_through 10 text)
-
--- what no line feed ends is the only part
-last_part : (text : List ℕ) → ((line : List ℕ) → take_through 10 text ≡ line ++ 10 ∷ [] → ⊥) →
-    (parts text ≡ take_through 10 text ∷ []) × (drop_through 10 text ≡ [])
-last_part [] unended = (refl, refl)
-last_part (x ∷ xs) unended = go (eqb x 10) refl unended (last_part xs)
-  where
-    go : (t : Bool) → eqb x 10 ≡ t → ((line : List ℕ) → cond t (x ∷ []) (x ∷ take_through 10 xs) ≡ line ++ 10 ∷ [] → ⊥) →
-        (((line : List ℕ) → take_through 10 xs ≡ line ++ 10 ∷ [] → ⊥) → (parts xs ≡ take_through 10 xs ∷ []) × (drop_through 10 xs ≡ [])) →
-        (cond t ([] ∷ parts xs) (onto_first x (parts xs)) ≡ cond t (x ∷ []) (x ∷ take_through 10 xs) ∷ []) × (cond t xs (drop_through 10 xs) ≡ [])
-    go true b h ih = absurd (h [] (ap (λ z. z ∷ []) (eqb-true x 10 b)))
-    go false b h ih =
-        let rest = ih (λ line e. h (x ∷ line) (ap (λ bs. x ∷ bs) e)) in
-        (onto_more x (parts xs) (take_through 10 xs) [] rest.0, rest.1)
+ended_line text line e = ap lines_of (ended_part 10 text line e) ∙ first_stays line (drop_through 10 text)
 
 -- the last line, which no line feed ends, comes alone
 last_line : (text : List ℕ) → 0 < length (take_through 10 text) → ((line : List ℕ) → take_through 10 text ≡ line ++ 10 ∷ [] → ⊥) →
     lines text ≡ take_through 10 text ∷ lines (drop_through 10 text)
 last_line text some unended =
-    let alone = last_part text unended in
+    let alone = last_part 10 text unended in
     ap lines_of alone.0
     ∙ ap (λ t. cond t [] (take_through 10 text ∷ [])) (ne_eqb (length (take_through 10 text)) 0 (λ z. omega arith))
     ∙ ap (λ bs. take_through 10 text ∷ lines bs) (sym alone.1)
@@ -79,12 +137,6 @@ ends end (x ∷ xs) (suc k) e l = ap (λ bs. x ∷ bs) (ends end xs k e (omega a
 pub filled : (end : ℕ) (got : List ℕ) → slice_get got (length got - 1) ≡ Some end → 0 < length got
 filled end [] e = absurd cc
 filled end (x ∷ xs) e = omega arith
-
-ends_not : (line : List ℕ) (k : ℕ) → length (line ++ 10 ∷ []) ≡ suc k → slice_get (line ++ 10 ∷ []) k ≡ Some 10
-ends_not [] zero l = refl
-ends_not [] (suc k) l = absurd (omega arith)
-ends_not (x ∷ line) zero l = absurd (omega (arith, simp length-append at l))
-ends_not (x ∷ line) (suc k) l = ends_not line k (omega arith)
 
 -- what was read is a line that a line feed ends
 pub read_ended : (old new : Option (List ℕ)) (empty got line : List ℕ) → empty ≡ [] → IfSome old (λ xs. got ≡ empty ++ take_through 10 xs) →
@@ -120,8 +172,7 @@ read_last (Some text) new empty got z is drops some unended =
       drop_through 10 text,
       drops,
       last_line text (subst (λ bs. 0 < length bs) all some)
-          (λ line e. unended (subst (λ bs. slice_get bs (length bs - 1) ≡ Some 10) (sym (all ∙ e))
-          (ends_not line _ (let l = length-append line (10 ∷ []) in omega arith))))
+          (not_ended 10 text got all unended)
           ∙ ap (λ bs. bs ∷ lines (drop_through 10 text)) (sym all),
     )
 
@@ -130,9 +181,13 @@ read_none None new line e = tt
 read_none (Some text) new line e = ap lines e
 
 -- the same, for what is known of the result
+pub part_read_as : (parts : List ℕ → List (List ℕ)) (old new : Option (List ℕ)) (part : List ℕ) (m n : Bool) → m ≡ n →
+    IfSome old (λ text. IsPartRead parts m text part new) → IfSome old (λ text. IsPartRead parts n text part new)
+part_read_as parts old new part m n e h = subst (λ t. IfSome old (λ text. IsPartRead parts t text part new)) e h
+
 pub read_as : (old new : Option (List ℕ)) (line : List ℕ) (m n : Bool) → m ≡ n → IfSome old (λ text. IsLineRead m text line new) →
     IfSome old (λ text. IsLineRead n text line new)
-read_as old new line m n e h = subst (λ t. IfSome old (λ text. IsLineRead t text line new)) e h
+read_as = part_read_as lines
 
 -- the test of the last byte
 pub ended_some : (b end : ℕ) (o : Option ℕ) → Some b ≡ o → IsTrue (eqb b end) ↔ (o ≡ Some end)

@@ -1,10 +1,19 @@
 //! Reads a text line by line.
 ghost use Rattle.std.specs.Prelude.{◌≡◌, ◌-◌, ◌↔◌, IfOk, IfSome, IsTrue, Some, length, slice_get};
 ghost use Rattle.std.specs.Io.KnownBytes.{Keeps};
-ghost use Rattle.text_lines.specs.Lines.{IsLineRead, without_return};
+ghost use Rattle.text_lines.specs.Lines.{IsLineRead, IsPartRead, ended_by, pieces, without_return};
 
 use std::io;
 use std::io::{BufRead, BufReader, Read, Write};
+
+/// What ends each piece of a text.
+#[derive(Clone, Copy)]
+pub enum End {
+    /// A line feed, or a carriage return and a line feed: the pieces are lines.
+    LineFeed,
+    /// A zero byte, as `find -print0` writes.
+    Zero,
+}
 
 /// Reads the next line, without the line feed that ends it or the carriage return and the line feed. Returns whether there
 /// was one.
@@ -21,6 +30,32 @@ pub fn next_line<R: BufRead>(input: &mut R, line: &mut Vec<u8>) -> io::Result<bo
         drop_return(line);
     }
     Ok(true)
+}
+
+/// Reads the next piece, without the byte that ends it. Returns whether there was one.
+pub fn next_ended<R: BufRead>(input: &mut R, end: u8, piece: &mut Vec<u8>) -> io::Result<bool>
+    ensures { IfOk result (λ more. IfSome (R.remaining input.old) (λ text.
+        IsPartRead (ended_by end) more text piece.new.items (R.remaining input.new))) }
+{
+    piece.clear();
+    if input.read_until(end, piece)? == 0 {
+        return Ok(false);
+    }
+    if ends_with(piece, end) {
+        piece.pop();
+    }
+    Ok(true)
+}
+
+/// Reads the next piece, without its end. Returns whether there was one.
+pub fn next_piece<R: BufRead>(input: &mut R, end: End, piece: &mut Vec<u8>) -> io::Result<bool>
+    ensures { IfOk result (λ more. IfSome (R.remaining input.old) (λ text.
+        IsPartRead (pieces end) more text piece.new.items (R.remaining input.new))) }
+{
+    match end {
+        End::LineFeed => next_line(input, piece),
+        End::Zero => next_ended(input, 0, piece),
+    }
 }
 
 // Drops a carriage return from the end of a line.

@@ -15,6 +15,8 @@ mod MergeLemmas
 mod EntryLemmas
 mod CodeTableLemmas
 -- paths, and requests about them
+mod PathPieceLemmas
+mod PathSnapshotLemmas
 mod RequestLines
 mod PathParts
 mod PathReplyLemmas

@@ -13,5 +13,7 @@ pub mod CodeTables
 pub mod CodeReplies
 -- paths, and requests about them
 pub mod Paths
+pub mod PathPieces
+pub mod PathSnapshots
 pub mod Requests
 pub mod PathReplies

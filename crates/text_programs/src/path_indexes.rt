@@ -2,5 +2,7 @@
 
 pub mod answers;
 pub mod index;
+pub mod laws;
 pub mod parts;
 pub mod request;
+pub mod saving;

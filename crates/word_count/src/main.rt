@@ -3,13 +3,14 @@
 
 use clap::{Arg, ArgAction, ArgMatches, Command, value_parser};
 use line_programs::messages::{Place, write_message};
+use line_programs::progress;
 use line_programs::running::{
     ERROR, STATUS_OF_ERRORS, VERSION, print_usage, report, report_unwritten, source_of, words,
 };
 use std::alloc::{AllocError, Global};
+use std::io;
 use std::io::{BufReader, BufWriter, Read, Write};
 use std::process::ExitCode;
-use std::{fs, io};
 use text_programs::word_counts::counts::{Counts, count_text, write_counts};
 use text_programs::word_counts::merging::{MergeError, add_counts};
 use text_programs::word_counts::top::write_most_frequent;
@@ -59,6 +60,7 @@ fn command<'a>(alloc: Global) -> Result<Command<'a>, AllocError> {
         .long("merge")
         .action(ArgAction::SetTrue)
         .help("Add up counts that word_count printed");
+    let progress = progress::option(alloc);
     Command::new(alloc, NAME)
         .bin_name(NAME)?
         .version(VERSION)
@@ -67,15 +69,26 @@ fn command<'a>(alloc: Global) -> Result<Command<'a>, AllocError> {
         .after_help(STATUS_OF_ERRORS)
         .arg(files)?
         .arg(top)?
-        .arg(merge)
+        .arg(merge)?
+        .arg(progress)
+}
+
+// How files are read.
+#[derive(Clone, Copy)]
+struct How {
+    is_merge: bool,
+    is_shown: bool,
 }
 
 // Counts the words of all files, or adds up their counts, and prints the counts if all could be read.
 fn status_of(rt: &HostRuntime, matches: &ArgMatches<'_>) -> u8 {
     let mut counts = Counts::new(rt.alloc());
-    let is_merge = matches.get_flag("merge");
+    let how = How {
+        is_merge: matches.get_flag("merge"),
+        is_shown: matches.get_flag("progress"),
+    };
     for path in matches.get_strs("files").unwrap_or(["-"].as_slice()) {
-        if let Err(error) = read_file(rt, &mut counts, is_merge, path) {
+        if let Err(error) = read_file(rt, &mut counts, how, path) {
             return report_unread(rt, source_of(path), error);
         }
     }
@@ -88,15 +101,20 @@ fn status_of(rt: &HostRuntime, matches: &ArgMatches<'_>) -> u8 {
 fn read_file(
     rt: &HostRuntime,
     counts: &mut Counts,
-    is_merge: bool,
+    how: How,
     path: &str,
 ) -> Result<(), MergeError> {
     let alloc = rt.alloc();
     if path == "-" {
-        return read_opened(alloc, counts, is_merge, BufReader::new(alloc, rt.reader()));
+        return read_opened(
+            alloc,
+            counts,
+            how.is_merge,
+            BufReader::new(alloc, rt.reader()),
+        );
     }
-    let opened = fs::open(rt, path).and_then(|file| BufReader::new(alloc, file));
-    read_opened(alloc, counts, is_merge, opened)
+    let opened = progress::open(rt, place_of(path), how.is_shown);
+    read_opened(alloc, counts, how.is_merge, opened)
 }
 
 fn read_opened<R: Read + Drop>(
@@ -112,18 +130,27 @@ fn read_opened<R: Read + Drop>(
     count_text(counts, alloc, &mut input).map_err(MergeError::Input)
 }
 
+fn place_of(source: &str) -> Place<'_> {
+    Place {
+        program: NAME,
+        source,
+    }
+}
+
 // Prints why a file was not read to its end.
 fn report_unread(rt: &HostRuntime, source: &str, error: MergeError) -> u8 {
     let (number, line) = match error {
         MergeError::Input(error) => return report(rt, NAME, source, error),
         MergeError::Line(number, line) => (number, line),
     };
-    let place = Place {
-        program: NAME,
-        source,
-    };
     let fault = "not a count and a word";
-    let _ = write_message(&mut rt.stderr(), place, number, fault, line.as_slice());
+    let _ = write_message(
+        &mut rt.stderr(),
+        place_of(source),
+        number,
+        fault,
+        line.as_slice(),
+    );
     ERROR
 }
 

@@ -91,7 +91,7 @@ pub struct Outcome {
     pub writes: u64,
 }
 
-// The status of a text that is served, 1 if the allocation of a buffer fails.
+// The status of a text that is served, 1 if that or the allocation of a buffer fails.
 fn status_of(alloc: Global, input: &mut Source<'_>, output: &mut Sink) -> u8 {
     let Ok(mut input) = BufReader::new(alloc, input) else {
         return 1;
@@ -99,7 +99,10 @@ fn status_of(alloc: Global, input: &mut Source<'_>, output: &mut Sink) -> u8 {
     let Ok(mut output) = BufWriter::new(alloc, output) else {
         return 1;
     };
-    serve(alloc, &mut input, &mut output)
+    match serve(alloc, &mut input, &mut output) {
+        Ok(ending) => ending.status(),
+        Err(_) => 1,
+    }
 }
 
 /// Serves a text.

@@ -54,7 +54,7 @@ impl Write for Sink<'_> {
     }
 }
 
-// The status of an input that is served, 1 if the allocation of a buffer fails.
+// The status of an input that is served, 1 if that or the allocation of a buffer fails.
 fn status_of(alloc: Global, input: &mut Source<'_>, output: Sink<'_>) -> u8 {
     let Ok(mut input) = BufReader::new(alloc, input) else {
         return 1;
@@ -62,7 +62,10 @@ fn status_of(alloc: Global, input: &mut Source<'_>, output: Sink<'_>) -> u8 {
     let Ok(mut output) = BufWriter::new(alloc, output) else {
         return 1;
     };
-    serve(alloc, &mut input, &mut output)
+    match serve(alloc, &mut input, &mut output) {
+        Ok(ending) => ending.status(),
+        Err(_) => 1,
+    }
 }
 
 /// The status, how many reads there were, whether at each the replies to all lines before had been written, and how
