@@ -4,5 +4,4 @@ mod in_memory;
 mod kinds;
 mod lists;
 mod maps;
-mod random;
 mod values;
