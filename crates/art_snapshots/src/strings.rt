@@ -6,7 +6,7 @@ ghost use Rattle.art_keys.specs.Escapes.{IsEscape};
 use crate::traits::SnapshotKey;
 use art_keys::escaped::Escaped;
 use art_keys::laws::DecodeBytes;
-use art_keys::terminated::{EndError, Terminated};
+use art_keys::terminated::Terminated;
 use std::alloc::{AllocError, Global};
 
 /// The bytes are those of the string, and a zero.
@@ -18,11 +18,7 @@ impl SnapshotKey for Terminated {
         if *end != 0 {
             return Ok(None);
         }
-        match Terminated::new(Vec::from_slice(alloc, text)?) {
-            Ok(key) => Ok(Some(key)),
-            Err(EndError::InnerZero { .. }) => Ok(None),
-            Err(EndError::Memory { .. }) => Err(AllocError),
-        }
+        Terminated::encode(alloc, text)
     }
 }
 
