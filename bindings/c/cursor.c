@@ -1,5 +1,5 @@
-/* Iterations by cursors beside the array of what was inserted, and with each allocation of the cursor failing: to be run with a
- * sanitizer, or under valgrind. */
+/* The calls of vokujin_cursor.h: iterations beside the array of what was inserted, and with each allocation of the cursor failing.
+ * To be run with a sanitizer, or under valgrind. */
 #include <stdio.h>
 #include <stdlib.h>
 #include <string.h>
@@ -169,6 +169,38 @@ static void keys_that_are_prefixes(void) {
     CHECK(vokujin_free_with(&map, keep) == VOKUJIN_DONE && destroyed == 102);
 }
 
+/* The values of the keys that are prefixes of a query, the longest first, are these. */
+static void matches(const vokujin_map *map, const char *query, const char *values) {
+    vokujin_pair pair;
+    uint32_t code = vokujin_longest_match(map, query, strlen(query), &pair);
+    for (; *values; values++, code = vokujin_next_match(map, query, &pair)) CHECK(code == VOKUJIN_DONE && pair.value == (uint64_t)*values);
+    CHECK(code == VOKUJIN_ABSENT);
+}
+
+static void prefixes_of_a_query(void) {
+    static const char *const stored[] = {"1", "10.", "10.1", "10.1.7", "2"};
+    vokujin_map map;
+    vokujin_pair pair;
+    uint64_t value;
+    vokujin_new(&map);
+    matches(&map, "10.1.7.9", "");
+    for (unsigned at = 0; at < 5; at++) CHECK(vokujin_insert(&map, stored[at], strlen(stored[at]), 'a' + at, &value) == VOKUJIN_DONE);
+    matches(&map, "10.1.7.9", "dcba");
+    matches(&map, "10.1", "cba");
+    matches(&map, "3", "");
+    matches(&map, "", "");
+    /* The empty key is the last match of each query. */
+    CHECK(vokujin_insert(&map, "", 0, 'z', &value) == VOKUJIN_DONE);
+    matches(&map, "10.1.7.9", "dcbaz");
+    matches(&map, "3", "z");
+    matches(&map, "", "z");
+    CHECK(vokujin_longest_match(&map, "10", 2, &pair) == VOKUJIN_DONE && vokujin_next_match(&map, "10", &pair) == VOKUJIN_DONE);
+    for (int turn = 0; turn < 2; turn++) CHECK(vokujin_next_match(&map, "10", &pair) == VOKUJIN_ABSENT && pair.value == 'z' && !pair.key_len);
+    CHECK(vokujin_free(&map) == VOKUJIN_DONE && vokujin_next_match(&map, "10", &pair) == VOKUJIN_FREED);
+    pair.key_len = 1;
+    CHECK(vokujin_next_match(&map, "10", &pair) == VOKUJIN_FREED);
+}
+
 int main(void) {
     vokujin_map map, half;
     vokujin_frozen frozen;
@@ -204,6 +236,7 @@ int main(void) {
     CHECK(vokujin_frozen_free(&frozen) == VOKUJIN_DONE && vokujin_free(&map) == VOKUJIN_DONE);
     removals();
     keys_that_are_prefixes();
+    prefixes_of_a_query();
     for (unsigned at = 0; at < KEYS; at++) free(keys[at]);
     puts("ok");
     return 0;

@@ -199,6 +199,14 @@ static inline uint32_t vokujin_remove_prefix(vokujin_map *map, const void *prefi
     return VOKUJIN_DONE;
 }
 
+/* Looks up the next shorter key that is a prefix of the query: the pair is what vokujin_longest_match or this call last wrote for
+ * the query. Returns VOKUJIN_ABSENT if there is none, as after the empty key, and then writes nothing. */
+static inline uint32_t vokujin_next_match(const vokujin_map *map, const void *query, vokujin_pair *pair) {
+    size_t len;
+    if (pair->key_len) return vokujin_longest_match(map, query, pair->key_len - 1, pair);
+    return vokujin_len(map, &len) == VOKUJIN_DONE ? VOKUJIN_ABSENT : VOKUJIN_FREED;
+}
+
 /* Removes the first pair, and writes what vokujin_first does. If its key is too long for the buffer, it is not removed. */
 static inline uint32_t vokujin_pop_first(vokujin_map *map, void *buffer, size_t buffer_len, vokujin_pair *pair) {
     uint32_t code = vokujin_first(map, buffer, buffer_len, pair);

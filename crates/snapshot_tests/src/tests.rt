@@ -4,4 +4,5 @@ mod in_memory;
 mod kinds;
 mod lists;
 mod maps;
+mod random;
 mod values;

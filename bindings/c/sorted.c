@@ -1,0 +1,69 @@
+/* A builder beside insertions one by one, of the lines of a file, which rise by their bytes: sorted FILE [TURNS]. It prints the
+ * nanoseconds a line of each, the least of so many turns (seven), and their ratio. A turn ends before the map is freed. */
+#include <stdio.h>
+#include <stdlib.h>
+#include <time.h>
+
+#include "vokujin.h"
+
+#define CHECK(it) ((it) ? (void)0 : (printf("sorted.c:%d: %s\n", __LINE__, #it), exit(1)))
+
+typedef struct {
+    char *key;
+    size_t len;
+} Line;
+
+static Line *lines;
+static size_t count;
+
+static void read_lines(const char *name) {
+    FILE *file = fopen(name, "rb");
+    size_t room = 0;
+    CHECK(file);
+    for (char *line = NULL;; line = NULL, room = 0) {
+        ssize_t len = getline(&line, &room, file);
+        if (len <= 0) break;
+        lines = (Line *)realloc(lines, (count + 1) * sizeof *lines);
+        CHECK(lines);
+        lines[count++] = (Line){line, (size_t)len - (line[len - 1] == '\n')};
+    }
+    fclose(file);
+}
+
+__attribute__((noinline)) static void insert_each(vokujin_map *map) {
+    uint64_t replaced;
+    for (size_t at = 0; at < count; at++) CHECK(vokujin_insert(map, lines[at].key, lines[at].len, at, &replaced) == VOKUJIN_DONE);
+}
+
+__attribute__((noinline)) static void push_each(vokujin_map *map) {
+    vokujin_builder builder;
+    vokujin_builder_new(&builder);
+    for (size_t at = 0; at < count; at++) CHECK(vokujin_builder_push(&builder, lines[at].key, lines[at].len, at) == VOKUJIN_DONE);
+    CHECK(vokujin_builder_finish(&builder, map) == VOKUJIN_DONE);
+    vokujin_builder_free(&builder);
+}
+
+static double least(void (*fill)(vokujin_map *map), int turns) {
+    double least = 1e18;
+    while (turns-- > 0) {
+        vokujin_map map;
+        struct timespec start, end;
+        vokujin_new(&map);
+        clock_gettime(CLOCK_MONOTONIC, &start);
+        fill(&map);
+        clock_gettime(CLOCK_MONOTONIC, &end);
+        vokujin_free(&map);
+        double it = ((double)(end.tv_sec - start.tv_sec) * 1e9 + (double)(end.tv_nsec - start.tv_nsec)) / (double)count;
+        if (it < least) least = it;
+    }
+    return least;
+}
+
+int main(int argc, char **argv) {
+    CHECK(argc > 1);
+    read_lines(argv[1]);
+    int turns = argc > 2 ? atoi(argv[2]) : 7;
+    double each = least(insert_each, turns), builder = least(push_each, turns);
+    printf("%zu lines: nanoseconds by insertions, by a builder, and their ratio\n%.0f %.0f %.2f\n", count, each, builder, builder / each);
+    return 0;
+}
