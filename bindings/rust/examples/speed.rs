@@ -69,6 +69,14 @@ fn collect_here(keys: &[Vec<u8>]) -> Map<u64> {
     keys.iter().zip(0..).collect()
 }
 
+/// Sorts the pairs first.
+#[inline(never)]
+fn sort_here(keys: &[Vec<u8>]) -> Map<u64> {
+    let mut pairs: Vec<(&[u8], u64)> = keys.iter().map(Vec::as_slice).zip(0..).collect();
+    pairs.sort_unstable();
+    pairs.into_iter().collect()
+}
+
 #[inline(never)]
 fn collect_std(keys: &[Vec<u8>]) -> Model {
     keys.iter().cloned().zip(0..).collect()
@@ -175,6 +183,8 @@ fn main() {
     let show = |name: &str, here: f64, std: f64| println!("{name:26} {here:6.0} {std:6.0} {:5.2}", here / std);
     let insert = least(count, || _ = black_box(fill_here(&keys)));
     show("insertion, and drop", insert, least(count, || _ = black_box(fill_std(&keys))));
+    let sort = least(count, || _ = black_box(sort_here(&keys)));
+    show("sort, collect, and drop", sort, least(count, || _ = black_box(collect_std(&keys))));
     let mut sorted = keys.clone();
     sorted.sort();
     let (insert, collect) =
