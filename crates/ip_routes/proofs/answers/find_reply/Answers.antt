@@ -1,4 +1,4 @@
-use Rattle.std.proofs.Common.{Some, None, codes, refl, ◌++◌}
+use Rattle.std.proofs.Common.{Some, None, refl}
 use Rattle.std.proofs.lemmas.Bool.{false≢true}
 use Rattle.ip_routes.proofs.AnswerLemmas.{no_answer}
 use Rattle.ip_routes.proofs.answers.find_reply.Goals as goal
