@@ -1,5 +1,7 @@
 -- What networks with places answer, and what their lines do.
-use Rattle.std.proofs.Common.{◌≡◌, ◌≤◌, None, true, false, ℕ, ◌<◌, List, ap, sym, ◌∙◌, subst}
+use Rattle.std.proofs.Common.{◌≡◌, ◌≤◌, Option, None, Bool, true, false, ℕ, ◌<◌, List, ◌++◌, codes, Result, Ok, Err, refl, ap, sym, ◌∙◌, subst}
+use Rattle.std.specs.Prelude.{◌↔◌, IfOk, OnOk}
+use Rattle.std.specs.Io.KnownBytes.{Appends}
 use Rattle.std.specs.List.{All}
 use Rattle.std.specs.declared.net.ip_addr.IpAddr.{IpAddr}
 use Rattle.std.proofs.lemmas.List.{get_or-map, length-map}
@@ -7,6 +9,10 @@ use Rattle.std.proofs.NetLemmas.Theorems.{IsIpText_unique}
 use Rattle.std.specs.Net.Grammar.{IsIpText}
 use Rattle.std.proofs.lemmas.Bool.{false≢true}
 use Rattle.std.proofs.lemmas.List.Elements.{All-contains, All-map}
+use Rattle.line_programs.specs.declared.line_tables.Outcome.{Outcome}
+use Rattle.line_programs.specs.declared.line_tables.Reply.{Reply}
+use Rattle.line_programs.specs.LineTables.{IsLookedUp, IsTried}
+use Rattle.line_programs.specs.Outcomes.{outcome_of}
 use Rattle.prefix_table.specs.declared.network.Network.{Network}
 use Rattle.prefix_table.specs.Networks.{covers}
 use Rattle.prefix_table.specs.Entries.{IsLongest}
@@ -45,3 +51,16 @@ no_answer answers line address is none (other, found, is', (network, longest)) =
     false≢true
     (sym (All-contains (λ answer. covers answer.0 address ≡ false) answers (network, found) none longest.there)
     ∙ ap (covers network) (sym same) ∙ longest.it_covers)
+
+-- a reply that was looked up, once it is written
+pub reply_written : {Error : Type 0} (IsReply : List ℕ → List ℕ → Type 0) (Finds AsksForNothing : List ℕ → Type 0) (line : List ℕ) (reply : Reply)
+    (result : Result Outcome Error) (old new : Option (List ℕ)) → IsLookedUp IsReply Finds line reply →
+    OnOk result (Appends old new (reply.text.now ++ codes "\n")) → IfOk result (λ outcome. outcome ≡ outcome_of reply.is_found) →
+    IfOk result (λ outcome. IsTried IsReply Finds AsksForNothing line outcome old new)
+reply_written IsReply Finds AsksForNothing line reply (Err error) old new h written is = tt
+reply_written IsReply Finds AsksForNothing line reply (Ok outcome) old new h written is =
+    subst (λ o. IsTried IsReply Finds AsksForNothing line o old new) (sym is) (go reply.is_found h.1)
+  where
+    go : (t : Bool) → (t ≡ true) ↔ Finds line → IsTried IsReply Finds AsksForNothing line (outcome_of t) old new
+    go true found = (found.0 refl, (reply.text.now ++ codes "\n", h.0, written))
+    go false found = ((λ finds. false≢true (found.1 finds)), (reply.text.now ++ codes "\n", h.0, written))

@@ -1,7 +1,7 @@
 //! What a table of routes has of a text, and how it answers addresses.
-ghost use Rattle.std.specs.Prelude.{◌≡◌, ◌++◌, OnOk, codes};
-ghost use Rattle.std.specs.Io.KnownBytes.{Appends};
+ghost use Rattle.std.specs.Prelude.{IfNone, IfSome};
 ghost use Rattle.line_programs.specs.Entries.{trimmed_entry};
+ghost use Rattle.line_programs.specs.LineTables.{IsLookedUp};
 ghost use Rattle.ip_routes.specs.Faults.{IsOutOfMemory};
 ghost use Rattle.ip_routes.specs.Replies.{HasAnswer, IsNoAddress, IsRouteReply};
 ghost use Rattle.ip_routes.specs.RouteTables.{AreRoutesOf, IsRouteFault, IsRouteTable};
@@ -9,7 +9,7 @@ ghost use Rattle.ip_routes.specs.RouteTables.{AreRoutesOf, IsRouteFault, IsRoute
 use crate::lines::{LineError, Lines};
 use crate::routes::Routes;
 use line_programs::entries::trimmed_entry;
-use line_programs::line_tables::{LineTable, Outcome};
+use line_programs::line_tables::{LineTable, Outcome, Reply};
 use std::alloc::Global;
 use std::io::Write;
 use std::net::IpAddr;
@@ -70,19 +70,14 @@ impl LineTable for Table {
     }
 
     fn answer<W: Write>(&self, line: &[u8], output: &mut W) -> io::Result<Outcome> {
-        let Ok(address) = IpAddr::parse_ascii(line) else {
-            return Ok(Outcome::Invalid);
-        };
-        match self.routes.find(&address) {
-            Some(route) => {
-                write_route(output, route)?;
-                Ok(Outcome::Found)
-            }
-            None => {
-                output.write_all(b"none\n")?;
-                Ok(Outcome::NotFound)
-            }
+        match find_reply(&self.routes, line) {
+            Some(reply) => reply.write(output),
+            None => Ok(Outcome::Invalid),
         }
+    }
+
+    fn look_up(&self, line: &[u8]) -> Option<Reply<'_>> {
+        find_reply(&self.routes, line)
     }
 
     fn is_of_line(fault: &LineError) -> bool {
@@ -93,11 +88,22 @@ impl LineTable for Table {
     }
 }
 
-// Writes the line of a route.
-fn write_route<W: Write>(output: &mut W, line: &[u8]) -> io::Result<()>
-    ensures { OnOk result (Appends (W.contents output.old) (W.contents output.new)
-        (line.now ++ codes "\n")) }
+// Returns the line of the longest route that covers the address of a line, or `none`; `None` if the line is no address.
+fn find_reply<'a>(routes: &'a Routes, line: &[u8]) -> Option<Reply<'a>>
+    ensures reply { IfSome result (IsLookedUp (IsRouteReply routes.now) (HasAnswer routes.now) line.now) }
+    ensures none { IfNone result (IsNoAddress line.now) }
 {
-    output.write_all(line)?;
-    output.write_all(b"\n")
+    let Ok(address) = IpAddr::parse_ascii(line) else {
+        return None;
+    };
+    match routes.find(&address) {
+        Some(text) => Some(Reply {
+            text,
+            is_found: true,
+        }),
+        None => Some(Reply {
+            text: b"none",
+            is_found: false,
+        }),
+    }
 }

@@ -1,5 +1,6 @@
 mod EntryLemmas
 mod ReadLemmas
+mod AheadLemmas
 mod ServeLemmas
 mod CheckLemmas
 mod JsonLemmas

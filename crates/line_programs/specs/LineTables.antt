@@ -1,8 +1,9 @@
 -- A table that is read from the lines of a text, and the replies to those of another.
-use Rattle.std.specs.Prelude.{◌≡◌, ℕ, List, ◌∷◌, ◌++◌, Option, Some, None, ⊤}
+use Rattle.std.specs.Prelude.{◌≡◌, ◌↔◌, ℕ, true, List, [], ◌∷◌, ◌++◌, codes, Option, Some, None, ⊤}
 use Rattle.std.specs.Io.KnownBytes.{Appends}
 use Rattle.line_programs.specs.declared.line_tables.Outcome.{Outcome}
 use Rattle.line_programs.specs.declared.line_tables.Outcome.TheVariants.{Found, NotFound, Invalid}
+use Rattle.line_programs.specs.declared.line_tables.Reply.{Reply}
 use Rattle.line_programs.specs.declared.reading.ReadError.{ReadError}
 use Rattle.line_programs.specs.declared.reading.ReadError.TheVariants.{Line, Input}
 
@@ -38,3 +39,15 @@ abbrev pub IsTried : (List ℕ → List ℕ → Type 0) → (List ℕ → Type 0
 IsTried IsReply Finds AsksForNothing line Found old new = Finds line × IsAnswered IsReply line old new
 IsTried IsReply Finds AsksForNothing line NotFound old new = (¬ Finds line) × IsAnswered IsReply line old new
 IsTried IsReply Finds AsksForNothing line Invalid old new = AsksForNothing line × (new ≡ old)
+
+-- this is the reply to the line, but for its line feed, and whether the table has something for the line
+abbrev pub IsLookedUp : (List ℕ → List ℕ → Type 0) → (List ℕ → Type 0) → List ℕ → Reply → Type 0
+IsLookedUp IsReply Finds line reply =
+    IsReply line (reply.text.now ++ codes "\n") × ((reply.is_found ≡ true) ↔ Finds line)
+
+-- these replies were looked up for the first ones of the lines
+abbrev pub AreLookedUp : (List ℕ → List ℕ → Type 0) → (List ℕ → Type 0) → List Reply → List (List ℕ) → Type 0
+AreLookedUp IsReply Finds [] lines = ⊤
+AreLookedUp IsReply Finds (reply ∷ replies) [] = ⊥
+AreLookedUp IsReply Finds (reply ∷ replies) (line ∷ lines) =
+    IsLookedUp IsReply Finds line reply × AreLookedUp IsReply Finds replies lines

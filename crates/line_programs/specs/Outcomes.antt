@@ -1,7 +1,12 @@
 -- How the lines of an input were answered, all together.
-use Rattle.std.specs.Prelude.{ℕ, List, [], ◌∷◌}
+use Rattle.std.specs.Prelude.{ℕ, Bool, true, false, List, [], ◌∷◌}
 use Rattle.line_programs.specs.declared.line_tables.Outcome.{Outcome}
 use Rattle.line_programs.specs.declared.line_tables.Outcome.TheVariants.{Found, NotFound, Invalid}
+
+-- the outcome where something was found, or nothing
+abbrev pub outcome_of : Bool → Outcome
+outcome_of true = Found
+outcome_of false = NotFound
 
 -- the worse of two outcomes: an invalid line is worse than one for which nothing was found
 abbrev pub worse : Outcome → Outcome → Outcome

@@ -1,12 +1,14 @@
 -- What is written in reply to the lines of an input, and about those that ask for nothing.
-use Rattle.std.specs.Prelude.{◌≡◌, ◌≢◌, ◌⊎◌, ℕ, ◌+◌, Bool, true, false, List, [], ◌∷◌, ◌++◌, map, flat_map, Option}
+use Rattle.std.specs.Prelude.{◌≡◌, ◌≢◌, ◌⊎◌, ℕ, ◌+◌, Bool, true, false, List, [], ◌∷◌, ◌++◌, map, flat_map, Option, IfSome}
 use Rattle.std.specs.List.{AllByRecursion as Each}
 use Rattle.std.specs.Io.KnownBytes.{Appends}
 use Rattle.line_programs.specs.declared.line_tables.Outcome.{Outcome}
 use Rattle.line_programs.specs.declared.line_tables.Outcome.TheVariants.{Found, NotFound, Invalid}
 use Rattle.line_programs.specs.declared.serving.Format.{Format}
 use Rattle.line_programs.specs.declared.serving.Format.TheVariants.{Plain, Json}
+use Rattle.line_programs.specs.declared.serving.Query.{Query}
 use Rattle.line_programs.specs.declared.serving.Rules.{Rules}
+use Rattle.line_programs.specs.LineTables.{IsLookedUp}
 use Rattle.line_programs.specs.Json.{json_reply}
 use Rattle.line_programs.specs.Messages.{message}
 use Rattle.line_programs.specs.Outcomes.{worst}
@@ -23,6 +25,10 @@ module _ (IsReply : List ℕ → List ℕ → Type 0) (Finds AsksForNothing : Li
   IsAnswerTo line Found reply = Finds line × IsReply line reply
   IsAnswerTo line NotFound reply = (¬ Finds line) × IsReply line reply
   IsAnswerTo line Invalid reply = AsksForNothing line × (reply ≡ [])
+
+-- the reply that a line came with, if any, was looked up for it
+abbrev pub IsKnown : (List ℕ → List ℕ → Type 0) → (List ℕ → Type 0) → Query → Type 0
+IsKnown IsReply Finds query = IfSome query.reply (IsLookedUp IsReply Finds query.line.now)
 
 -- a reply as it is written: as it is, or as a JSON object that has the line too
 abbrev pub shown : Format → List ℕ → Outcome → List ℕ → List ℕ

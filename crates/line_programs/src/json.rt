@@ -9,6 +9,7 @@ use crate::line_tables::Outcome;
 use std::io;
 use std::io::Write;
 use std::str::from_utf8;
+use text_lines::lines::split_at_feed;
 
 /// Writes an object with a line, whether something was found for it, and the lines of its reply; then a line feed.
 /// Writes nothing of a line that asks for nothing.
@@ -91,17 +92,6 @@ fn split_line(text: &[u8]) -> (&[u8], &[u8])
         Some((line, others)) => (line, others),
         None => (text, b""),
     }
-}
-
-// Returns what is before the first line feed, and what is after it; `None` if there is none.
-fn split_at_feed(text: &[u8]) -> Option<(&[u8], &[u8])>
-    ensures parts { IfSome result (λ parts. text.now ≡ parts.0.now ++ 10 ∷ parts.1.now) }
-    ensures first { IfSome result (λ parts. All (λ byte. byte ≢ 10) parts.0.now) }
-    ensures none { IfNone result (All (λ byte. byte ≢ 10) text.now) }
-{
-    let at = text.iter().position(|&byte| byte == b'\n')?;
-    let (line, rest) = text.split_at(at);
-    Some((line, &rest[1..]))
 }
 
 // Writes bytes as a string.

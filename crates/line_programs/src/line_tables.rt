@@ -1,8 +1,9 @@
 //! Tables that are read from the lines of a text, and that answer those of another.
-ghost use Rattle.std.specs.Prelude.{◌≡◌, ◌↔◌, [], false, IfErr, IfOk, OnErr, OnOk, ℕ, List, Option, ◌∷◌, ◌++◌};
+ghost use Rattle.std.specs.Prelude.{◌≡◌, ◌↔◌, [], false, IfErr, IfOk, IfSome, OnErr, OnOk, ℕ, List, Option, ◌∷◌, ◌++◌, codes};
+ghost use Rattle.std.specs.Io.KnownBytes.{Appends};
 ghost use Rattle.std.specs.Option.{option_map};
-ghost use Rattle.line_programs.specs.LineTables.{IsFaultIn, IsTried};
-ghost use Rattle.line_programs.specs.Outcomes.{status, worse};
+ghost use Rattle.line_programs.specs.LineTables.{IsFaultIn, IsLookedUp, IsTried};
+ghost use Rattle.line_programs.specs.Outcomes.{outcome_of, status, worse};
 
 use std::alloc::Global;
 use std::io;
@@ -39,6 +40,32 @@ impl Outcome {
             Outcome::Found => 0,
             Outcome::NotFound => 1,
             Outcome::Invalid => 2,
+        }
+    }
+}
+
+/// A reply that was looked up, and is not yet written.
+#[derive(Clone, Copy)]
+pub struct Reply<'a> {
+    /// The bytes of the reply, without the line feed at its end.
+    pub text: &'a [u8],
+    /// Whether the table has something for the line.
+    pub is_found: bool,
+}
+
+impl Reply<'_> {
+    /// Writes the reply, and returns whether the table has something for the line.
+    pub fn write<W: Write>(self, output: &mut W) -> io::Result<Outcome>
+        ensures written { OnOk result (Appends (W.contents output.old) (W.contents output.new)
+            (self.entry.text.now ++ codes "\n")) }
+        ensures outcome { IfOk result (λ outcome. outcome ≡ outcome_of self.entry.is_found) }
+    {
+        output.write_all(self.text)?;
+        output.write_all(b"\n")?;
+        if self.is_found {
+            Ok(Outcome::Found)
+        } else {
+            Ok(Outcome::NotFound)
         }
     }
 }
@@ -104,6 +131,15 @@ pub trait LineTable {
     fn answer<W: Write>(&self, line: &[u8], output: &mut W) -> io::Result<Outcome>
         ensures { IfOk result (λ outcome. IsTried (IsReplyTo self.now) (Finds self.now) AsksForNothing
             line.now outcome (W.contents output.old) (W.contents output.new)) };
+
+    /// Looks up the reply to a line, so that the memory of several replies is read at once. Returns `None` if the line
+    /// asks for nothing, or if the table has no replies that can be written later.
+    fn look_up(&self, line: &[u8]) -> Option<Reply<'_>>
+        ensures { IfSome result (IsLookedUp (IsReplyTo self.now) (Finds self.now) line.now) }
+    {
+        let _line = line;
+        None
+    }
 
     /// Returns whether an entry is at fault, and not an allocation.
     fn is_of_line(fault: &Self::Fault) -> bool

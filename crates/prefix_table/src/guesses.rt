@@ -3,11 +3,12 @@ ghost use Rattle.std.specs.Prelude.{◌≤◌};
 
 use std::alloc::{AllocError, Global};
 
-/// For each value of the first bits of numbers how many are before those. A caller tests a guess before it uses it, so
-/// that contracts say nothing of guesses.
+/// For each value of the first bits by which numbers differ from the least one how many are before those. A caller tests a
+/// guess before it uses it, so that contracts say nothing of guesses.
 #[derive(Drop)]
 pub struct Guesses {
     counts: Vec<u32>,
+    least: u128,
     shift: u32,
 }
 
@@ -16,6 +17,7 @@ impl Guesses {
     pub fn none(alloc: Global) -> Self {
         Guesses {
             counts: Vec::new(alloc),
+            least: 0,
             shift: 0,
         }
     }
@@ -34,25 +36,35 @@ impl Guesses {
         counts.push(small(numbers.len()))?;
         Ok(Guesses {
             counts,
+            least: 0,
             shift: 32 - u32::from(bits),
         })
     }
 
-    /// Returns guesses for sorted numbers of 128 bits.
+    /// Returns guesses for sorted numbers of 128 bits: none for a few, else by up to 16 bits. Addresses of version 6 mostly
+    /// have the same bits at their start, by which nothing is guessed.
     pub fn of_six(alloc: Global, numbers: &[u128]) -> Result<Self, AllocError> {
         let bits = bits_for(numbers.len());
+        let (Some(least), Some(most)) = (numbers.first(), numbers.last()) else {
+            return Ok(Guesses::none(alloc));
+        };
         if bits == 0 {
             return Ok(Guesses::none(alloc));
         }
+        let (least, most) = (*least, *most);
+        let width = 128u32.saturating_sub(most.saturating_sub(least).leading_zeros());
+        let shift = width.saturating_sub(u32::from(bits));
         let mut counts = Vec::new(alloc);
         for first in 0..1u32 << bits {
-            let start = u128::from(first) << (128 - u32::from(bits));
+            let above = u128::from(first).checked_shl(shift).unwrap_or(0);
+            let start = least.saturating_add(above);
             counts.push(small(numbers.partition_point(|number| *number < start)))?;
         }
         counts.push(small(numbers.len()))?;
         Ok(Guesses {
             counts,
-            shift: 128 - u32::from(bits),
+            least,
+            shift,
         })
     }
 
@@ -64,7 +76,8 @@ impl Guesses {
 
     /// Returns the same for a number of 128 bits.
     pub fn around_six(&self, number: u128) -> (usize, usize) {
-        let first = number.checked_shr(self.shift).unwrap_or(0);
+        let above = number.saturating_sub(self.least);
+        let first = above.checked_shr(self.shift).unwrap_or(0);
         self.at((first & 0xffff) as u16)
     }
 

@@ -1,9 +1,10 @@
 -- A text that is read line by line, or piece by piece.
-use Rattle.std.proofs.Common.{◌≡◌, ℕ, zero, suc, ◌+◌, ◌-◌, ◌<◌, Bool, true, false, cond, eqb, eqb-true, eq-eqb, ne_eqb, List, [], ◌∷◌, ◌++◌, length, take, Option, Some, None, IfSome, refl, ap, sym, ◌∙◌, subst, arith, length-append}
-use Rattle.std.specs.List.{slice_get, slice_split, onto_first}
+use Rattle.std.proofs.Common.{◌≡◌, ◌≢◌, ℕ, zero, suc, ◌+◌, ◌-◌, ◌<◌, Bool, true, false, cond, eqb, eqb-true, eq-eqb, ne_eqb, List, [], ◌∷◌, ◌++◌, length, take, Option, Some, None, IfSome, refl, ap, sym, ◌∙◌, subst, arith, append_assoc, length-append}
+use Rattle.std.specs.List.{All, slice_get, slice_split, onto_first}
 use Rattle.std.specs.Io.BufRead.{DropsThrough, take_through, drop_through}
 use Rattle.std.specs.Io.KnownBytes.{IsAtEnd}
 use Rattle.std.proofs.lemmas.Bool.{eqb-false, false≢true}
+use Rattle.std.proofs.lemmas.List.Splits.{slice_split_at}
 use Rattle.std.specs.Prelude.{◌↔◌, IsTrue}
 use Rattle.text_lines.specs.Lines.{IsLineRead, IsPartRead, ended_by, ended_parts, lines, lines_of, without_return}
 
@@ -117,6 +118,17 @@ first_stays line (b ∷ bs) = go (eqb b 10) (parts 10 bs)
 ended_line : (text line : List ℕ) → take_through 10 text ≡ line ++ 10 ∷ [] → lines text ≡ without_return line ∷ lines (drop_through 10 text)
 ended_line text line e = ap lines_of (ended_part 10 text line e) ∙ first_stays line (drop_through 10 text)
 
+-- the first line feed of a text that has more ends the first line
+pub first_ended : (text line rest more : List ℕ) → text ≡ line ++ 10 ∷ rest → All (λ b. b ≢ 10) line →
+    lines (text ++ more) ≡ without_return line ∷ lines (rest ++ more)
+first_ended text line rest more e h =
+    ap (λ bs. lines (bs ++ more)) e ∙ ap lines (append_assoc line (10 ∷ rest) more)
+    ∙ ap lines_of (slice_split_at (λ b. eqb b 10) line 10 (rest ++ more) (λ k none less. ne_eqb _ 10 (h k none less)) refl)
+    ∙ first_stays line (rest ++ more)
+
+pub rest_is_shorter : (text line rest : List ℕ) → text ≡ line ++ 10 ∷ rest → length rest < length text
+rest_is_shorter text line rest e = let l = ap length e ∙ length-append line (10 ∷ rest) in omega arith
+
 -- the last line, which no line feed ends, comes alone
 last_line : (text : List ℕ) → 0 < length (take_through 10 text) → ((line : List ℕ) → take_through 10 text ≡ line ++ 10 ∷ [] → ⊥) →
     lines text ≡ take_through 10 text ∷ lines (drop_through 10 text)
@@ -162,6 +174,12 @@ return_absent (x ∷ y ∷ line) h = ap (λ bs. x ∷ bs) (return_absent (y ∷ 
     later : (x : ℕ) (line : List ℕ) → slice_get line (length line - 1) ≡ Some 13 → slice_get (x ∷ line) (length (x ∷ line) - 1) ≡ Some 13
     later x [] e = absurd cc
     later x (y ∷ line) e = let k : length (x ∷ y ∷ line) - 1 ≡ suc (length (y ∷ line) - 1) = omega arith in ap (slice_get (x ∷ y ∷ line)) k ∙ e
+
+-- a line whose last byte is one
+pub return_trimmed : (line : List ℕ) → slice_get line (length line - 1) ≡ Some 13 → take (length line - 1) line ≡ without_return line
+return_trimmed line last =
+    let some = filled 13 line last in
+    sym (ap without_return (ends 13 line (length line - 1) last (omega arith)) ∙ return_dropped (take (length line - 1) line))
 
 -- or the last one, which none ends
 pub read_last : (old new : Option (List ℕ)) (empty got : List ℕ) → empty ≡ [] → IfSome old (λ xs. got ≡ empty ++ take_through 10 xs) →

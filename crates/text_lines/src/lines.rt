@@ -1,7 +1,7 @@
 //! Reads a text line by line.
-ghost use Rattle.std.specs.Prelude.{◌≡◌, ◌-◌, ◌↔◌, IfOk, IfSome, IsTrue, Some, length, slice_get};
+ghost use Rattle.std.specs.Prelude.{◌≡◌, ◌≢◌, ◌-◌, ◌<◌, ◌↔◌, ◌∷◌, ◌++◌, All, IfNone, IfOk, IfSome, IsTrue, List, Some, length, slice_get, ℕ};
 ghost use Rattle.std.specs.Io.KnownBytes.{Keeps};
-ghost use Rattle.text_lines.specs.Lines.{IsLineRead, IsPartRead, ended_by, pieces, without_return};
+ghost use Rattle.text_lines.specs.Lines.{IsLineRead, IsPartRead, ended_by, lines, pieces, without_return};
 
 use std::io;
 use std::io::{BufRead, BufReader, Read, Write};
@@ -75,6 +75,38 @@ fn ends_with(line: &[u8], end: u8) -> bool
         Some(byte) => *byte == end,
         None => false,
     }
+}
+
+/// Returns what is before the first line feed, and what is after it; `None` if there is none.
+pub fn split_at_feed(text: &[u8]) -> Option<(&[u8], &[u8])>
+    ensures parts { IfSome result (λ parts. text.now ≡ parts.0.now ++ 10 ∷ parts.1.now) }
+    ensures first { IfSome result (λ parts. All (λ byte. byte ≢ 10) parts.0.now) }
+    ensures none { IfNone result (All (λ byte. byte ≢ 10) text.now) }
+{
+    let at = text.iter().position(|&byte| byte == b'\n')?;
+    let (line, rest) = text.split_at(at);
+    Some((line, &rest[1..]))
+}
+
+/// Returns the first line of a text, without its end, and what is after that; `None` if no line feed ends it. The text may
+/// have more, which is not there yet.
+pub fn first_line(text: &[u8]) -> Option<(&[u8], &[u8])>
+    ensures line { IfSome result (λ parts. (more : List ℕ) →
+        lines (text.now ++ more) ≡ parts.0.now ∷ lines (parts.1.now ++ more)) }
+    ensures shorter { IfSome result (λ parts. length parts.1.now < length text.now) }
+{
+    let (line, rest) = split_at_feed(text)?;
+    Some((trim_return(line), rest))
+}
+
+// Returns a line without a carriage return at its end.
+fn trim_return(line: &[u8]) -> &[u8]
+    ensures { result.now ≡ without_return line.now }
+{
+    if ends_with(line, b'\r') {
+        return &line[..line.len() - 1];
+    }
+    line
 }
 
 /// Writes out what the output has collected, unless the next line of the input is already available: so a program that
