@@ -1,10 +1,9 @@
 -- A text that is read line by line, or piece by piece.
-use Rattle.std.proofs.Common.{◌≡◌, ℕ, zero, suc, ◌+◌, ◌-◌, ◌<◌, Bool, true, false, cond, eqb, eqb-true, eq-eqb, ne_eqb, List, [], ◌∷◌, ◌++◌, length, take, Option, Some, None, IfSome, refl, ap, sym, ◌∙◌, subst, arith, length-append}
+use Rattle.std.proofs.Common.{◌≡◌, ℕ, zero, suc, ◌+◌, ◌-◌, ◌<◌, Bool, true, false, cond, eqb, eqb-true, ne_eqb, List, [], ◌∷◌, ◌++◌, length, take, Option, Some, None, IfSome, refl, ap, sym, ◌∙◌, subst, arith, length-append}
 use Rattle.std.specs.List.{slice_get, slice_split, onto_first}
 use Rattle.std.specs.Io.BufRead.{DropsThrough, take_through, drop_through}
 use Rattle.std.specs.Io.KnownBytes.{IsAtEnd}
-use Rattle.std.proofs.lemmas.Bool.{eqb-false, false≢true}
-use Rattle.std.specs.Prelude.{◌↔◌, IsTrue}
+use Rattle.std.proofs.lemmas.Bool.{eqb-false}
 use Rattle.text_lines.specs.Lines.{IsLineRead, IsPartRead, ended_by, ended_parts, lines, lines_of, without_return}
 
 -- a byte is put before the first of some parts
@@ -188,13 +187,6 @@ part_read_as parts old new part m n e h = subst (λ t. IfSome old (λ text. IsPa
 pub read_as : (old new : Option (List ℕ)) (line : List ℕ) (m n : Bool) → m ≡ n → IfSome old (λ text. IsLineRead m text line new) →
     IfSome old (λ text. IsLineRead n text line new)
 read_as = part_read_as lines
-
--- the test of the last byte
-pub ended_some : (b end : ℕ) (o : Option ℕ) → Some b ≡ o → IsTrue (eqb b end) ↔ (o ≡ Some end)
-ended_some b end o e = ((λ t. sym e ∙ ap Some (eqb-true b end t)), (λ h. eq-eqb b end cc))
-
-pub ended_none : (end : ℕ) (o : Option ℕ) → None ≡ o → IsTrue false ↔ (o ≡ Some end)
-ended_none end o e = ((λ t. absurd (false≢true t)), (λ h. absurd cc))
 
 -- where some bytes were read, there are some
 pub some_read : (n old new : ℕ) {seen : ℕ} (got : List ℕ) → seen ≡ length got → seen ≡ new → new ≡ old + n → (n ≡ 0 → ⊥) → 0 < length got
