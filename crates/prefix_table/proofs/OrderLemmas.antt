@@ -3,7 +3,7 @@ use Rattle.std.proofs.Common.{◌≡◌, ◌≢◌, ℕ, zero, suc, ◌+◌, ◌
 use Rattle.std.specs.List.{All, Contains, swap}
 use Rattle.std.specs.List.Sorted.{IsPermutation}
 use Rattle.std.proofs.lemmas.Bool.{cases_lt}
-use Rattle.std.proofs.lemmas.List.{get_or-map, get_or_read, length-map}
+use Rattle.std.proofs.lemmas.List.{get_or-map, get_or_read, length-map, take_all}
 use Rattle.std.proofs.lemmas.List.Edits.{length-swap, swapped_from_swap}
 use Rattle.std.proofs.lemmas.List.Sorted.{All-permutation, Contains-permutation, IsPermutation-keeps, length_permutation}
 use Rattle.prefix_table.specs.declared.network.Network.{Network}
@@ -287,3 +287,8 @@ module _ (networks : List Network) (rows : List Row) (same : IsPermutation (numb
         fits = λ k h. let at = place_at k (omega arith) in let fits = places_fit k (omega arith) in omega arith;
         own = λ i j h k e. own_places i j (omega arith) (omega arith) (sym (place_at i (omega arith)) ∙ e ∙ place_at j (omega arith));
       }
+
+-- for searches in the proofs of functions
+pub ruleset from_slice_facts = (length-in_order, take_all)
+
+pub ruleset ordered_rows_facts = (are_in_order, length-numbered, length_permutation)

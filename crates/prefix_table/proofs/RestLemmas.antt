@@ -3,6 +3,7 @@ use Rattle.std.proofs.Common.{◌≡◌, ℕ, zero, suc, ◌<◌, List, [], ◌�
 use Rattle.prefix_table.specs.declared.rests.Rest.{Rest}
 use Rattle.prefix_table.specs.Columns.{rest_at}
 use Rattle.prefix_table.specs.Rests.{rests_of}
+use Rattle.std.proofs.lemmas.List.{get_or_read}
 
 -- what has this length, with so many up to the next one around it
 abbrev pub rest_with : ℕ → ℕ → Rest
@@ -26,3 +27,10 @@ rests-push [] [] l a e = refl
 rests-push [] (x ∷ xs) l a e = absurd (omega (arith, e))
 rests-push (x ∷ xs) [] l a e = absurd (omega (arith, e))
 rests-push (x ∷ xs) (y ∷ ys) l a e = ap (λ rests. rest_with x y ∷ rests) (rests-push xs ys l a (omega (arith, e)))
+
+-- for searches in the proofs of functions
+pub ruleset around_facts = (at_rests, get_or_read, length-rests)
+
+pub ruleset len_facts = (length-rests)
+
+pub ruleset push_facts = (rests-push)

@@ -359,3 +359,8 @@ module _ (starts : List Address) (rests : List Rest) (rows : AreRows starts rest
       no_count : (rs : List Row) (s : Address) → count_by (λ row. covers_at (network_of row) s) (take 0 rs) ≡ 0
       no_count [] s = refl
       no_count (r ∷ rs) s = refl
+
+-- for searches in the proofs of functions
+pub ruleset count_up_to_facts = (length-rows)
+
+pub ruleset get_facts = (at_rows, length-rows)

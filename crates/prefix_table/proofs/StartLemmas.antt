@@ -1,5 +1,5 @@
 -- The columns of starts as one list.
-use Rattle.std.proofs.Common.{◌≡◌, ℕ, ◌+◌, ◌-◌, ◌/◌, ◌^◌, ◌<◌, ◌≤◌, ◌⊎◌, inl, inr, List, [], ◌∷◌, ◌++◌, length, zero, suc, slice_index_or, get_or, refl, ap, ap₂, sym, ◌∙◌, subst, arith, length-append, append_assoc, append-nil}
+use Rattle.std.proofs.Common.{◌≡◌, ℕ, ◌+◌, ◌-◌, ◌/◌, ◌^◌, ◌<◌, ◌≤◌, ◌⊎◌, inl, inr, List, [], ◌∷◌, ◌++◌, length, zero, suc, slice_index_or, get_or, refl, ap, ap₂, sym, ◌∙◌, subst, arith, length-append, append-nil}
 use Rattle.std.specs.List.Sorted.{IsNonDecreasing, IsPartitionPoint}
 use Rattle.std.proofs.Math.ListN.{get_or-append}
 use Rattle.std.proofs.lemmas.Bool.{cases_lt}
@@ -129,11 +129,6 @@ push_four four six n none =
     ap (starts_of (four ++ n ∷ [])) e ∙ append-nil _ ∙ map-append (λ n. record { number = n; version = 4 }) four (n ∷ [])
     ∙ ap (λ xs. xs ++ record { number = n; version = 4 } ∷ []) (sym (append-nil (of_version 4 four)) ∙ ap (starts_of four) (sym e))
 
-pub push_six : (four six : List ℕ) (n : ℕ) → starts_of four (six ++ n ∷ []) ≡ starts_of four six ++ record { number = n; version = 6 } ∷ []
-push_six four six n =
-    ap (λ xs. of_version 4 four ++ xs) (map-append (λ n. record { number = n; version = 6 }) six (n ∷ []))
-    ∙ sym (append_assoc (of_version 4 four) (of_version 6 six) _)
-
 -- ---- binary searches in sorted numbers
 
 -- A part of so many numbers is left once so many were looked at: each look leaves at most half.
@@ -205,3 +200,6 @@ part_is_point numbers at most rise part =
           let same = default_of numbers k d 0 fits in
           omega arith,
     )
+
+-- for searches in the proofs of functions
+pub ruleset search_six_facts = (halved_once, part_after, part_before)

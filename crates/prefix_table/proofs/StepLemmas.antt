@@ -7,21 +7,9 @@ use Rattle.std.proofs.lemmas.Bool.{cases_lt, false≢true}
 use Rattle.std.proofs.lemmas.Nat.{leading_length, pow-add, pow_pos, shl-shr, shr_split, xor_shr}
 use Rattle.prefix_table.specs.declared.network.Address.{Address}
 use Rattle.prefix_table.specs.declared.network.Network.{Network}
-use Rattle.prefix_table.specs.Networks.{IsAddress, IsNetwork, cleared, covers_at, start_of, width}
+use Rattle.prefix_table.specs.Networks.{cleared, covers_at, start_of, width}
 use Rattle.prefix_table.specs.Steps.{IsUpToNetwork, cut}
 use Rattle.prefix_table.proofs.CoverLemmas.{covered_from, covered_parts, covers_between}
-
-pub cut_is : (address : Address) (length : ℕ) → IsAddress address → length ≤ width address.version → IsNetwork (cut address length)
-cut_is address length is fits =
-    let k = width address.version - length in
-    let less = div-mul-le_self address.number (2 ^ k) in
-    let small = is.fits in
-    record {
-      version_is = is.version_is;
-      number_fits = omega arith;
-      length_fits = fits;
-      no_host_bits = ap (λ n. n * 2 ^ k) (shl-shr (address.number / 2 ^ k) k);
-    }
 
 -- numbers that are cleared to the same have the same first bits
 same_first : (k a b : ℕ) → cleared k a ≡ cleared k b → a / 2 ^ k ≡ b / 2 ^ k

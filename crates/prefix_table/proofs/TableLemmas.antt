@@ -173,3 +173,6 @@ module _ {V : Type 0} (rows : List Row) (values arranged : List V) (table : IsTa
       at_entries rows values table k d fits
       ∙ ap₂ (λ n v. (n, v)) (sym (in_order_network rows k fits)) (sym (value_is k d.1 fits))
       ∙ sym (at_entries (in_order rows) arranged arranged_table.table k d (omega arith)))
+
+-- for searches in the proofs of functions
+pub ruleset entry_facts = (at_entries, length-entries)

@@ -56,6 +56,7 @@ impl Rests {
     }
 
     /// Returns how many there are.
+    #[tactic(auto, using(crate::proofs::RestLemmas::len_facts))]
     pub fn len(&self) -> usize
         ensures { result ≡ length self.now }
     {
@@ -64,6 +65,7 @@ impl Rests {
     }
 
     /// Returns the length of the network at an index.
+    #[tactic(auto, using(crate::proofs::RestLemmas::around_facts))]
     pub fn length(&self, index: usize) -> u8
         requires { index < length self.now }
         ensures { result ≡ (rest_at self.now index).length }
@@ -73,6 +75,7 @@ impl Rests {
     }
 
     /// Returns how many networks there are up to that around the one at an index.
+    #[tactic(auto, using(crate::proofs::RestLemmas::around_facts))]
     pub fn around(&self, index: usize) -> u32
         requires { index < length self.now }
         ensures { result ≡ (rest_at self.now index).around }
@@ -82,6 +85,7 @@ impl Rests {
     }
 
     /// Adds what one more network has.
+    #[tactic(auto, using(crate::proofs::RestLemmas::push_facts))]
     pub fn push(&mut self, rest: Rest) -> Result<(), AllocError>
         ensures { OnOk result (self.new ≡ self.old ++ rest ∷ []) }
     {

@@ -65,6 +65,7 @@ impl Rows {
     }
 
     /// Returns these rows, each with its index as its place.
+    #[tactic(auto, using(crate::proofs::OrderLemmas::from_slice_facts))]
     pub fn from_slice(alloc: Global, rows: &[Row]) -> Result<Self, AllocError>
         requires few { length rows.now < 2 ^ 32 }
         requires order { AreInOrder rows.now }
@@ -88,6 +89,7 @@ impl Rows {
     }
 
     /// Returns how many rows there are.
+    #[tactic(auto, using(crate::proofs::RowLemmas::count_up_to_facts))]
     pub fn len(&self) -> usize
         ensures { result ≡ length self.now }
     {
@@ -96,6 +98,7 @@ impl Rows {
     }
 
     /// Returns the row at an index.
+    #[tactic(auto, using(crate::proofs::RowLemmas::get_facts))]
     pub fn get(&self, index: usize) -> Row
         requires { index < length self.now }
         ensures { result ≡ row_at self.now index }
@@ -110,6 +113,7 @@ impl Rows {
     }
 
     /// Returns how many rows start at an address or before it.
+    #[tactic(auto, using(crate::proofs::RowLemmas::count_up_to_facts))]
     pub fn count_up_to(&self, address: Address) -> Counted
         requires { IsAddress address }
         ensures count { IsRowCount self.now address result.count }

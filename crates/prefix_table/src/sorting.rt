@@ -19,6 +19,7 @@ pub fn sorted_rows(alloc: Global, networks: &[Network]) -> Result<Vec<Row>, Allo
 }
 
 // Returns networks with their places.
+#[tactic(auto, using(crate::proofs::SortingLemmas::next_numbered))]
 fn numbered_rows(alloc: Global, networks: &[Network]) -> Result<Vec<Row>, AllocError>
     requires { length networks.now < 2 ^ 32 }
     ensures { IfOk result (λ rows. rows.items ≡ numbered 0 networks.now) }

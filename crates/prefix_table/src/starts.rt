@@ -224,6 +224,7 @@ fn is_part_six(numbers: &[u128], from: usize, to: usize, most: u128) -> bool
         && (to == numbers.len() || most < numbers[to])
 }
 
+#[tactic(auto, using(crate::proofs::StartLemmas::search_six_facts))]
 fn search_six(numbers: &[u128], mut from: usize, to: usize, most: u128) -> Counted
     requires sorted { IsNonDecreasing numbers.now }
     requires part { IsPartFor numbers.now from to most }

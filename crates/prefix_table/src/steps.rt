@@ -22,6 +22,7 @@ pub fn cut(address: Address, length: u8) -> Network
 
 /// Returns how long a network can be that covers an address and has at most `length` bits, if the last one up to `cut` of
 /// these doesn't cover the address; `None` if there is no such network.
+#[tactic(auto, using(crate::proofs::StepLemmas::is_shorter, crate::proofs::StepLemmas::shares_its_bits))]
 pub fn next_length(last: Network, address: Address, length: u8) -> Option<u8>
     requires last { IsUpToNetwork last (cut address length) }
     requires fits { length ≤ width address.version }
@@ -38,6 +39,7 @@ pub fn next_length(last: Network, address: Address, length: u8) -> Option<u8>
 }
 
 // Returns how many of their first bits two numbers of this width share.
+#[tactic(auto, using(crate::proofs::StepLemmas::shares))]
 fn shared_length(a: u128, b: u128, width: u8) -> u8
     requires { width ≤ 128 }
     ensures { (length : ℕ) → length ≤ width → cleared (width - length) a ≡ cleared (width - length) b →

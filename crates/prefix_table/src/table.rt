@@ -73,6 +73,7 @@ impl<V> PrefixTable<V> {
     }
 
     /// Builds the table of these networks, in any order, each with the value at its place. An error returns the values.
+    #[tactic(auto, using(crate::proofs::OrderLemmas::length_rows, crate::proofs::OrderLemmas::places_are))]
     pub fn build(
         alloc: Global,
         networks: &[Network],
@@ -116,6 +117,7 @@ impl<V> PrefixTable<V> {
     }
 
     // Returns the network at an index, and its value.
+    #[tactic(auto, using(crate::proofs::TableLemmas::entry_facts))]
     pub(crate) fn entry(&self, index: usize) -> (Network, &V)
         requires { index < length self.now }
         ensures { shown result ≡ slice_index_or self.now index (shown result) }
@@ -223,6 +225,7 @@ impl<V> PrefixTable<V> {
 }
 
 // Returns networks in order, with their places.
+#[tactic(auto, using(crate::proofs::OrderLemmas::ordered_rows_facts))]
 fn ordered_rows(alloc: Global, networks: &[Network]) -> Result<Vec<Row>, BuildFault>
     requires { All IsNetwork networks.now }
     ensures rows { IfOk result (λ rows. IsPermutation (numbered 0 networks.now) rows.items) }

@@ -207,13 +207,6 @@ pub read_as : (old new : Option (List ℕ)) (line : List ℕ) (m n : Bool) → m
     IfSome old (λ text. IsLineRead n text line new)
 read_as = part_read_as lines
 
--- the test of the last byte
-pub ended_some : (b end : ℕ) (o : Option ℕ) → Some b ≡ o → IsTrue (eqb b end) ↔ (o ≡ Some end)
-ended_some b end o e = ((λ t. sym e ∙ ap Some (eqb-true b end t)), (λ h. eq-eqb b end cc))
-
-pub ended_none : (end : ℕ) (o : Option ℕ) → None ≡ o → IsTrue false ↔ (o ≡ Some end)
-ended_none end o e = ((λ t. absurd (false≢true t)), (λ h. absurd cc))
-
 -- where some bytes were read, there are some
 pub some_read : (n old new : ℕ) {seen : ℕ} (got : List ℕ) → seen ≡ length got → seen ≡ new → new ≡ old + n → (n ≡ 0 → ⊥) → 0 < length got
 some_read n old new got a b c d = omega arith

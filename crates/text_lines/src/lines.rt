@@ -59,6 +59,7 @@ pub fn next_piece<R: BufRead>(input: &mut R, end: End, piece: &mut Vec<u8>) -> i
 }
 
 // Drops a carriage return from the end of a line.
+#[tactic(auto, using(crate::proofs::LineParts::return_absent))]
 fn drop_return(line: &mut Vec<u8>)
     ensures { line.new.items ≡ without_return line.old.items }
 {

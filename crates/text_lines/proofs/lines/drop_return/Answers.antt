@@ -1,8 +1,7 @@
 use Rattle.std.proofs.Common.{◌≡◌, ◌-◌, ◌<◌, ◌++◌, ◌∷◌, [], refl, Some, length, take, vec_len, ap, sym, ◌∙◌, subst, arith}
 use Rattle.std.specs.List.{slice_get}
-use Rattle.std.proofs.lemmas.Bool.{false≢true}
 use Rattle.text_lines.specs.Lines.{without_return}
-use Rattle.text_lines.proofs.LineParts.{ends, filled, return_absent, return_dropped}
+use Rattle.text_lines.proofs.LineParts.{ends, filled, return_dropped}
 use Rattle.text_lines.proofs.lines.drop_return.Goals as goal
 
 pub returns-then-ends_with : goal.returns-then-ends_with
@@ -15,8 +14,3 @@ returns-then-ends_with c =
     sym (ap without_return (ends 13 got (length got - 1) last (omega arith)
     ∙ ap (λ n. take (n - 1) got ++ 13 ∷ []) len ∙ ap (λ bs. bs ++ 13 ∷ []) (sym c.pop.ensures.rest))
     ∙ return_dropped c.pop.new.self.items)
-
-pub returns-else-ends_with : goal.returns-else-ends_with
-returns-else-ends_with c =
-    sym (return_absent c.args.line.now.items
-    (λ e. false≢true (c.if-ends_with.ensures.1 (subst (λ bs. slice_get bs (length bs - 1) ≡ Some 13) (sym c.deref.ensures.value) e))))

@@ -1,5 +1,4 @@
-use Rattle.std.proofs.Common.{◌≡◌, ◌<◌, ap, ap₂, sym, ◌∙◌, length, List, refl, subst, arith, ◌++◌, ◌∷◌, []}
-use Rattle.std.proofs.lemmas.List.{take_all}
+use Rattle.std.proofs.Common.{◌≡◌, ◌<◌, ap, ap₂, sym, ◌∙◌, length, refl, subst, arith, ◌++◌, ◌∷◌, []}
 use Rattle.prefix_table.specs.declared.network.Address.{Address}
 use Rattle.prefix_table.specs.declared.network.Network.{Network}
 use Rattle.prefix_table.specs.Columns.{AreRows, rows_of}
@@ -59,10 +58,3 @@ loop-row-preserved c =
           (next_are l.starts l.rests l.invariant.are all l.row-index fits l.invariant.made (still_in_order rows c.requires.order)
           (let few = c.requires.few in omega arith) c.last_covering-found.result.upto around));
     }
-
-pub returns : goal.returns
-returns c =
-    let l = c.loop-row in
-    let many = length-in_order c.args.rows.now in
-    ap (λ (ss : List Address). rows_of ss l.rests) c.guess.ensures ∙ l.invariant.made
-    ∙ take_all l.row-index (in_order c.args.rows.now) (omega arith)

@@ -1,7 +1,7 @@
-use Rattle.std.proofs.Common.{◌≡◌, ◌+◌, ◌<◌, ◌≤◌, length, inl, inr, ap, sym, subst, arith}
+use Rattle.std.proofs.Common.{◌≡◌, ◌+◌, ◌<◌, ◌≤◌, length, inl, inr, sym, subst, arith}
 use Rattle.std.specs.List.Sorted.{IsNonDecreasing, IsPartitionPoint}
 use Rattle.prefix_table.specs.Starts.{AreUpwards, IsCount, starts_of}
-use Rattle.prefix_table.proofs.StartLemmas.{count_is_of_four, count_is_of_six, four_rise, length-starts, six_rise}
+use Rattle.prefix_table.proofs.StartLemmas.{count_is_of_four, count_is_of_six, four_rise, six_rise}
 use Rattle.prefix_table.proofs.starts.Starts.count_up_to.Goals as goal
 
 pub count_four-requires : goal.count_four-requires
@@ -22,11 +22,6 @@ returns-then-address-eq4-clause-count c =
     c.deref.ensures.value c.count_four.ensures.parts)
     (subst (λ ns. c.count_four.result.count ≤ length ns) c.deref.ensures.value c.count_four.ensures.bounded))
 
-pub returns-then-address-eq4-clause-looked : goal.returns-then-address-eq4-clause-looked
-returns-then-address-eq4-clause-looked c k h =
-    let many = length-starts c.self.inside.four.items c.self.inside.six.items in
-    c.count_four.ensures.looked k (omega (arith, many, ap length c.self.view_is, ap length c.deref.ensures.value, h))
-
 pub returns-clause-count : goal.returns-clause-count
 returns-clause-count c =
     let six : c.args.address.version ≡ 6 =
@@ -39,8 +34,3 @@ returns-clause-count c =
     (subst (λ ns. IsPartitionPoint (λ n. n ≤ c.args.address.number) (λ n. c.args.address.number < n) ns found)
     c.deref-2.ensures.value c.count_six-found.ensures.parts)
     (subst (λ ns. found ≤ length ns) c.deref-2.ensures.value c.count_six-found.ensures.bounded)))
-
-pub returns-clause-looked : goal.returns-clause-looked
-returns-clause-looked c k h =
-    let many = length-starts c.self.inside.four.items c.self.inside.six.items in
-    c.count_six-found.ensures.looked k (omega (arith, many, ap length c.self.view_is, ap length c.deref-2.ensures.value, h))

@@ -1,20 +1,11 @@
-use Rattle.std.proofs.Common.{◌≡◌, ap, arith, length, subst}
+use Rattle.std.proofs.Common.{◌≡◌, arith, length, subst}
 use Rattle.std.specs.List.{zip}
 use Rattle.std.specs.List.Sorted.{IsPermutation}
 use Rattle.prefix_table.specs.Sorting.{in_order}
 use Rattle.prefix_table.proofs.ArrangeLemmas.{all_written}
-use Rattle.prefix_table.proofs.OrderLemmas.{length_rows, places_are}
+use Rattle.prefix_table.proofs.OrderLemmas.{length_rows}
 use Rattle.prefix_table.proofs.TableLemmas.{arranged_table, entries_arranged, entries_in_order, has_all_entries, is_table}
 use Rattle.prefix_table.proofs.table.PrefixTable.build.Goals as goal
-
-pub arranged_rows-requires-clause-places : goal.arranged_rows-requires-clause-places
-arranged_rows-requires-clause-places g c =
-    rw c.deref.ensures.value (places_are c.args.networks.now c.in-Ok.sorted.items c.in-Ok.ensures.rows)
-
-pub arranged_rows-requires-clause-values : goal.arranged_rows-requires-clause-values
-arranged_rows-requires-clause-values g c =
-    let many = length_rows c.args.networks.now c.in-Ok.sorted.items c.in-Ok.ensures.rows in
-    omega (arith, c.requires.values, c.args.values.ok.0, ap length c.deref.ensures.value, ap length c.deref_mut.ensures.value)
 
 pub invariant_of-result : goal.invariant_of-result
 invariant_of-result g c =
