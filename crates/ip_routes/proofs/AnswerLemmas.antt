@@ -11,15 +11,16 @@ use Rattle.std.proofs.lemmas.Bool.{false≢true}
 use Rattle.std.proofs.lemmas.List.Elements.{All-contains, All-map}
 use Rattle.line_programs.specs.declared.line_tables.Outcome.{Outcome}
 use Rattle.line_programs.specs.declared.line_tables.Reply.{Reply}
-use Rattle.line_programs.specs.LineTables.{IsLookedUp, IsTried}
+use Rattle.line_programs.specs.LineTables.{AreLookedUp, AreOf, IsLookedUp, IsTried}
 use Rattle.line_programs.specs.Outcomes.{outcome_of}
 use Rattle.prefix_table.specs.declared.network.Network.{Network}
 use Rattle.prefix_table.specs.Networks.{covers}
 use Rattle.prefix_table.specs.Entries.{IsLongest}
 use Rattle.ip_routes.specs.declared.lines.Place.{Place}
-use Rattle.ip_routes.specs.Replies.{HasAnswer}
+use Rattle.ip_routes.specs.Replies.{HasAnswer, IsRouteReply}
 use Rattle.ip_routes.specs.Routes.{IsAnswer}
 use Rattle.ip_routes.specs.Sources.{answers_of, line_at}
+use Rattle.ip_routes.proofs.LookUpLemmas.{items_of_items}
 
 module _ (text : List ℕ) (entries : List (Network × Place)) (address : IpAddr) where
   -- a network with its line
@@ -64,3 +65,16 @@ reply_written IsReply Finds AsksForNothing line reply (Ok outcome) old new h wri
     go : (t : Bool) → (t ≡ true) ↔ Finds line → IsTried IsReply Finds AsksForNothing line (outcome_of t) old new
     go true found = (found.0 refl, (reply.text.now ++ codes "\n", h.0, written))
     go false found = ((λ finds. false≢true (found.1 finds)), (reply.text.now ++ codes "\n", h.0, written))
+
+-- this is the reply to each line that writes the address
+abbrev pub IsReplyAt : List (Network × List ℕ) → IpAddr → Reply → Type 0
+IsReplyAt routes address reply =
+    (line : List ℕ) → IsIpText line address → IsLookedUp (IsRouteReply routes) (HasAnswer routes) line reply
+
+-- the replies to lines by their addresses
+pub are_replies : (routes : List (Network × List ℕ)) (replies : List Reply) (addresses : List IpAddr) →
+    AreOf (IsReplyAt routes) replies addresses → (asked : List (List ℕ)) → AreOf IsIpText addresses asked →
+    AreLookedUp (IsRouteReply routes) (HasAnswer routes) replies asked
+are_replies routes replies addresses h asked k =
+    items_of_items IsIpText (IsReplyAt routes) (IsLookedUp (IsRouteReply routes) (HasAnswer routes))
+    (λ line address reply is replied. replied line is) replies addresses asked k h

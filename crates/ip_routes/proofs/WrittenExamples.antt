@@ -2,7 +2,7 @@
 use Rattle.std.proofs.Common.{◌≡◌, [], ◌∷◌, Some, None, codes, refl}
 use Rattle.prefix_table.specs.declared.network.Network.{Network}
 use Rattle.ip_routes.specs.Replies.{reply_with}
-use Rattle.ip_routes.specs.Routes.{Route, answer_of, text_of}
+use Rattle.ip_routes.specs.Routes.{Route, text_of}
 use Rattle.ip_routes.specs.RouteTables.{numbered_line}
 use Rattle.ip_routes.specs.Sources.{line_at}
 

@@ -1,7 +1,9 @@
 //! What a table of routes has of a text, and how it answers addresses.
-ghost use Rattle.std.specs.Prelude.{IfNone, IfSome};
+ghost use Rattle.std.specs.Prelude.{IfNone, IfSome, List, ◌++◌, ℕ};
+ghost use Rattle.std.specs.Net.Grammar.{IsIpText};
+ghost use Rattle.text_lines.specs.Lines.{lines};
 ghost use Rattle.line_programs.specs.Entries.{trimmed_entry};
-ghost use Rattle.line_programs.specs.LineTables.{IsLookedUp};
+ghost use Rattle.line_programs.specs.LineTables.{AreLookedUp, AreOf, IsLookedUp};
 ghost use Rattle.ip_routes.specs.Faults.{IsOutOfMemory};
 ghost use Rattle.ip_routes.specs.Replies.{HasAnswer, IsNoAddress, IsRouteReply};
 ghost use Rattle.ip_routes.specs.RouteTables.{AreRoutesOf, IsRouteFault, IsRouteTable};
@@ -11,9 +13,11 @@ use crate::routes::Routes;
 use line_programs::entries::trimmed_entry;
 use line_programs::line_tables::{LineTable, Outcome, Reply};
 use std::alloc::Global;
+use std::collections::VecDeque;
 use std::io::Write;
 use std::net::IpAddr;
 use std::{io, mem};
+use text_lines::lines::first_line;
 
 /// A table of routes: the lines that were added so far, and once they are complete the routes of all of them.
 #[derive(Drop)]
@@ -76,8 +80,9 @@ impl LineTable for Table {
         }
     }
 
-    fn look_up(&self, line: &[u8]) -> Option<Reply<'_>> {
-        find_reply(&self.routes, line)
+    fn look_up(&self, alloc: Global, text: &[u8]) -> VecDeque<Reply<'_>> {
+        let addresses = first_addresses(alloc, text);
+        replies_to(alloc, &self.routes, &addresses)
     }
 
     fn is_of_line(fault: &LineError) -> bool {
@@ -96,14 +101,58 @@ fn find_reply<'a>(routes: &'a Routes, line: &[u8]) -> Option<Reply<'a>>
     let Ok(address) = IpAddr::parse_ascii(line) else {
         return None;
     };
-    match routes.find(&address) {
-        Some(text) => Some(Reply {
+    Some(reply_to(routes, &address))
+}
+
+// Returns the line of the longest route that covers an address, or `none`.
+fn reply_to<'a>(routes: &'a Routes, address: &IpAddr) -> Reply<'a>
+    ensures { (line : List ℕ) → IsIpText line address.now →
+        IsLookedUp (IsRouteReply routes.now) (HasAnswer routes.now) line result }
+{
+    match routes.find(address) {
+        Some(text) => Reply {
             text,
             is_found: true,
-        }),
-        None => Some(Reply {
+        },
+        None => Reply {
             text: b"none",
             is_found: false,
-        }),
+        },
     }
+}
+
+// Returns the addresses of the first lines of a text, up to a line that is none or that no line feed ends, or a failed
+// allocation. The text goes on with bytes that are not read yet.
+fn first_addresses(alloc: Global, text: &[u8]) -> Vec<IpAddr>
+    ensures { (more : List ℕ) → AreOf IsIpText result.items (lines (text.now ++ more)) }
+{
+    let mut addresses = Vec::new(alloc);
+    let mut left = text;
+    while let Some((line, others)) = first_line(left) {
+        let Ok(address) = IpAddr::parse_ascii(line) else {
+            return addresses;
+        };
+        let Ok(()) = addresses.push(address) else {
+            return addresses;
+        };
+        left = others;
+    }
+    addresses
+}
+
+// Returns the replies to lines by their addresses, up to a failed allocation. The searches stand close together, so that
+// the processor begins one before those in front of it end.
+fn replies_to<'a>(alloc: Global, routes: &'a Routes, addresses: &[IpAddr]) -> VecDeque<Reply<'a>>
+    ensures { (asked : List (List ℕ)) → AreOf IsIpText addresses.now asked →
+        AreLookedUp (IsRouteReply routes.now) (HasAnswer routes.now) result.items asked }
+{
+    let Ok(mut replies) = VecDeque::with_capacity(alloc, addresses.len()) else {
+        return VecDeque::new(alloc);
+    };
+    for address in addresses {
+        let Ok(()) = replies.push_back(reply_to(routes, address)) else {
+            return replies;
+        };
+    }
+    replies
 }

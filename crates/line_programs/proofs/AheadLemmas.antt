@@ -1,5 +1,5 @@
 -- Replies that are looked up before they are written.
-use Rattle.std.proofs.Common.{◌≡◌, ℕ, ◌+◌, ◌==◌, if◌then◌else◌, Bool, true, false, eqb, List, [], ◌∷◌, ◌++◌, length, drop, Option, Some, None, IfSome, ap, sym, ◌∙◌, subst, append-nil, append_assoc, arith}
+use Rattle.std.proofs.Common.{◌≡◌, ℕ, ◌+◌, ◌==◌, if◌then◌else◌, Bool, true, false, eqb, List, [], ◌∷◌, ◌++◌, length, drop, Option, Some, None, IfSome, ap, sym, subst, arith}
 use Rattle.std.specs.Prelude.{option_to_list}
 use Rattle.std.specs.Io.Buffered.{reader_buffer, reader_capacity, reader_inner, reader_remaining}
 use Rattle.std.specs.declared.io.buffered.BufReader.{BufReader}
@@ -10,28 +10,6 @@ use Rattle.line_programs.specs.declared.line_tables.Reply.{Reply}
 use Rattle.line_programs.specs.LineTables.{AreLookedUp, IsLookedUp}
 
 module _ (IsReply : List ℕ → List ℕ → Type 0) (Finds : List ℕ → Type 0) where
-  -- ---- the replies to a text
-
-  -- replies to what is left after these ones are replies to the text
-  abbrev pub Continues : List ℕ → List ℕ → List Reply → Type 0
-  Continues text left replies = (more : List ℕ) (later : List Reply) →
-      AreLookedUp IsReply Finds later (lines (left ++ more)) → AreLookedUp IsReply Finds (replies ++ later) (lines (text ++ more))
-
-  pub ahead_begins : (text : List ℕ) (replies : List Reply) → replies ≡ [] → Continues text text replies
-  ahead_begins text replies e = λ more later h. subst (λ rs. AreLookedUp IsReply Finds (rs ++ later) (lines (text ++ more))) (sym e) h
-
-  pub ahead_goes_on : (text left others line : List ℕ) (replies next : List Reply) (reply : Reply) → Continues text left replies →
-      ((more : List ℕ) → lines (left ++ more) ≡ line ∷ lines (others ++ more)) → IsLookedUp IsReply Finds line reply →
-      next ≡ replies ++ reply ∷ [] → Continues text others next
-  ahead_goes_on text left others line replies next reply h is it e = λ more later k.
-      subst (λ rs. AreLookedUp IsReply Finds rs (lines (text ++ more))) (sym (ap (λ rs. rs ++ later) e ∙ append_assoc replies (reply ∷ []) later))
-      (h more (reply ∷ later) (subst (AreLookedUp IsReply Finds (reply ∷ later)) (sym (is more)) (it, k)))
-
-  pub ahead_ends : (text left : List ℕ) (replies last : List Reply) → Continues text left replies → last ≡ replies → (more : List ℕ) →
-      AreLookedUp IsReply Finds last (lines (text ++ more))
-  ahead_ends text left replies last h e more =
-      subst (λ rs. AreLookedUp IsReply Finds rs (lines (text ++ more))) (append-nil replies ∙ sym e) (h more [] tt)
-
   -- ---- the replies to what an input has left
 
   abbrev pub AreAhead : List Reply → Option (List ℕ) → Type 0

@@ -45,9 +45,12 @@ abbrev pub IsLookedUp : (List ℕ → List ℕ → Type 0) → (List ℕ → Typ
 IsLookedUp IsReply Finds line reply =
     IsReply line (reply.text.now ++ codes "\n") × ((reply.is_found ≡ true) ↔ Finds line)
 
+-- these items are those of the first ones of the lines, or of other things, one of each
+abbrev pub AreOf : {A B : Type 0} → (A → B → Type 0) → List B → List A → Type 0
+AreOf Is [] lines = ⊤
+AreOf Is (item ∷ items) [] = ⊥
+AreOf Is (item ∷ items) (line ∷ lines) = Is line item × AreOf Is items lines
+
 -- these replies were looked up for the first ones of the lines
 abbrev pub AreLookedUp : (List ℕ → List ℕ → Type 0) → (List ℕ → Type 0) → List Reply → List (List ℕ) → Type 0
-AreLookedUp IsReply Finds [] lines = ⊤
-AreLookedUp IsReply Finds (reply ∷ replies) [] = ⊥
-AreLookedUp IsReply Finds (reply ∷ replies) (line ∷ lines) =
-    IsLookedUp IsReply Finds line reply × AreLookedUp IsReply Finds replies lines
+AreLookedUp IsReply Finds = AreOf (IsLookedUp IsReply Finds)

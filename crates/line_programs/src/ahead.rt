@@ -4,30 +4,24 @@ ghost use Rattle.text_lines.specs.Lines.{lines};
 ghost use Rattle.line_programs.specs.LineTables.{AreLookedUp, IsLookedUp, IsTried};
 
 use crate::line_tables::{LineTable, Outcome, Reply};
+use std::alloc::Global;
 use std::collections::VecDeque;
 use std::io;
 use std::io::Write;
-use text_lines::lines::first_line;
 
-/// Looks up the replies to the lines that a text has and a line feed ends, if none is left: up to the first line whose
-/// reply can't be looked up, or a failed allocation. The text goes on with bytes that are not read yet.
-pub fn look_ahead<'a, T: LineTable>(table: &'a T, text: &[u8], replies: &mut VecDeque<Reply<'a>>)
+/// Looks up replies to the first lines of a text, if none is left. The text goes on with bytes that are not read yet.
+pub fn look_ahead<'a, T: LineTable>(
+    alloc: Global,
+    table: &'a T,
+    text: &[u8],
+    replies: &mut VecDeque<Reply<'a>>,
+)
     ensures { (more : List ℕ) →
         AreLookedUp (T.IsReplyTo table.now) (T.Finds table.now) replies.old.items (lines (text.now ++ more)) →
         AreLookedUp (T.IsReplyTo table.now) (T.Finds table.now) replies.new.items (lines (text.now ++ more)) }
 {
-    if !replies.is_empty() {
-        return;
-    }
-    let mut left = text;
-    while let Some((line, others)) = first_line(left) {
-        let Some(reply) = table.look_up(line) else {
-            return;
-        };
-        let Ok(()) = replies.push_back(reply) else {
-            return;
-        };
-        left = others;
+    if replies.is_empty() {
+        *replies = table.look_up(alloc, text);
     }
 }
 

@@ -1,11 +1,13 @@
 //! Tables that are read from the lines of a text, and that answer those of another.
-ghost use Rattle.std.specs.Prelude.{◌≡◌, ◌↔◌, [], false, IfErr, IfOk, IfSome, OnErr, OnOk, ℕ, List, Option, ◌∷◌, ◌++◌, codes};
+ghost use Rattle.std.specs.Prelude.{◌≡◌, ◌↔◌, [], false, IfErr, IfOk, OnErr, OnOk, ℕ, List, Option, ◌∷◌, ◌++◌, codes};
 ghost use Rattle.std.specs.Io.KnownBytes.{Appends};
 ghost use Rattle.std.specs.Option.{option_map};
-ghost use Rattle.line_programs.specs.LineTables.{IsFaultIn, IsLookedUp, IsTried};
+ghost use Rattle.text_lines.specs.Lines.{lines};
+ghost use Rattle.line_programs.specs.LineTables.{AreLookedUp, IsFaultIn, IsTried};
 ghost use Rattle.line_programs.specs.Outcomes.{outcome_of, status, worse};
 
 use std::alloc::Global;
+use std::collections::VecDeque;
 use std::io;
 use std::io::Write;
 
@@ -132,13 +134,15 @@ pub trait LineTable {
         ensures { IfOk result (λ outcome. IsTried (IsReplyTo self.now) (Finds self.now) AsksForNothing
             line.now outcome (W.contents output.old) (W.contents output.new)) };
 
-    /// Looks up the reply to a line, so that the memory of several replies is read at once. Returns `None` if the line
-    /// asks for nothing, or if the table has no replies that can be written later.
-    fn look_up(&self, line: &[u8]) -> Option<Reply<'_>>
-        ensures { IfSome result (IsLookedUp (IsReplyTo self.now) (Finds self.now) line.now) }
+    /// Looks up replies to the first lines of a text, so that the memory of several replies is read at once: at most to
+    /// the lines that a line feed ends, and up to the first one that asks for nothing. The text goes on with bytes that are
+    /// not read yet. By default there are none.
+    fn look_up(&self, alloc: Global, text: &[u8]) -> VecDeque<Reply<'_>>
+        ensures { (more : List ℕ) →
+            AreLookedUp (IsReplyTo self.now) (Finds self.now) result.items (lines (text.now ++ more)) }
     {
-        let _line = line;
-        None
+        let _text = text;
+        VecDeque::new(alloc)
     }
 
     /// Returns whether an entry is at fault, and not an allocation.

@@ -93,7 +93,7 @@ pub fn answer_lines<T: LineTable, R: Read, W: Write, E: Write>(
     let mut replies = VecDeque::new(alloc);
     let mut worst = Outcome::Found;
     for number in 1..u64::MAX {
-        look_ahead(table, input.buffer(), &mut replies);
+        look_ahead(alloc, table, input.buffer(), &mut replies);
         match next_line(input, &mut line) {
             Ok(true) => {}
             Ok(false) => return Ok(worst),
