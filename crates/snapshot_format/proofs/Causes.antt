@@ -10,7 +10,12 @@ use Rattle.snapshot_format.specs.declared.error.ReadError.TheVariants as errors
 use Rattle.snapshot_format.specs.declared.source.Source.{Source}
 use Rattle.snapshot_format.specs.Faults.{Finds, IfMalformed}
 use Rattle.snapshot_format.specs.Reading.{IfFault, Reads}
-use Rattle.snapshot_format.proofs.Known.{consumes_more, saturate_more}
+use Rattle.snapshot_format.proofs.Known.{consumes_more, saturate_more, few_sized}
+use Rattle.snapshot_format.proofs.Faults.{if_err_fault}
+use Rattle.snapshot_format.proofs.PartFaults.{value_entry, number_sized, within_number}
+use Rattle.snapshot_format.proofs.Parts.{no_value}
+use Rattle.std.proofs.lemmas.Result.{err_from_is_err_and}
+use Rattle.snapshot_format.proofs.Numbers.{fits_within}
 
 pub if_malformed : {P Q : Malformed → Type 0} (error : ReadError) → ((m : Malformed) → P m → Q m) → IfMalformed error P → IfMalformed error Q
 if_malformed (errors.Malformed m) f p = f m p
@@ -67,3 +72,10 @@ module _ {R : Type 0} (left : R → Option (List ℕ)) where
     ended = f.ended;
     has = f.has;
   }
+
+-- for searches in the proofs of functions
+pub ruleset read_entry_facts = (finds_after, if_err_fault, if_err_malformed, no_value, value_entry)
+
+pub ruleset append_sized_facts = (err_from_is_err_and, few_sized, finds_part, if_err_fault, if_malformed, number_sized)
+
+pub ruleset number_facts = (finds_part, fits_within, if_err_fault, if_err_malformed, within_number)

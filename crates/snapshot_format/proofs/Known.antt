@@ -1,19 +1,13 @@
 -- Bytes that are read one after another.
 use Rattle.std.proofs.Common.{◌≡◌, ◌≢◌, ℕ, ◌+◌, ◌<◌, ◌^◌, List, [], ◌∷◌, ◌++◌, length, length-append, take, get_or, Option, Some, None, IfSome, refl, ap, sym, ◌∙◌, subst, append_assoc, append-nil, arith}
 use Rattle.std.proofs.lemmas.List.{take_more, length-take, length-take-le, get_or_at, get_or_append_left}
-use Rattle.std.specs.Io.KnownBytes.{Consumes, IsAtEnd, Keeps}
+use Rattle.std.specs.Io.KnownBytes.{Consumes, IsAtEnd}
 use Rattle.std.specs.Io.Iter.{u64_saturate}
 use Rattle.snapshot_format.specs.declared.source.Source.{Source}
 use Rattle.snapshot_format.specs.Numbers.{number_bytes}
 use Rattle.snapshot_format.specs.Snapshots.{sized}
 use Rattle.snapshot_format.specs.Reading.{Reads}
 use Rattle.snapshot_format.proofs.Numbers.{one_form}
-
-pub kept_consumes : (a b c : Option (List ℕ)) (xs : List ℕ) → Keeps a b → Consumes b c xs → Consumes a c xs
-kept_consumes None b c xs h k = tt
-kept_consumes (Some p) None c xs h k = absurd h
-kept_consumes (Some p) (Some q) None xs h k = absurd k
-kept_consumes (Some p) (Some q) (Some r) xs h k = sym h ∙ k
 
 pub consumes_none : (a : Option (List ℕ)) → Consumes a a []
 consumes_none None = tt

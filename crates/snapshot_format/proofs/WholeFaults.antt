@@ -11,7 +11,7 @@ use Rattle.snapshot_format.specs.declared.source.Source.{Source}
 use Rattle.snapshot_format.specs.Numbers.{number_bytes}
 use Rattle.snapshot_format.specs.Reading.{HasTaken, Reads}
 use Rattle.snapshot_format.specs.Snapshots.{Entry, IsAfter, IsRising, body_of, entries_bytes, entry_bytes, head_bytes, is_none, last_key, magic}
-use Rattle.snapshot_format.specs.Faults.{EntryFault, Finds, HasEntries, HasFault, in_entries, in_head, in_tail, HeadFault, IsCutHead, IsCutOf, IsExplained, IsMisplaced, IsNot, NextFault, NumberFault, SharesTooMany, TailFault}
+use Rattle.snapshot_format.specs.Faults.{EntryFault, Finds, HasEntries, HasFault, in_entries, in_tail, HeadFault, IsCutHead, IsCutOf, IsExplained, IsMisplaced, IsNot, NextFault, NumberFault, SharesTooMany, TailFault}
 use Rattle.snapshot_format.proofs.Causes.{finds_now}
 use Rattle.snapshot_format.proofs.Known.{reads_more}
 use Rattle.snapshot_format.proofs.PartFaults.{cut_after, cut_more}
@@ -118,9 +118,6 @@ explained_of takes (Some xs) None m read taken counted ended has = absurd taken
 explained_of takes (Some xs) (Some ys) m read taken counted ended has = record { read = read; left = ys; all = taken; counted = counted; ended = ended; has = has }
 
 module _ (takes : Entry → Type 0) where
-  pub of_head : (fault : Fault) (read : List ℕ) → HeadFault fault read → HasFault takes fault read
-  of_head fault read h = in_head h
-
   pub of_entries : (count : ℕ) (fault : Fault) (read : List ℕ) → HasEntries takes (NextFault takes fault) count read → HasFault takes fault (head_bytes count ++ read)
   of_entries count fault read h = in_entries (record { count = count; bytes = read; read_is = refl; next_is = h })
 

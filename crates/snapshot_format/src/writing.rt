@@ -34,6 +34,7 @@ fn push_byte(out: &mut Vec<u8>, byte: u8) -> Result<(), AllocError>
 }
 
 // Appends a number.
+#[tactic(auto, using(crate::proofs::Numbers::fits_within))]
 fn push_number(out: &mut Vec<u8>, number: u64) -> Result<(), AllocError>
     ensures { OnOk result (out.new.items ≡ out.old.items ++ number_bytes number) }
 {

@@ -2,9 +2,9 @@ use Rattle.std.proofs.lemmas.Result.{err_from_is_err_and, on_ok_weaker}
 use Rattle.snapshot_format.proofs.Whole.{outside, matches, body_held, all_read, left_tail, head_is, entries_are, tail_is}
 use Rattle.std.proofs.Common.{refl}
 use Rattle.sha2.specs.Sha256.{sha256}
-use Rattle.snapshot_format.proofs.Causes.{finds_after, if_malformed, of_err_malformed, of_malformed}
-use Rattle.snapshot_format.proofs.WholeFaults.{body_read, explained, of_entries, of_head, of_tail}
-use Rattle.snapshot_format.specs.Faults.{HasEntries, HasFault, HeadFault, NextFault, TailFault}
+use Rattle.snapshot_format.proofs.Causes.{finds_after, of_err_malformed, of_malformed}
+use Rattle.snapshot_format.proofs.WholeFaults.{body_read, explained, of_entries, of_tail}
+use Rattle.snapshot_format.specs.Faults.{HasEntries, HasFault, NextFault, TailFault}
 use Rattle.snapshot_format.specs.Snapshots.{body_of, head_bytes}
 use Rattle.snapshot_format.proofs.reading.read_snapshot.Goals as goal
 
@@ -34,15 +34,6 @@ returns-clause-reads_back g c = λ entries stored each e.
     c.read_tail.ensures.fault
     (λ none. tail_is g.R.Read.remaining (record { input = c.args.input; digest = c.new.result; at = 0 }) c.read_head.new.source c.read_entries.new.source taken entries c.in_ok-count.count c.in_ok-count.ensures.read c.in_ok-read_entries.ensures.read
     c.in_ok-read_entries.ensures.count c.new.ensures none e)
-
--- ---- what is wrong
-
-pub returns-in_err-count-clause-fault : goal.returns-in_err-count-clause-fault
-returns-in_err-count-clause-fault g c =
-    let p = err_from_is_err_and c.from_residual.result c.from_residual.ensures.1 in
-    let left = g.R.Read.remaining in
-    let takes = g.T.TakeEntries.takes in
-    rw (p.1, p.2) (if_malformed c.in_err-count.field-0.0 (explained left takes (record { input = c.args.input; digest = c.new.result; at = 0 }) c.read_head.new.source HeadFault refl (of_head takes)) c.in_err-count.ensures.why)
 
 pub returns-in_err-read_entries-clause-fault : goal.returns-in_err-read_entries-clause-fault
 returns-in_err-read_entries-clause-fault g c =

@@ -1,4 +1,4 @@
-use Rattle.std.proofs.Common.{◌++◌, ◌<◌, ◌^◌, [], length, subst, ◌∙◌, ap, arith}
+use Rattle.std.proofs.Common.{◌++◌, [], subst, ◌∙◌, ap}
 use Rattle.std.proofs.lemmas.Result.{on_ok_weaker}
 use Rattle.std.specs.Io.KnownBytes.{Appends}
 use Rattle.snapshot_format.specs.Snapshots.{body_of, head_bytes}
@@ -15,9 +15,3 @@ returns-clause-written g c =
     c.count-count.ensures head c.in_ok-write_entries.ensures.written in
     on_ok_weaker c.write_all.result (λ tail. snapshot_written contents c.args.output.now c.write_entries.new.output c.write_all.new.self c.new-digest.result c.write_entries.new.digest entries body
     (subst (Appends (contents c.write_entries.new.output) (contents c.write_all.new.self)) (c.finalize.ensures (body_of entries) (body.held [] c.new-digest.ensures)) tail)) c.write_all.ensures.bytes
-
-pub returns-clause-storable : goal.returns-clause-storable
-returns-clause-storable g c =
-    let few : length (g.G.GiveEntries.entries c.args.entries.now) < 2 ^ 64 = omega (arith, c.count-count.ensures) in
-    on_ok_weaker c.write_all.result (λ tail rising. record { rising = rising; count = few; each = c.in_ok-write_entries.ensures.fits })
-    c.write_all.ensures.bytes
