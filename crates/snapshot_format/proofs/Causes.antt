@@ -13,7 +13,6 @@ use Rattle.snapshot_format.specs.Reading.{IfFault, Reads}
 use Rattle.snapshot_format.proofs.Known.{consumes_more, saturate_more, few_sized}
 use Rattle.snapshot_format.proofs.Faults.{if_err_fault}
 use Rattle.snapshot_format.proofs.PartFaults.{value_entry, number_sized, within_number}
-use Rattle.snapshot_format.proofs.Parts.{no_value}
 use Rattle.std.proofs.lemmas.Result.{err_from_is_err_and}
 use Rattle.snapshot_format.proofs.Numbers.{fits_within}
 
@@ -74,8 +73,6 @@ module _ {R : Type 0} (left : R → Option (List ℕ)) where
   }
 
 -- for searches in the proofs of functions
-pub ruleset read_entry_facts = (finds_after, if_err_fault, if_err_malformed, no_value, value_entry)
-
 pub ruleset append_sized_facts = (err_from_is_err_and, few_sized, finds_part, if_err_fault, if_malformed, number_sized)
 
 pub ruleset number_facts = (finds_part, fits_within, if_err_fault, if_err_malformed, within_number)

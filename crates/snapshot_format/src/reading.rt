@@ -88,7 +88,6 @@ fn read_key<R: Read>(
 }
 
 // Reads an entry in place of the one before it.
-#[tactic(auto, using(crate::proofs::Causes::read_entry_facts))]
 fn read_entry<R: Read>(
     source: &mut Source<R>,
     is_first: bool,
