@@ -12,7 +12,7 @@ use art_operations::range::{
     first_from_visiting, last_up_to_visiting, prefix_visiting, range_visiting,
 };
 use art_test_support::expected::same;
-use art_test_support::trees::{Key, keys_of_zeros, planted_all, planted_keys, value_of};
+use art_test_support::trees::{Key, child, keys_of_zeros, planted_all, planted_keys, value_of};
 use std::alloc::Global;
 use std::ops::Bound;
 use std::test::Fail;
@@ -163,6 +163,43 @@ fn compares_the_whole_key_after_skipped_bytes(rt: HostRuntime) -> Result<(), Fai
     let seen = readings_past_in::<2>(&mut NodeStore::new(rt.alloc()));
     let of_nothing = found_past_nothing(&mut NodeStore::new(rt.alloc()));
     same((seen, of_nothing), (Some(wanted), Some([None, Some(1)])))
+}
+
+// The length of a node's prefix, and its first two stored bytes.
+type Prefix = (usize, [Option<u8>; 2]);
+
+// The prefix of a node, or `None` of a leaf.
+fn prefix_of<const P: usize>(
+    store: &NodeStore<Key, u32, P>,
+    node: OpaqueNodePtr,
+) -> Option<Prefix> {
+    let node = store.inner(node.as_inner()?)?;
+    let stored = node.read_prefix();
+    let first = [stored.first().copied(), stored.get(1).copied()];
+    Some((node.prefix_len(), first))
+}
+
+// The prefixes of the root of the tree of these keys, and of its child under 1.
+fn prefixes_in<const P: usize>(
+    store: &mut NodeStore<Key, u32, P>,
+    keys: &[&[u8]],
+) -> Option<[Option<Prefix>; 2]> {
+    let root = planted_all(store, keys).ok()??;
+    let below = child(store, root, 1)?;
+    Some([prefix_of(store, root), prefix_of(store, below)])
+}
+
+#[test]
+fn stores_no_more_than_the_first_bytes_of_a_prefix(rt: HostRuntime) -> Result<(), Fail> {
+    let two: [&[u8]; 2] = [&[5, 5, 1], &[5, 5, 2]];
+    let of_two = prefixes_in::<0>(&mut NodeStore::new(rt.alloc()), &two);
+    let three: [&[u8]; 3] = [&[7, 1, 1, 1, 1, 5], &[7, 1, 1, 1, 1, 6], &[7, 1, 1, 9]];
+    let of_three = prefixes_in::<2>(&mut NodeStore::new(rt.alloc()), &three);
+    let split = [Some((3, [Some(7), Some(1)])), Some((1, [Some(1), None]))];
+    same(
+        (of_two, of_three),
+        (Some([Some((2, [None; 2])), None]), Some(split)),
+    )
 }
 
 // Compares a node's prefix with the rest of a key. Returns the fields of what comes of it, and how the next prefixes are
