@@ -1,7 +1,9 @@
-/* A builder beside insertions one by one, of the lines of a file, which rise by their bytes: sorted FILE [TURNS]. It prints the
- * nanoseconds a line of each, the least of so many turns (seven), and their ratio. A turn ends before the map is freed. */
+/* A builder beside insertions one by one, of the lines of a file, which rise by their bytes: sorted FILE. It prints the nanoseconds
+ * a line of each, the least of seven turns, and their ratio; a turn ends before the map is freed. With a second word, which is insert
+ * or push, it does one of them, once, for a count of instructions: what is freed before changes how memory grows. */
 #include <stdio.h>
 #include <stdlib.h>
+#include <string.h>
 #include <time.h>
 
 #include "vokujin.h"
@@ -57,11 +59,17 @@ static double least(double before, void (*fill)(vokujin_map *map)) {
 }
 
 int main(int argc, char **argv) {
+    vokujin_map map;
     CHECK(argc > 1);
     read_lines(argv[1]);
+    vokujin_new(&map);
+    if (argc > 2) {
+        (strcmp(argv[2], "push") ? insert_each : push_each)(&map);
+        return 0;
+    }
     double each = 1e18, builder = 1e18;
     /* A turn has both, so that a busy machine harms neither alone. */
-    for (int turns = argc > 2 ? atoi(argv[2]) : 7; turns > 0; turns--) {
+    for (int turn = 0; turn < 7; turn++) {
         each = least(each, insert_each);
         builder = least(builder, push_each);
     }
