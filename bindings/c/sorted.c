@@ -1,7 +1,9 @@
-/* A builder beside insertions one by one, of the lines of a file, which rise by their bytes: sorted FILE [TURNS]. It prints the
- * nanoseconds a line of each, the least of so many turns (seven), and their ratio. A turn ends before the map is freed. */
+/* A builder beside insertions one by one, of the lines of a file, which rise by their bytes: sorted FILE. It prints the nanoseconds
+ * a line of each, the least of seven turns, and their ratio; a turn ends before the map is freed. With a second word, which is insert
+ * or push, it does one of them, once, for a count of instructions: what is freed before changes how memory grows. */
 #include <stdio.h>
 #include <stdlib.h>
+#include <string.h>
 #include <time.h>
 
 #include "vokujin.h"
@@ -43,27 +45,34 @@ __attribute__((noinline)) static void push_each(vokujin_map *map) {
     vokujin_builder_free(&builder);
 }
 
-static double least(void (*fill)(vokujin_map *map), int turns) {
-    double least = 1e18;
-    while (turns-- > 0) {
-        vokujin_map map;
-        struct timespec start, end;
-        vokujin_new(&map);
-        clock_gettime(CLOCK_MONOTONIC, &start);
-        fill(&map);
-        clock_gettime(CLOCK_MONOTONIC, &end);
-        vokujin_free(&map);
-        double it = ((double)(end.tv_sec - start.tv_sec) * 1e9 + (double)(end.tv_nsec - start.tv_nsec)) / (double)count;
-        if (it < least) least = it;
-    }
-    return least;
+/* The nanoseconds a line that a map takes to be filled, if they are less. */
+static double least(double before, void (*fill)(vokujin_map *map)) {
+    vokujin_map map;
+    struct timespec start, end;
+    vokujin_new(&map);
+    clock_gettime(CLOCK_MONOTONIC, &start);
+    fill(&map);
+    clock_gettime(CLOCK_MONOTONIC, &end);
+    vokujin_free(&map);
+    double it = ((double)(end.tv_sec - start.tv_sec) * 1e9 + (double)(end.tv_nsec - start.tv_nsec)) / (double)count;
+    return it < before ? it : before;
 }
 
 int main(int argc, char **argv) {
+    vokujin_map map;
     CHECK(argc > 1);
     read_lines(argv[1]);
-    int turns = argc > 2 ? atoi(argv[2]) : 7;
-    double each = least(insert_each, turns), builder = least(push_each, turns);
+    vokujin_new(&map);
+    if (argc > 2) {
+        (strcmp(argv[2], "push") ? insert_each : push_each)(&map);
+        return 0;
+    }
+    double each = 1e18, builder = 1e18;
+    /* A turn has both, so that a busy machine harms neither alone. */
+    for (int turn = 0; turn < 7; turn++) {
+        each = least(each, insert_each);
+        builder = least(builder, push_each);
+    }
     printf("%zu lines: nanoseconds by insertions, by a builder, and their ratio\n%.0f %.0f %.2f\n", count, each, builder, builder / each);
     return 0;
 }
