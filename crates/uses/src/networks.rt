@@ -1,9 +1,10 @@
 //! Where addresses lead: by networks that stay, in a table that is built once, and by routes that come and go.
-ghost use Rattle.std.specs.Prelude.{◌≡◌, ◌++◌, ℕ, List, All, None, OnErr, OnOk, Some, IfNone, IfSome};
+ghost use Rattle.std.specs.Prelude.{◌≡◌, ◌++◌, ℕ, List, All, map, None, OnErr, OnOk, Some, IfNone, IfOk, IfSome};
 ghost use Rattle.std.specs.declared.net.ip_addr.IpAddr.{IpAddr};
 ghost use Rattle.std.specs.List.Sorted.{IsPermutation};
+ghost use Rattle.std.specs.Option.{option_map};
 ghost use Rattle.prefix_table.specs.declared.network.Network.{Network};
-ghost use Rattle.prefix_table.specs.Entries.{IsLongestMatch};
+ghost use Rattle.prefix_table.specs.Entries.{IsLongestMatch, shown};
 ghost use Rattle.prefix_table.specs.Networks.{IsNetwork};
 ghost use Rattle.route_map.specs.Routes.{KeepsOthers, value_of};
 
@@ -21,9 +22,28 @@ pub fn build(alloc: Global, routes: &[Route]) -> Option<PrefixTable<u32>>
     requires { All (λ route. IsNetwork route.0) routes.now }
     ensures { IfSome result (IsPermutation routes.now) }
 {
-    let networks: Vec<Network> = routes.iter().map(|route| route.0).collect(alloc).ok()?;
-    let targets: Vec<u32> = routes.iter().map(|route| route.1).collect(alloc).ok()?;
-    PrefixTable::build(alloc, &networks, targets).ok()
+    let Ok(networks) = networks_of(alloc, routes) else {
+        return None;
+    };
+    let Ok(targets) = targets_of(alloc, routes) else {
+        return None;
+    };
+    match PrefixTable::build(alloc, &networks, targets) {
+        Ok(table) => Some(table),
+        Err(_error) => None,
+    }
+}
+
+fn networks_of(alloc: Global, routes: &[Route]) -> Result<Vec<Network>, AllocError>
+    ensures { IfOk result (λ made. made.items ≡ map (λ route. route.0) routes.now) }
+{
+    routes.iter().map(|route| route.0).collect(alloc)
+}
+
+fn targets_of(alloc: Global, routes: &[Route]) -> Result<Vec<u32>, AllocError>
+    ensures { IfOk result (λ made. made.items ≡ map (λ route. route.1) routes.now) }
+{
+    routes.iter().map(|route| route.1).collect(alloc)
 }
 
 /// Inserts a route, or changes where it leads. Fails only if an allocation fails; then the routes are unchanged.
@@ -56,10 +76,15 @@ pub fn target(routes: &RouteMap<u32>, table: &PrefixTable<u32>, address: &IpAddr
 {
     let route = routes.longest_match(address);
     let other = table.longest_match(address);
-    longer(
-        route.map(|found| (found.0, *found.1)),
-        other.map(|found| (found.0, *found.1)),
-    )
+    longer(route_of(route), route_of(other))
+}
+
+// Returns what was found, with where it leads as a value.
+fn route_of(found: Option<(Network, &u32)>) -> Option<Route>
+    ensures { result ≡ option_map shown found.entry }
+{
+    let (network, to) = found?;
+    Some((network, *to))
 }
 
 // Returns the longer one of the routes that were found in two lists.

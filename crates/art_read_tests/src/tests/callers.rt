@@ -148,8 +148,9 @@ fn network_of(text: &str, length: u8) -> Option<Network>
 
 fn table_of(alloc: Global) -> Option<PrefixTable<u32>> {
     let mut all = Vec::new(alloc);
-    for (text, length, to) in STAYING.iter() {
-        all.push((network_of(*text, *length)?, *to)).ok()?;
+    for route in STAYING.iter() {
+        let (text, length, to) = *route;
+        all.push((network_of(text, length)?, to)).ok()?;
     }
     build(alloc, &all)
 }
