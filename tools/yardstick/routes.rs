@@ -1,7 +1,8 @@
 //! What `route_table` does, as one writes it in Rust with nothing proved: `routes trie FILE` with a Patricia trie by
 //! bits, `routes maps FILE` with a hash map for each length, `routes poptrie FILE` with a poptrie, `routes none FILE` with
-//! none of them, which prints `none` for each address; and `routes make N M FOLDER`, which writes N routes and M
-//! addresses. How long the table and the replies took, and the bytes of the heap for each route, come on standard error.
+//! none of them, which prints `none` for each address; `routes make N M FOLDER`, which writes N routes and M addresses,
+//! and `routes nested N M FOLDER`, with 32 routes around each host. How long the table and the replies took, and the bytes
+//! of the heap for each route, come on standard error.
 
 use std::alloc::{GlobalAlloc, Layout, System};
 use std::collections::HashMap;
@@ -389,20 +390,30 @@ const LENGTHS: [&[u32]; 2] = [
     &[48, 48, 48, 48, 48, 44, 44, 40, 40, 36, 34, 33, 32, 32, 32, 30, 29, 29, 28, 56, 64, 128],
 ];
 
-/// Four of five routes are of version 4. Half of the addresses are in one of the routes, and the others anywhere.
-fn make(routes: usize, addresses: usize, folder: &str) {
+/// The lengths of the routes around a host: one as those of the internet, or 32.
+fn lengths(family: usize, is_nested: bool, chance: &mut Chance) -> Vec<u32> {
+    if is_nested {
+        return (1..=32).map(|step| step << (2 * family)).collect();
+    }
+    vec![LENGTHS[family][chance.next() as usize % LENGTHS[family].len()]]
+}
+
+/// Four of five hosts are of version 4. Half of the addresses are in one of the routes, and the others anywhere.
+fn make(is_nested: bool, routes: usize, addresses: usize, folder: &str) {
     let mut chance = Chance(67);
     let mut seen = HashMap::new();
     let mut networks = Vec::new();
     let mut file = BufWriter::new(File::create(format!("{folder}/routes")).unwrap());
     while networks.len() < routes {
         let family = usize::from(chance.next() % 5 == 0);
-        let length = LENGTHS[family][chance.next() as usize % LENGTHS[family].len()];
+        let lengths = lengths(family, is_nested, &mut chance);
         let whole = if family == 0 { chance.wide() >> 96 << 96 } else { 0x2 << 124 | chance.wide() >> 4 };
-        let bits = prefix(whole, length);
-        if seen.insert((family, bits, length), ()).is_none() {
-            writeln!(file, "{}/{length} route-{}", address_of(family, bits), networks.len()).unwrap();
-            networks.push((family, bits, length));
+        for length in lengths {
+            let bits = prefix(whole, length);
+            if networks.len() < routes && seen.insert((family, bits, length), ()).is_none() {
+                writeln!(file, "{}/{length} route-{}", address_of(family, bits), networks.len()).unwrap();
+                networks.push((family, bits, length));
+            }
         }
     }
     let mut file = BufWriter::new(File::create(format!("{folder}/addresses")).unwrap());
@@ -422,7 +433,9 @@ fn main() {
         ["maps", path] => run::<Maps>(path),
         ["poptrie", path] => run::<Poptrie>(path),
         ["none", path] => run::<Nothing>(path),
-        ["make", routes, addresses, folder] => make(routes.parse().unwrap(), addresses.parse().unwrap(), folder),
-        _ => panic!("usage: routes trie|maps|poptrie|none FILE < ADDRESSES, or routes make N M FOLDER"),
+        [kind @ ("make" | "nested"), routes, addresses, folder] => {
+            make(kind == "nested", routes.parse().unwrap(), addresses.parse().unwrap(), folder)
+        }
+        _ => panic!("usage: routes trie|maps|poptrie|none FILE < ADDRESSES, or routes make|nested N M FOLDER"),
     }
 }

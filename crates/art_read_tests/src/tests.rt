@@ -5,4 +5,5 @@ mod kept_keys;
 mod lookup;
 mod minmax;
 mod names;
+mod networks;
 mod run;

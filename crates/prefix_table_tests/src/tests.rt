@@ -1,4 +1,5 @@
 mod drawn;
 mod expected;
 mod faults;
+mod nested;
 mod tables;

@@ -7,7 +7,7 @@ use Rattle.std.specs.declared.cmp.Ordering.TheVariants.{Less}
 use Rattle.std.specs.declared.ops.Bound.TheVariants.{Included, Unbounded}
 use Rattle.std.proofs.lemmas.Bool.{cases_lt, false≢true}
 use Rattle.std.proofs.lemmas.List.{get_or-map, length-map}
-use Rattle.std.proofs.lemmas.List.Elements.{All-append, All-from_recursion, All-map, All-weaker, Contains-append_left, Contains-append_right}
+use Rattle.std.proofs.lemmas.List.Elements.{All-append, All-contains, All-from_recursion, All-map, All-weaker, Contains-append_left, Contains-append_right}
 use Rattle.art_model.specs.Pairs.{last_of}
 use Rattle.art_keys.specs.Joins.{pair_cmp}
 use Rattle.art_keyed.specs.KeyedPairs.{RiseBy, is_key_from, is_key_up_to, keys_between}
@@ -100,6 +100,11 @@ all_networks four six are =
     All-append (λ entry. IsNetwork entry.0) (map (entry_of 4) four) (map (entry_of 6) six)
     (All-map (λ entry. IsNetwork entry.0) (entry_of 4) four (All-from_recursion (λ pair. IsNetwork (network_of 4 pair.0)) four are.of_four))
     (All-map (λ entry. IsNetwork entry.0) (entry_of 6) six (All-from_recursion (λ pair. IsNetwork (network_of 6 pair.0)) six are.of_six))
+
+pub stored_network : {V : Type 0} (four six : List ((ℕ × ℕ) × V)) → AreNetworks four six → (entries : List (Network × V)) →
+    entries_of four six ≡ entries → (entry : Network × V) → Contains entries entry → IsNetwork entry.0
+stored_network four six are entries is entry there =
+    All-contains (λ entry. IsNetwork entry.0) entries entry (subst (All (λ entry. IsNetwork entry.0)) is (all_networks four six are)) there
 
 -- ---- steps to the longest network
 

@@ -1,5 +1,5 @@
 //! A map of networks with values, which changes.
-ghost use Rattle.std.specs.Prelude.{◌≡◌, ◌≢◌, [], Err, IfErr, IfOk, None, Ok, OnErr, OnOk, Some, option_copied};
+ghost use Rattle.std.specs.Prelude.{◌≡◌, ◌≢◌, [], Err, IfErr, IfOk, IfSome, None, Ok, OnErr, OnOk, Some, option_copied};
 ghost use Rattle.std.specs.Option.{option_map};
 ghost use Rattle.prefix_table.specs.Entries.{IsLongestMatch, shown};
 ghost use Rattle.prefix_table.specs.Networks.{IsNetwork};
@@ -99,7 +99,8 @@ impl<V: Drop> RouteMap<V> {
     /// It looks for the last network up to all bits of the address, and where that doesn't cover it, up to those bits that
     /// both share: one descent for each, and mostly there are one to three.
     pub fn longest_match(&self, address: &IpAddr) -> Option<(Network, &V)>
-        ensures { IsLongestMatch self.now address.now (option_map shown result) }
+        ensures longest { IsLongestMatch self.now address.now (option_map shown result) }
+        ensures network { IfSome result (λ found. IsNetwork found.0) }
     {
         let _four = &self.four;
         let address = address_of(address);

@@ -2,3 +2,4 @@ pub mod Longest
 pub mod Both
 pub mod Agree
 pub mod Gathered
+pub mod LongerOfTwo

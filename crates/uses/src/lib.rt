@@ -32,8 +32,8 @@ pub mod inventory;
 pub mod keys;
 pub mod leases;
 pub mod months;
+pub mod networks;
 pub mod parts;
-pub mod routes;
 pub mod sessions;
 pub mod tally;
 

@@ -1,14 +1,21 @@
-//! What a caller builds: sessions in two maps, events by user and time, routes, a fold of a tree.
+//! What a caller builds: sessions in two maps, events by user and time, networks, a fold of a tree.
+ghost use Rattle.std.specs.Prelude.{All, IfSome};
+ghost use Rattle.prefix_table.specs.Networks.{IsNetwork};
+
 use art_nodes::node::AsBytes;
 use art_nodes::store::NodeStore;
 use art_operations::tree_map::TreeMap;
 use art_test_support::expected::same;
 use art_test_support::trees::{Key, planted_all};
+use prefix_table::network::Network;
+use prefix_table::table::PrefixTable;
+use route_map::map::RouteMap;
 use std::alloc::Global;
+use std::net::IpAddr;
 use std::test::Fail;
 use uses::events::{Events, count_between, event_at, events_of, first_event, place, put_event};
 use uses::longest_key;
-use uses::routes::{Routes, add, all, longest};
+use uses::networks::{announce, build, target, withdraw};
 use uses::sessions::Sessions;
 
 // The bytes of the key of the session that is closed, and its end.
@@ -104,57 +111,108 @@ fn events_stand_by_user_and_time(rt: HostRuntime) -> Result<(), Fail> {
     same(seen, (6, 3, 2, Some((-5, 101)), Some(105), None))
 }
 
-// Routes.
-static ROUTES: [(&'static [u8], u32); 4] = [(b"/", 1), (b"/a", 2), (b"/a/bc", 9), (b"/a/bc", 3)];
-
-// Queries, the longest route of each, and how many routes each starts with.
-static QUERIES: [(&'static [u8], Option<(usize, u32)>, usize); 6] = [
-    (b"/a/bcd", Some((5, 3)), 3),
-    (b"/a/bd", Some((2, 2)), 2),
-    (b"/a", Some((2, 2)), 2),
-    (b"/b", Some((1, 1)), 1),
-    (b"x", None, 0),
-    (b"", None, 0),
+// Networks that stay, routes that come, and where they lead.
+static STAYING: [(&'static str, u8, u32); 4] = [
+    ("10.0.0.0", 8, 1),
+    ("10.1.2.0", 24, 2),
+    ("10.1.0.0", 16, 3),
+    ("::", 0, 4),
 ];
 
-// How many routes were added.
-fn add_all(routes: &mut Routes, alloc: Global) -> usize {
+static ROUTES: [(&'static str, u8, u32); 4] = [
+    ("10.1.0.0", 17, 5),
+    ("10.1.0.0", 16, 9),
+    ("2001:db8::", 32, 7),
+    ("10.1.0.0", 16, 6),
+];
+
+// Addresses, where they lead, and where once the longest routes of 10.1.2.3 and 2001:db8::1 are withdrawn.
+static TARGETS: [(&'static str, Option<u32>, Option<u32>); 7] = [
+    ("10.1.2.3", Some(2), Some(2)),
+    ("10.1.3.3", Some(5), Some(6)),
+    ("10.1.128.0", Some(6), Some(6)),
+    ("10.2.0.0", Some(1), Some(1)),
+    ("11.0.0.0", None, None),
+    ("2001:db8::1", Some(7), Some(4)),
+    ("2001:db9::1", Some(4), Some(4)),
+];
+
+fn network_of(text: &str, length: u8) -> Option<Network>
+    ensures { IfSome result IsNetwork }
+{
+    let Ok(address) = text.parse::<IpAddr>() else {
+        return None;
+    };
+    Network::new(&address, length)
+}
+
+fn table_of(alloc: Global) -> Option<PrefixTable<u32>> {
+    let mut all = Vec::new(alloc);
+    for route in STAYING.iter() {
+        let (text, length, to) = *route;
+        all.push((network_of(text, length)?, to)).ok()?;
+    }
+    build(alloc, &all)
+}
+
+// How many routes were announced.
+fn announce_all(routes: &mut RouteMap<u32>) -> usize {
     let mut count = 0usize;
-    for (route, to) in ROUTES.iter() {
-        let is_added = add(routes, alloc, *route, *to).is_ok();
-        count = count.saturating_add(is_added as usize);
+    for (text, length, to) in ROUTES.iter() {
+        if let Some(network) = network_of(*text, *length) {
+            count = count.saturating_add(announce(routes, network, *to).is_ok() as usize);
+        }
     }
     count
 }
 
-// How many routes a query starts with.
-fn count_all(routes: &Routes, query: &[u8]) -> usize {
+// The length of the route that is withdrawn, and where it led.
+fn withdrawn(routes: &mut RouteMap<u32>, text: &str) -> Option<(u8, u32)> {
+    let Ok(address) = text.parse::<IpAddr>() else {
+        return None;
+    };
+    let (network, to) = withdraw(routes, &address)?;
+    Some((network.length, to))
+}
+
+fn leads(routes: &RouteMap<u32>, table: &PrefixTable<u32>, text: &str) -> Option<u32> {
+    let Ok(address) = text.parse::<IpAddr>() else {
+        return None;
+    };
+    Some(target(routes, table, &address)?.1)
+}
+
+// How many addresses lead where they have to.
+fn count_right(routes: &RouteMap<u32>, table: &PrefixTable<u32>, are_withdrawn: bool) -> usize {
     let mut count = 0usize;
-    for _ in all(routes, query) {
-        count = count.saturating_add(1);
+    for (text, before, after) in TARGETS.iter() {
+        let expected = if are_withdrawn { *after } else { *before };
+        count = count.saturating_add((leads(routes, table, *text) == expected) as usize);
     }
     count
 }
 
-// How many queries find what they have to.
-fn count_right(routes: &Routes) -> usize {
-    let mut count = 0usize;
-    for (query, found, number) in QUERIES.iter() {
-        let is_right = longest(routes, *query) == *found && count_all(routes, *query) == *number;
-        count = count.saturating_add(is_right as usize);
-    }
-    count
+fn announced_and_withdrawn(
+    routes: &mut RouteMap<u32>,
+    table: &PrefixTable<u32>,
+) -> (usize, usize, [Option<(u8, u32)>; 3], usize) {
+    (
+        announce_all(routes),
+        count_right(routes, table, false),
+        [
+            withdrawn(routes, "10.1.2.3"),
+            withdrawn(routes, "2001:db8::1"),
+            withdrawn(routes, "2001:db8::1"),
+        ],
+        count_right(routes, table, true),
+    )
 }
 
 #[test]
-fn a_query_finds_the_routes_that_it_starts_with(rt: HostRuntime) -> Result<(), Fail> {
-    let mut routes = TreeMap::new(rt.alloc());
-    let added = add_all(&mut routes, rt.alloc());
-    let refused = add(&mut routes, rt.alloc(), b"a\0", 7).is_err();
-    same(
-        (added, refused, count_right(&routes), routes.len()),
-        (4, true, 6, 3),
-    )
+fn addresses_lead_where_the_longest_network_does(rt: HostRuntime) -> Result<(), Fail> {
+    let mut routes = RouteMap::new(rt.alloc());
+    let seen = table_of(rt.alloc()).map(|table| announced_and_withdrawn(&mut routes, &table));
+    same(seen, Some((4, 7, [Some((17, 5)), Some((32, 7)), None], 7)))
 }
 
 // The length of the longest key of the tree of these keys.

@@ -36,13 +36,13 @@ fn bits_of(address: &IpAddr) -> (u128, u32)
     }
 }
 
-// The first bits of a number.
-fn first_bits(bits: u128, length: u32) -> u128 {
+/// Returns the first bits of a number.
+pub fn first_bits(bits: u128, length: u32) -> u128 {
     bits.checked_shr(128u32.saturating_sub(length)).unwrap_or(0)
 }
 
-// A network that is drawn: the version, the length and its bits.
-type Drawn = (u32, u32, u128);
+/// A network: how many bits its addresses have, its length and its bits.
+pub type Drawn = (u32, u32, u128);
 
 fn draw(number: u64) -> Drawn {
     let (bits, width) = bits_of(&address_of(number));
@@ -58,12 +58,16 @@ fn network_of(drawn: &Drawn) -> Option<Network>
     let bits = prefix
         .checked_shl(128u32.saturating_sub(length))
         .unwrap_or(0);
-    let address = if width == 32 {
+    Network::new(&address_with(width, bits), u8::try_from(length).ok()?)
+}
+
+/// Returns the address with these bits at the front.
+pub fn address_with(width: u32, bits: u128) -> IpAddr {
+    if width == 32 {
         IpAddr::V4(Ipv4Addr::from_bits((bits >> 96) as u32))
     } else {
         IpAddr::V6(Ipv6Addr::from_bits(bits))
-    };
-    Network::new(&address, u8::try_from(length).ok()?)
+    }
 }
 
 // Different networks that are drawn.
@@ -89,7 +93,8 @@ fn networks_of(alloc: Global, all: &[Drawn]) -> Option<Vec<Network>>
     Some(networks)
 }
 
-fn table_of(alloc: Global, all: &[Drawn]) -> Option<PrefixTable<usize>> {
+/// Returns the table of these networks, each with its place.
+pub fn table_of(alloc: Global, all: &[Drawn]) -> Option<PrefixTable<usize>> {
     let networks = networks_of(alloc, all)?;
     let places = places(alloc, networks.len())?;
     PrefixTable::build(alloc, &networks, places).ok()

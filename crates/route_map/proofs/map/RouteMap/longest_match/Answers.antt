@@ -1,10 +1,9 @@
 use Rattle.std.proofs.Common.{◌≡◌, arith, None, false, sym, subst, ◌∙◌}
 use Rattle.std.specs.List.{All}
-use Rattle.std.proofs.lemmas.List.Elements.{All-contains}
 use Rattle.prefix_table.specs.Networks.{IsNetwork, covers_at}
 use Rattle.prefix_table.specs.Steps.{IsUpToNetwork}
 use Rattle.route_map.specs.Routes.{IsLastEntryUpTo, IsLastUpTo}
-use Rattle.route_map.proofs.LongestLemmas.{AreUpToLength, all_fit, all_networks, is_longest, next_short, no_next, none_covers}
+use Rattle.route_map.proofs.LongestLemmas.{AreUpToLength, all_fit, all_networks, is_longest, next_short, no_next, none_covers, stored_network}
 use Rattle.route_map.proofs.map.RouteMap.longest_match.Goals as goal
 
 pub outwards-init : goal.outwards-init
@@ -20,8 +19,8 @@ outwards-init g c =
 
 pub covers-requires : goal.covers-requires
 covers-requires g c =
-    let networks = subst (All (λ entry. IsNetwork entry.0)) c.self.view_is (all_networks c.self.inside.four c.self.inside.six c.self.invariant) in
-    (All-contains (λ entry. IsNetwork entry.0) c.args.self.now (c.in_ok-found.found, c.in_ok-found.value.now) networks c.in_ok-found.ensures.there).length_fits
+    (stored_network c.self.inside.four c.self.inside.six c.self.invariant c.args.self.now c.self.view_is (c.in_ok-found.found, c.in_ok-found.value.now)
+    c.in_ok-found.ensures.there).length_fits
 
 pub next_length-requires-clause-last : goal.next_length-requires-clause-last
 next_length-requires-clause-last g c = subst (IsUpToNetwork c.in_ok-found.found) c.cut.ensures.network c.in_ok-found.ensures.up
@@ -38,21 +37,26 @@ outwards-preserved g c =
           c.in_ok-shorter.ensures.bound;
     }
 
-pub returns-in_err-found : goal.returns-in_err-found
-returns-in_err-found g c =
+pub returns-in_err-found-clause-longest : goal.returns-in_err-found-clause-longest
+returns-in_err-found-clause-longest g c =
     rw c.from_residual.ensures
     (subst (λ a. All (λ entry. covers_at entry.0 a ≡ false) c.args.self.now) c.address_of-address.ensures.address
     (none_covers c.args.self.now c.address_of-address.result c.outwards.length c.outwards.invariant.short
     (subst (λ n. IsLastUpTo c.args.self.now n None) c.cut.ensures.network c.in_err-found.ensures)))
 
-pub returns-then-covers : goal.returns-then-covers
-returns-then-covers g c =
+pub returns-then-covers-clause-longest : goal.returns-then-covers-clause-longest
+returns-then-covers-clause-longest g c =
     is_longest c.args.self.now c.address_of-address.result c.outwards.length c.outwards.invariant.short (c.in_ok-found.found, c.in_ok-found.value.now)
     (subst (λ n. IsLastEntryUpTo c.args.self.now n (c.in_ok-found.found, c.in_ok-found.value.now)) c.cut.ensures.network c.in_ok-found.ensures) c.args.address.now
     c.address_of-address.ensures.address (sym c.covers.ensures ∙ c.if-covers.true)
 
-pub returns-in_err-shorter : goal.returns-in_err-shorter
-returns-in_err-shorter g c =
+pub returns-then-covers-clause-network : goal.returns-then-covers-clause-network
+returns-then-covers-clause-network g c =
+    stored_network c.self.inside.four c.self.inside.six c.self.invariant c.args.self.now c.self.view_is (c.in_ok-found.found, c.in_ok-found.value.now)
+    c.in_ok-found.ensures.there
+
+pub returns-in_err-shorter-clause-longest : goal.returns-in_err-shorter-clause-longest
+returns-in_err-shorter-clause-longest g c =
     rw c.from_residual-in_err-shorter.ensures
     (subst (λ a. All (λ entry. covers_at entry.0 a ≡ false) c.args.self.now) c.address_of-address.ensures.address
     (no_next c.args.self.now c.address_of-address.result c.outwards.length c.outwards.invariant.short (c.in_ok-found.found, c.in_ok-found.value.now)
