@@ -33,9 +33,9 @@ pub fn answer<T: LineTable, W: Write>(
     line: &[u8],
     output: &mut W,
 ) -> io::Result<Outcome>
-    ensures { IfSome reply.entry (IsLookedUp (T.IsReplyTo table.now) (T.Finds table.now) line.now) → IfOk result (λ outcome.
-        IsTried (T.IsReplyTo table.now) (T.Finds table.now) T.AsksForNothing line.now outcome
-        (W.contents output.old) (W.contents output.new)) }
+    ensures { IfSome reply.entry (IsLookedUp (T.IsReplyTo table.now) (T.Finds table.now) line.now) →
+        IfOk result (λ outcome. IsTried (T.IsReplyTo table.now) (T.Finds table.now) T.AsksForNothing
+        line.now outcome (W.contents output.old) (W.contents output.new)) }
 {
     match reply {
         Some(reply) => reply.write(output),
