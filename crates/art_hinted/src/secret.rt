@@ -44,18 +44,20 @@ fn drawn(state: RandomState, number: u64) -> u64 {
     hasher.finish()
 }
 
-// The last sixteen bytes as two numbers, or all if there are fewer. Bytes may be in both.
+// The last sixteen bytes as two numbers, or all if there are fewer. Bytes may be in both. From four to fifteen bytes take no
+// branch, since lengths of words can't be foreseen.
 #[inline(always)]
 fn ends(bytes: &[u8]) -> (u64, u64) {
     let len = bytes.len();
     if len >= 16 {
         return (read_u64(bytes, len - 16), read_u64(bytes, len - 8));
     }
-    if len >= 8 {
-        return (read_u64(bytes, 0), read_u64(bytes, len - 8));
-    }
     if len >= 4 {
-        return (read_u32(bytes, 0), read_u32(bytes, len - 4));
+        let inner = len / 8 * 4;
+        return (
+            read_u32(bytes, 0) | read_u32(bytes, inner) << 32,
+            read_u32(bytes, len - 4) | read_u32(bytes, len - 4 - inner) << 32,
+        );
     }
     match bytes {
         [] => (0, 0),
