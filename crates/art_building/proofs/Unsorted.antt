@@ -1,0 +1,133 @@
+-- Pairs are put in the order of their keys as in any other one, if those with equal keys stay in their order.
+use Rattle.std.proofs.Common.{◌≡◌, ℕ, suc, List, [], ◌∷◌, length, filter, Bool, true, false, not, ◌&&◌, cond, ◌⊎◌, inl, inr, refl, ap, sym, ◌∙◌, subst, arith, add-one, IsPermutation}
+use Rattle.std.specs.List.{AllByRecursion as Each}
+use Rattle.std.specs.List.Sorted.{IsSortedBy, IsStableBy, ties}
+use Rattle.std.specs.Cmp.{IsStrictWeakOrder}
+use Rattle.std.proofs.lemmas.Bool.{true≢false}
+use Rattle.std.proofs.lemmas.List.Elements.{All-from_recursion, filter_agree, recursion_from_All}
+use Rattle.std.proofs.lemmas.List.Sorted.{All-permutation, IsPermutation-sym}
+use Rattle.art_building.specs.Sorted.{AreSorted, comes_before}
+use Rattle.art_keys.specs.Prefixes.{HasNoPrefixes}
+use Rattle.art_keyed.specs.KeyedPairs.{HaveKeys}
+use Rattle.art_keyed.proofs.Keyed.{never_in_conflict, put_keeps}
+use Rattle.art_map.specs.MapCalls.{put_all}
+use Rattle.art_model.specs.Changes.{put_pair}
+use Rattle.art_model.specs.Keys.{are_same, is_before}
+use Rattle.art_model.specs.Pairs.{IsMap, first_of, is_conflict, of_key, put, stored_for, with_key}
+use Rattle.art_model.proofs.keys.Keys.{before_apart, front_same, not_same, same_equal}
+use Rattle.art_model.proofs.keys.KeyLaws.{order_is_strict, order_is_total}
+use Rattle.art_model.proofs.lists.Filters.{filter_passes}
+use Rattle.art_model.proofs.lists.Lists.{Each-weaker}
+use Rattle.art_model.proofs.pairs.MapLaws.{maps_are_what_is_found, maps_stay_maps, put_is_found}
+use Rattle.art_model.proofs.pairs.Puts.{stored_for-new, stored_for-old}
+
+-- a key is not the same as one after it
+before_differs : (a b : List ℕ) → is_before a b ≡ true → are_same a b ≡ false
+before_differs a b h = not_same a b (λ e. true≢false (sym h ∙ ap (λ k. is_before k b) e ∙ order_is_strict b))
+
+after_differs : (a b : List ℕ) → is_before b a ≡ true → are_same a b ≡ false
+after_differs a b h = not_same a b (λ e. true≢false (sym h ∙ ap (is_before b) e ∙ order_is_strict b))
+
+-- keys are the same where neither comes before the other
+neither_before : (a b : List ℕ) → (not (is_before a b) && not (is_before b a)) ≡ are_same a b
+neither_before a b = go (order_is_total a b)
+  where
+    go : (is_before a b ≡ true) ⊎ ((a ≡ b) ⊎ (is_before b a ≡ true)) → (not (is_before a b) && not (is_before b a)) ≡ are_same a b
+    go (inl h) = rw h (sym (before_differs a b h))
+    go (inr (inl e)) = rw (e, order_is_strict b) (sym (front_same b))
+    go (inr (inr h)) = rw (before_apart b a h, h) (sym (after_differs a b h))
+
+module _ {K V : Type 0} (bytes : K → List ℕ) where
+  abbrev Of : K × V → List ℕ
+  Of = of_key bytes
+
+  -- ---- what a stable sort finds under a key
+
+  module _ (xs ys : List (K × V)) (stable : IsStableBy (comes_before bytes) xs ys) where
+    tied : (x : K × V) → with_key Of (bytes x.0) ys ≡ with_key Of (bytes x.0) xs
+    tied x =
+        let alike = filter_agree (ties (comes_before bytes) x) (λ y. are_same (bytes x.0) (bytes y.0)) (λ y. neither_before (bytes x.0) (bytes y.0)) in
+        sym (alike ys) ∙ stable x ∙ alike xs
+
+    -- the first pair that is found under a key has it
+    first_found : (key : List ℕ) (pairs us : List (K × V)) (x : K × V) → with_key Of key pairs ≡ x ∷ us → bytes x.0 ≡ key
+    first_found key pairs us x e =
+        same_equal key (bytes x.0) (subst (Each (λ y. are_same key (bytes y.0) ≡ true)) e (filter_passes (λ y. are_same key (bytes y.0)) pairs)).0
+
+    pub sorted_is_found : (key : List ℕ) → with_key Of key ys ≡ with_key Of key xs
+    sorted_is_found key = go (with_key Of key ys) (with_key Of key xs) refl refl
+      where
+        go : (us vs : List (K × V)) → with_key Of key ys ≡ us → with_key Of key xs ≡ vs → with_key Of key ys ≡ with_key Of key xs
+        go [] [] e f = e ∙ sym f
+        go [] (x ∷ vs) e f = subst (λ k. with_key Of k ys ≡ with_key Of k xs) (first_found key xs vs x f) (tied x)
+        go (y ∷ us) vs e f = subst (λ k. with_key Of k ys ≡ with_key Of k xs) (first_found key ys us y e) (tied y)
+
+  -- ---- what is found after puts
+
+  -- what is stored under a key once pairs with that key were put: the first key, with the last value
+  abbrev folded : List (K × V) → List (K × V) → List (K × V)
+  folded old [] = old
+  folded [] (x ∷ xs) = folded (x ∷ []) xs
+  folded (o ∷ os) (x ∷ xs) = folded ((o.0, x.1) ∷ []) xs
+
+  put_is_folded : (key : List ℕ) (x : K × V) (pairs xs : List (K × V)) → are_same key (bytes x.0) ≡ true →
+      folded (stored_for Of x pairs ∷ []) xs ≡ folded (with_key Of key pairs) (x ∷ xs)
+  put_is_folded key x pairs xs same = go (with_key Of key pairs) (ap (λ k. with_key Of k pairs) (same_equal key (bytes x.0) same))
+    where
+      go : (old : List (K × V)) → with_key Of (bytes x.0) pairs ≡ old → folded (stored_for Of x pairs ∷ []) xs ≡ folded old (x ∷ xs)
+      go [] e = ap (λ z. folded (z ∷ []) xs) (stored_for-new Of x pairs (ap first_of e))
+      go (o ∷ os) e = ap (λ z. folded (z ∷ []) xs) (stored_for-old Of x pairs o (ap first_of e))
+
+  puts_are_folded : (key : List ℕ) (xs pairs : List (K × V)) → with_key Of key (put_all bytes xs pairs) ≡ folded (with_key Of key pairs) (with_key Of key xs)
+  puts_are_folded key [] pairs = refl
+  puts_are_folded key (x ∷ xs) pairs = puts_are_folded key xs (put Of x pairs) ∙ go (are_same key (bytes x.0)) refl
+    where
+      go : (t : Bool) → are_same key (bytes x.0) ≡ t →
+          folded (with_key Of key (put Of x pairs)) (with_key Of key xs) ≡ folded (with_key Of key pairs) (cond t (x ∷ with_key Of key xs) (with_key Of key xs))
+      go true e =
+          ap (λ old. folded old (with_key Of key xs)) (put_is_found bytes key x pairs ∙ ap (λ t. cond t (stored_for Of x pairs ∷ []) (with_key Of key pairs)) e)
+          ∙ put_is_folded key x pairs (with_key Of key xs) e
+      go false e =
+          ap (λ old. folded old (with_key Of key xs)) (put_is_found bytes key x pairs ∙ ap (λ t. cond t (stored_for Of x pairs ∷ []) (with_key Of key pairs)) e)
+
+  -- ---- keys of a type leave a map
+
+  module _ (is_key : K → Type 0) (law : HasNoPrefixes is_key bytes) where
+    put_is_map : (x : K × V) (pairs : List (K × V)) → is_key x.0 → HaveKeys is_key pairs → IsMap Of pairs → IsMap Of (put Of x pairs)
+    put_is_map x pairs own all map =
+        subst (λ (t : Bool). IsMap Of (cond t pairs (put Of x pairs))) (never_in_conflict V is_key bytes law x.0 pairs own all)
+        (maps_stay_maps bytes (put_pair x ∷ []) pairs map)
+
+    pub puts_are_map : (xs pairs : List (K × V)) → HaveKeys is_key xs → HaveKeys is_key pairs → IsMap Of pairs → IsMap Of (put_all bytes xs pairs)
+    puts_are_map [] pairs own all map = map
+    puts_are_map (x ∷ xs) pairs own all map =
+        puts_are_map xs (put Of x pairs) own.1 (put_keeps V is_key bytes x.0 x.1 pairs own.0 all) (put_is_map x pairs own.0 all map)
+
+    -- sorted pairs have the keys that they had before
+    keys_before : (xs ys : List (K × V)) → IsPermutation xs ys → HaveKeys is_key ys → HaveKeys is_key xs
+    keys_before xs ys moved own =
+        recursion_from_All (λ x. is_key x.0) xs
+        (All-permutation (λ x. is_key x.0) ys xs (IsPermutation-sym xs ys moved) (All-from_recursion (λ x. is_key x.0) ys own))
+
+    -- so sorted pairs leave the map that they leave in any other order
+    pub sorted_puts : (xs ys : List (K × V)) → IsPermutation xs ys → IsStableBy (comes_before bytes) xs ys → HaveKeys is_key ys →
+        put_all bytes ys [] ≡ put_all bytes xs []
+    sorted_puts xs ys moved stable own =
+        maps_are_what_is_found Of (put_all bytes xs []) (put_all bytes ys []) (puts_are_map xs [] (keys_before xs ys moved own) tt tt) (puts_are_map ys [] own tt tt)
+        (λ key. puts_are_folded key ys [] ∙ ap (folded []) (sorted_is_found xs ys stable key) ∙ sym (puts_are_folded key xs []))
+
+  -- ---- what a sort ensures
+
+  -- each is compared with all after it, where neighbours are in order
+  pub all_sorted : IsStrictWeakOrder (comes_before {V = V} bytes) → (xs : List (K × V)) → IsSortedBy (comes_before bytes) xs → AreSorted bytes xs
+  all_sorted order [] sorted = tt
+  all_sorted order (x ∷ xs) sorted =
+      let rest : IsSortedBy (comes_before bytes) xs = λ k d low high. rw add-one (rw add-one at (sorted (suc k) d (omega arith) (omega arith))) in
+      let up = all_sorted order xs rest in
+      (from_next xs sorted up, up)
+    where
+      from_next : (ys : List (K × V)) → IsSortedBy (comes_before bytes) (x ∷ ys) → AreSorted bytes ys → Each (λ y. comes_before bytes y x ≡ false) ys
+      from_next [] s up = tt
+      from_next (y ∷ ys) s up =
+          let first : comes_before bytes y x ≡ false = s 0 x (omega arith) (omega arith) in
+          (first, Each-weaker (λ z. comes_before bytes z y ≡ false) (λ z. comes_before bytes z x ≡ false) (λ z h. order.chain z y x h first) ys up.0)
