@@ -1,5 +1,5 @@
 -- Pairs are put in the order of their keys as in any other one, if those with equal keys stay in their order.
-use Rattle.std.proofs.Common.{◌≡◌, ℕ, suc, List, [], ◌∷◌, length, filter, Bool, true, false, not, ◌&&◌, cond, ◌⊎◌, inl, inr, refl, ap, sym, ◌∙◌, subst, arith, add-one, IsPermutation}
+use Rattle.std.proofs.Common.{◌≡◌, ℕ, suc, List, [], ◌∷◌, length, filter, Bool, true, false, not, ◌&&◌, cond, ◌⊎◌, inl, inr, refl, ap, sym, ◌∙◌, subst, arith, add-one, IsPermutation, Result, Ok, Err, IfOk, OnOk}
 use Rattle.std.specs.List.{AllByRecursion as Each}
 use Rattle.std.specs.List.Sorted.{IsSortedBy, IsStableBy, ties}
 use Rattle.std.specs.Cmp.{IsStrictWeakOrder}
@@ -13,7 +13,7 @@ use Rattle.art_keyed.proofs.Keyed.{never_in_conflict, put_keeps}
 use Rattle.art_map.specs.MapCalls.{put_all}
 use Rattle.art_model.specs.Changes.{put_pair}
 use Rattle.art_model.specs.Keys.{are_same, is_before}
-use Rattle.art_model.specs.Pairs.{IsMap, first_of, is_conflict, of_key, put, stored_for, with_key}
+use Rattle.art_model.specs.Pairs.{IsMap, first_of, of_key, put, stored_for, with_key}
 use Rattle.art_model.proofs.keys.Keys.{before_apart, front_same, not_same, same_equal}
 use Rattle.art_model.proofs.keys.KeyLaws.{order_is_strict, order_is_total}
 use Rattle.art_model.proofs.lists.Filters.{filter_passes}
@@ -54,7 +54,7 @@ module _ {K V : Type 0} (bytes : K → List ℕ) where
     first_found key pairs us x e =
         same_equal key (bytes x.0) (subst (Each (λ y. are_same key (bytes y.0) ≡ true)) e (filter_passes (λ y. are_same key (bytes y.0)) pairs)).0
 
-    pub sorted_is_found : (key : List ℕ) → with_key Of key ys ≡ with_key Of key xs
+    sorted_is_found : (key : List ℕ) → with_key Of key ys ≡ with_key Of key xs
     sorted_is_found key = go (with_key Of key ys) (with_key Of key xs) refl refl
       where
         go : (us vs : List (K × V)) → with_key Of key ys ≡ us → with_key Of key xs ≡ vs → with_key Of key ys ≡ with_key Of key xs
@@ -98,7 +98,7 @@ module _ {K V : Type 0} (bytes : K → List ℕ) where
         subst (λ (t : Bool). IsMap Of (cond t pairs (put Of x pairs))) (never_in_conflict V is_key bytes law x.0 pairs own all)
         (maps_stay_maps bytes (put_pair x ∷ []) pairs map)
 
-    pub puts_are_map : (xs pairs : List (K × V)) → HaveKeys is_key xs → HaveKeys is_key pairs → IsMap Of pairs → IsMap Of (put_all bytes xs pairs)
+    puts_are_map : (xs pairs : List (K × V)) → HaveKeys is_key xs → HaveKeys is_key pairs → IsMap Of pairs → IsMap Of (put_all bytes xs pairs)
     puts_are_map [] pairs own all map = map
     puts_are_map (x ∷ xs) pairs own all map =
         puts_are_map xs (put Of x pairs) own.1 (put_keeps V is_key bytes x.0 x.1 pairs own.0 all) (put_is_map x pairs own.0 all map)
@@ -110,11 +110,16 @@ module _ {K V : Type 0} (bytes : K → List ℕ) where
         (All-permutation (λ x. is_key x.0) ys xs (IsPermutation-sym xs ys moved) (All-from_recursion (λ x. is_key x.0) ys own))
 
     -- so sorted pairs leave the map that they leave in any other order
-    pub sorted_puts : (xs ys : List (K × V)) → IsPermutation xs ys → IsStableBy (comes_before bytes) xs ys → HaveKeys is_key ys →
+    sorted_puts : (xs ys : List (K × V)) → IsPermutation xs ys → IsStableBy (comes_before bytes) xs ys → HaveKeys is_key ys →
         put_all bytes ys [] ≡ put_all bytes xs []
     sorted_puts xs ys moved stable own =
         maps_are_what_is_found Of (put_all bytes xs []) (put_all bytes ys []) (puts_are_map xs [] (keys_before xs ys moved own) tt tt) (puts_are_map ys [] own tt tt)
         (λ key. puts_are_folded key ys [] ∙ ap (folded []) (sorted_is_found xs ys stable key) ∙ sym (puts_are_folded key xs []))
+
+    pub as_unsorted : {E : Type 0} (xs ys : List (K × V)) → IsPermutation xs ys → IsStableBy (comes_before bytes) xs ys → (result : Result (List (K × V)) E) →
+        IfOk result (λ map. map ≡ put_all bytes ys []) → OnOk result (HaveKeys is_key ys) → IfOk result (λ map. map ≡ put_all bytes xs [])
+    as_unsorted xs ys moved stable (Ok map) put own = put ∙ sorted_puts xs ys moved stable own
+    as_unsorted xs ys moved stable (Err error) put own = tt
 
   -- ---- what a sort ensures
 
