@@ -134,10 +134,11 @@ impl<K: NoPrefixesBytes + Drop, V: Drop, const P: usize> TreeMapBuilder<K, V, P>
 }
 
 impl<K: NoPrefixesBytes + Drop, V: Drop, const P: usize> TreeMapBuilder<K, V, P> {
-    /// Returns a builder with pairs that come in any order: those that `TreeMap::from_iter` would insert. Of equal keys
-    /// the first one stays, with the last value.
+    /// Returns a builder with the pairs of a `Vec`, which stand in any order. Of equal keys the first one stays, with the
+    /// last value, as in `TreeMap::from_iter`.
     ///
-    /// It sorts the pairs by their keys, and then pushes them. Fails only if an allocation fails: all pairs are dropped.
+    /// It sorts the pairs by their keys, with a buffer for the sort, and then pushes them. Fails only if an allocation
+    /// fails: all pairs are dropped.
     pub fn from_unsorted(alloc: Global, mut pairs: Vec<(K, V)>) -> Result<Self, AllocError>
         ensures { IfOk result (λ builder. builder ≡ put_all K.bytes pairs.items []) }
     {
@@ -153,11 +154,10 @@ impl<K: NoPrefixesBytes + Drop, V: Drop, const P: usize> TreeMapBuilder<K, V, P>
     {
         let mut builder = TreeMapBuilder::new(alloc);
         let mut rest = pairs.into_iter();
-        let Some(first) = rest.next() else {
+        let Some(mut last) = rest.next() else {
             return Ok(builder);
         };
-        first.0.as_key();
-        let mut last = first;
+        last.0.as_key();
         for next in rest {
             builder.put_next(&mut last, next)?;
         }
@@ -165,8 +165,8 @@ impl<K: NoPrefixesBytes + Drop, V: Drop, const P: usize> TreeMapBuilder<K, V, P>
         Ok(builder)
     }
 
-    // Puts a pair whose key is not before the last one. The last pair is not pushed yet: an equal key gives it a new
-    // value, and a greater one pushes it and is the last.
+    // Puts a pair whose key is not less than the last one, which is not pushed yet. An equal key gives the last pair the
+    // value; else that is pushed, and this pair is the last one.
     fn put_next(&mut self, last: &mut (K, V), next: (K, V)) -> Result<(), AllocError>
         requires map { IsMap (of_key K.bytes) (self.old ++ last.old ∷ []) }
         requires order { comes_before K.bytes next last.old ≡ false }

@@ -10,8 +10,8 @@ empty (x ∷ xs) none = absurd (omega arith)
 pub loop-next-init : goal.loop-next-init
 loop-next-init g c =
     let same = c.into_iter-next-iterator.ensures.into_iter_gives in
-    let given : c.args.pairs.items ≡ c.in-Some.first ∷ into_iter_items c.into_iter-next-iterator.result =
-    sym c.into_iter-rest.ensures.rest ∙ c.in-Some.ensures.items ∙ ap (λ it. c.in-Some.first ∷ into_iter_items it) (sym same) in
+    let given : c.args.pairs.items ≡ c.in-Some.last ∷ into_iter_items c.into_iter-next-iterator.result =
+    sym c.into_iter-rest.ensures.rest ∙ c.in-Some.ensures.items ∙ ap (λ it. c.in-Some.last ∷ into_iter_items it) (sym same) in
     let count = ap length given in
     let left = ap into_iter_len same in
     let taken = c.in-Some.ensures.len in

@@ -6,5 +6,5 @@ use Rattle.art_building.proofs.tree_map.TreeMapBuilder.from_sorted.Given as goal
 abbrev pub invariant-loop-next : goal.invariant-loop-next
 invariant-loop-next g l = record {
   left : IsLeft g.K.NoPrefixesBytes.is_key g.K.AsBytes.bytes l.fn.pairs.items l.builder l.last (into_iter_items l.next-iterator);
-  len : into_iter_len l.next-iterator ≡ length (into_iter_items l.next-iterator)
+  len : into_iter_len l.next-iterator ≡ length (into_iter_items l.next-iterator);
 }
