@@ -137,8 +137,8 @@ impl<K: NoPrefixesBytes + Drop, V: Drop, const P: usize> TreeMapBuilder<K, V, P>
     /// Returns a builder with the pairs of a `Vec`, which stand in any order. Of equal keys the first one stays, with the
     /// last value, as in `TreeMap::from_iter`.
     ///
-    /// It sorts the pairs by their keys, with a buffer for the sort, and then pushes them. Fails only if an allocation
-    /// fails: all pairs are dropped.
+    /// It sorts the pairs by their keys, with a buffer as long as the `Vec`, and then pushes them. Fails only if an
+    /// allocation fails: all pairs are dropped.
     pub fn from_unsorted(alloc: Global, mut pairs: Vec<(K, V)>) -> Result<Self, AllocError>
         ensures { IfOk result (λ builder. builder ≡ put_all K.bytes pairs.items []) }
     {
