@@ -11,6 +11,9 @@ use Rattle.art_keys.specs.Prefixes.{HasNoPrefixes}
 use Rattle.art_keyed.specs.KeyedPairs.{HaveKeys}
 use Rattle.art_keyed.proofs.Keyed.{never_in_conflict, put_keeps}
 use Rattle.art_map.specs.MapCalls.{put_all}
+use Rattle.art_map.specs.MapItems.{keys_of}
+use Rattle.art_map.specs.SetKeys.{add_all, as_pairs}
+use Rattle.art_map.proofs.SetLaws.{keys_put}
 use Rattle.art_model.specs.Changes.{put_pair}
 use Rattle.art_model.specs.Keys.{are_same, is_before}
 use Rattle.art_model.specs.Pairs.{IsMap, first_of, of_key, put, stored_for, with_key}
@@ -116,10 +119,16 @@ module _ {K V : Type 0} (bytes : K → List ℕ) where
         maps_are_what_is_found Of (put_all bytes xs []) (put_all bytes ys []) (puts_are_map xs [] (keys_before xs ys moved own) tt tt) (puts_are_map ys [] own tt tt)
         (λ key. puts_are_folded key ys [] ∙ ap (folded []) (sorted_is_found xs ys stable key) ∙ sym (puts_are_folded key xs []))
 
-    pub as_unsorted : {E : Type 0} (xs ys : List (K × V)) → IsPermutation xs ys → IsStableBy (comes_before bytes) xs ys → (result : Result (List (K × V)) E) →
-        IfOk result (λ map. map ≡ put_all bytes ys []) → OnOk result (HaveKeys is_key ys) → IfOk result (λ map. map ≡ put_all bytes xs [])
-    as_unsorted xs ys moved stable (Ok map) put own = put ∙ sorted_puts xs ys moved stable own
-    as_unsorted xs ys moved stable (Err error) put own = tt
+    -- the pairs are as they came, and so are their keys
+    module _ (xs ys : List (K × V)) (moved : IsPermutation xs ys) where
+      pub as_unsorted : {E : Type 0} → IsStableBy (comes_before bytes) xs ys → (result : Result (List (K × V)) E) →
+          IfOk result (λ map. map ≡ put_all bytes ys []) → OnOk result (HaveKeys is_key ys) → IfOk result (λ map. map ≡ put_all bytes xs [])
+      as_unsorted stable (Ok map) put own = put ∙ sorted_puts xs ys moved stable own
+      as_unsorted stable (Err error) put own = tt
+
+      pub known_unsorted : {E : Type 0} → (result : Result (List (K × V)) E) → OnOk result (HaveKeys is_key ys) → OnOk result (HaveKeys is_key xs)
+      known_unsorted (Ok map) own = keys_before xs ys moved own
+      known_unsorted (Err error) own = tt
 
   -- ---- what a sort ensures
 
@@ -136,3 +145,18 @@ module _ {K V : Type 0} (bytes : K → List ℕ) where
       from_next (y ∷ ys) s up =
           let first : comes_before bytes y x ≡ false = s 0 x (omega arith) (omega arith) in
           (first, Each-weaker (λ z. comes_before bytes z y ≡ false) (λ z. comes_before bytes z x ≡ false) (λ z h. order.chain z y x h first) ys up.0)
+
+-- keys that are put without values are added
+module _ {K : Type 0} (is_key : K → Type 0) (bytes : K → List ℕ) (law : HasNoPrefixes is_key bytes) where
+  keys_are_added : (keys : List K) (pairs : List (K × Unit {0})) → HaveKeys is_key (as_pairs keys) → HaveKeys is_key pairs → IsMap (of_key bytes) pairs →
+      keys_of (put_all bytes (as_pairs keys) pairs) ≡ add_all bytes keys (keys_of pairs)
+  keys_are_added [] pairs own all map = refl
+  keys_are_added (k ∷ keys) pairs own all map =
+      keys_are_added keys (put (of_key bytes) (k, tt) pairs) own.1 (put_keeps (Unit {0}) is_key bytes k tt pairs own.0 all) (put_is_map bytes is_key law (k, tt) pairs own.0 all map)
+      ∙ ap (add_all bytes keys) (keys_put bytes k tt pairs map)
+
+  pub as_keys : {E : Type 0} (keys : List K) (pairs : List (K × Unit {0})) → pairs ≡ as_pairs keys → (result : Result (List (K × Unit {0})) E) →
+      IfOk result (λ map. map ≡ put_all bytes pairs []) → OnOk result (HaveKeys is_key pairs) → IfOk result (λ map. keys_of map ≡ add_all bytes keys [])
+  as_keys keys pairs is (Ok map) put own =
+      ap keys_of (put ∙ ap (λ xs. put_all bytes xs []) is) ∙ keys_are_added keys [] (subst (HaveKeys is_key) is own) tt tt
+  as_keys keys pairs is (Err error) put own = tt

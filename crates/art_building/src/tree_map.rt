@@ -9,6 +9,7 @@ ghost use Rattle.art_keyed.specs.KeyedPairs.{HaveKeys};
 ghost use Rattle.art_loading.specs.declared.append.AppendReason.TheVariants.{Conflict};
 ghost use Rattle.art_map.specs.MapCalls.{put_all};
 ghost use Rattle.art_map.specs.MapItems.{keys_of};
+ghost use Rattle.art_map.specs.SetKeys.{add_all};
 ghost use Rattle.art_model.specs.Pairs.{IsMap, of_key, put};
 
 use crate::byte_map::{AppendError, AppendReason, MapBuilder};
@@ -140,7 +141,8 @@ impl<K: NoPrefixesBytes + Drop, V: Drop, const P: usize> TreeMapBuilder<K, V, P>
     /// It sorts the pairs by their keys, with a buffer as long as the `Vec`, and then pushes them. Fails only if an
     /// allocation fails: all pairs are dropped.
     pub fn from_unsorted(alloc: Global, mut pairs: Vec<(K, V)>) -> Result<Self, AllocError>
-        ensures { IfOk result (λ builder. builder ≡ put_all K.bytes pairs.items []) }
+        ensures pairs { IfOk result (λ builder. builder ≡ put_all K.bytes pairs.items []) }
+        ensures known { OnOk result (HaveKeys K.is_key pairs.items) }
     {
         pairs.sort_by(by_key)?;
         TreeMapBuilder::from_sorted(alloc, pairs)
@@ -216,6 +218,15 @@ fn by_key<K: NoPrefixesBytes, V>(a: &(K, V), b: &(K, V)) -> Ordering
 }
 
 impl<K: NoPrefixesBytes + Drop, const P: usize> TreeMapBuilder<K, (), P> {
+    /// Does what `from_unsorted` does with keys, for `finish_set`. Of equal keys the first one stays, as in
+    /// `TreeSet::from_iter`.
+    pub fn from_unsorted_keys(alloc: Global, keys: Vec<K>) -> Result<Self, AllocError>
+        ensures { IfOk result (λ builder. keys_of builder ≡ add_all K.bytes keys.items []) }
+    {
+        let pairs = keys.into_iter().map(|key| (key, ())).collect(alloc)?;
+        TreeMapBuilder::from_unsorted(alloc, pairs)
+    }
+
     /// Returns the set of the keys, in constant time.
     pub fn finish_set(self) -> TreeSet<K, P>
         ensures { result ≡ keys_of self }

@@ -237,8 +237,8 @@ fn sets_are_built_of_ascending_keys(rt: HostRuntime) -> Result<(), Fail> {
 
 // How many keys a set of these bytes has, which come in any order, and the first one.
 fn set_of_unsorted(alloc: Global, bytes: [u8; 3]) -> Option<(usize, Option<[u8; 1]>)> {
-    let keys = Vec::from_array(alloc, bytes.map(|byte| ([byte], ()))).ok()?;
-    let set = TreeMapBuilder::<[u8; 1], (), 4>::from_unsorted(alloc, keys)
+    let keys = Vec::from_array(alloc, bytes.map(|byte| [byte])).ok()?;
+    let set = TreeMapBuilder::<[u8; 1], (), 4>::from_unsorted_keys(alloc, keys)
         .ok()?
         .finish_set();
     Some((set.len(), set.first().copied()))
