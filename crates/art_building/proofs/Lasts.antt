@@ -137,7 +137,7 @@ module _ {K V : Type 0} (bytes : K → List ℕ) where
         go (Some end) e is = some end (last_each (λ x. R x last) pairs end lower e) reason is
 
 -- A builder has all of these pairs but the last one and the rest, which are put after them.
-pub record IsLeft {K V : Type 0} (is_key : K → Type 0) (bytes : K → List ℕ) (pairs built : List (K × V)) (last : K × V) (rest : List (K × V)) : Type 0 where
+pub record IsBuiltUpTo {K V : Type 0} (is_key : K → Type 0) (bytes : K → List ℕ) (pairs built : List (K × V)) (last : K × V) (rest : List (K × V)) : Type 0 where
   pub puts : put_all bytes rest (built ++ last ∷ []) ≡ put_all bytes pairs []
   pub map : IsMap (of_key bytes) (built ++ last ∷ [])
   pub sorted : AreSorted bytes (last ∷ rest)
@@ -145,10 +145,10 @@ pub record IsLeft {K V : Type 0} (is_key : K → Type 0) (bytes : K → List ℕ
 
 module _ {K V : Type 0} {is_key : K → Type 0} {bytes : K → List ℕ} {pairs : List (K × V)} where
   -- none but the first pair is put
-  pub first_left : {built : List (K × V)} {first : K × V} {rest : List (K × V)} → AreSorted bytes pairs → pairs ≡ first ∷ rest → built ≡ [] →
-      is_key first.0 → IsLeft is_key bytes pairs built first rest
-  first_left {built} {first} {rest} sorted is none own =
-      subst (λ xs. IsLeft is_key bytes pairs xs first rest) (sym none) (record {
+  pub built_first : {built : List (K × V)} {first : K × V} {rest : List (K × V)} → AreSorted bytes pairs → pairs ≡ first ∷ rest → built ≡ [] →
+      is_key first.0 → IsBuiltUpTo is_key bytes pairs built first rest
+  built_first {built} {first} {rest} sorted is none own =
+      subst (λ xs. IsBuiltUpTo is_key bytes pairs xs first rest) (sym none) (record {
         puts = ap (λ xs. put_all bytes xs []) (sym is);
         map = (tt, tt);
         sorted = subst (AreSorted bytes) is sorted;
@@ -156,10 +156,10 @@ module _ {K V : Type 0} {is_key : K → Type 0} {bytes : K → List ℕ} {pairs 
       })
 
   -- one pair more is put
-  pub next_left : {built after : List (K × V)} {last end next : K × V} {rest : List (K × V)} → IsLeft is_key bytes pairs built last (next ∷ rest) →
+  pub built_next : {built after : List (K × V)} {last end next : K × V} {rest : List (K × V)} → IsBuiltUpTo is_key bytes pairs built last (next ∷ rest) →
       after ++ end ∷ [] ≡ put (of_key bytes) next (built ++ last ∷ []) → IsMap (of_key bytes) (after ++ end ∷ []) → bytes end.0 ≡ bytes next.0 →
-      is_key next.0 → IsLeft is_key bytes pairs after end rest
-  next_left {rest = rest} left one map same own = record {
+      is_key next.0 → IsBuiltUpTo is_key bytes pairs after end rest
+  built_next {rest = rest} left one map same own = record {
     puts = ap (put_all bytes rest) one ∙ left.puts;
     map = map;
     sorted = (subst (λ k. Each (λ y. is_before (bytes y.0) k ≡ false) rest) (sym same) left.sorted.1.0, left.sorted.1.1);
@@ -167,7 +167,7 @@ module _ {K V : Type 0} {is_key : K → Type 0} {bytes : K → List ℕ} {pairs 
   }
 
   -- the last pair is pushed
-  pub none_left : {built after : List (K × V)} {last : K × V} (rest : List (K × V)) → IsLeft is_key bytes pairs built last rest → rest ≡ [] →
+  pub built_all : {built after : List (K × V)} {last : K × V} (rest : List (K × V)) → IsBuiltUpTo is_key bytes pairs built last rest → rest ≡ [] →
       after ≡ built ++ last ∷ [] → (after ≡ put_all bytes pairs []) × HaveKeys is_key pairs
-  none_left {built} {last = last} rest left none pushed =
-      let left : IsLeft is_key bytes pairs built last [] = subst (IsLeft is_key bytes pairs built last) none left in (pushed ∙ left.puts, left.keys tt)
+  built_all {built} {last = last} rest left none pushed =
+      let left : IsBuiltUpTo is_key bytes pairs built last [] = subst (IsBuiltUpTo is_key bytes pairs built last) none left in (pushed ∙ left.puts, left.keys tt)

@@ -1,6 +1,6 @@
 use Rattle.std.proofs.Common.{◌≡◌, ◌∷◌, [], List, length, ap, arith, refl, rules, subst, sym, ◌∙◌}
 use Rattle.std.specs.Vec.Iter.{into_iter_items, into_iter_len}
-use Rattle.art_building.proofs.Lasts.{IsLeft, first_left, next_left, none_left}
+use Rattle.art_building.proofs.Lasts.{IsBuiltUpTo, built_first, built_next, built_all}
 use Rattle.art_building.proofs.tree_map.TreeMapBuilder.from_sorted.Goals as goal
 
 empty : {X : Type 0} (xs : List X) → length xs ≡ 0 → xs ≡ []
@@ -17,26 +17,26 @@ loop-next-init g c =
     let taken = c.in-Some.ensures.len in
     let all = c.into_iter-rest.ensures.len in
     let own = c.args.pairs.ok.0 in
-    record { left = first_left c.requires given c.new-builder.ensures c.as_key.ensures; len = omega arith }
+    record { built = built_first c.requires given c.new-builder.ensures c.as_key.ensures; len = omega arith }
 
 pub put_next-requires : goal.put_next-requires
 put_next-requires g c =
     let items : into_iter_items c.loop-next.next-iterator ≡ c.in-Some-next.next ∷ into_iter_items c.next-in-loop-next.new.self = c.in-Some-next.ensures.steps.0 in
-    let left = subst (IsLeft g.K.NoPrefixesBytes.is_key g.K.AsBytes.bytes c.args.pairs.items c.loop-next.builder c.loop-next.last) items c.loop-next.invariant.left in
+    let left = subst (IsBuiltUpTo g.K.NoPrefixesBytes.is_key g.K.AsBytes.bytes c.args.pairs.items c.loop-next.builder c.loop-next.last) items c.loop-next.invariant.built in
     (search rules, (left.map, left.sorted.0.0))
 
 pub loop-next-preserved : goal.loop-next-preserved
 loop-next-preserved g c =
     let items : into_iter_items c.loop-next.next-iterator ≡ c.in-Some-next.next ∷ into_iter_items c.next-in-loop-next.new.self = c.in-Some-next.ensures.steps.0 in
-    let left = subst (IsLeft g.K.NoPrefixesBytes.is_key g.K.AsBytes.bytes c.args.pairs.items c.loop-next.builder c.loop-next.last) items c.loop-next.invariant.left in
+    let left = subst (IsBuiltUpTo g.K.NoPrefixesBytes.is_key g.K.AsBytes.bytes c.args.pairs.items c.loop-next.builder c.loop-next.last) items c.loop-next.invariant.built in
     let put = c.in_ok-put_next.ensures in
     let count = ap length items in
     let taken = c.in-Some-next.ensures.steps.1 in
     let was = c.loop-next.invariant.len in
-    record { left = next_left left put.put put.map put.key put.is_key; len = omega arith }
+    record { built = built_next left put.put put.map put.key put.is_key; len = omega arith }
 
 pub returns : goal.returns
 returns g c =
     let gone : into_iter_items c.loop-next.next-iterator ≡ [] = empty _ (sym c.loop-next.invariant.len ∙ c.in-None.ensures.steps.0) in
-    let (puts, keys) = none_left _ c.loop-next.invariant.left gone c.in_ok-push_last.ensures in
+    let (puts, keys) = built_all _ c.loop-next.invariant.built gone c.in_ok-push_last.ensures in
     record { put = puts; keys = keys }
