@@ -2,3 +2,6 @@
 pub mod Built
 -- keys of a type that are added
 pub mod Keyed
+-- sorted pairs that are put
+pub mod Unsorted
+pub mod Lasts

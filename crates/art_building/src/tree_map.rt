@@ -1,17 +1,25 @@
 //! Building a `TreeMap` or a `TreeSet`.
-ghost use Rattle.std.specs.Prelude.{◌≡◌, ◌≢◌, ◌↔◌, ◌++◌, ◌∷◌, [], List, IfErr, IfOk, IsTrue, OnErr, OnOk, length};
+ghost use Rattle.std.specs.Prelude.{◌≡◌, ◌≢◌, ◌↔◌, ◌++◌, ◌∷◌, [], List, IfErr, IfOk, IsTrue, OnErr, OnOk, false, length};
+ghost use Rattle.std.specs.Cmp.Lexicographic.{slice_cmp};
 ghost use Rattle.std.specs.Iterator.{IsFinite};
+ghost use Rattle.std.specs.Ordering.{nat_cmp};
 ghost use Rattle.art_building.specs.Pushes.{BuildsAll, BuildsUntil, IsPushError};
+ghost use Rattle.art_building.specs.Sorted.{AreSorted, comes_before};
+ghost use Rattle.art_keyed.specs.KeyedPairs.{HaveKeys};
 ghost use Rattle.art_loading.specs.declared.append.AppendReason.TheVariants.{Conflict};
+ghost use Rattle.art_map.specs.MapCalls.{put_all};
 ghost use Rattle.art_map.specs.MapItems.{keys_of};
-ghost use Rattle.art_model.specs.Pairs.{IsMap, of_key};
+ghost use Rattle.art_map.specs.SetKeys.{add_all};
+ghost use Rattle.art_model.specs.Pairs.{IsMap, of_key, put};
 
-use crate::byte_map::{AppendError, MapBuilder};
+use crate::byte_map::{AppendError, AppendReason, MapBuilder};
 use art_keyed::map::TreeMap;
 use art_keyed::set::TreeSet;
 use art_keys::laws::NoPrefixesBytes;
-use std::alloc::Global;
+use std::alloc::{AllocError, Global};
+use std::cmp::Ordering;
 use std::marker::Model;
+use std::mem::replace;
 
 /// A `TreeMap` that is being built from pairs in ascending order of their keys; a `TreeSet`, where the values are `()`.
 #[derive(Drop)]
@@ -126,7 +134,99 @@ impl<K: NoPrefixesBytes + Drop, V: Drop, const P: usize> TreeMapBuilder<K, V, P>
     }
 }
 
+impl<K: NoPrefixesBytes + Drop, V: Drop, const P: usize> TreeMapBuilder<K, V, P> {
+    /// Returns a builder with the pairs of a `Vec`, which stand in any order. Of equal keys the first one stays, with the
+    /// last value, as in `TreeMap::from_iter`.
+    ///
+    /// It sorts the pairs by their keys, with a buffer as long as the `Vec`, and then pushes them. Fails only if an
+    /// allocation fails: all pairs are dropped.
+    pub fn from_unsorted(alloc: Global, mut pairs: Vec<(K, V)>) -> Result<Self, AllocError>
+        ensures pairs { IfOk result (λ builder. builder ≡ put_all K.bytes pairs.items []) }
+        ensures known { OnOk result (HaveKeys K.is_key pairs.items) }
+    {
+        pairs.sort_by(by_key)?;
+        TreeMapBuilder::from_sorted(alloc, pairs)
+    }
+
+    // A builder with pairs that were sorted by their keys.
+    fn from_sorted(alloc: Global, pairs: Vec<(K, V)>) -> Result<Self, AllocError>
+        requires { AreSorted K.bytes pairs.items }
+        ensures put { IfOk result (λ builder. builder ≡ put_all K.bytes pairs.items []) }
+        ensures keys { OnOk result (HaveKeys K.is_key pairs.items) }
+    {
+        let mut builder = TreeMapBuilder::new(alloc);
+        let mut rest = pairs.into_iter();
+        let Some(mut last) = rest.next() else {
+            return Ok(builder);
+        };
+        last.0.as_key();
+        for next in rest {
+            builder.put_next(&mut last, next)?;
+        }
+        builder.push_last(last)?;
+        Ok(builder)
+    }
+
+    // Puts a pair whose key is not less than the last one, which is not pushed yet. An equal key gives the last pair the
+    // value; else that is pushed, and this pair is the last one.
+    fn put_next(&mut self, last: &mut (K, V), next: (K, V)) -> Result<(), AllocError>
+        requires map { IsMap (of_key K.bytes) (self.old ++ last.old ∷ []) }
+        requires order { comes_before K.bytes next last.old ≡ false }
+        ensures put { OnOk result
+            (self.new ++ last.new ∷ [] ≡ put (of_key K.bytes) next (self.old ++ last.old ∷ [])) }
+        ensures map { OnOk result (IsMap (of_key K.bytes) (self.new ++ last.new ∷ [])) }
+        ensures key { OnOk result (K.bytes last.new.0 ≡ K.bytes next.0) }
+        ensures is_key { OnOk result (K.is_key next.0) }
+    {
+        last.0.as_key();
+        next.0.as_key();
+        if have_same_bytes(&last.0, &next.0) {
+            last.1 = next.1;
+            return Ok(());
+        }
+        let pushed = replace(last, next);
+        self.push_last(pushed)
+    }
+
+    // Pushes a pair whose key is after all others, which fails only if an allocation fails.
+    fn push_last(&mut self, pair: (K, V)) -> Result<(), AllocError>
+        requires { IsMap (of_key K.bytes) (self.old ++ pair ∷ []) }
+        ensures { OnOk result (self.new ≡ self.old ++ pair ∷ []) }
+    {
+        let (key, value) = pair;
+        match self.push(key, value) {
+            Ok(()) => Ok(()),
+            Err(error) => {
+                prove!(matches!(error.reason, AppendReason::Memory));
+                Err(AllocError)
+            }
+        }
+    }
+}
+
+fn have_same_bytes<K: NoPrefixesBytes>(a: &K, b: &K) -> bool
+    ensures { IsTrue result ↔ (K.bytes a.now ≡ K.bytes b.now) }
+{
+    a.as_bytes() == b.as_bytes()
+}
+
+// Compares the keys of two pairs by their bytes.
+fn by_key<K: NoPrefixesBytes, V>(a: &(K, V), b: &(K, V)) -> Ordering
+    ensures { result ≡ slice_cmp nat_cmp (K.bytes a.now.0) (K.bytes b.now.0) }
+{
+    a.0.as_bytes().cmp(b.0.as_bytes())
+}
+
 impl<K: NoPrefixesBytes + Drop, const P: usize> TreeMapBuilder<K, (), P> {
+    /// Does what `from_unsorted` does with keys, for `finish_set`. Of equal keys the first one stays, as in
+    /// `TreeSet::from_iter`.
+    pub fn from_unsorted_keys(alloc: Global, keys: Vec<K>) -> Result<Self, AllocError>
+        ensures { IfOk result (λ builder. keys_of builder ≡ add_all K.bytes keys.items []) }
+    {
+        let pairs = keys.into_iter().map(|key| (key, ())).collect(alloc)?;
+        TreeMapBuilder::from_unsorted(alloc, pairs)
+    }
+
     /// Returns the set of the keys, in constant time.
     pub fn finish_set(self) -> TreeSet<K, P>
         ensures { result ≡ keys_of self }

@@ -91,42 +91,67 @@ where
 }
 
 fn command(alloc: Global, texts: Texts<'_>) -> Result<Command<'_>, AllocError> {
-    let table = Arg::new(alloc, "table")
+    let command = described(alloc, texts)?
+        .arg(table(alloc, texts))?
+        .arg(queries(alloc, texts))?;
+    with_flags(alloc, command)
+}
+
+fn described(alloc: Global, texts: Texts<'_>) -> Result<Command<'_>, AllocError> {
+    let command = Command::new(alloc, texts.name)
+        .bin_name(texts.name)?
+        .version(VERSION)
+        .about(texts.about)
+        .long_about(texts.details)
+        .after_help(STATUSES);
+    Ok(command)
+}
+
+fn with_flags(alloc: Global, command: Command<'_>) -> Result<Command<'_>, AllocError> {
+    command
+        .arg(strict(alloc))?
+        .arg(json(alloc))?
+        .arg(check_option(alloc)?)?
+        .arg(progress::option(alloc))
+}
+
+fn table(alloc: Global, texts: Texts<'_>) -> Arg<'_> {
+    Arg::new(alloc, "table")
         .required(true)
         .value_name(texts.table)
-        .help(texts.table_help);
-    let queries = Arg::new(alloc, "queries")
+        .help(texts.table_help)
+}
+
+fn queries(alloc: Global, texts: Texts<'_>) -> Arg<'_> {
+    Arg::new(alloc, "queries")
         .num_args(0..)
         .value_name(texts.query)
-        .help(texts.query_help);
-    let strict = Arg::new(alloc, "strict")
+        .help(texts.query_help)
+}
+
+fn strict<'a>(alloc: Global) -> Arg<'a> {
+    Arg::new(alloc, "strict")
         .long("strict")
         .action(ArgAction::SetTrue)
-        .help("Stop at the first line that asks for nothing");
-    let json = Arg::new(alloc, "json")
+        .help("Stop at the first line that asks for nothing")
+}
+
+fn json<'a>(alloc: Global) -> Arg<'a> {
+    Arg::new(alloc, "json")
         .long("json")
         .action(ArgAction::SetTrue)
-        .help("Print each reply as a line of JSON: 'query', 'found' and 'lines'");
-    let check = Arg::new(alloc, "check")
+        .help("Print each reply as a line of JSON: 'query', 'found' and 'lines'")
+}
+
+fn check_option<'a>(alloc: Global) -> Result<Arg<'a>, AllocError> {
+    let option = Arg::new(alloc, "check")
         .long("check")
         .action(ArgAction::SetTrue)
         .conflicts_with("queries")?
         .conflicts_with("strict")?
         .conflicts_with("json")?
         .help("Report each invalid line of the table, and answer nothing");
-    let progress = progress::option(alloc);
-    Command::new(alloc, texts.name)
-        .bin_name(texts.name)?
-        .version(VERSION)
-        .about(texts.about)
-        .long_about(texts.details)
-        .after_help(STATUSES)
-        .arg(table)?
-        .arg(queries)?
-        .arg(strict)?
-        .arg(json)?
-        .arg(check)?
-        .arg(progress)
+    Ok(option)
 }
 
 /// Prints what is wrong with a command line, or its help or version. Returns the exit status.

@@ -47,30 +47,38 @@ fn status_of_words(rt: &HostRuntime, words: &[String]) -> u8 {
 }
 
 fn command<'a>(alloc: Global) -> Result<Command<'a>, AllocError> {
-    let files = Arg::new(alloc, "files")
-        .num_args(0..)
-        .value_name("FILE")
-        .help("A text to count; '-' is standard input, which is counted if there is no FILE");
-    let top = Arg::new(alloc, "top")
-        .long("top")
-        .value_name("N")
-        .value_parser(value_parser!(usize))
-        .help("Print the N most frequent words, the most frequent first");
-    let merge = Arg::new(alloc, "merge")
-        .long("merge")
-        .action(ArgAction::SetTrue)
-        .help("Add up counts that word_count printed");
-    let progress = progress::option(alloc);
     Command::new(alloc, NAME)
         .bin_name(NAME)?
         .version(VERSION)
         .about("Counts the words of texts")
         .long_about(DETAILS)
         .after_help(STATUS_OF_ERRORS)
-        .arg(files)?
-        .arg(top)?
-        .arg(merge)?
-        .arg(progress)
+        .arg(files(alloc))?
+        .arg(top(alloc))?
+        .arg(merge(alloc))?
+        .arg(progress::option(alloc))
+}
+
+fn files<'a>(alloc: Global) -> Arg<'a> {
+    Arg::new(alloc, "files")
+        .num_args(0..)
+        .value_name("FILE")
+        .help("A text to count; '-' is standard input, which is counted if there is no FILE")
+}
+
+fn top<'a>(alloc: Global) -> Arg<'a> {
+    Arg::new(alloc, "top")
+        .long("top")
+        .value_name("N")
+        .value_parser(value_parser!(usize))
+        .help("Print the N most frequent words, the most frequent first")
+}
+
+fn merge<'a>(alloc: Global) -> Arg<'a> {
+    Arg::new(alloc, "merge")
+        .long("merge")
+        .action(ArgAction::SetTrue)
+        .help("Add up counts that word_count printed")
 }
 
 // How files are read.

@@ -180,6 +180,43 @@ fn words_are_built(rt: HostRuntime) -> Result<(), Fail> {
     same(seen, (Some(1), Some((2, 1, 2))))
 }
 
+// The values of a map of four words in any order, as digits in the order of the words. One word comes twice.
+fn unsorted(alloc: Global) -> Option<u32> {
+    let pairs = words(alloc, [b"dot", b"cart", b"dot", b"car"])?;
+    let map = TreeMapBuilder::<_, _, 4>::from_unsorted(alloc, pairs)
+        .ok()?
+        .finish();
+    let mut digits = 0u32;
+    for value in map.values() {
+        digits = digits.saturating_mul(10).saturating_add(*value);
+    }
+    Some(digits)
+}
+
+// Whether a map of four words in any order is built while an allocation may fail.
+fn refuse_unsorted(alloc: Global) -> Option<bool> {
+    let pairs = words(alloc, [b"dot", b"cart", b"dot", b"car"])?;
+    begin_refusals(alloc);
+    let is_built = TreeMapBuilder::<_, _, 4>::from_unsorted(alloc, pairs).is_ok();
+    end_refusals(alloc);
+    Some(is_built)
+}
+
+#[test]
+fn words_in_any_order_are_built(rt: HostRuntime) -> Result<(), Fail> {
+    same(unsorted(rt.alloc()), Some(312))
+}
+
+#[test]
+fn refused_each_building_of_words_fails(rt: HostRuntime) -> Result<(), Fail> {
+    let is_built = refuse_unsorted(rt.alloc());
+    same(is_built.is_some(), true)?;
+    if is_built == Some(false) {
+        println!(rt; "asserted")?;
+    }
+    Ok(())
+}
+
 // How many keys a set of these bytes has.
 fn set_of(alloc: Global, bytes: [u8; 3]) -> Option<usize> {
     let mut builder = TreeMapBuilder::<[u8; 1], (), 4>::new(alloc);
@@ -196,4 +233,18 @@ fn sets_are_built_of_ascending_keys(rt: HostRuntime) -> Result<(), Fail> {
         set_of(rt.alloc(), [1, 1, 2]),
     ];
     same(seen, [Some(3), None])
+}
+
+// How many keys a set of these bytes has, which come in any order, and the first one.
+fn set_of_unsorted(alloc: Global, bytes: [u8; 3]) -> Option<(usize, Option<[u8; 1]>)> {
+    let keys = Vec::from_array(alloc, bytes.map(|byte| [byte])).ok()?;
+    let set = TreeMapBuilder::<[u8; 1], (), 4>::from_unsorted_keys(alloc, keys)
+        .ok()?
+        .finish_set();
+    Some((set.len(), set.first().copied()))
+}
+
+#[test]
+fn sets_are_built_of_keys_in_any_order(rt: HostRuntime) -> Result<(), Fail> {
+    same(set_of_unsorted(rt.alloc(), [3, 1, 3]), Some((2, Some([1]))))
 }

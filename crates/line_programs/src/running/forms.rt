@@ -45,14 +45,25 @@ where
 }
 
 fn command_with_forms(alloc: Global, texts: Texts<'_>) -> Result<Command<'_>, AllocError> {
-    let zero = Arg::new(alloc, "zero")
+    command(alloc, texts)?
+        .arg(zero(alloc)?)?
+        .arg(save(alloc)?)?
+        .arg(load(alloc)?)
+}
+
+fn zero<'a>(alloc: Global) -> Result<Arg<'a>, AllocError> {
+    let option = Arg::new(alloc, "zero")
         .long("zero")
         .action(ArgAction::SetTrue)
         .conflicts_with("check")?
         .help(
             "Read entries that end with a zero byte, as find -print0 writes them, in place of lines",
         );
-    let save = Arg::new(alloc, "save")
+    Ok(option)
+}
+
+fn save<'a>(alloc: Global) -> Result<Arg<'a>, AllocError> {
+    let option = Arg::new(alloc, "save")
         .long("save")
         .value_name("SNAPSHOT")
         .conflicts_with("queries")?
@@ -62,13 +73,17 @@ fn command_with_forms(alloc: Global, texts: Texts<'_>) -> Result<Command<'_>, Al
         .help(
             "Write a snapshot of the table to a file, or to standard output if that is '-', and answer nothing",
         );
-    let load = Arg::new(alloc, "load")
+    Ok(option)
+}
+
+fn load<'a>(alloc: Global) -> Result<Arg<'a>, AllocError> {
+    let option = Arg::new(alloc, "load")
         .long("load")
         .action(ArgAction::SetTrue)
         .conflicts_with("zero")?
         .conflicts_with("check")?
         .help("Read a snapshot that --save wrote, in place of lines");
-    command(alloc, texts)?.arg(zero)?.arg(save)?.arg(load)
+    Ok(option)
 }
 
 fn status_of<T>(rt: &HostRuntime, texts: Texts<'_>, matches: &ArgMatches<'_>) -> u8
