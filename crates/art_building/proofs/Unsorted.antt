@@ -1,5 +1,5 @@
 -- Pairs are put in the order of their keys as in any other one, if those with equal keys stay in their order.
-use Rattle.std.proofs.Common.{◌≡◌, ℕ, suc, List, [], ◌∷◌, length, filter, Bool, true, false, not, ◌&&◌, cond, ◌⊎◌, inl, inr, refl, ap, sym, ◌∙◌, subst, arith, add-one, IsPermutation, Result, Ok, Err, IfOk, OnOk}
+use Rattle.std.proofs.Common.{◌≡◌, ℕ, suc, List, [], ◌∷◌, Bool, true, false, not, ◌&&◌, cond, ◌⊎◌, inl, inr, refl, ap, sym, ◌∙◌, subst, arith, add-one, IsPermutation, Result, Ok, Err, IfOk, OnOk}
 use Rattle.std.specs.List.{AllByRecursion as Each}
 use Rattle.std.specs.List.Sorted.{IsSortedBy, IsStableBy, ties}
 use Rattle.std.specs.Cmp.{IsStrictWeakOrder}
