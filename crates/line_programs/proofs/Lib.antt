@@ -1,7 +1,7 @@
 mod EntryLemmas
 mod ReadLemmas
-mod AheadLemmas
 mod ServeLemmas
+mod AheadLemmas
 mod CheckLemmas
 mod JsonLemmas
 mod Examples

@@ -28,9 +28,13 @@ worse_than_found Found = refl
 worse_than_found NotFound = refl
 worse_than_found Invalid = refl
 
-worst_of_more : (outcomes : List Outcome) (last : Outcome) → worst (outcomes ++ last ∷ []) ≡ worse (worst outcomes) last
+pub worst_of_more : (outcomes : List Outcome) (last : Outcome) → worst (outcomes ++ last ∷ []) ≡ worse (worst outcomes) last
 worst_of_more [] last = worse_than_found last
 worst_of_more (o ∷ os) last = ap (worse o) (worst_of_more os last) ∙ sym (worse_of_three o (worst os) last)
+
+pub worst_of_both : (outcomes more : List Outcome) → worst (outcomes ++ more) ≡ worse (worst outcomes) (worst more)
+worst_of_both [] more = refl
+worst_of_both (o ∷ os) more = ap (worse o) (worst_of_both os more) ∙ sym (worse_of_three o (worst os) (worst more))
 
 -- ---- messages
 
@@ -47,7 +51,7 @@ messages_of_more rules number (a ∷ rest) last =
 
 -- ---- lines that are answered
 
-each-append : {A : Type 0} (P : A → Type 0) (xs ys : List A) → Each P xs → Each P ys → Each P (xs ++ ys)
+pub each-append : {A : Type 0} (P : A → Type 0) (xs ys : List A) → Each P xs → Each P ys → Each P (xs ++ ys)
 each-append P [] ys h k = k
 each-append P (x ∷ xs) ys h k = (h.0, each-append P xs ys h.1 k)
 

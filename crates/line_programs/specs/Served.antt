@@ -1,14 +1,13 @@
 -- What is written in reply to the lines of an input, and about those that ask for nothing.
-use Rattle.std.specs.Prelude.{◌≡◌, ◌≢◌, ◌⊎◌, ℕ, ◌+◌, Bool, true, false, List, [], ◌∷◌, ◌++◌, map, flat_map, Option, IfSome}
+use Rattle.std.specs.Prelude.{◌≡◌, ◌≢◌, ◌⊎◌, ℕ, ◌+◌, Bool, true, false, List, [], ◌∷◌, ◌++◌, length, map, flat_map, Option, Some}
 use Rattle.std.specs.List.{AllByRecursion as Each}
 use Rattle.std.specs.Io.KnownBytes.{Appends}
 use Rattle.line_programs.specs.declared.line_tables.Outcome.{Outcome}
 use Rattle.line_programs.specs.declared.line_tables.Outcome.TheVariants.{Found, NotFound, Invalid}
 use Rattle.line_programs.specs.declared.serving.Format.{Format}
 use Rattle.line_programs.specs.declared.serving.Format.TheVariants.{Plain, Json}
-use Rattle.line_programs.specs.declared.serving.Query.{Query}
 use Rattle.line_programs.specs.declared.serving.Rules.{Rules}
-use Rattle.line_programs.specs.LineTables.{IsLookedUp}
+use Rattle.text_lines.specs.Lines.{lines}
 use Rattle.line_programs.specs.Json.{json_reply}
 use Rattle.line_programs.specs.Messages.{message}
 use Rattle.line_programs.specs.Outcomes.{worst}
@@ -25,10 +24,6 @@ module _ (IsReply : List ℕ → List ℕ → Type 0) (Finds AsksForNothing : Li
   IsAnswerTo line Found reply = Finds line × IsReply line reply
   IsAnswerTo line NotFound reply = (¬ Finds line) × IsReply line reply
   IsAnswerTo line Invalid reply = AsksForNothing line × (reply ≡ [])
-
--- the reply that a line came with, if any, was looked up for it
-abbrev pub IsKnown : (List ℕ → List ℕ → Type 0) → (List ℕ → Type 0) → Query → Type 0
-IsKnown IsReply Finds query = IfSome query.reply (IsLookedUp IsReply Finds query.line.now)
 
 -- a reply as it is written: as it is, or as a JSON object that has the line too
 abbrev pub shown : Format → List ℕ → Outcome → List ℕ → List ℕ
@@ -85,3 +80,17 @@ pub record AreAnswered (IsReply : List ℕ → List ℕ → Type 0) (Finds AsksF
   pub outcome_is : outcome ≡ worst (map (λ answer. answer.outcome) answers)
   pub written : Appends old new (flat_map (shown_answer rules.format) answers)
   pub told : Appends old_errors new_errors (messages rules 1 answers)
+
+-- The first lines of a text were answered, none of which asks for nothing, and the rest of the text is left. They have
+-- these numbers, up to the one before the next.
+pub record AreFirstAnswered (IsReply : List ℕ → List ℕ → Type 0) (Finds AsksForNothing : List ℕ → Type 0) (format : Format)
+    (text : List ℕ) (left : Option (List ℕ)) (number next : ℕ) (outcome : Outcome) (old new : Option (List ℕ)) : Type 0 where
+  pub answers : List Answer
+  pub rest : List ℕ
+  pub left_is : left ≡ Some rest
+  pub lines_are : lines text ≡ map (λ answer. answer.line) answers ++ lines rest
+  pub are : Each (λ answer. IsAnswerTo IsReply Finds AsksForNothing answer.line answer.outcome answer.reply) answers
+  pub valid : Each (λ outcome. outcome ≢ Invalid) (map (λ answer. answer.outcome) answers)
+  pub next_is : next ≡ number + length answers
+  pub outcome_is : outcome ≡ worst (map (λ answer. answer.outcome) answers)
+  pub written : Appends old new (flat_map (shown_answer format) answers)

@@ -1,7 +1,7 @@
 //! Programs that read a table from the lines of a file and answer the lines of standard input.
 #![tactic(auto)]
 
-pub mod ahead;
+mod ahead;
 pub mod checking;
 pub mod entries;
 pub mod json;

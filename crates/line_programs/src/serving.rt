@@ -4,17 +4,16 @@ ghost use Rattle.std.specs.Io.Buffered.{reader_remaining, writer_buffer, writer_
 ghost use Rattle.text_lines.specs.Lines.{lines};
 ghost use Rattle.line_programs.specs.declared.line_tables.Outcome.TheVariants.{Invalid};
 ghost use Rattle.line_programs.specs.declared.serving.Format.TheVariants.{Json};
-ghost use Rattle.line_programs.specs.Served.{AreAnswered, IsAnsweredFor, IsKnown, IsRepliedFor};
+ghost use Rattle.line_programs.specs.Served.{AreAnswered, IsAnsweredFor, IsRepliedFor};
 
-use crate::ahead::{answer, look_ahead};
+use crate::ahead::answer_collected;
 use crate::json;
-use crate::line_tables::{LineTable, Outcome, Reply};
+use crate::line_tables::{LineTable, Outcome};
 use crate::messages::{Place, write_message};
 use std::alloc::Global;
-use std::collections::VecDeque;
 use std::io;
 use std::io::{BufReader, BufWriter, ErrorKind, Read, Write};
-use text_lines::lines::{next_line, write_out};
+use text_lines::lines::next_line;
 use thiserror::Error;
 
 /// How a reply is written.
@@ -53,12 +52,11 @@ impl Rules<'_> {
     }
 }
 
-// A line with its number, and its reply if that was looked up.
+// A line with its number.
 #[derive(Clone, Copy)]
 struct Query<'a> {
     number: u64,
     line: &'a [u8],
-    reply: Option<Reply<'a>>,
 }
 
 /// Why not all lines were answered.
@@ -90,10 +88,20 @@ pub fn answer_lines<T: LineTable, R: Read, W: Write, E: Write>(
 {
     let mut line = Vec::new(alloc);
     let mut reply = Vec::new(alloc);
-    let mut replies = VecDeque::new(alloc);
     let mut worst = Outcome::Found;
-    for number in 1..u64::MAX {
-        look_ahead(alloc, table, input.buffer(), &mut replies);
+    let mut number = 1;
+    while number < u64::MAX {
+        let ahead = answer_collected(
+            alloc,
+            table,
+            rules.format,
+            number,
+            input,
+            &mut reply,
+            output,
+        )?;
+        worst = worst.worse(ahead.worst);
+        number = ahead.next;
         match next_line(input, &mut line) {
             Ok(true) => {}
             Ok(false) => return Ok(worst),
@@ -102,14 +110,13 @@ pub fn answer_lines<T: LineTable, R: Read, W: Write, E: Write>(
         let query = Query {
             number,
             line: &line,
-            reply: replies.pop_front(),
         };
         let outcome = answer_line(table, rules, query, &mut reply, output, errors)?;
         worst = worst.worse(outcome);
         if rules.end_at(outcome) {
             return Ok(worst);
         }
-        write_out(input, output)?;
+        number += 1;
     }
     Err(ServeError::Read(io::Error::from(ErrorKind::FileTooLarge)))
 }
@@ -133,7 +140,6 @@ pub fn answer_words<T: LineTable, W: Write, E: Write>(
         let query = Query {
             number: index as u64 + 1,
             line: word.as_bytes(),
-            reply: None,
         };
         let outcome = answer_line(table, rules, query, &mut reply, output, errors)?;
         worst = worst.worse(outcome);
@@ -153,12 +159,12 @@ fn answer_line<T: LineTable, W: Write, E: Write>(
     output: &mut W,
     errors: &mut E,
 ) -> io::Result<Outcome>
-    ensures { IsKnown (T.IsReplyTo table.now) (T.Finds table.now) query.entry → IfOk result (λ outcome.
+    ensures { IfOk result (λ outcome.
         IsAnsweredFor (T.IsReplyTo table.now) (T.Finds table.now) T.AsksForNothing
         rules.entry query.entry.number query.entry.line.now outcome
         (W.contents output.old) (W.contents output.new) (E.contents errors.old) (E.contents errors.new)) }
 {
-    let outcome = write_reply(table, rules.format, query, buffer, output)?;
+    let outcome = write_reply(table, rules.format, query.line, buffer, output)?;
     if outcome == Outcome::Invalid {
         output.flush()?;
         write_message(errors, rules.place, query.number, rules.fault, query.line)?;
@@ -171,34 +177,34 @@ fn answer_line<T: LineTable, W: Write, E: Write>(
 fn write_reply<T: LineTable, W: Write>(
     table: &T,
     format: Format,
-    query: Query<'_>,
+    line: &[u8],
     buffer: &mut Vec<u8>,
     output: &mut W,
 ) -> io::Result<Outcome>
-    ensures { IsKnown (T.IsReplyTo table.now) (T.Finds table.now) query.entry → IfOk result (λ outcome.
-        IsRepliedFor (T.IsReplyTo table.now) (T.Finds table.now) T.AsksForNothing format query.entry.line.now outcome
+    ensures { IfOk result (λ outcome.
+        IsRepliedFor (T.IsReplyTo table.now) (T.Finds table.now) T.AsksForNothing format line.now outcome
         (W.contents output.old) (W.contents output.new)) }
 {
     match format {
-        Format::Plain => answer(table, query.reply, query.line, output),
-        Format::Json => write_json(table, query, buffer, output),
+        Format::Plain => table.answer(line, output),
+        Format::Json => write_json(table, line, buffer, output),
     }
 }
 
 // Writes the reply to a line as a JSON object. The buffer may have any bytes.
 fn write_json<T: LineTable, W: Write>(
     table: &T,
-    query: Query<'_>,
+    line: &[u8],
     buffer: &mut Vec<u8>,
     output: &mut W,
 ) -> io::Result<Outcome>
-    ensures { IsKnown (T.IsReplyTo table.now) (T.Finds table.now) query.entry → IfOk result (λ outcome.
-        IsRepliedFor (T.IsReplyTo table.now) (T.Finds table.now) T.AsksForNothing Json query.entry.line.now outcome
+    ensures { IfOk result (λ outcome.
+        IsRepliedFor (T.IsReplyTo table.now) (T.Finds table.now) T.AsksForNothing Json line.now outcome
         (W.contents output.old) (W.contents output.new)) }
 {
     buffer.clear();
-    let outcome = answer(table, query.reply, query.line, buffer)?;
-    json::write_reply(output, query.line, outcome, buffer)?;
+    let outcome = table.answer(line, buffer)?;
+    json::write_reply(output, line, outcome, buffer)?;
     Ok(outcome)
 }
 

@@ -1,5 +1,5 @@
 -- The lines of a text.
-use Rattle.std.specs.Prelude.{◌≡◌, ℕ, Bool, true, false, ◌==◌, if◌then◌else◌, List, [], ◌∷◌, length, Option, Some}
+use Rattle.std.specs.Prelude.{◌≡◌, ℕ, Bool, true, false, ◌==◌, if◌then◌else◌, List, [], ◌∷◌, ◌++◌, length, Option, Some}
 use Rattle.std.specs.List.{slice_split}
 use Rattle.text_lines.specs.declared.lines.End.{End}
 use Rattle.text_lines.specs.declared.lines.End.TheVariants.{LineFeed, Zero}
@@ -20,6 +20,10 @@ lines_of (part ∷ next ∷ parts) = without_return part ∷ lines_of (next ∷ 
 -- the lines between line feeds
 abbrev pub lines : List ℕ → List (List ℕ)
 lines text = lines_of (slice_split (λ b. b == 10) text)
+
+-- the text is some bytes, and then these ones
+abbrev pub EndsWith : List ℕ → List ℕ → Type 0
+EndsWith text rest = (before : List ℕ) × (text ≡ before ++ rest)
 
 -- parts with an end between any two: an empty part after the last end is none
 abbrev pub ended_parts : List (List ℕ) → List (List ℕ)

@@ -1,7 +1,7 @@
 //! Reads a text line by line.
 ghost use Rattle.std.specs.Prelude.{◌≡◌, ◌≢◌, ◌-◌, ◌<◌, ◌↔◌, ◌∷◌, ◌++◌, All, IfNone, IfOk, IfSome, IsTrue, List, Some, length, slice_get, ℕ};
 ghost use Rattle.std.specs.Io.KnownBytes.{Keeps};
-ghost use Rattle.text_lines.specs.Lines.{IsLineRead, IsPartRead, ended_by, lines, pieces, without_return};
+ghost use Rattle.text_lines.specs.Lines.{EndsWith, IsLineRead, IsPartRead, ended_by, lines, pieces, without_return};
 
 use std::io;
 use std::io::{BufRead, BufReader, Read, Write};
@@ -94,6 +94,7 @@ pub fn split_at_feed(text: &[u8]) -> Option<(&[u8], &[u8])>
 pub fn first_line(text: &[u8]) -> Option<(&[u8], &[u8])>
     ensures line { IfSome result (λ parts. (more : List ℕ) →
         lines (text.now ++ more) ≡ parts.0.now ∷ lines (parts.1.now ++ more)) }
+    ensures rest { IfSome result (λ parts. EndsWith text.now parts.1.now) }
     ensures shorter { IfSome result (λ parts. length parts.1.now < length text.now) }
 {
     let (line, rest) = split_at_feed(text)?;

@@ -21,7 +21,7 @@ returns-then-end_at g c =
     (g.E.Write.contents c.args.errors.now) (g.E.Write.contents c.loop-index.errors) (take c.loop-index.index ls) c.loop-index.invariant
     (c.loop-index.index + 1) (ap (λ n. n + 1) (sym (words_before c.args.words.now c.loop-index.index c.loop-index-test.true)))
     _ c.as_bytes.result.now c.as_bytes.ensures.value c.in_ok-outcome.outcome
-    (g.W.Write.contents c.answer_line.new.output) (g.E.Write.contents c.answer_line.new.errors) (c.in_ok-outcome.ensures tt)
+    (g.W.Write.contents c.answer_line.new.output) (g.E.Write.contents c.answer_line.new.errors) c.in_ok-outcome.ensures
     c.worse-worst.result (drop (suc c.loop-index.index) ls) c.worse-worst.ensures
     (c.end_at.ensures.strict c.if-end_at.true) (c.end_at.ensures.invalid c.if-end_at.true))
 
@@ -37,6 +37,6 @@ loop-index-preserved g c =
     (g.E.Write.contents c.args.errors.now) (g.E.Write.contents c.loop-index.errors) (take c.loop-index.index ls) c.loop-index.invariant
     (c.loop-index.index + 1) (ap (λ n. n + 1) (sym (words_before c.args.words.now c.loop-index.index c.loop-index-test.true)))
     _ c.as_bytes.result.now c.as_bytes.ensures.value c.in_ok-outcome.outcome
-    (g.W.Write.contents c.answer_line.new.output) (g.E.Write.contents c.answer_line.new.errors) (c.in_ok-outcome.ensures tt)
+    (g.W.Write.contents c.answer_line.new.output) (g.E.Write.contents c.answer_line.new.errors) c.in_ok-outcome.ensures
     c.worse-worst.result (g.W.Write.contents c.answer_line.new.output) c.worse-worst.ensures (keeps_itself (g.W.Write.contents c.answer_line.new.output))
     (c.end_at.ensures.goes_on c.if-end_at.false))
