@@ -17,10 +17,6 @@ all_of_three : (a b c : Bool) → (a && (b && c)) ≡ ((a && b) && c)
 all_of_three true b c = refl
 all_of_three false b c = refl
 
-all_with_true : (a : Bool) → a ≡ (a && true)
-all_with_true true = refl
-all_with_true false = refl
-
 module _ {Fault : Type 0} (IsFault : List (ℕ × List ℕ) → List ℕ → Fault → Type 0) (output : Fault → Option (List ℕ)) (place : Place) where
   -- ---- a line
 
