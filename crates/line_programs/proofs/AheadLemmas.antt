@@ -135,8 +135,8 @@ module _ (IsReply : List ℕ → List ℕ → Type 0) (Finds AsksForNothing : Li
         IsAnsweredAhead others text rest number (next + 1) worst_now old new
     goes_on_ahead replies others first reply text left rest line number next worst_of outcome worst_now old now new h is are first_line ends below o written e =
         let known : (more : List ℕ) → IsLookedUp IsReply Finds line reply × AreLookedUp IsReply Finds others (lines (rest ++ more)) =
-            (λ more. subst (λ rs. AreLookedUp IsReply Finds rs (line ∷ lines (rest ++ more))) (are ∙ ap (λ o. option_to_list o ++ others) is)
-            (subst (AreLookedUp IsReply Finds replies) (first_line more) (h.known more))) in
+        (λ more. subst (λ rs. AreLookedUp IsReply Finds rs (line ∷ lines (rest ++ more))) (are ∙ ap (λ o. option_to_list o ++ others) is)
+        (subst (AreLookedUp IsReply Finds replies) (first_line more) (h.known more))) in
         record {
           answered = λ more.
               one_more_first (text ++ more) (left ++ more) line (rest ++ more) reply number next worst_of outcome worst_now old now new
@@ -186,11 +186,13 @@ module _ (IsReply : List ℕ → List ℕ → Type 0) (Finds AsksForNothing : Li
       where
         there : Bool → List ℕ → Option (List ℕ) → Option (List ℕ)
         there t bs o = if t then None else prepend_known bs o
+
         seen : reader_remaining remaining consumed
             ≡ there (eqb (reader_capacity input) 0) (drop used (reader_buffer input)) (remaining (reader_inner input))
         seen = ap (λ n. there (eqb n 0) (reader_buffer consumed) (remaining (reader_inner consumed))) capacity
             ∙ ap (λ bs. there (eqb (reader_capacity input) 0) bs (remaining (reader_inner consumed))) left
             ∙ ap (λ r. there (eqb (reader_capacity input) 0) (drop used (reader_buffer input)) (remaining r)) inner
+
         go : (t : Bool) (o : Option (List ℕ)) → IfSome (there t (reader_buffer input) o) (λ text.
             AreFirstAnswered IsReply Finds AsksForNothing format text (there t (drop used (reader_buffer input)) o) number next outcome old new)
         go true o = tt
@@ -250,7 +252,7 @@ module _ (IsReply : List ℕ → List ℕ → Type 0) (Finds AsksForNothing : Li
   goes_ahead None left others number next worst_of outcome worst_now old now new old_errors errors h first e = tt
   goes_ahead (Some bs) left others number next worst_of outcome worst_now old now new old_errors errors h first e =
       let a : AreFirstAnswered IsReply Finds AsksForNothing rules.format h.rest others number next outcome now new =
-          subst (λ (o : Option (List ℕ)). IfSome o (λ bs. AreFirstAnswered IsReply Finds AsksForNothing rules.format bs others number next outcome now new)) h.left_is first in
+      subst (λ (o : Option (List ℕ)). IfSome o (λ bs. AreFirstAnswered IsReply Finds AsksForNothing rules.format bs others number next outcome now new)) h.left_is first in
       record {
         before = h.before ++ map (λ answer. answer.line) a.answers;
         rest = a.rest;
