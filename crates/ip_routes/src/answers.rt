@@ -1,5 +1,5 @@
 //! What a table of routes has of a text, and how it answers addresses.
-ghost use Rattle.std.specs.Prelude.{All, IfNone, IfSome, List, ◌++◌, ℕ};
+ghost use Rattle.std.specs.Prelude.{◌≡◌, ◌++◌, All, IfNone, IfSome, List, codes, false, ℕ};
 ghost use Rattle.std.specs.Net.Grammar.{IsIpText};
 ghost use Rattle.text_lines.specs.Lines.{lines};
 ghost use Rattle.line_programs.specs.Entries.{trimmed_entry};
@@ -116,10 +116,18 @@ fn reply_to<'a>(routes: &'a Routes, address: &IpAddr) -> Reply<'a>
             text,
             is_found: true,
         },
-        None => Reply {
-            text: b"none",
-            is_found: false,
-        },
+        None => no_route(),
+    }
+}
+
+// Returns the reply to an address that no route covers.
+fn no_route() -> Reply<'static>
+    ensures text { result.text.now ≡ codes "none" }
+    ensures found { result.is_found ≡ false }
+{
+    Reply {
+        text: b"none",
+        is_found: false,
     }
 }
 
@@ -205,9 +213,6 @@ fn reply_at<'a>(text: &'a [u8], place: Option<&Place>) -> Reply<'a>
             text: line_at(text, *place),
             is_found: true,
         },
-        None => Reply {
-            text: b"none",
-            is_found: false,
-        },
+        None => no_route(),
     }
 }
