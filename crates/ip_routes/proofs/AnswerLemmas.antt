@@ -1,5 +1,5 @@
 -- What networks with places answer, and what their lines do.
-use Rattle.std.proofs.Common.{◌≡◌, ◌≤◌, Option, None, Bool, true, false, ℕ, ◌<◌, List, ◌++◌, codes, Result, Ok, Err, refl, ap, sym, ◌∙◌, subst}
+use Rattle.std.proofs.Common.{◌≡◌, ◌≤◌, Option, Some, None, Bor, Bool, true, false, ℕ, zero, suc, ◌<◌, List, [], ◌∷◌, ◌++◌, length, get_or, codes, Result, Ok, Err, refl, ap, sym, ◌∙◌, subst, arith}
 use Rattle.std.specs.Prelude.{◌↔◌, IfOk, OnOk}
 use Rattle.std.specs.Io.KnownBytes.{Appends}
 use Rattle.std.specs.List.{All}
@@ -19,7 +19,8 @@ use Rattle.prefix_table.specs.Entries.{IsLongest}
 use Rattle.ip_routes.specs.declared.lines.Place.{Place}
 use Rattle.ip_routes.specs.Replies.{HasAnswer, IsRouteReply}
 use Rattle.ip_routes.specs.Routes.{IsAnswer}
-use Rattle.ip_routes.specs.Sources.{answers_of, line_at}
+use Rattle.ip_routes.specs.Sources.{ArePlaced, IsPlace, answers_of, line_at}
+use Rattle.ip_routes.specs.LookUps.{HasLineAt, IsPlaceFor, IsPlaceIn}
 use Rattle.ip_routes.proofs.LookUpLemmas.{items_of_items}
 
 module _ (text : List ℕ) (entries : List (Network × Place)) (address : IpAddr) where
@@ -66,15 +67,47 @@ reply_written IsReply Finds AsksForNothing line reply (Ok outcome) old new h wri
     go true found = (found.0 refl, (reply.text.now ++ codes "\n", h.0, written))
     go false found = ((λ finds. false≢true (found.1 finds)), (reply.text.now ++ codes "\n", h.0, written))
 
--- this is the reply to each line that writes the address
-abbrev pub IsReplyAt : List (Network × List ℕ) → IpAddr → Reply → Type 0
-IsReplyAt routes address reply =
-    (line : List ℕ) → IsIpText line address → IsLookedUp (IsRouteReply routes) (HasAnswer routes) line reply
+-- ---- replies that are looked up by places
 
--- the replies to lines by their addresses
-pub are_replies : (routes : List (Network × List ℕ)) (replies : List Reply) (addresses : List IpAddr) →
-    AreOf (IsReplyAt routes) replies addresses → (asked : List (List ℕ)) → AreOf IsIpText addresses asked →
-    AreLookedUp (IsRouteReply routes) (HasAnswer routes) replies asked
-are_replies routes replies addresses h asked k =
-    items_of_items IsIpText (IsReplyAt routes) (IsLookedUp (IsRouteReply routes) (HasAnswer routes))
-    (λ line address reply is replied. replied line is) replies addresses asked k h
+first_or_later : {A : Type 0} (P : A → Type 0) (x : A) (xs : List A) → P x → All P xs → All P (x ∷ xs)
+first_or_later P x xs p ps zero d below = p
+first_or_later P x xs p ps (suc k) d below = ps k d (omega arith)
+
+-- each place that was found is one of the text
+pub place_is_in : (text : List ℕ) (entries : List (Network × Place)) (addresses : List IpAddr) (places : List (Option (Bor Place))) →
+    ArePlaced text entries → AreOf (IsPlaceFor entries) places addresses → All (IsPlaceIn text) places
+place_is_in text entries addresses [] placed h = λ k d below. absurd (omega arith)
+place_is_in text entries [] (place ∷ places) placed h = absurd h
+place_is_in text entries (address ∷ addresses) (place ∷ places) placed h =
+    first_or_later (IsPlaceIn text) place places (first place h.0) (place_is_in text entries addresses places placed h.1)
+  where
+    first : (place : Option (Bor Place)) → IsPlaceFor entries address place → IsPlaceIn text place
+    first None is = tt
+    first (Some place) (network, longest) = All-contains (λ entry. IsPlace text entry.1) entries (network, place.now) placed longest.there
+
+module _ (text : List ℕ) (entries : List (Network × Place)) where
+  -- the line at the place of an address is the reply to each line that writes it
+  reply_of_place : (line : List ℕ) (address : IpAddr) (place : Option (Bor Place)) (reply : Reply) → IsIpText line address →
+      IsPlaceFor entries address place → HasLineAt text place reply →
+      IsLookedUp (IsRouteReply (answers_of text entries)) (HasAnswer (answers_of text entries)) line reply
+  reply_of_place line address None reply is none has =
+      let no = no_line text entries address none in (
+        (address, None, is, no, ap (λ bs. bs ++ codes "\n") has.0),
+        ((λ found. absurd (false≢true (sym has.1 ∙ found))), (λ other. absurd (no_answer (answers_of text entries) line address is no other))),
+      )
+  reply_of_place line address (Some place) reply is (network, longest) has =
+      let found = line_is_longest text entries address network place.now reply.text.now has.0 longest in (
+        (address, Some reply.text.now, is, (network, found), refl),
+        ((λ found'. (address, reply.text.now, is, (network, found))), (λ other. has.1)),
+      )
+
+  pub are_replies : (addresses : List IpAddr) (places : List (Option (Bor Place))) (replies : List Reply) →
+      AreOf (IsPlaceFor entries) places addresses → AreOf (HasLineAt text) replies places →
+      (asked : List (List ℕ)) → AreOf IsIpText addresses asked →
+      AreLookedUp (IsRouteReply (answers_of text entries)) (HasAnswer (answers_of text entries)) replies asked
+  are_replies addresses places replies h k asked is =
+      items_of_items (λ line place. (address : IpAddr) × IsIpText line address × IsPlaceFor entries address place) (HasLineAt text)
+      (IsLookedUp (IsRouteReply (answers_of text entries)) (HasAnswer (answers_of text entries)))
+      (λ line place reply it has. reply_of_place line it.0 place reply it.1 it.2 has) replies places asked
+      (items_of_items IsIpText (IsPlaceFor entries) (λ line place. (address : IpAddr) × IsIpText line address × IsPlaceFor entries address place)
+      (λ line address place is at. (address, is, at)) places addresses asked is h) k

@@ -8,5 +8,7 @@ pub mod Sources
 pub mod Faults
 -- what is written in reply to addresses
 pub mod Replies
+-- where replies are found
+pub mod LookUps
 -- what a table has of the entries of a text
 pub mod RouteTables

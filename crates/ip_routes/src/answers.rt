@@ -1,17 +1,19 @@
 //! What a table of routes has of a text, and how it answers addresses.
-ghost use Rattle.std.specs.Prelude.{IfNone, IfSome, List, ◌++◌, ℕ};
+ghost use Rattle.std.specs.Prelude.{◌≡◌, ◌++◌, All, IfNone, IfSome, List, codes, false, ℕ};
 ghost use Rattle.std.specs.Net.Grammar.{IsIpText};
 ghost use Rattle.text_lines.specs.Lines.{lines};
 ghost use Rattle.line_programs.specs.Entries.{trimmed_entry};
 ghost use Rattle.line_programs.specs.LineTables.{AreLookedUp, AreOf, IsLookedUp};
 ghost use Rattle.ip_routes.specs.Faults.{IsOutOfMemory};
 ghost use Rattle.ip_routes.specs.Replies.{HasAnswer, IsNoAddress, IsRouteReply};
+ghost use Rattle.ip_routes.specs.LookUps.{HasLineAt, IsPlaceFor, IsPlaceIn};
 ghost use Rattle.ip_routes.specs.RouteTables.{AreRoutesOf, IsRouteFault, IsRouteTable};
 
-use crate::lines::{LineError, Lines};
+use crate::lines::{LineError, Lines, Place, line_at};
 use crate::routes::Routes;
 use line_programs::entries::trimmed_entry;
 use line_programs::line_tables::{LineTable, Outcome, Reply};
+use prefix_table::table::PrefixTable;
 use std::alloc::Global;
 use std::collections::VecDeque;
 use std::io::Write;
@@ -114,10 +116,18 @@ fn reply_to<'a>(routes: &'a Routes, address: &IpAddr) -> Reply<'a>
             text,
             is_found: true,
         },
-        None => Reply {
-            text: b"none",
-            is_found: false,
-        },
+        None => no_route(),
+    }
+}
+
+// Returns the reply to an address that no route covers.
+fn no_route() -> Reply<'static>
+    ensures text { result.text.now ≡ codes "none" }
+    ensures found { result.is_found ≡ false }
+{
+    Reply {
+        text: b"none",
+        is_found: false,
     }
 }
 
@@ -140,19 +150,69 @@ fn first_addresses(alloc: Global, text: &[u8]) -> Vec<IpAddr>
     addresses
 }
 
-// Returns the replies to lines by their addresses, up to a failed allocation. The searches stand close together, so that
-// the processor begins one before those in front of it end.
+// Returns the replies to lines by their addresses, up to a failed allocation. All are searched before the place of a line is
+// read, and those are read one after another, so that the processor reads the memory of several at once.
 fn replies_to<'a>(alloc: Global, routes: &'a Routes, addresses: &[IpAddr]) -> VecDeque<Reply<'a>>
     ensures { (asked : List (List ℕ)) → AreOf IsIpText addresses.now asked →
         AreLookedUp (IsRouteReply routes.now) (HasAnswer routes.now) result.items asked }
 {
-    let Ok(mut replies) = VecDeque::with_capacity(alloc, addresses.len()) else {
+    let places = places_for(alloc, &routes.networks, addresses);
+    replies_at(alloc, &routes.text, &places)
+}
+
+// Returns the places of the longest networks that cover addresses, up to a failed allocation.
+fn places_for<'a>(
+    alloc: Global,
+    networks: &'a PrefixTable<Place>,
+    addresses: &[IpAddr],
+) -> Vec<Option<&'a Place>>
+    ensures { AreOf (IsPlaceFor networks.now) result.items addresses.now }
+{
+    let mut places = Vec::new(alloc);
+    for address in addresses {
+        let Ok(()) = places.push(place_for(networks, address)) else {
+            return places;
+        };
+    }
+    places
+}
+
+// Returns the place of the longest network that covers an address, or `None` if none does.
+fn place_for<'a>(networks: &'a PrefixTable<Place>, address: &IpAddr) -> Option<&'a Place>
+    ensures { IsPlaceFor networks.now address.now result }
+{
+    match networks.longest_match(address) {
+        Some((_network, place)) => Some(place),
+        None => None,
+    }
+}
+
+// Returns the replies with the lines at these places, up to a failed allocation.
+fn replies_at<'a>(alloc: Global, text: &'a [u8], places: &[Option<&Place>]) -> VecDeque<Reply<'a>>
+    requires { All (IsPlaceIn text.now) places.now }
+    ensures { AreOf (HasLineAt text.now) result.items places.now }
+{
+    let Ok(mut replies) = VecDeque::with_capacity(alloc, places.len()) else {
         return VecDeque::new(alloc);
     };
-    for address in addresses {
-        let Ok(()) = replies.push_back(reply_to(routes, address)) else {
+    for place in places {
+        let Ok(()) = replies.push_back(reply_at(text, *place)) else {
             return replies;
         };
     }
     replies
+}
+
+// Returns the reply with the line at a place, or `none`.
+fn reply_at<'a>(text: &'a [u8], place: Option<&Place>) -> Reply<'a>
+    requires { IsPlaceIn text.now place }
+    ensures { HasLineAt text.now place.entry result }
+{
+    match place {
+        Some(place) => Reply {
+            text: line_at(text, *place),
+            is_found: true,
+        },
+        None => no_route(),
+    }
 }

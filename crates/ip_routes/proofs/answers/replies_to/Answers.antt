@@ -1,24 +1,21 @@
-use Rattle.std.proofs.Common.{drop, refl}
-use Rattle.ip_routes.proofs.AnswerLemmas.{IsReplyAt, are_replies}
-use Rattle.ip_routes.proofs.LookUpLemmas.{are_begun, are_items, one_more_at}
+use Rattle.std.proofs.Common.{sym, subst}
+use Rattle.line_programs.specs.LineTables.{AreLookedUp, AreOf}
+use Rattle.ip_routes.specs.LookUps.{HasLineAt, IsPlaceFor}
+use Rattle.ip_routes.specs.Replies.{HasAnswer, IsRouteReply}
+use Rattle.ip_routes.specs.Sources.{ArePlaced}
+use Rattle.ip_routes.proofs.AnswerLemmas.{are_replies, place_is_in}
 use Rattle.ip_routes.proofs.answers.replies_to.Goals as goal
 
-pub loop-address-init : goal.loop-address-init
-loop-address-init c = are_begun (IsReplyAt c.args.routes.now) c.args.addresses.now c.in-Ok.replies.items c.in-Ok.ensures.items
-
-pub loop-address-preserved : goal.loop-address-preserved
-loop-address-preserved c =
-    one_more_at (IsReplyAt c.args.routes.now) c.args.addresses.now c.loop-address.address-index _ c.loop-address.replies.items
-    c.push_back.new.self.items c.reply_to.result c.loop-address-test.true c.loop-address.invariant c.reply_to.ensures c.in-Ok-push_back.ensures.items
-
-pub returns-in_default-push_back : goal.returns-in_default-push_back
-returns-in_default-push_back c =
-    are_replies c.args.routes.now c.push_back.new.self.items c.args.addresses.now
-    (are_items (IsReplyAt c.args.routes.now) c.args.addresses.now (drop c.loop-address.address-index c.args.addresses.now)
-    c.loop-address.replies.items c.push_back.new.self.items c.loop-address.invariant c.in_default-push_back.ensures.items)
+pub replies_at-requires : goal.replies_at-requires
+replies_at-requires c =
+    place_is_in c.deref.result.now c.routes.inside.networks c.args.addresses.now c.deref-2.result.now
+    (subst (λ text. ArePlaced text c.routes.inside.networks) (sym c.deref.ensures.value) c.routes.invariant)
+    (subst (λ places. AreOf (IsPlaceFor c.routes.inside.networks) places c.args.addresses.now) (sym c.deref-2.ensures.value) c.places_for-places.ensures)
 
 pub returns : goal.returns
-returns c =
-    are_replies c.args.routes.now c.loop-address.replies.items c.args.addresses.now
-    (are_items (IsReplyAt c.args.routes.now) c.args.addresses.now (drop c.loop-address.address-index c.args.addresses.now)
-    c.loop-address.replies.items c.loop-address.replies.items c.loop-address.invariant refl)
+returns c = λ asked is.
+    subst (λ answers. AreLookedUp (IsRouteReply answers) (HasAnswer answers) c.replies_at.result.items asked) c.routes.view_is
+    (are_replies c.routes.inside.text.items c.routes.inside.networks c.args.addresses.now c.deref-2.result.now c.replies_at.result.items
+    (subst (λ places. AreOf (IsPlaceFor c.routes.inside.networks) places c.args.addresses.now) (sym c.deref-2.ensures.value) c.places_for-places.ensures)
+    (subst (λ text. AreOf (HasLineAt text) c.replies_at.result.items c.deref-2.result.now) c.deref.ensures.value c.replies_at.ensures)
+    asked is)
