@@ -133,8 +133,8 @@ module _ (IsReply : List ℕ → List ℕ → Type 0) (Finds AsksForNothing : Li
         IsAnsweredAhead others text rest number (next + 1) worst_now old new
     goes_on_ahead replies others first reply text left rest line number next worst_of outcome worst_now old now new h is are first_line ends below o written e =
         let known : (more : List ℕ) → IsLookedUp IsReply Finds line reply × AreLookedUp IsReply Finds others (lines (rest ++ more)) =
-            (λ more. subst (λ rs. AreLookedUp IsReply Finds rs (line ∷ lines (rest ++ more))) (are ∙ ap (λ o. option_to_list o ++ others) is)
-            (subst (AreLookedUp IsReply Finds replies) (first_line more) (h.known more))) in
+        (λ more. subst (λ rs. AreLookedUp IsReply Finds rs (line ∷ lines (rest ++ more))) (are ∙ ap (λ o. option_to_list o ++ others) is)
+        (subst (AreLookedUp IsReply Finds replies) (first_line more) (h.known more))) in
         record {
           answered = λ more.
               one_more_first (text ++ more) (left ++ more) line (rest ++ more) reply number next worst_of outcome worst_now old now new
@@ -203,7 +203,7 @@ module _ (IsReply : List ℕ → List ℕ → Type 0) (Finds AsksForNothing : Li
   goes_ahead None left others number next worst_of outcome worst_now old now new old_errors errors h first e = tt
   goes_ahead (Some bs) left others number next worst_of outcome worst_now old now new old_errors errors h first e =
       let a : AreFirstAnswered IsReply Finds AsksForNothing rules.format h.rest others number next outcome now new =
-          subst (λ (o : Option (List ℕ)). IfSome o (λ bs. AreFirstAnswered IsReply Finds AsksForNothing rules.format bs others number next outcome now new)) h.left_is first in
+      subst (λ (o : Option (List ℕ)). IfSome o (λ bs. AreFirstAnswered IsReply Finds AsksForNothing rules.format bs others number next outcome now new)) h.left_is first in
       record {
         before = h.before ++ map (λ answer. answer.line) a.answers;
         rest = a.rest;
