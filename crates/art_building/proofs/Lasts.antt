@@ -1,5 +1,5 @@
 -- A pair that is put after the last one, which is not pushed yet.
-use Rattle.std.proofs.Common.{◌≡◌, ◌≢◌, ℕ, List, [], ◌∷◌, ◌++◌, append-nil, append_assoc, Bool, true, false, not, inl, inr, Option, Some, None, refl, ap, ap₂, sym, ◌∙◌, subst}
+use Rattle.std.proofs.Common.{◌≡◌, ◌≢◌, ℕ, List, [], ◌∷◌, ◌++◌, append-nil, append_assoc, Bool, true, false, inl, inr, Option, Some, None, refl, ap, ap₂, sym, ◌∙◌, subst}
 use Rattle.std.specs.List.{AllByRecursion as Each}
 use Rattle.std.proofs.lemmas.Bool.{true≢false}
 use Rattle.std.proofs.lemmas.List.Elements.{filter-append}
@@ -13,7 +13,7 @@ use Rattle.art_loading.specs.declared.append.AppendReason.TheVariants.{Before, C
 use Rattle.art_map.specs.MapCalls.{put_all}
 use Rattle.art_model.specs.KeyLaws.{HasSmallerByte}
 use Rattle.art_model.specs.Keys.{IsFront, Precedes, are_related, are_same, is_before}
-use Rattle.art_model.specs.Pairs.{IsMap, Pairwise, first_of, last_of, of_key, put, replace_key, with_key}
+use Rattle.art_model.specs.Pairs.{IsMap, first_of, last_of, of_key, put, replace_key, with_key}
 use Rattle.art_model.proofs.keys.Keys.{front_related, front_same, precedes_apart, precedes_at, related_sym, same_related}
 use Rattle.art_model.proofs.keys.KeyLaws.{order_is_decided, order_is_total, order_is_transitive, relation_is_decided}
 use Rattle.art_model.proofs.lists.Lists.{Each-append, Each-weaker, filter_none}

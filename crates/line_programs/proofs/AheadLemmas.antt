@@ -1,15 +1,13 @@
 -- Replies that are looked up before the first of them is written.
-use Rattle.std.proofs.Common.{◌≡◌, ◌≢◌, ℕ, suc, ◌+◌, ◌-◌, ◌<◌, ◌≤◌, ◌==◌, if◌then◌else◌, Bool, true, false, eqb, List, [], ◌∷◌, ◌++◌, codes, length, drop, map, flat_map, Option, Some, None, IfSome, refl, ap, sym, ◌∙◌, subst, arith, append-nil, append_assoc, length-append}
+use Rattle.std.proofs.Common.{◌≡◌, ◌≢◌, ℕ, suc, ◌+◌, ◌-◌, ◌<◌, ◌≤◌, Bool, true, false, List, [], ◌∷◌, ◌++◌, codes, length, drop, map, flat_map, Option, Some, None, IfSome, refl, ap, sym, ◌∙◌, subst, arith, append-nil, append_assoc, length-append}
 use Rattle.std.specs.Prelude.{◌↔◌, option_to_list}
-use Rattle.std.specs.Io.Buffered.{reader_buffer, reader_capacity, reader_inner, reader_remaining}
-use Rattle.std.specs.declared.io.buffered.BufReader.{BufReader}
-use Rattle.std.specs.Io.KnownBytes.{Appends, Keeps, prepend_known}
+use Rattle.std.specs.Io.KnownBytes.{Appends}
 use Rattle.std.specs.List.{AllByRecursion as Each}
 use Rattle.std.proofs.lemmas.List.{map-append, length-map}
 use Rattle.std.proofs.lemmas.List.Concat.{flat_map-append}
 use Rattle.text_lines.specs.Lines.{EndsWith, lines}
 use Rattle.text_lines.proofs.Reading.{IsReadTo}
-use Rattle.text_lines.proofs.Writing.{appends_kept, appends_more, appends_none}
+use Rattle.text_lines.proofs.Writing.{appends_more, appends_none}
 use Rattle.line_programs.specs.declared.line_tables.Outcome.{Outcome}
 use Rattle.line_programs.specs.declared.line_tables.Outcome.TheVariants.{Found, NotFound, Invalid}
 use Rattle.line_programs.specs.declared.line_tables.Reply.{Reply}
@@ -154,53 +152,6 @@ module _ (IsReply : List ℕ → List ℕ → Type 0) (Finds AsksForNothing : Li
     answered_ahead replies text left number next used outcome old new h u more =
         subst (λ bs. AreFirstAnswered IsReply Finds AsksForNothing format (text ++ more) (Some (bs ++ more)) number next outcome old new)
         (sym (ap (λ n. drop n text) u ∙ left_of text left h.ends)) (h.answered more)
-
-    -- ---- what an input has collected
-
-    pub kept_first : (text : List ℕ) (left : Option (List ℕ)) (number next : ℕ) (outcome : Outcome) (old now new : Option (List ℕ)) →
-        AreFirstAnswered IsReply Finds AsksForNothing format text left number next outcome old now → Keeps now new →
-        AreFirstAnswered IsReply Finds AsksForNothing format text left number next outcome old new
-    kept_first text left number next outcome old now new h keeps = record {
-      answers = h.answers;
-      rest = h.rest;
-      left_is = h.left_is;
-      lines_are = h.lines_are;
-      are = h.are;
-      valid = h.valid;
-      next_is = h.next_is;
-      outcome_is = h.outcome_is;
-      written = appends_kept old now new _ h.written keeps;
-    }
-
-    pub collected : {R A : Type 0} (remaining : R → Option (List ℕ)) (input consumed : BufReader R A) (buffer : List ℕ) (used number next : ℕ)
-        (outcome : Outcome) (old now new : Option (List ℕ)) → buffer ≡ reader_buffer input →
-        ((more : List ℕ) →
-        AreFirstAnswered IsReply Finds AsksForNothing format (buffer ++ more) (Some (drop used buffer ++ more)) number next outcome old now) →
-        reader_buffer consumed ≡ drop used (reader_buffer input) → reader_inner consumed ≡ reader_inner input →
-        reader_capacity consumed ≡ reader_capacity input → Keeps now new →
-        IfSome (reader_remaining remaining input) (λ text.
-        AreFirstAnswered IsReply Finds AsksForNothing format text (reader_remaining remaining consumed) number next outcome old new)
-    collected remaining input consumed buffer used number next outcome old now new b h left inner capacity keeps =
-        subst (λ o. IfSome (reader_remaining remaining input) (λ text. AreFirstAnswered IsReply Finds AsksForNothing format text o number next outcome old new))
-        (sym seen) (go (eqb (reader_capacity input) 0) (remaining (reader_inner input)))
-      where
-        there : Bool → List ℕ → Option (List ℕ) → Option (List ℕ)
-        there t bs o = if t then None else prepend_known bs o
-
-        seen : reader_remaining remaining consumed
-            ≡ there (eqb (reader_capacity input) 0) (drop used (reader_buffer input)) (remaining (reader_inner input))
-        seen = ap (λ n. there (eqb n 0) (reader_buffer consumed) (remaining (reader_inner consumed))) capacity
-            ∙ ap (λ bs. there (eqb (reader_capacity input) 0) bs (remaining (reader_inner consumed))) left
-            ∙ ap (λ r. there (eqb (reader_capacity input) 0) (drop used (reader_buffer input)) (remaining r)) inner
-
-        go : (t : Bool) (o : Option (List ℕ)) → IfSome (there t (reader_buffer input) o) (λ text.
-            AreFirstAnswered IsReply Finds AsksForNothing format text (there t (drop used (reader_buffer input)) o) number next outcome old new)
-        go true o = tt
-        go false None = tt
-        go false (Some more) =
-            kept_first _ _ number next outcome old now new
-            (subst (λ bs. AreFirstAnswered IsReply Finds AsksForNothing format (bs ++ more) (Some (drop used bs ++ more)) number next outcome old now) b (h more))
-            keeps
 
 -- ---- with what was answered before
 
