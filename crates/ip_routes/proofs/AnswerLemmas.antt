@@ -2,7 +2,7 @@
 use Rattle.std.proofs.Common.{◌≡◌, ◌≤◌, Option, Some, None, Bor, Bool, true, false, ℕ, zero, suc, ◌<◌, List, [], ◌∷◌, ◌++◌, codes, Result, Ok, Err, refl, ap, sym, ◌∙◌, subst, arith}
 use Rattle.std.specs.Prelude.{◌↔◌, IfOk, OnOk}
 use Rattle.std.specs.Io.KnownBytes.{Appends}
-use Rattle.std.specs.List.{All}
+use Rattle.std.specs.List.{All, AllZip}
 use Rattle.std.specs.declared.net.ip_addr.IpAddr.{IpAddr}
 use Rattle.std.proofs.lemmas.List.{get_or-map, length-map}
 use Rattle.std.proofs.NetLemmas.Theorems.{IsIpText_unique}
@@ -15,13 +15,13 @@ use Rattle.line_programs.specs.LineTables.{AreLookedUp, AreOf, IsLookedUp, IsTri
 use Rattle.line_programs.specs.Outcomes.{outcome_of}
 use Rattle.prefix_table.specs.declared.network.Network.{Network}
 use Rattle.prefix_table.specs.Networks.{covers}
-use Rattle.prefix_table.specs.Entries.{IsLongest}
+use Rattle.prefix_table.specs.Entries.{IsLongest, IsLongestValue}
 use Rattle.ip_routes.specs.declared.lines.Place.{Place}
 use Rattle.ip_routes.specs.Replies.{HasAnswer, IsRouteReply}
 use Rattle.ip_routes.specs.Routes.{IsAnswer}
 use Rattle.ip_routes.specs.Sources.{ArePlaced, IsPlace, answers_of, line_at}
-use Rattle.ip_routes.specs.LookUps.{HasLineAt, IsPlaceFor, IsPlaceIn}
-use Rattle.ip_routes.proofs.LookUpLemmas.{items_of_items}
+use Rattle.ip_routes.specs.LookUps.{HasLineAt, IsPlaceIn}
+use Rattle.ip_routes.proofs.LookUpLemmas.{items_of_all, items_of_items}
 
 module _ (text : List ℕ) (entries : List (Network × Place)) (address : IpAddr) where
   -- a network with its line
@@ -75,20 +75,21 @@ first_or_later P x xs p ps (suc k) d below = ps k d (omega arith)
 
 -- each place that was found is one of the text
 pub place_is_in : (text : List ℕ) (entries : List (Network × Place)) (addresses : List IpAddr) (places : List (Option (Bor Place))) →
-    ArePlaced text entries → AreOf (IsPlaceFor entries) places addresses → All (IsPlaceIn text) places
-place_is_in text entries addresses [] placed h = λ k d below. absurd (omega arith)
+    ArePlaced text entries → AllZip (IsLongestValue entries) addresses places → All (IsPlaceIn text) places
+place_is_in text entries [] [] placed h = λ k d below. absurd (omega arith)
 place_is_in text entries [] (place ∷ places) placed h = absurd h
+place_is_in text entries (address ∷ addresses) [] placed h = absurd h
 place_is_in text entries (address ∷ addresses) (place ∷ places) placed h =
     first_or_later (IsPlaceIn text) place places (first place h.0) (place_is_in text entries addresses places placed h.1)
   where
-    first : (place : Option (Bor Place)) → IsPlaceFor entries address place → IsPlaceIn text place
+    first : (place : Option (Bor Place)) → IsLongestValue entries address place → IsPlaceIn text place
     first None is = tt
     first (Some place) (network, longest) = All-contains (λ entry. IsPlace text entry.1) entries (network, place.now) placed longest.there
 
 module _ (text : List ℕ) (entries : List (Network × Place)) where
   -- the line at the place of an address is the reply to each line that writes it
   reply_of_place : (line : List ℕ) (address : IpAddr) (place : Option (Bor Place)) (reply : Reply) → IsIpText line address →
-      IsPlaceFor entries address place → HasLineAt text place reply →
+      IsLongestValue entries address place → HasLineAt text place reply →
       IsLookedUp (IsRouteReply (answers_of text entries)) (HasAnswer (answers_of text entries)) line reply
   reply_of_place line address None reply is none has =
       let no = no_line text entries address none in (
@@ -102,12 +103,13 @@ module _ (text : List ℕ) (entries : List (Network × Place)) where
       )
 
   pub are_replies : (addresses : List IpAddr) (places : List (Option (Bor Place))) (replies : List Reply) →
-      AreOf (IsPlaceFor entries) places addresses → AreOf (HasLineAt text) replies places →
+      AllZip (IsLongestValue entries) addresses places → AreOf (HasLineAt text) replies places →
       (asked : List (List ℕ)) → AreOf IsIpText addresses asked →
       AreLookedUp (IsRouteReply (answers_of text entries)) (HasAnswer (answers_of text entries)) replies asked
   are_replies addresses places replies h k asked is =
-      items_of_items (λ line place. (address : IpAddr) × IsIpText line address × IsPlaceFor entries address place) (HasLineAt text)
+      items_of_items (λ line place. (address : IpAddr) × IsIpText line address × IsLongestValue entries address place) (HasLineAt text)
       (IsLookedUp (IsRouteReply (answers_of text entries)) (HasAnswer (answers_of text entries)))
       (λ line place reply it has. reply_of_place line it.0 place reply it.1 it.2 has) replies places asked
-      (items_of_items IsIpText (IsPlaceFor entries) (λ line place. (address : IpAddr) × IsIpText line address × IsPlaceFor entries address place)
-      (λ line address place is at. (address, is, at)) places addresses asked is h) k
+      (items_of_items IsIpText (IsLongestValue entries) (λ line place. (address : IpAddr) × IsIpText line address × IsLongestValue entries address place)
+      (λ line address place is at. (address, is, at)) places addresses asked is
+      (items_of_all (IsLongestValue entries) addresses places h)) k

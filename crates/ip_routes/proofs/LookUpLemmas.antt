@@ -1,5 +1,6 @@
 -- Items that are made of the first ones of a list, one after another.
 use Rattle.std.proofs.Common.{◌≡◌, ℕ, ◌+◌, ◌<◌, List, [], ◌∷◌, ◌++◌, length, drop, get_or, ap, sym, ◌∙◌, subst, append-nil, append_assoc}
+use Rattle.std.specs.List.{AllZip}
 use Rattle.std.proofs.lemmas.List.{drop_more}
 use Rattle.line_programs.specs.LineTables.{AreOf}
 
@@ -27,6 +28,13 @@ module _ {A B : Type 0} (Is : A → B → Type 0) where
   one_more_at all index default items next item below h it e =
       one_more_item all (drop index all) (drop (index + 1) all) (get_or all index default) items next item h
       (drop_more all index default below) it e
+
+-- an item of each
+pub items_of_all : {A B : Type 0} (Is : A → B → Type 0) (all : List A) (items : List B) → AllZip Is all items → AreOf Is items all
+items_of_all Is [] [] h = tt
+items_of_all Is [] (item ∷ items) h = tt
+items_of_all Is (one ∷ all) [] h = tt
+items_of_all Is (one ∷ all) (item ∷ items) h = (h.0, items_of_all Is all items h.1)
 
 -- items of items
 pub items_of_items : {A B C : Type 0} (Is : A → B → Type 0) (Has : B → C → Type 0) (Gets : A → C → Type 0)

@@ -6,14 +6,13 @@ ghost use Rattle.line_programs.specs.Entries.{trimmed_entry};
 ghost use Rattle.line_programs.specs.LineTables.{AreLookedUp, AreOf, IsLookedUp};
 ghost use Rattle.ip_routes.specs.Faults.{IsOutOfMemory};
 ghost use Rattle.ip_routes.specs.Replies.{HasAnswer, IsNoAddress, IsRouteReply};
-ghost use Rattle.ip_routes.specs.LookUps.{HasLineAt, IsPlaceFor, IsPlaceIn};
+ghost use Rattle.ip_routes.specs.LookUps.{HasLineAt, IsPlaceIn};
 ghost use Rattle.ip_routes.specs.RouteTables.{AreRoutesOf, IsRouteFault, IsRouteTable};
 
 use crate::lines::{LineError, Lines, Place, line_at};
 use crate::routes::Routes;
 use line_programs::entries::trimmed_entry;
 use line_programs::line_tables::{LineTable, Outcome, Reply};
-use prefix_table::table::PrefixTable;
 use std::alloc::Global;
 use std::collections::VecDeque;
 use std::io::Write;
@@ -156,35 +155,10 @@ fn replies_to<'a>(alloc: Global, routes: &'a Routes, addresses: &[IpAddr]) -> Ve
     ensures { (asked : List (List ℕ)) → AreOf IsIpText addresses.now asked →
         AreLookedUp (IsRouteReply routes.now) (HasAnswer routes.now) result.items asked }
 {
-    let places = places_for(alloc, &routes.networks, addresses);
+    let Ok(places) = routes.networks.longest_values(alloc, addresses) else {
+        return VecDeque::new(alloc);
+    };
     replies_at(alloc, &routes.text, &places)
-}
-
-// Returns the places of the longest networks that cover addresses, up to a failed allocation.
-fn places_for<'a>(
-    alloc: Global,
-    networks: &'a PrefixTable<Place>,
-    addresses: &[IpAddr],
-) -> Vec<Option<&'a Place>>
-    ensures { AreOf (IsPlaceFor networks.now) result.items addresses.now }
-{
-    let mut places = Vec::new(alloc);
-    for address in addresses {
-        let Ok(()) = places.push(place_for(networks, address)) else {
-            return places;
-        };
-    }
-    places
-}
-
-// Returns the place of the longest network that covers an address, or `None` if none does.
-fn place_for<'a>(networks: &'a PrefixTable<Place>, address: &IpAddr) -> Option<&'a Place>
-    ensures { IsPlaceFor networks.now address.now result }
-{
-    match networks.longest_match(address) {
-        Some((_network, place)) => Some(place),
-        None => None,
-    }
 }
 
 // Returns the replies with the lines at these places, up to a failed allocation.

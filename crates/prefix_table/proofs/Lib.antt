@@ -17,6 +17,8 @@ mod ArrangeLemmas
 pub mod TableLemmas
 -- parts of tables
 pub mod PartLemmas
+-- items that are made of those of a list
+pub mod ZipLemmas
 -- parts of a list that pass a test
 pub mod FilterLemmas
 -- networks worked out by hand

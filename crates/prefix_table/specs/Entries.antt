@@ -18,6 +18,11 @@ abbrev pub IsLongestMatch : {V : Type 0} → List (Network × V) → IpAddr → 
 IsLongestMatch entries address None = All (λ entry. covers entry.0 address ≡ false) entries
 IsLongestMatch entries address (Some entry) = IsLongest entries address entry
 
+-- the value of the longest network that covers an address; none where none does
+abbrev pub IsLongestValue : {V : Type 0} → List (Network × V) → IpAddr → Option (Bor V) → Type 0
+IsLongestValue entries address None = All (λ entry. covers entry.0 address ≡ false) entries
+IsLongestValue entries address (Some value) = (network : Network) × IsLongest entries address (network, value.now)
+
 -- how many networks cover where this one starts
 abbrev pub depth_of : {V : Type 0} → List (Network × V) → Network → ℕ
 depth_of entries network = count_by (λ entry. covers_at entry.0 (start_of network)) entries

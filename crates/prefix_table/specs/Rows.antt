@@ -1,9 +1,10 @@
 -- Networks in order, each with the place of its value in the list that it comes from.
 use Rattle.std.specs.Prelude.{◌≡◌, ℕ, ◌-◌, ◌<◌, ◌≤◌, true, false, List, length, count_by, slice_index_or, take}
+use Rattle.std.specs.declared.net.ip_addr.IpAddr.{IpAddr}
 use Rattle.prefix_table.specs.declared.network.Address.{Address}
 use Rattle.prefix_table.specs.declared.network.Network.{Network}
 use Rattle.prefix_table.specs.declared.rows.Row.{Row}
-use Rattle.prefix_table.specs.Networks.{IsNetwork, IsUpTo, Precedes, covers_at, start_of}
+use Rattle.prefix_table.specs.Networks.{IsNetwork, IsUpTo, Precedes, address_of, covers_at, start_of}
 
 -- the network of a row
 abbrev pub network_of : Row → Network
@@ -28,6 +29,10 @@ pub record IsRowCount (rows : List Row) (address : Address) (count : ℕ) : Type
   pub bounded : count ≤ length rows
   pub first : (k : ℕ) → k < count → IsUpTo (start_of (network_of (row_at rows k))) address
   pub others : (k : ℕ) → count ≤ k → k < length rows → ¬ IsUpTo (start_of (network_of (row_at rows k))) address
+
+-- so many rows start at an address or before it
+abbrev pub IsCountFor : List Row → IpAddr → ℕ → Type 0
+IsCountFor rows address count = IsRowCount rows (address_of address) count
 
 -- The first so many rows are before the network in order, and no other one is.
 pub record IsPosition (rows : List Row) (network : Network) (at : ℕ) : Type 0 where

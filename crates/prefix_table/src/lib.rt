@@ -11,3 +11,4 @@ mod sorting;
 mod starts;
 pub mod steps;
 pub mod table;
+mod values;

@@ -112,16 +112,40 @@ impl Rows {
         }
     }
 
-    /// Returns how many rows start at an address or before it.
+    /// Returns a guess of the part in which an address is searched, for `count_near`. Contracts say nothing of it.
+    pub fn guess_for(&self, address: Address) -> (usize, usize)
+        requires { IsAddress address }
+    {
+        self.starts.guess_for(address)
+    }
+
+    /// Does what `guess_for` does, and tests the guess, which reads the part. Contracts say nothing of it.
+    pub fn part_for(&self, address: Address) -> (usize, usize)
+        requires { IsAddress address }
+    {
+        self.starts.part_for(address)
+    }
+
+    /// Returns how many rows start at an address or before it. Any guess may be passed.
     #[tactic(auto, using(crate::proofs::RowLemmas::count_up_to_facts))]
-    pub fn count_up_to(&self, address: Address) -> Counted
+    pub fn count_near(&self, guess: (usize, usize), address: Address) -> Counted
         requires { IsAddress address }
         ensures count { IsRowCount self.now address result.count }
         ensures looked { (k : ℕ) → length self.now < 2 ^ k → result.looked ≤ k + 2 }
         ensures few { length self.now < 2 ^ 32 }
     {
         let _rests = &self.rests;
-        self.starts.count_up_to(address)
+        self.starts.count_near(guess, address)
+    }
+
+    /// Returns how many rows start at an address or before it.
+    pub fn count_up_to(&self, address: Address) -> Counted
+        requires { IsAddress address }
+        ensures count { IsRowCount self.now address result.count }
+        ensures looked { (k : ℕ) → length self.now < 2 ^ k → result.looked ≤ k + 2 }
+        ensures few { length self.now < 2 ^ 32 }
+    {
+        self.count_near(self.guess_for(address), address)
     }
 
     /// Finds the last one of the first `upto` rows that covers an address.

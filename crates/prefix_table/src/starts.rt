@@ -87,7 +87,7 @@ impl Starts {
         Ok(())
     }
 
-    /// Makes `count_up_to` fast for the addresses that are there now.
+    /// Makes `count_near` fast for the addresses that are there now.
     pub fn guess(&mut self, alloc: Global) -> Result<(), AllocError>
         ensures { self.new ≡ self.old }
     {
@@ -96,8 +96,31 @@ impl Starts {
         Ok(())
     }
 
-    /// Returns how many addresses are not after this one.
-    pub fn count_up_to(&self, address: Address) -> Counted
+    /// Returns a guess of the part in which an address is searched, for `count_near`. Contracts say nothing of it.
+    pub fn guess_for(&self, address: Address) -> (usize, usize)
+        requires { IsAddress address }
+    {
+        if address.version == 4 {
+            self.guesses_four.around_four(address.number as u32)
+        } else {
+            self.guesses_six.around_six(address.number)
+        }
+    }
+
+    /// Does what `guess_for` does, and tests the guess, which reads the part. Contracts say nothing of it.
+    pub fn part_for(&self, address: Address) -> (usize, usize)
+        requires { IsAddress address }
+    {
+        let guess = self.guess_for(address);
+        if address.version == 4 {
+            part_four(&self.four, guess, address.number as u32)
+        } else {
+            part_six(&self.six, guess, address.number)
+        }
+    }
+
+    /// Returns how many addresses are not after this one. Any guess may be passed: a wrong one costs a search in all.
+    pub fn count_near(&self, guess: (usize, usize), address: Address) -> Counted
         requires few { length self.now < 2 ^ 64 }
         requires address { IsAddress address }
         requires order { AreUpwards self.now }
@@ -105,9 +128,9 @@ impl Starts {
         ensures looked { (k : ℕ) → length self.now < 2 ^ k → result.looked ≤ k + 2 }
     {
         if address.version == 4 {
-            return count_four(&self.four, &self.guesses_four, address.number as u32);
+            return count_four(&self.four, guess, address.number as u32);
         }
-        let found = count_six(&self.six, &self.guesses_six, address.number);
+        let found = count_six(&self.six, guess, address.number);
         Counted {
             count: self.four.len() + found.count,
             looked: found.looked,
@@ -126,13 +149,13 @@ pub struct Counted {
 
 // Returns how many of sorted numbers are at most this one: a search in the part that is guessed. Two numbers show whether
 // the guess is right.
-fn count_four(numbers: &[u32], guesses: &Guesses, most: u32) -> Counted
+fn count_four(numbers: &[u32], guess: (usize, usize), most: u32) -> Counted
     requires { IsNonDecreasing numbers.now }
     ensures parts { IsPartitionPoint (λ n. n ≤ most) (λ n. most < n) numbers.now result.count }
     ensures bounded { result.count ≤ length numbers.now }
     ensures looked { (k : ℕ) → length numbers.now < 2 ^ k → result.looked ≤ k + 2 }
 {
-    let (from, to) = part_four(numbers, guesses, most);
+    let (from, to) = part_four(numbers, guess, most);
     let found = search_four(numbers, from, to, most);
     Counted {
         count: found.count,
@@ -141,12 +164,12 @@ fn count_four(numbers: &[u32], guesses: &Guesses, most: u32) -> Counted
 }
 
 // Returns the part that is guessed, if that is right, else all.
-fn part_four(numbers: &[u32], guesses: &Guesses, most: u32) -> (usize, usize)
+fn part_four(numbers: &[u32], guess: (usize, usize), most: u32) -> (usize, usize)
     ensures { IsPartFor numbers.now result.0 result.1 most }
 {
-    let (from, to) = guesses.around_four(most);
+    let (from, to) = guess;
     if is_part_four(numbers, from, to, most) {
-        (from, to)
+        guess
     } else {
         (0, numbers.len())
     }
@@ -189,13 +212,13 @@ fn search_four(numbers: &[u32], mut from: usize, to: usize, most: u32) -> Counte
 }
 
 // The same of numbers of 128 bits.
-fn count_six(numbers: &[u128], guesses: &Guesses, most: u128) -> Counted
+fn count_six(numbers: &[u128], guess: (usize, usize), most: u128) -> Counted
     requires { IsNonDecreasing numbers.now }
     ensures parts { IsPartitionPoint (λ n. n ≤ most) (λ n. most < n) numbers.now result.count }
     ensures bounded { result.count ≤ length numbers.now }
     ensures looked { (k : ℕ) → length numbers.now < 2 ^ k → result.looked ≤ k + 2 }
 {
-    let (from, to) = part_six(numbers, guesses, most);
+    let (from, to) = part_six(numbers, guess, most);
     let found = search_six(numbers, from, to, most);
     Counted {
         count: found.count,
@@ -204,12 +227,12 @@ fn count_six(numbers: &[u128], guesses: &Guesses, most: u128) -> Counted
 }
 
 // Returns the part that is guessed, if that is right, else all.
-fn part_six(numbers: &[u128], guesses: &Guesses, most: u128) -> (usize, usize)
+fn part_six(numbers: &[u128], guess: (usize, usize), most: u128) -> (usize, usize)
     ensures { IsPartFor numbers.now result.0 result.1 most }
 {
-    let (from, to) = guesses.around_six(most);
+    let (from, to) = guess;
     if is_part_six(numbers, from, to, most) {
-        (from, to)
+        guess
     } else {
         (0, numbers.len())
     }

@@ -1,6 +1,6 @@
 //! A table of networks with values, which is built once.
 ghost use Rattle.std.specs.Prelude.{◌≡◌, [], ℕ, ◌+◌, ◌^◌, ◌<◌, ◌≤◌, ◌==◌, length, vec_len, All, AllPairs, Contains, IfErr, IfNone, IfOk, IfSome, OnErr, OnOk, filter, map, reverse, slice_index_or, ◌≢◌};
-ghost use Rattle.std.specs.List.{zip};
+ghost use Rattle.std.specs.List.{AllZip, zip};
 ghost use Rattle.std.specs.List.Sorted.{IsPermutation};
 ghost use Rattle.std.specs.Option.{option_map};
 ghost use Rattle.prefix_table.specs.Networks.{IsAddress, IsNetwork, IsUpTo, Precedes, covers, start_of};
@@ -8,13 +8,14 @@ ghost use Rattle.prefix_table.specs.Rows.{AreInOrder};
 ghost use Rattle.prefix_table.specs.Arranging.{AreArranged, AreIndexes};
 ghost use Rattle.prefix_table.specs.Sorting.{in_order, numbered, place_of};
 ghost use Rattle.prefix_table.specs.Parts.{AreStarted, IsLastEntry, IsPositionIn, is_inside, network_in};
-ghost use Rattle.prefix_table.specs.Entries.{IsBuildFault, IsLongestMatch, nesting, shown};
+ghost use Rattle.prefix_table.specs.Entries.{IsBuildFault, IsLongestMatch, IsLongestValue, nesting, shown};
 
 use crate::arranging::arrange;
 use crate::iteration::{Entries, Matches};
 use crate::network::{Address, Network, address_of, last_of};
 use crate::rows::{Row, Rows, network_of, position};
 use crate::sorting::{first_pair, places_of, sorted_rows};
+use crate::values::longest_values;
 use std::alloc::{AllocError, Global};
 use std::marker::Model;
 use std::net::IpAddr;
@@ -203,6 +204,18 @@ impl<V> PrefixTable<V> {
         ensures { IsLongestMatch self.now address.now (option_map shown result) }
     {
         self.longest_match_counted(address).0
+    }
+
+    /// Returns for each address the value of the longest network that covers it, or `None` where none does. Addresses that
+    /// are looked up together take less time each, in a table that no cache holds.
+    pub fn longest_values(
+        &self,
+        alloc: Global,
+        addresses: &[IpAddr],
+    ) -> Result<Vec<Option<&V>>, AllocError>
+        ensures { IfOk result (λ found. AllZip (IsLongestValue self.now) addresses.now found.items) }
+    {
+        longest_values(alloc, &self.rows, &self.values, addresses)
     }
 
     /// Does what `longest_match` does, and returns how many networks it looked at: no more than the binary logarithm of

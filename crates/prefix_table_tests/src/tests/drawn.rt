@@ -133,11 +133,35 @@ fn right(all: &[Drawn], table: &PrefixTable<usize>, count: usize, seed: u64) -> 
     right
 }
 
+// The same where all addresses are looked up by one call.
+fn right_together(
+    alloc: Global,
+    all: &[Drawn],
+    table: &PrefixTable<usize>,
+    count: usize,
+    seed: u64,
+) -> Option<usize> {
+    let (mut addresses, mut state) = (Vec::new(alloc), seed);
+    for _ in 0..count {
+        state = next(state);
+        addresses.push(address_of(state)).ok()?;
+    }
+    let found = table.longest_values(alloc, &addresses).ok()?;
+    let pairs = addresses.iter().zip(&found);
+    Some(
+        pairs
+            .filter(|pair| pair.1.map(|place| *place) == scan(all, pair.0))
+            .count(),
+    )
+}
+
 // The same for a table of networks that are drawn.
 fn compared(alloc: Global, networks: usize, addresses: usize, seed: u64) -> Option<usize> {
     let all = draw_all(alloc, networks, seed)?;
     let table = table_of(alloc, &all)?;
-    Some(right(&all, &table, addresses, seed ^ 0x9e37_79b9))
+    let one_by_one = right(&all, &table, addresses, seed ^ 0x9e37_79b9);
+    let together = right_together(alloc, &all, &table, addresses, seed ^ 0x517c_c1b7)?;
+    Some(one_by_one.min(together))
 }
 
 #[test]

@@ -2,7 +2,7 @@ use Rattle.std.proofs.Common.{◌≡◌, ◌+◌, ◌<◌, ◌≤◌, length, in
 use Rattle.std.specs.List.Sorted.{IsNonDecreasing, IsPartitionPoint}
 use Rattle.prefix_table.specs.Starts.{AreUpwards, IsCount, starts_of}
 use Rattle.prefix_table.proofs.StartLemmas.{count_is_of_four, count_is_of_six, four_rise, six_rise}
-use Rattle.prefix_table.proofs.starts.Starts.count_up_to.Goals as goal
+use Rattle.prefix_table.proofs.starts.Starts.count_near.Goals as goal
 
 pub count_four-requires : goal.count_four-requires
 count_four-requires c =
