@@ -32,7 +32,7 @@ module _ {A B : Type 0} (Is : A → B → Type 0) where
 -- an item of each
 pub items_of_all : {A B : Type 0} (Is : A → B → Type 0) (all : List A) (items : List B) → AllZip Is all items → AreOf Is items all
 items_of_all Is [] [] h = tt
-items_of_all Is [] (item ∷ items) h = tt
+items_of_all Is [] (item ∷ items) h = absurd h
 items_of_all Is (one ∷ all) [] h = tt
 items_of_all Is (one ∷ all) (item ∷ items) h = (h.0, items_of_all Is all items h.1)
 

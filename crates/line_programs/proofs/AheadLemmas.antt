@@ -12,8 +12,10 @@ use Rattle.line_programs.specs.declared.line_tables.Outcome.{Outcome}
 use Rattle.line_programs.specs.declared.line_tables.Outcome.TheVariants.{Found, NotFound, Invalid}
 use Rattle.line_programs.specs.declared.line_tables.Reply.{Reply}
 use Rattle.line_programs.specs.declared.serving.Format.{Format}
+use Rattle.line_programs.specs.declared.serving.Format.TheVariants.{Plain}
 use Rattle.line_programs.specs.declared.serving.Rules.{Rules}
 use Rattle.line_programs.specs.LineTables.{AreLookedUp, IsLookedUp}
+use Rattle.line_programs.specs.Gathered.{AreGathered, AreLinesBefore, reply_line}
 use Rattle.line_programs.specs.Outcomes.{outcome_of, worse, worst}
 use Rattle.line_programs.specs.Served.{Answer, AreFirstAnswered, IsAnswerTo, message_for, messages, shown, shown_answer}
 use Rattle.line_programs.proofs.ServeLemmas.{AreAnsweredSoFar, each-append, outcomes, worst_of_both, worst_of_more}
@@ -47,111 +49,131 @@ valid_of : (t : Bool) → outcome_of t ≢ Invalid
 valid_of true e = absurd cc
 valid_of false e = absurd cc
 
+-- The answers to these lines are these replies.
+record AreAnswersTo (IsReply : List ℕ → List ℕ → Type 0) (Finds AsksForNothing : List ℕ → Type 0) (ls : List (List ℕ)) (replies : List Reply) : Type 0 where
+  answers : List Answer
+  lines_are : map (λ answer. answer.line) answers ≡ ls
+  are : Each (λ answer. IsAnswerTo IsReply Finds AsksForNothing answer.line answer.outcome answer.reply) answers
+  valid : Each (λ outcome. outcome ≢ Invalid) (outcomes answers)
+  outcomes_are : outcomes answers ≡ map (λ reply. outcome_of reply.is_found) replies
+  written : flat_map (shown_answer Plain) answers ≡ flat_map reply_line replies
+  many : length answers ≡ length ls
+
 module _ (IsReply : List ℕ → List ℕ → Type 0) (Finds AsksForNothing : List ℕ → Type 0) where
   -- a reply that was looked up answers its line
   answer_of : (line : List ℕ) (reply : Reply) → IsLookedUp IsReply Finds line reply →
-      IsAnswerTo IsReply Finds AsksForNothing line (outcome_of reply.is_found) (reply.text.now ++ codes "\n")
+      IsAnswerTo IsReply Finds AsksForNothing line (outcome_of reply.is_found) (reply_line reply)
   answer_of line reply h = go reply.is_found h.1
     where
-      go : (t : Bool) → (t ≡ true) ↔ Finds line → IsAnswerTo IsReply Finds AsksForNothing line (outcome_of t) (reply.text.now ++ codes "\n")
+      go : (t : Bool) → (t ≡ true) ↔ Finds line → IsAnswerTo IsReply Finds AsksForNothing line (outcome_of t) (reply_line reply)
       go true found = (found.0 refl, h.0)
       go false found = ((λ finds. absurd (let e = found.1 finds in cc)), h.0)
 
-  module _ (format : Format) where
-    -- The first lines of a text were answered, and what follows them is left; replies to the next ones were looked up.
-    pub record IsAnsweredAhead (replies : List Reply) (text left : List ℕ) (number next : ℕ) (outcome : Outcome)
-        (old new : Option (List ℕ)) : Type 0 where
-      pub answered : (more : List ℕ) →
-          AreFirstAnswered IsReply Finds AsksForNothing format (text ++ more) (Some (left ++ more)) number next outcome old new
-      pub known : (more : List ℕ) → AreLookedUp IsReply Finds replies (lines (left ++ more))
-      pub ends : EndsWith text left
-      pub upwards : number ≤ next
-      pub few : number < 18446744073709551615 → next < 18446744073709551615
+  answers_to : (ls more : List (List ℕ)) (replies others : List Reply) → length ls ≡ length replies →
+      AreLookedUp IsReply Finds (replies ++ others) (ls ++ more) → AreAnswersTo IsReply Finds AsksForNothing ls replies
+  answers_to [] more [] others e h = record {
+    answers = [];
+    lines_are = refl;
+    are = tt;
+    valid = tt;
+    outcomes_are = refl;
+    written = refl;
+    many = refl;
+  }
+  answers_to [] more (reply ∷ replies) others e h = absurd (omega (arith, e))
+  answers_to (line ∷ ls) more [] others e h = absurd (omega (arith, e))
+  answers_to (line ∷ ls) more (reply ∷ replies) others e h =
+      let rest = answers_to ls more replies others (omega (arith, e)) h.1 in
+      record {
+        answers = record { line = line; outcome = outcome_of reply.is_found; reply = reply_line reply } ∷ rest.answers;
+        lines_are = ap (λ xs. line ∷ xs) rest.lines_are;
+        are = (answer_of line reply h.0, rest.are);
+        valid = (valid_of reply.is_found, rest.valid);
+        outcomes_are = ap (λ xs. outcome_of reply.is_found ∷ xs) rest.outcomes_are;
+        written = ap (λ bs. reply_line reply ++ bs) rest.written;
+        many = let m = rest.many in omega arith;
+      }
 
-    pub begins_ahead : (replies : List Reply) (text : List ℕ) (number : ℕ) (old : Option (List ℕ)) →
-        ((more : List ℕ) → AreLookedUp IsReply Finds replies (lines (text ++ more))) →
-        IsAnsweredAhead replies text text number number Found old old
-    begins_ahead replies text number old known = record {
-      answered = λ more. record {
-        answers = [];
-        rest = text ++ more;
+  -- before any line is answered
+  none_first : (format : Format) (text : List ℕ) (number : ℕ) (old : Option (List ℕ)) →
+      AreFirstAnswered IsReply Finds AsksForNothing format text (Some text) number number Found old old
+  none_first format text number old = record {
+    answers = [];
+    rest = text;
+    left_is = refl;
+    lines_are = refl;
+    are = tt;
+    valid = tt;
+    next_is = omega arith;
+    outcome_is = refl;
+    written = appends_none old;
+  }
+
+  pub none_ahead : (format : Format) (text : List ℕ) (number used next : ℕ) (outcome : Outcome) (old : Option (List ℕ)) → used ≡ 0 → next ≡ number →
+      outcome ≡ Found → (more : List ℕ) →
+      AreFirstAnswered IsReply Finds AsksForNothing format (text ++ more) (Some (drop used text ++ more)) number next outcome old old
+  none_ahead format text number used next outcome old u n o more =
+      let Answered : ℕ → ℕ → Outcome → Type 0 = λ used next outcome.
+      AreFirstAnswered IsReply Finds AsksForNothing format (text ++ more) (Some (drop used text ++ more)) number next outcome old old in
+      subst (λ used. Answered used next outcome) (sym u)
+      (subst (λ next. Answered 0 next outcome) (sym n) (subst (Answered 0 number) (sym o) (none_first format (text ++ more) number old)))
+
+  -- once what was gathered is written
+  pub gathered_first : (replies others : List Reply) (count number : ℕ) (outcome : Outcome) (bytes text left : List ℕ) (old new : Option (List ℕ)) →
+      AreLookedUp IsReply Finds replies (lines text) → AreGathered replies others count outcome bytes → AreLinesBefore count text left →
+      Appends old new bytes → AreFirstAnswered IsReply Finds AsksForNothing Plain text (Some left) number (number + count) outcome old new
+  gathered_first replies others count number outcome bytes text left old new known gathered before written =
+      let m = gathered.many in
+      let n = before.many in
+      let a = answers_to before.before (lines left) gathered.first others (omega arith)
+      (subst (λ rs. AreLookedUp IsReply Finds rs (before.before ++ lines left)) gathered.replies_are
+      (subst (AreLookedUp IsReply Finds replies) before.lines_are known)) in
+      record {
+        answers = a.answers;
+        rest = left;
         left_is = refl;
-        lines_are = refl;
-        are = tt;
-        valid = tt;
-        next_is = omega arith;
-        outcome_is = refl;
-        written = appends_none old;
-      };
-      known = known;
-      ends = ([], refl);
-      upwards = omega arith;
-      few = λ h. h;
-    }
+        lines_are = before.lines_are ∙ ap (λ ls. ls ++ lines left) (sym a.lines_are);
+        are = a.are;
+        valid = a.valid;
+        next_is = let k = a.many in omega arith;
+        outcome_is = gathered.outcome_is ∙ ap worst (sym a.outcomes_are);
+        written = subst (Appends old new) (gathered.bytes_are ∙ sym a.written) written;
+      }
 
-    -- one more answer
-    one_more_first : (text rest line others : List ℕ) (reply : Reply) (number next : ℕ) (worst_of outcome worst_now : Outcome) (old now new : Option (List ℕ)) →
-        AreFirstAnswered IsReply Finds AsksForNothing format text (Some rest) number next worst_of old now →
-        lines rest ≡ line ∷ lines others → IsLookedUp IsReply Finds line reply →
-        outcome ≡ outcome_of reply.is_found →
-        Appends now new (shown format line (outcome_of reply.is_found) (reply.text.now ++ codes "\n")) →
-        worst_now ≡ worse worst_of outcome →
-        AreFirstAnswered IsReply Finds AsksForNothing format text (Some others) number (next + 1) worst_now old new
-    one_more_first text rest line others reply number next worst_of outcome worst_now old now new h first is o written e =
-        let Last : Answer = record { line = line; outcome = outcome_of reply.is_found; reply = reply.text.now ++ codes "\n" } in
-        let same : h.rest ≡ rest = (let l = h.left_is in cc) in
-        let outcomes_then = map-append (λ answer. answer.outcome) h.answers (Last ∷ []) in
-        record {
-          answers = h.answers ++ Last ∷ [];
-          rest = others;
-          left_is = refl;
-          lines_are = h.lines_are ∙ ap (λ bs. map (λ answer. answer.line) h.answers ++ lines bs) same
-              ∙ ap (λ ls. map (λ answer. answer.line) h.answers ++ ls) first
-              ∙ sym (append_assoc (map (λ answer. answer.line) h.answers) (line ∷ []) (lines others))
-              ∙ ap (λ ls. ls ++ lines others) (sym (map-append (λ answer. answer.line) h.answers (Last ∷ [])));
-          are = each-append _ h.answers (Last ∷ []) h.are (answer_of line reply is, tt);
-          valid = subst (Each (λ outcome. outcome ≢ Invalid)) (sym outcomes_then)
-              (each-append (λ outcome. outcome ≢ Invalid) (outcomes h.answers) _ h.valid (valid_of reply.is_found, tt));
-          next_is = let n = h.next_is in let l = length-append h.answers (Last ∷ []) in omega arith;
-          outcome_is = e ∙ ap (λ w. worse w outcome) h.outcome_is ∙ ap (worse (worst (outcomes h.answers))) o
-              ∙ sym (worst_of_more (outcomes h.answers) (outcome_of reply.is_found)) ∙ sym (ap worst outcomes_then);
-          written = subst (Appends old new)
-              (sym (flat_map-append (shown_answer format) h.answers (Last ∷ [])
-              ∙ ap (λ bs. flat_map (shown_answer format) h.answers ++ bs) (append-nil (shown_answer format Last))))
-              (appends_more old now new _ _ h.written written);
-        }
+-- ---- gathering
 
-    -- after one more line, whose reply is the first one
-    pub goes_on_ahead : (replies others : List Reply) (first : Option Reply) (reply : Reply) (text left rest line : List ℕ) (number next : ℕ)
-        (worst_of outcome worst_now : Outcome) (old now new : Option (List ℕ)) →
-        IsAnsweredAhead replies text left number next worst_of old now →
-        first ≡ Some reply → replies ≡ option_to_list first ++ others →
-        ((more : List ℕ) → lines (left ++ more) ≡ line ∷ lines (rest ++ more)) → EndsWith left rest → next < 18446744073709551614 →
-        outcome ≡ outcome_of reply.is_found →
-        Appends now new (shown format line (outcome_of reply.is_found) (reply.text.now ++ codes "\n")) →
-        worst_now ≡ worse worst_of outcome →
-        IsAnsweredAhead others text rest number (next + 1) worst_now old new
-    goes_on_ahead replies others first reply text left rest line number next worst_of outcome worst_now old now new h is are first_line ends below o written e =
-        let known : (more : List ℕ) → IsLookedUp IsReply Finds line reply × AreLookedUp IsReply Finds others (lines (rest ++ more)) =
-        (λ more. subst (λ rs. AreLookedUp IsReply Finds rs (line ∷ lines (rest ++ more))) (are ∙ ap (λ o. option_to_list o ++ others) is)
-        (subst (AreLookedUp IsReply Finds replies) (first_line more) (h.known more))) in
-        record {
-          answered = λ more.
-              one_more_first (text ++ more) (left ++ more) line (rest ++ more) reply number next worst_of outcome worst_now old now new
-              (h.answered more) (first_line more) (known more).0 o written e;
-          known = λ more. (known more).1;
-          ends = ends_more text left rest h.ends ends;
-          upwards = let u = h.upwards in omega arith;
-          few = λ few. omega arith;
-        }
+pub none_gathered : (replies : List Reply) (bytes : List ℕ) → bytes ≡ [] → AreGathered replies replies 0 Found bytes
+none_gathered replies bytes e = record { first = []; replies_are = refl; many = refl; bytes_are = e; outcome_is = refl }
 
-    -- what is left, by how many bytes were used
-    pub answered_ahead : (replies : List Reply) (text left : List ℕ) (number next used : ℕ) (outcome : Outcome) (old new : Option (List ℕ)) →
-        IsAnsweredAhead replies text left number next outcome old new → used ≡ length text - length left → (more : List ℕ) →
-        AreFirstAnswered IsReply Finds AsksForNothing format (text ++ more) (Some (drop used text ++ more)) number next outcome old new
-    answered_ahead replies text left number next used outcome old new h u more =
-        subst (λ bs. AreFirstAnswered IsReply Finds AsksForNothing format (text ++ more) (Some (bs ++ more)) number next outcome old new)
-        (sym (ap (λ n. drop n text) u ∙ left_of text left h.ends)) (h.answered more)
+-- one more reply
+pub one_more_gathered : (replies left others : List Reply) (first : Option Reply) (reply : Reply) (count : ℕ) (worst_of outcome worst_now : Outcome)
+    (bytes next : List ℕ) → AreGathered replies left count worst_of bytes → first ≡ Some reply → left ≡ option_to_list first ++ others →
+    next ≡ bytes ++ reply_line reply → outcome ≡ outcome_of reply.is_found → worst_now ≡ worse worst_of outcome →
+    AreGathered replies others (count + 1) worst_now next
+one_more_gathered replies left others first reply count worst_of outcome worst_now bytes next h is are e o w = record {
+  first = h.first ++ reply ∷ [];
+  replies_are = h.replies_are ∙ ap (λ rs. h.first ++ rs) (are ∙ ap (λ o. option_to_list o ++ others) is) ∙ sym (append_assoc h.first (reply ∷ []) others);
+  many = let m = h.many in let l = length-append h.first (reply ∷ []) in omega arith;
+  bytes_are = e ∙ ap (λ bs. bs ++ reply_line reply) h.bytes_are
+      ∙ ap (λ bs. flat_map reply_line h.first ++ bs) (sym (append-nil (reply_line reply)))
+      ∙ sym (flat_map-append reply_line h.first (reply ∷ []));
+  outcome_is = w ∙ ap (λ v. worse v outcome) h.outcome_is ∙ ap (worse (worst (map (λ reply. outcome_of reply.is_found) h.first))) o
+      ∙ sym (worst_of_more (map (λ reply. outcome_of reply.is_found) h.first) (outcome_of reply.is_found))
+      ∙ sym (ap worst (map-append (λ reply. outcome_of reply.is_found) h.first (reply ∷ [])));
+}
+
+-- ---- the lines that are passed
+
+pub none_before : (text : List ℕ) → AreLinesBefore 0 text text
+none_before text = record { before = []; lines_are = refl; many = refl }
+
+pub one_more_before : (count : ℕ) (text left rest line : List ℕ) → AreLinesBefore count text left → lines left ≡ line ∷ lines rest →
+    AreLinesBefore (count + 1) text rest
+one_more_before count text left rest line h first = record {
+  before = h.before ++ line ∷ [];
+  lines_are = h.lines_are ∙ ap (λ ls. h.before ++ ls) first ∙ sym (append_assoc h.before (line ∷ []) (lines rest));
+  many = let m = h.many in let l = length-append h.before (line ∷ []) in omega arith;
+}
 
 -- ---- with what was answered before
 

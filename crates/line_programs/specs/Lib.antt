@@ -9,6 +9,7 @@ pub mod Messages
 pub mod Checked
 pub mod Json
 pub mod Served
+pub mod Gathered
 -- how much of a file was read
 pub mod Progress
 -- writers that remember failures
