@@ -14,7 +14,6 @@ use crate::routes::Routes;
 use line_programs::entries::trimmed_entry;
 use line_programs::line_tables::{LineTable, Outcome, Reply};
 use std::alloc::Global;
-use std::collections::VecDeque;
 use std::io::Write;
 use std::net::IpAddr;
 use std::{io, mem};
@@ -81,7 +80,7 @@ impl LineTable for Table {
         }
     }
 
-    fn look_up(&self, alloc: Global, text: &[u8]) -> VecDeque<Reply<'_>> {
+    fn look_up(&self, alloc: Global, text: &[u8]) -> Vec<Reply<'_>> {
         let addresses = first_addresses(alloc, text);
         replies_to(alloc, &self.routes, &addresses)
     }
@@ -151,26 +150,26 @@ fn first_addresses(alloc: Global, text: &[u8]) -> Vec<IpAddr>
 
 // Returns the replies to lines by their addresses, up to a failed allocation. All are searched before the place of a line is
 // read, and those are read one after another, so that the processor reads the memory of several at once.
-fn replies_to<'a>(alloc: Global, routes: &'a Routes, addresses: &[IpAddr]) -> VecDeque<Reply<'a>>
+fn replies_to<'a>(alloc: Global, routes: &'a Routes, addresses: &[IpAddr]) -> Vec<Reply<'a>>
     ensures { (asked : List (List ℕ)) → AreOf IsIpText addresses.now asked →
         AreLookedUp (IsRouteReply routes.now) (HasAnswer routes.now) result.items asked }
 {
     let Ok(places) = routes.networks.longest_values(alloc, addresses) else {
-        return VecDeque::new(alloc);
+        return Vec::new(alloc);
     };
     replies_at(alloc, &routes.text, &places)
 }
 
 // Returns the replies with the lines at these places, up to a failed allocation.
-fn replies_at<'a>(alloc: Global, text: &'a [u8], places: &[Option<&Place>]) -> VecDeque<Reply<'a>>
+fn replies_at<'a>(alloc: Global, text: &'a [u8], places: &[Option<&Place>]) -> Vec<Reply<'a>>
     requires { All (IsPlaceIn text.now) places.now }
     ensures { AreOf (HasLineAt text.now) result.items places.now }
 {
-    let Ok(mut replies) = VecDeque::with_capacity(alloc, places.len()) else {
-        return VecDeque::new(alloc);
+    let Ok(mut replies) = Vec::with_capacity(alloc, places.len()) else {
+        return Vec::new(alloc);
     };
     for place in places {
-        let Ok(()) = replies.push_back(reply_at(text, *place)) else {
+        let Ok(()) = replies.push(reply_at(text, *place)) else {
             return replies;
         };
     }

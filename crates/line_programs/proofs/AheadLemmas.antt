@@ -1,9 +1,9 @@
 -- Replies that are looked up before the first of them is written.
-use Rattle.std.proofs.Common.{◌≡◌, ◌≢◌, ℕ, suc, ◌+◌, ◌-◌, ◌<◌, ◌≤◌, Bool, true, false, List, [], ◌∷◌, ◌++◌, codes, length, drop, map, flat_map, Option, Some, None, IfSome, refl, ap, sym, ◌∙◌, subst, arith, append-nil, append_assoc, length-append}
-use Rattle.std.specs.Prelude.{◌↔◌, option_to_list}
+use Rattle.std.proofs.Common.{◌≡◌, ◌≢◌, ℕ, suc, ◌+◌, ◌-◌, ◌<◌, ◌≤◌, Bool, true, false, List, [], ◌∷◌, ◌++◌, length, drop, get_or, map, flat_map, Option, Some, None, IfSome, refl, ap, sym, ◌∙◌, subst, arith, append-nil, append_assoc, length-append}
+use Rattle.std.specs.Prelude.{◌↔◌}
 use Rattle.std.specs.Io.KnownBytes.{Appends}
 use Rattle.std.specs.List.{AllByRecursion as Each}
-use Rattle.std.proofs.lemmas.List.{map-append, length-map}
+use Rattle.std.proofs.lemmas.List.{drop_more, map-append, length-map}
 use Rattle.std.proofs.lemmas.List.Concat.{flat_map-append}
 use Rattle.text_lines.specs.Lines.{EndsWith, lines}
 use Rattle.text_lines.proofs.Reading.{IsReadTo}
@@ -17,7 +17,7 @@ use Rattle.line_programs.specs.declared.serving.Rules.{Rules}
 use Rattle.line_programs.specs.LineTables.{AreLookedUp, IsLookedUp}
 use Rattle.line_programs.specs.Gathered.{AreGathered, AreLinesBefore, reply_line}
 use Rattle.line_programs.specs.Outcomes.{outcome_of, worse, worst}
-use Rattle.line_programs.specs.Served.{Answer, AreFirstAnswered, IsAnswerTo, message_for, messages, shown, shown_answer}
+use Rattle.line_programs.specs.Served.{Answer, AreFirstAnswered, IsAnswerTo, message_for, messages, shown_answer}
 use Rattle.line_programs.proofs.ServeLemmas.{AreAnsweredSoFar, each-append, outcomes, worst_of_both, worst_of_more}
 
 -- ---- bytes
@@ -146,21 +146,23 @@ pub none_gathered : (replies : List Reply) (bytes : List ℕ) → bytes ≡ [] �
 none_gathered replies bytes e = record { first = []; replies_are = refl; many = refl; bytes_are = e; outcome_is = refl }
 
 -- one more reply
-pub one_more_gathered : (replies left others : List Reply) (first : Option Reply) (reply : Reply) (count : ℕ) (worst_of outcome worst_now : Outcome)
-    (bytes next : List ℕ) → AreGathered replies left count worst_of bytes → first ≡ Some reply → left ≡ option_to_list first ++ others →
+pub one_more_gathered : (replies : List Reply) (index count : ℕ) (default reply : Reply) (worst_of outcome worst_now : Outcome) (bytes next : List ℕ) →
+    index < length replies → reply ≡ get_or replies index default → AreGathered replies (drop index replies) count worst_of bytes →
     next ≡ bytes ++ reply_line reply → outcome ≡ outcome_of reply.is_found → worst_now ≡ worse worst_of outcome →
-    AreGathered replies others (count + 1) worst_now next
-one_more_gathered replies left others first reply count worst_of outcome worst_now bytes next h is are e o w = record {
-  first = h.first ++ reply ∷ [];
-  replies_are = h.replies_are ∙ ap (λ rs. h.first ++ rs) (are ∙ ap (λ o. option_to_list o ++ others) is) ∙ sym (append_assoc h.first (reply ∷ []) others);
-  many = let m = h.many in let l = length-append h.first (reply ∷ []) in omega arith;
-  bytes_are = e ∙ ap (λ bs. bs ++ reply_line reply) h.bytes_are
-      ∙ ap (λ bs. flat_map reply_line h.first ++ bs) (sym (append-nil (reply_line reply)))
-      ∙ sym (flat_map-append reply_line h.first (reply ∷ []));
-  outcome_is = w ∙ ap (λ v. worse v outcome) h.outcome_is ∙ ap (worse (worst (map (λ reply. outcome_of reply.is_found) h.first))) o
-      ∙ sym (worst_of_more (map (λ reply. outcome_of reply.is_found) h.first) (outcome_of reply.is_found))
-      ∙ sym (ap worst (map-append (λ reply. outcome_of reply.is_found) h.first (reply ∷ [])));
-}
+    AreGathered replies (drop (index + 1) replies) (count + 1) worst_now next
+one_more_gathered replies index count default reply worst_of outcome worst_now bytes next below is h e o w =
+    let left = drop_more replies index default below ∙ ap (λ r. r ∷ drop (index + 1) replies) (sym is) in
+    record {
+      first = h.first ++ reply ∷ [];
+      replies_are = h.replies_are ∙ ap (λ rs. h.first ++ rs) left ∙ sym (append_assoc h.first (reply ∷ []) (drop (index + 1) replies));
+      many = let m = h.many in let l = length-append h.first (reply ∷ []) in omega arith;
+      bytes_are = e ∙ ap (λ bs. bs ++ reply_line reply) h.bytes_are
+          ∙ ap (λ bs. flat_map reply_line h.first ++ bs) (sym (append-nil (reply_line reply)))
+          ∙ sym (flat_map-append reply_line h.first (reply ∷ []));
+      outcome_is = w ∙ ap (λ v. worse v outcome) h.outcome_is ∙ ap (worse (worst (map (λ reply. outcome_of reply.is_found) h.first))) o
+          ∙ sym (worst_of_more (map (λ reply. outcome_of reply.is_found) h.first) (outcome_of reply.is_found))
+          ∙ sym (ap worst (map-append (λ reply. outcome_of reply.is_found) h.first (reply ∷ [])));
+    }
 
 -- ---- the lines that are passed
 

@@ -6,13 +6,12 @@ ghost use Rattle.text_lines.specs.Lines.{EndsWith};
 ghost use Rattle.line_programs.specs.declared.line_tables.Reply.{Reply};
 ghost use Rattle.line_programs.specs.declared.line_tables.Outcome.TheVariants.{Found};
 ghost use Rattle.line_programs.specs.declared.serving.Format.TheVariants.{Plain};
-ghost use Rattle.line_programs.specs.Gathered.{AreGathered, AreLinesBefore};
+ghost use Rattle.line_programs.specs.Gathered.{AreGathered, AreLinesBefore, reply_line};
 ghost use Rattle.line_programs.specs.Served.{AreFirstAnswered};
 
 use crate::line_tables::{LineTable, Outcome, Reply};
 use crate::serving::Format;
-use std::alloc::Global;
-use std::collections::VecDeque;
+use std::alloc::{AllocError, Global};
 use std::io;
 use std::io::{BufRead, BufReader, Read, Write};
 use text_lines::lines::{first_line, write_out};
@@ -115,7 +114,7 @@ fn answer_plainly<T: LineTable, W: Write>(
     ensures few { IfOk result (λ ahead. ahead.next < 2 ^ 64 - 1) }
 {
     let replies = table.look_up(alloc, text);
-    let Some(gathered) = gather(replies, buffer) else {
+    let Some(gathered) = gather(&replies, buffer) else {
         return Ok(none_answered(number));
     };
     let Some(left) = after_lines(text, gathered.count) else {
@@ -139,28 +138,34 @@ struct Gathered {
 }
 
 // Writes the first replies to a buffer, in the place of what it has; `None` if an allocation fails.
-fn gather(mut replies: VecDeque<Reply<'_>>, buffer: &mut Vec<u8>) -> Option<Gathered>
+fn gather(replies: &[Reply<'_>], buffer: &mut Vec<u8>) -> Option<Gathered>
     ensures gathered { IfSome result (λ gathered. (others : List Reply) ×
-        AreGathered replies.entry.items others gathered.count gathered.worst buffer.new.items) }
+        AreGathered replies.now others gathered.count gathered.worst buffer.new.items) }
     ensures few { IfSome result (λ gathered. gathered.count ≤ 2 ^ 16) }
 {
     buffer.clear();
     let mut count = 0;
     let mut worst = Outcome::Found;
-    while count < MOST_REPLIES {
-        if buffer.len() >= MOST_BYTES {
+    for reply in replies {
+        if count == MOST_REPLIES || buffer.len() >= MOST_BYTES {
             break;
         }
-        let Some(reply) = replies.pop_front() else {
-            break;
-        };
-        let Ok(outcome) = reply.write(buffer) else {
+        let Ok(()) = append(*reply, buffer) else {
             return None;
         };
-        worst = worst.worse(outcome);
+        worst = worst.worse(reply.outcome());
         count += 1;
     }
     Some(Gathered { count, worst })
+}
+
+// Appends a reply with its line feed.
+fn append(reply: Reply<'_>, buffer: &mut Vec<u8>) -> Result<(), AllocError>
+    ensures { OnOk result (buffer.new.items ≡ buffer.old.items ++ reply_line reply.entry) }
+{
+    buffer.extend_from_slice(reply.text)?;
+    buffer.push(b'\n')?;
+    Ok(())
 }
 
 // Returns what is after the first lines of a text, so many as asked for; `None` if a line feed ends fewer.

@@ -7,7 +7,6 @@ ghost use Rattle.line_programs.specs.LineTables.{AreLookedUp, IsFaultIn, IsTried
 ghost use Rattle.line_programs.specs.Outcomes.{outcome_of, status, worse};
 
 use std::alloc::Global;
-use std::collections::VecDeque;
 use std::io;
 use std::io::Write;
 
@@ -56,6 +55,17 @@ pub struct Reply<'a> {
 }
 
 impl Reply<'_> {
+    /// Returns whether the table has something for the line.
+    pub fn outcome(self) -> Outcome
+        ensures { result ≡ outcome_of self.entry.is_found }
+    {
+        if self.is_found {
+            Outcome::Found
+        } else {
+            Outcome::NotFound
+        }
+    }
+
     /// Writes the reply, and returns whether the table has something for the line.
     pub fn write<W: Write>(self, output: &mut W) -> io::Result<Outcome>
         ensures written { OnOk result (Appends (W.contents output.old) (W.contents output.new)
@@ -64,11 +74,7 @@ impl Reply<'_> {
     {
         output.write_all(self.text)?;
         output.write_all(b"\n")?;
-        if self.is_found {
-            Ok(Outcome::Found)
-        } else {
-            Ok(Outcome::NotFound)
-        }
+        Ok(self.outcome())
     }
 }
 
@@ -137,12 +143,12 @@ pub trait LineTable {
     /// Looks up replies to the first lines of a text, so that the memory of several replies is read at once: at most to
     /// the lines that a line feed ends, and up to the first one that asks for nothing. The text goes on with bytes that are
     /// not read yet. By default there are none.
-    fn look_up(&self, alloc: Global, text: &[u8]) -> VecDeque<Reply<'_>>
+    fn look_up(&self, alloc: Global, text: &[u8]) -> Vec<Reply<'_>>
         ensures { (more : List ℕ) →
             AreLookedUp (IsReplyTo self.now) (Finds self.now) result.items (lines (text.now ++ more)) }
     {
         let _text = text;
-        VecDeque::new(alloc)
+        Vec::new(alloc)
     }
 
     /// Returns whether an entry is at fault, and not an allocation.

@@ -9,12 +9,12 @@ loop-place-init c = are_begun (HasLineAt c.args.text.now) c.args.places.now c.in
 pub loop-place-preserved : goal.loop-place-preserved
 loop-place-preserved c =
     one_more_at (HasLineAt c.args.text.now) c.args.places.now c.loop-place.place-index _ c.loop-place.replies.items
-    c.push_back.new.self.items c.reply_at.result c.loop-place-test.true c.loop-place.invariant c.reply_at.ensures c.in-Ok-push_back.ensures.items
+    c.push.new.self.items c.reply_at.result c.loop-place-test.true c.loop-place.invariant c.reply_at.ensures c.in-Ok-push.ensures.items
 
-pub returns-in_default-push_back : goal.returns-in_default-push_back
-returns-in_default-push_back c =
+pub returns-in_default-push : goal.returns-in_default-push
+returns-in_default-push c =
     are_items (HasLineAt c.args.text.now) c.args.places.now (drop c.loop-place.place-index c.args.places.now)
-    c.loop-place.replies.items c.push_back.new.self.items c.loop-place.invariant c.in_default-push_back.ensures.items
+    c.loop-place.replies.items c.push.new.self.items c.loop-place.invariant c.in_default-push.ensures.items
 
 pub returns : goal.returns
 returns c =

@@ -1,6 +1,8 @@
 use Rattle.std.proofs.Common.{◌+◌, ◌++◌, Some, sym, subst}
 use Rattle.std.specs.Io.KnownBytes.{Appends}
 use Rattle.line_programs.specs.declared.serving.Format.TheVariants.{Plain}
+use Rattle.text_lines.specs.Lines.{lines}
+use Rattle.line_programs.specs.LineTables.{AreLookedUp}
 use Rattle.line_programs.specs.Served.{AreFirstAnswered}
 use Rattle.line_programs.proofs.AheadLemmas.{gathered_first, left_of, none_ahead}
 use Rattle.line_programs.proofs.ahead.answer_plainly.Goals as goal
@@ -31,6 +33,8 @@ returns-clause-answered g c = λ more.
     (text ++ more) (Some (bs ++ more)) c.args.number (c.args.number + gathered.count) gathered.worst old new)
     (sym (left_of text left c.in-Some-after_lines.ensures.ends))
     (gathered_first (g.T.LineTable.IsReplyTo c.args.table.now) (g.T.LineTable.Finds c.args.table.now) g.T.LineTable.AsksForNothing
-    c.look_up-replies.result.items others gathered.count c.args.number gathered.worst c.gather.new.buffer.items (text ++ more) (left ++ more) old new
-    (c.look_up-replies.ensures more) first (c.in-Some-after_lines.ensures.lines more)
-    (subst (Appends old new) c.deref.ensures.value c.in_ok-write_all.ensures.bytes))
+    c.deref.result.now others gathered.count c.args.number gathered.worst c.gather.new.buffer.items (text ++ more) (left ++ more) old new
+    (subst (λ replies. AreLookedUp (g.T.LineTable.IsReplyTo c.args.table.now) (g.T.LineTable.Finds c.args.table.now) replies (lines (text ++ more)))
+    (sym c.deref.ensures.value) (c.look_up-replies.ensures more))
+    first (c.in-Some-after_lines.ensures.lines more)
+    (subst (Appends old new) c.deref-2.ensures.value c.in_ok-write_all.ensures.bytes))

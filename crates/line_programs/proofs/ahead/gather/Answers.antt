@@ -1,21 +1,19 @@
-use Rattle.std.proofs.Common.{arith}
+use Rattle.std.proofs.Common.{refl, arith}
 use Rattle.line_programs.proofs.AheadLemmas.{none_gathered, one_more_gathered}
 use Rattle.line_programs.proofs.ahead.gather.Goals as goal
 
-pub loop-count-init : goal.loop-count-init
-loop-count-init c = record {
-  gathered = none_gathered c.args.replies.items c.clear.new.self.items c.clear.ensures.items;
+pub loop-reply-init : goal.loop-reply-init
+loop-reply-init c = record {
+  gathered = none_gathered c.args.replies.now c.clear.new.self.items c.clear.ensures.items;
   few = omega arith;
 }
 
-pub loop-count-preserved : goal.loop-count-preserved
-loop-count-preserved c = record {
-  gathered =
-      one_more_gathered c.args.replies.items c.loop-count.replies.items c.pop_front.new.self.items c.pop_front.result c.in-Some.reply
-      c.loop-count.count c.loop-count.worst c.in-Ok.outcome c.worse-worst.result c.loop-count.buffer.items c.write.new.output.items
-      c.loop-count.invariant.gathered c.in-Some.is c.pop_front.ensures.items c.in-Ok.ensures.written c.in-Ok.ensures.outcome c.worse-worst.ensures;
-  few = let some = c.loop-count-test.true in omega arith;
-}
-
-pub returns-clause-few : goal.returns-clause-few
-returns-clause-few c = c.loop-count.invariant.few
+pub loop-reply-preserved : goal.loop-reply-preserved
+loop-reply-preserved c =
+    let l = c.loop-reply in
+    record {
+      gathered =
+          one_more_gathered c.args.replies.now l.reply-index l.count _ _ l.worst c.outcome.result c.worse-worst.result l.buffer.items
+          c.append.new.buffer.items c.loop-reply-test.true refl l.invariant.gathered c.in-Ok.ensures c.outcome.ensures c.worse-worst.ensures;
+      few = let few = l.invariant.few in omega arith;
+    }

@@ -1,12 +1,10 @@
-use Rattle.std.proofs.Common.{◌-◌, ◌≤◌}
+use Rattle.std.proofs.Common.{◌≤◌, drop}
 use Rattle.line_programs.specs.Gathered.{AreGathered}
 use Rattle.line_programs.proofs.ahead.gather.Given as goal
 
-abbrev pub invariant-loop-count : goal.invariant-loop-count
-invariant-loop-count l = record {
-  gathered : AreGathered l.initial.replies.items l.replies.items l.count l.worst l.buffer.items;
+-- the replies before this one are gathered
+abbrev pub invariant-loop-reply : goal.invariant-loop-reply
+invariant-loop-reply l = record {
+  gathered : AreGathered l.replies (drop l.reply-index l.replies) l.count l.worst l.buffer.items;
   few : l.count ≤ 65536;
 }
-
-abbrev pub decreases-loop-count : goal.decreases-loop-count
-decreases-loop-count l = 65536 - l.count
