@@ -9,4 +9,4 @@ pub mod Passed
 pub mod Walked
 pub mod Faulty
 pub mod Turns
-pub mod Below
+pub mod Traversals

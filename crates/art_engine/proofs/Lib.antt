@@ -2,7 +2,7 @@ mod Numbers
 mod KeyLemmas
 mod KeyWords
 mod Requests
-mod Subtrees
+mod NodesBelow
 mod SingleReplies
 mod Walks
 mod ShownKeys

@@ -4,8 +4,8 @@ use Rattle.std.specs.Box.{boxed_slice_items}
 use Rattle.std.specs.Fmt.{decimal}
 use Rattle.art_engine.specs.KeyTexts.{key_word}
 use Rattle.art_engine.specs.KeptKeys.{Key}
-use Rattle.art_reading.specs.declared.descent.End.{End}
-use Rattle.art_reading.specs.declared.descent.End.TheVariants.{First, Last}
+use Rattle.art_reading.specs.declared.lookup.descent.End.{End}
+use Rattle.art_reading.specs.declared.lookup.descent.End.TheVariants.{First, Last}
 use Rattle.art_engine.specs.declared.pairs.Order.{Order}
 use Rattle.art_engine.specs.declared.pairs.Order.TheVariants.{Rising, Falling}
 use Rattle.art_operations.specs.declared.well_formed.WellFormedTreeStats.{WellFormedTreeStats}

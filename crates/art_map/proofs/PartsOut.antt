@@ -8,7 +8,7 @@ use Rattle.art_model.proofs.lists.Filters.{filter_all, filter_passes, none_passe
 use Rattle.art_model.proofs.keys.Keys.{front_same, same_equal}
 use Rattle.art_model.proofs.lists.Lists.{Each-weaker}
 use Rattle.art_model.proofs.pairs.MapLaws.{first_is_removed_by_key}
-use Rattle.art_writing.specs.Subtrees.{HasPrefixBelow, LeadsToNode, pairs_beside}
+use Rattle.art_writing.specs.SubtreePoints.{HasPrefixBelow, LeadsToNode, pairs_beside}
 use Rattle.art_writing.specs.declared.delete.subtree.SubtreeDeletePoint.{SubtreeDeletePoint}
 use Rattle.art_map.specs.MapPairs.{HoldsPairs}
 use Rattle.art_map.proofs.Puts.{HasTreeAt}

@@ -11,7 +11,7 @@ pub mod IntoRoom
 pub mod OutOf
 pub mod Compressed
 pub mod Emptied
-pub mod Branches
+pub mod PlacedBranches
 pub mod IntoLeaf
 pub mod IntoHole
 pub mod AddedChild

@@ -7,4 +7,4 @@ pub mod OnWay
 pub mod Edges
 pub mod Trails
 pub mod InHole
-pub mod Subtrees
+pub mod TrailEnds

@@ -37,7 +37,7 @@ pub use Rattle.art_loading.specs.Edges
 pub use Rattle.art_building.specs.Pushes
 -- deletion
 pub use Rattle.art_writing.specs.Deleted
-pub use Rattle.art_writing.specs.Subtrees
+pub use Rattle.art_writing.specs.SubtreePoints
 -- visitors, and faults of a store
 pub use Rattle.art_checking.specs.Folds
 pub use Rattle.art_model.specs.Faults

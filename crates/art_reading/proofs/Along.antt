@@ -4,8 +4,8 @@ use Rattle.std.specs.FinMap as map
 use Rattle.art_model.specs.Prelude.{Inner, leaf_name, Nodes, LeafPtr, InnerPtr, OpaqueNodePtr, Tree, no_child, node_at, height, Frame, IsFullTree}
 use Rattle.art_model.proofs.places.Edges.{AreFirst, AreLast, IsAtEdge, edge_start, edge_down, first_child, last_child, first_leaf, last_leaf}
 use Rattle.art_model.proofs.stores.Shown.{IsShown}
-use Rattle.art_reading.specs.declared.descent.End.{End}
-use Rattle.art_reading.specs.declared.descent.End.TheVariants.{First, Last}
+use Rattle.art_reading.specs.declared.lookup.descent.End.{End}
+use Rattle.art_reading.specs.declared.lookup.descent.End.TheVariants.{First, Last}
 use Rattle.art_reading.specs.declared.path.TreePath.{TreePath}
 use Rattle.art_reading.specs.declared.path.TreePath.TheVariants.{Root}
 use Rattle.art_reading.specs.PathSteps.{step_down, path_of}

@@ -11,8 +11,8 @@ use Rattle.art_model.proofs.radix.Parts.{where_after, where_all, where_before, w
 use Rattle.art_model.proofs.places.Paths.{leaf_names-plug}
 use Rattle.art_reading.specs.declared.range.Cut.{Cut}
 use Rattle.art_reading.specs.declared.range.Cut.TheVariants.{Before, After}
-use Rattle.art_reading.specs.declared.descent.End.{End}
-use Rattle.art_reading.specs.declared.descent.End.TheVariants.{First, Last}
+use Rattle.art_reading.specs.declared.lookup.descent.End.{End}
+use Rattle.art_reading.specs.declared.lookup.descent.End.TheVariants.{First, Last}
 use Rattle.art_reading.specs.PartEnds.{IsLeafAtCut, StandsBeside, is_before_cut}
 use Rattle.art_reading.specs.Descents.{of_two}
 use Rattle.art_reading.proofs.Iterators.{linked_leaf}

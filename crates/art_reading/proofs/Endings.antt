@@ -5,10 +5,10 @@ use Rattle.std.proofs.lemmas.Bool.{le-ltb, lt-ltb, false≢true}
 use Rattle.std.proofs.lemmas.List.{drop-append-le, get_or_append_left, take_rest}
 use Rattle.std.proofs.lemmas.Option.{get_or_from_slice_get, slice_get_cases}
 use Rattle.art_model.specs.Prelude.{Inner, child_at, Prefix, OpaqueNodePtr, IsFront, common_front}
-use Rattle.art_reading.specs.declared.matching.PrefixMatchBehavior.{PrefixMatchBehavior}
-use Rattle.art_reading.specs.declared.matching.PrefixMatchBehavior.TheVariants.{Pessimistic, Optimistic}
-use Rattle.art_reading.specs.declared.matching.Step.{Step}
-use Rattle.art_reading.specs.declared.matching.Step.TheVariants.{AtEnd, Nowhere}
+use Rattle.art_reading.specs.declared.lookup.matching.PrefixMatchBehavior.{PrefixMatchBehavior}
+use Rattle.art_reading.specs.declared.lookup.matching.PrefixMatchBehavior.TheVariants.{Pessimistic, Optimistic}
+use Rattle.art_reading.specs.declared.lookup.matching.Step.{Step}
+use Rattle.art_reading.specs.declared.lookup.matching.Step.TheVariants.{AtEnd, Nowhere}
 use Rattle.art_reading.specs.Matching.{HasRest, LeadsTo, LeafKeyIsPrefix, behavior_after, child_below, compared_from, prefix_match}
 
 -- what is shared with a longer list

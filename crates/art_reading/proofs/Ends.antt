@@ -12,11 +12,11 @@ use Rattle.art_model.proofs.lists.Lists.{after_front, front_trans}
 use Rattle.art_model.proofs.keys.Keys.{front_from, front_is, front_same, same_equal}
 use Rattle.art_nodes.specs.Nodes.{Nodes}
 use Rattle.art_parts.specs.declared.names.OpaqueNodePtr.{OpaqueNodePtr}
-use Rattle.art_reading.specs.declared.matching.Asked.{Asked}
-use Rattle.art_reading.specs.declared.matching.Asked.TheVariants.{Same, Front}
-use Rattle.art_reading.specs.declared.descent.LastLeaf.{LastLeaf}
-use Rattle.art_reading.specs.declared.matching.PrefixMatchBehavior.{PrefixMatchBehavior}
-use Rattle.art_reading.specs.declared.matching.PrefixMatchBehavior.TheVariants.{Pessimistic, Optimistic}
+use Rattle.art_reading.specs.declared.lookup.matching.Asked.{Asked}
+use Rattle.art_reading.specs.declared.lookup.matching.Asked.TheVariants.{Same, Front}
+use Rattle.art_reading.specs.declared.lookup.descent.LastLeaf.{LastLeaf}
+use Rattle.art_reading.specs.declared.lookup.matching.PrefixMatchBehavior.{PrefixMatchBehavior}
+use Rattle.art_reading.specs.declared.lookup.matching.PrefixMatchBehavior.TheVariants.{Pessimistic, Optimistic}
 use Rattle.art_reading.specs.Matching.{compared_from, MatchesLeafKey, LeafKeyIsPrefix}
 use Rattle.art_reading.specs.Stored.{ComparesAll}
 use Rattle.art_reading.specs.Descents.{CountsVisitsFrom, IsAskedFor, IsLastLeaf, IsOnlyLeaf, WalkEnds, asked_of}

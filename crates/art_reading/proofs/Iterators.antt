@@ -7,8 +7,8 @@ use Rattle.art_model.proofs.leaves.Links.{link_of}
 use Rattle.art_model.proofs.lists.Lists.{each_from, each_in}
 use Rattle.art_model.proofs.lists.Pairwises.{Pairwise-in}
 use Rattle.art_model.proofs.leaves.Segments.{but_last, last_of_in, empty_segment, segment-frame, segment_rest, segment_front, tree_segment}
-use Rattle.art_reading.specs.declared.descent.End.{End}
-use Rattle.art_reading.specs.declared.descent.End.TheVariants.{First, Last}
+use Rattle.art_reading.specs.declared.lookup.descent.End.{End}
+use Rattle.art_reading.specs.declared.lookup.descent.End.TheVariants.{First, Last}
 use Rattle.art_reading.specs.Iterators.{GoesOn, IsIteratorOf, TakesEnd, WalksWhole}
 use Rattle.art_reading.specs.Descents.{of_two}
 

@@ -1,5 +1,5 @@
 pub mod Blocks
-pub mod Counts
+pub mod Readings
 pub mod Iterators
 pub mod Rests
 pub mod Outcomes
@@ -10,10 +10,10 @@ pub mod Ends
 pub mod Along
 pub mod Descents
 pub mod Left
-pub mod Below
+pub mod PrefixDescents
 pub mod Parts
 pub mod Sides
-pub mod Beside
+pub mod NeighbourDescents
 pub mod Cuts
 pub mod Spans
 pub mod Bounds

@@ -33,8 +33,8 @@ use Rattle.art_model.specs.Texts.{AreEnded, IsEndedBy, texts_in_front, text_of}
 use Rattle.art_model.specs.Lookups.{FindsLast}
 use Rattle.art_reading.specs.ShortTexts.{IsSought}
 use Rattle.art_reading.specs.TextWays.{EndsAt, EndsWalk, IsCovering, leaf_of_end}
-use Rattle.art_reading.specs.declared.descent.End.{End}
-use Rattle.art_reading.specs.declared.descent.End.TheVariants.{Last}
+use Rattle.art_reading.specs.declared.lookup.descent.End.{End}
+use Rattle.art_reading.specs.declared.lookup.descent.End.TheVariants.{Last}
 use Rattle.art_reading.specs.declared.lookup.texts.TextEnd.{TextEnd}
 use Rattle.art_reading.specs.declared.lookup.texts.TextEnd.TheVariants.{Passed, Whole}
 use Rattle.art_model.proofs.keys.Texts.{ended_text, front_short, fronts_first, not_front, true_front}

@@ -9,8 +9,8 @@ use Rattle.art_model.proofs.places.Places.{place_is}
 use Rattle.art_model.proofs.keys.Fronts.{shared_whole, whole_shared}
 use Rattle.art_model.proofs.places.OnWay.{none_match, AreAside, aside_others, aside_off, aside_end, aside_pairs, aside_places, pairs_between, places_between, child_under, no_child_under, front_byte}
 use Rattle.art_model.proofs.stores.Shown.{IsShown}
-use Rattle.art_reading.specs.declared.matching.PrefixMatchBehavior.{PrefixMatchBehavior}
-use Rattle.art_reading.specs.declared.matching.PrefixMatchBehavior.TheVariants.{Pessimistic}
+use Rattle.art_reading.specs.declared.lookup.matching.PrefixMatchBehavior.{PrefixMatchBehavior}
+use Rattle.art_reading.specs.declared.lookup.matching.PrefixMatchBehavior.TheVariants.{Pessimistic}
 use Rattle.art_reading.specs.declared.path.TreePath.{TreePath}
 use Rattle.art_reading.specs.Matching.{shared_len}
 use Rattle.art_reading.specs.PathSteps.{step_down, path_of}

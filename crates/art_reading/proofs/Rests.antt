@@ -3,8 +3,8 @@ use Rattle.std.proofs.Common.{◌≡◌, ◌≢◌, ◌∙◌, ℕ, ◌-◌, ◌
 use Rattle.std.proofs.lemmas.List.{take_rest}
 use Rattle.art_model.specs.Prelude.{IsFront}
 use Rattle.art_reading.specs.Matching.{MatchesLeafKey, compared_from}
-use Rattle.art_reading.specs.declared.matching.PrefixMatchBehavior.{PrefixMatchBehavior}
-use Rattle.art_reading.specs.declared.matching.PrefixMatchBehavior.TheVariants.{Optimistic, Pessimistic}
+use Rattle.art_reading.specs.declared.lookup.matching.PrefixMatchBehavior.{PrefixMatchBehavior}
+use Rattle.art_reading.specs.declared.lookup.matching.PrefixMatchBehavior.TheVariants.{Optimistic, Pessimistic}
 
 -- the slice from a place on
 abbrev from_on : ℕ → List ℕ → List ℕ

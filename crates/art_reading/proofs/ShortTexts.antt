@@ -19,7 +19,7 @@ use Rattle.art_model.proofs.lists.Lists.{Each-left, Each-weaker, filter_none, fr
 use Rattle.art_model.proofs.lists.Pairwises.{Pairwise-before}
 use Rattle.art_reading.specs.ShortTexts.{FindsFirst, IsSought, texts_from}
 use Rattle.art_reading.specs.TextWays.{EndsWalk, IsCovering}
-use Rattle.art_reading.specs.declared.descent.End.TheVariants.{First}
+use Rattle.art_reading.specs.declared.lookup.descent.End.TheVariants.{First}
 use Rattle.art_reading.proofs.LongestTexts.{around, at_leaf}
 
 module _ {A : Type 0} (bytes : A → List ℕ) (query : List ℕ) (at_least : ℕ) where

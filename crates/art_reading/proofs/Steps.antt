@@ -23,8 +23,8 @@ use Rattle.art_model.specs.Canonical.{IsCanonicalTree}
 use Rattle.art_model.proofs.stores.Stores.{path_holds}
 use Rattle.art_model.proofs.stores.Canonical.{tree_radix}
 use Rattle.art_model.proofs.stores.Shown.{IsShown, IsThere, inner_met, leaf_shown, shown_met}
-use Rattle.art_reading.specs.declared.descent.LastLeaf.{LastLeaf}
-use Rattle.art_reading.specs.declared.matching.PrefixMatchBehavior.{PrefixMatchBehavior}
+use Rattle.art_reading.specs.declared.lookup.descent.LastLeaf.{LastLeaf}
+use Rattle.art_reading.specs.declared.lookup.matching.PrefixMatchBehavior.{PrefixMatchBehavior}
 use Rattle.art_reading.specs.declared.path.AttemptOptimisticPrefixMatch.{AttemptOptimisticPrefixMatch}
 use Rattle.art_reading.specs.declared.path.PessimisticMismatch.{PessimisticMismatch}
 use Rattle.art_reading.specs.declared.path.TreePath.{TreePath}

@@ -38,8 +38,8 @@ use Rattle.art_reading.proofs.Descents.{IsDescent, start, stands_there, shown_ra
 use Rattle.art_model.specs.Texts.{AreEnded, IsEndedBy, text_of}
 use Rattle.art_reading.specs.ShortTexts.{IsSought}
 use Rattle.art_reading.specs.TextWays.{EndsAt, EndsWalk, IsKept, IsLeafOr, IsTextStep}
-use Rattle.art_reading.specs.declared.descent.End.{End}
-use Rattle.art_reading.specs.declared.descent.End.TheVariants.{First, Last}
+use Rattle.art_reading.specs.declared.lookup.descent.End.{End}
+use Rattle.art_reading.specs.declared.lookup.descent.End.TheVariants.{First, Last}
 use Rattle.art_reading.specs.declared.lookup.texts.TextEnd.{TextEnd}
 use Rattle.art_reading.specs.declared.lookup.texts.TextEnd.TheVariants.{Whole}
 use Rattle.art_model.proofs.keys.Texts.{ended_text, front_in_text, front_of_fronts, front_short, goes_within, mark_ends}

@@ -10,15 +10,15 @@ use Rattle.art_model.specs.Pairs.{match_of, with_key}
 use Rattle.art_model.specs.Roots.{ForTree}
 use Rattle.art_model.specs.Stores.{pair_of}
 use Rattle.art_model.specs.Trees.{Tree}
-use Rattle.art_reading.specs.declared.descent.FoundLeaf.{FoundLeaf}
-use Rattle.art_reading.specs.declared.descent.LastLeaf.{LastLeaf}
-use Rattle.art_reading.specs.declared.matching.PrefixMatchBehavior.{PrefixMatchBehavior}
-use Rattle.art_reading.specs.declared.matching.PrefixMatchBehavior.TheVariants.{Pessimistic}
-use Rattle.art_reading.specs.declared.matching.Asked.{Asked}
-use Rattle.art_reading.specs.declared.matching.Asked.TheVariants.{Same, Front}
+use Rattle.art_reading.specs.declared.lookup.descent.FoundLeaf.{FoundLeaf}
+use Rattle.art_reading.specs.declared.lookup.descent.LastLeaf.{LastLeaf}
+use Rattle.art_reading.specs.declared.lookup.matching.PrefixMatchBehavior.{PrefixMatchBehavior}
+use Rattle.art_reading.specs.declared.lookup.matching.PrefixMatchBehavior.TheVariants.{Pessimistic}
+use Rattle.art_reading.specs.declared.lookup.matching.Asked.{Asked}
+use Rattle.art_reading.specs.declared.lookup.matching.Asked.TheVariants.{Same, Front}
 use Rattle.art_reading.specs.Matching.{MatchesLeafKey, LeafKeyIsPrefix}
-use Rattle.art_reading.specs.declared.descent.End.{End}
-use Rattle.art_reading.specs.declared.descent.End.TheVariants.{First, Last}
+use Rattle.art_reading.specs.declared.lookup.descent.End.{End}
+use Rattle.art_reading.specs.declared.lookup.descent.End.TheVariants.{First, Last}
 use Rattle.art_reading.specs.declared.path.TreePath.{TreePath}
 use Rattle.art_reading.specs.PathSteps.{path_of}
 use Rattle.art_reading.specs.Stored.{ComparesAll}

@@ -13,8 +13,8 @@ use Rattle.art_model.specs.Pairs.{first_of, last_of, without_first, without_last
 use Rattle.art_model.specs.Segments.{IsSegment}
 use Rattle.art_model.specs.Stores.{links_at}
 use Rattle.art_model.specs.Trees.{Tree}
-use Rattle.art_reading.specs.declared.descent.End.{End}
-use Rattle.art_reading.specs.declared.descent.End.TheVariants.{First, Last}
+use Rattle.art_reading.specs.declared.lookup.descent.End.{End}
+use Rattle.art_reading.specs.declared.lookup.descent.End.TheVariants.{First, Last}
 
 -- the list is from the first to the last of these leaves, and is empty where there are none
 abbrev pub HasEnds : Option (LeafPtr × LeafPtr) → List OpaqueNodePtr → Type 0

@@ -5,10 +5,10 @@ use Rattle.std.specs.Option.{option_map}
 use Rattle.art_inner.specs.Inner.{Inner, child_at}
 use Rattle.art_parts.specs.declared.names.OpaqueNodePtr.{OpaqueNodePtr}
 use Rattle.art_model.specs.Keys.{IsFront, common_front}
-use Rattle.art_reading.specs.declared.matching.PrefixMatchBehavior.{PrefixMatchBehavior}
-use Rattle.art_reading.specs.declared.matching.PrefixMatchBehavior.TheVariants.{Pessimistic, Optimistic}
-use Rattle.art_reading.specs.declared.matching.Step.{Step}
-use Rattle.art_reading.specs.declared.matching.Step.TheVariants.{Down, AtEnd, Nowhere}
+use Rattle.art_reading.specs.declared.lookup.matching.PrefixMatchBehavior.{PrefixMatchBehavior}
+use Rattle.art_reading.specs.declared.lookup.matching.PrefixMatchBehavior.TheVariants.{Pessimistic, Optimistic}
+use Rattle.art_reading.specs.declared.lookup.matching.Step.{Step}
+use Rattle.art_reading.specs.declared.lookup.matching.Step.TheVariants.{Down, AtEnd, Nowhere}
 use Rattle.art_reading.specs.declared.path.AttemptOptimisticPrefixMatch.{AttemptOptimisticPrefixMatch}
 use Rattle.art_reading.specs.declared.path.PessimisticMismatch.{PessimisticMismatch}
 

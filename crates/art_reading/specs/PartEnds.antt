@@ -16,9 +16,9 @@ use Rattle.art_model.specs.Stores.{node_at}
 use Rattle.art_model.specs.Trees.{Tree}
 use Rattle.art_reading.specs.declared.range.Cut.{Cut}
 use Rattle.art_reading.specs.declared.range.Cut.TheVariants.{Before, After}
-use Rattle.art_reading.specs.declared.descent.End.{End}
-use Rattle.art_reading.specs.declared.descent.End.TheVariants.{First, Last}
-use Rattle.art_reading.specs.declared.descent.LastNode.{LastNode}
+use Rattle.art_reading.specs.declared.lookup.descent.End.{End}
+use Rattle.art_reading.specs.declared.lookup.descent.End.TheVariants.{First, Last}
+use Rattle.art_reading.specs.declared.lookup.descent.LastNode.{LastNode}
 use Rattle.art_reading.specs.PathSteps.{path_of}
 
 module _ {A : Type 0} (Lower Upper : A → Type 0) (layout : Tree OpaqueNodePtr A) (name : OpaqueNodePtr) where

@@ -14,7 +14,7 @@ use Rattle.art_model.specs.Places.{places}
 use Rattle.art_model.specs.Roots.{ForTree}
 use Rattle.art_model.specs.Stores.{node_at}
 use Rattle.art_model.specs.Trees.{Tree}
-use Rattle.art_reading.specs.declared.descent.LastNode.{LastNode}
+use Rattle.art_reading.specs.declared.lookup.descent.LastNode.{LastNode}
 use Rattle.art_reading.specs.declared.end_node.SearchStep.{SearchStep}
 use Rattle.art_reading.specs.declared.end_node.SearchStep.TheVariants.{End, Down}
 use Rattle.art_reading.specs.declared.path.ExplicitMismatch.{ExplicitMismatch}

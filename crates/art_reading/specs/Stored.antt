@@ -1,8 +1,8 @@
 -- Trees of which each prefix is stored whole, and descents that compare each whole.
 use Rattle.std.specs.Prelude.{◌≡◌, ℕ, ◌≤◌, ⊤}
 use Rattle.art_model.specs.Trees.{Tree, leaf, inner, Subtrees, no_child, child}
-use Rattle.art_reading.specs.declared.matching.PrefixMatchBehavior.{PrefixMatchBehavior}
-use Rattle.art_reading.specs.declared.matching.PrefixMatchBehavior.TheVariants.{Pessimistic}
+use Rattle.art_reading.specs.declared.lookup.matching.PrefixMatchBehavior.{PrefixMatchBehavior}
+use Rattle.art_reading.specs.declared.lookup.matching.PrefixMatchBehavior.TheVariants.{Pessimistic}
 
 module _ {N A : Type 0} (P : ℕ) where
   -- no prefix has more than P bytes, so that each is stored whole

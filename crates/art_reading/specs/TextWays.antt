@@ -12,8 +12,8 @@ use Rattle.art_model.specs.Lookups.{HasLeaf}
 use Rattle.art_model.specs.Texts.{text_of}
 use Rattle.art_model.specs.Trees.{Tree}
 use Rattle.art_reading.specs.ShortTexts.{IsSought}
-use Rattle.art_reading.specs.declared.descent.End.{End}
-use Rattle.art_reading.specs.declared.descent.End.TheVariants.{First, Last}
+use Rattle.art_reading.specs.declared.lookup.descent.End.{End}
+use Rattle.art_reading.specs.declared.lookup.descent.End.TheVariants.{First, Last}
 use Rattle.art_reading.specs.declared.lookup.texts.TextEnd.{TextEnd}
 use Rattle.art_reading.specs.declared.lookup.texts.TextEnd.TheVariants.{Passed, Whole}
 

@@ -17,11 +17,11 @@ ghost use Rattle.art_reading.specs.declared.end_node.InsertKind.TheVariants as k
 ghost use Rattle.art_reading.specs.declared.end_node.SearchStep.TheVariants as steps;
 ghost use Rattle.art_reading.specs.declared.path.TreePath.{TreePath};
 
-use crate::descent::Visits;
 use crate::guide::guide_from;
+use crate::lookup::descent::Visits;
+use crate::lookup::query::KeyBytes;
 use crate::minmax::first_below_visiting;
 use crate::path::{ExplicitMismatch, LastSteps, PrefixMatch, TreePath};
-use crate::query::KeyBytes;
 use art_nodes::node::{
     AsBytes, InnerPtr, InnerRef, LeafNode, LeafPtr, NodePtr, OpaqueNodePtr, OptionalLeafPtr,
 };

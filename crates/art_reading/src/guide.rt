@@ -8,9 +8,9 @@ ghost use Rattle.art_reading.specs.Guides.{AllGuide, IsGuide, MayGuide};
 ghost use Rattle.art_reading.specs.Readings.{CountsReadings, guide_cost, levels};
 ghost use Rattle.art_reading.specs.declared.path.TreePath.{TreePath};
 
-use crate::descent::Visits;
+use crate::lookup::descent::Visits;
+use crate::lookup::query::KeyBytes;
 use crate::minmax::first_below_visiting;
-use crate::query::KeyBytes;
 use art_nodes::node::{AsBytes, LeafPtr, NodePtr, OpaqueNodePtr, OptionalLeafPtr};
 use art_nodes::store::NodeStore;
 

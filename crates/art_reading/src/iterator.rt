@@ -7,7 +7,7 @@ ghost use Rattle.art_parts.specs.declared.names.OpaqueNodePtr.{OpaqueNodePtr};
 ghost use Rattle.art_model.specs.Pairs.{first_of, last_of, without_first, without_last};
 ghost use Rattle.art_reading.specs.Iterators.{IsIteratorOf, TakesEnd};
 
-use crate::descent::End;
+use crate::lookup::descent::End;
 use art_nodes::node::{AsBytes, LeafNode, LeafPtr, OptionalLeafPtr};
 use art_nodes::store::NodeStore;
 use std::marker::Model;

@@ -1,10 +1,10 @@
 //! Laws of lookups and iterations: functions that do nothing, each with a law as its contract.
 ghost use Rattle.std.specs.Prelude.{◌≡◌};
 ghost use Rattle.art_reading.specs.Iterators.{GoesOn, WalksWhole};
-ghost use Rattle.art_reading.specs.declared.matching.PrefixMatchBehavior.TheVariants.{Pessimistic};
+ghost use Rattle.art_reading.specs.declared.lookup.matching.PrefixMatchBehavior.TheVariants.{Pessimistic};
 
-use crate::descent::Visits;
-use crate::matching::PrefixMatchBehavior;
+use crate::lookup::descent::Visits;
+use crate::lookup::matching::PrefixMatchBehavior;
 
 /// By default a lookup has compared all bytes so far, and no node has been read.
 pub fn look_ups_start_by_default()

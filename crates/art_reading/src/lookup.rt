@@ -7,14 +7,17 @@ ghost use Rattle.art_model.specs.Stores.{pair_of};
 ghost use Rattle.art_reading.specs.Descents.{CountsVisits, asked_of};
 ghost use Rattle.art_reading.specs.Found.{HasFound};
 
+pub mod descent;
+pub mod matching;
+pub mod query;
 mod texts;
 
-pub use crate::descent::Visits;
-use crate::descent::walk_to_key;
-pub use crate::matching::{Asked, PrefixMatchBehavior};
-pub use crate::query::{EndedQuery, KeyBytes, KeyQuery, starts_with};
 use art_nodes::node::{AsBytes, LeafNode, OpaqueNodePtr, OptionalLeafPtr};
 use art_nodes::store::NodeStore;
+pub use descent::Visits;
+use descent::walk_to_key;
+pub use matching::{Asked, PrefixMatchBehavior};
+pub use query::{EndedQuery, KeyBytes, KeyQuery, starts_with};
 pub use texts::{
     longest_text_by, longest_text_unchecked, longest_text_visiting, shortest_text_unchecked,
     shortest_text_visiting,

@@ -7,7 +7,7 @@ ghost use Rattle.art_model.specs.Roots.{IsFullTree};
 ghost use Rattle.art_model.specs.Trees.{Tree};
 ghost use Rattle.art_reading.specs.Readings.{levels};
 
-use crate::descent::{End, Visits, walk_to_end, walk_to_end_visiting};
+use crate::lookup::descent::{End, Visits, walk_to_end, walk_to_end_visiting};
 use art_nodes::node::{AsBytes, LeafPtr, NodePtr, OpaqueNodePtr};
 use art_nodes::store::NodeStore;
 

@@ -23,10 +23,10 @@ ghost use Rattle.art_reading.specs.PartEnds.{IsLeafAtCut, StandsBeside, is_befor
 ghost use Rattle.art_reading.specs.Readings.{CountsBelow, CountsReadings, CountsToBound, CountsToBounds, guide_cost, levels};
 ghost use Rattle.art_reading.specs.declared.path.TreePath.{TreePath};
 
-use crate::descent::{End, Visits, walk_below_visiting, walk_to_end_visiting};
 use crate::guide::guide_from;
 use crate::iterator::RawIterator;
-use crate::query::{KeyBytes, starts_with};
+use crate::lookup::descent::{End, Visits, walk_below_visiting, walk_to_end_visiting};
+use crate::lookup::query::{KeyBytes, starts_with};
 use art_nodes::node::{AsBytes, InnerPtr, InnerRef, NodePtr, OpaqueNodePtr, OptionalLeafPtr};
 use art_nodes::store::NodeStore;
 use std::cmp::Ordering;

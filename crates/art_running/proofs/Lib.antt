@@ -3,7 +3,7 @@ pub mod Chains
 pub mod Moves
 pub mod Found
 pub mod Planted
-pub mod Counts
+pub mod KindCounts
 pub mod Needed
 pub mod Stepped
 pub mod PrefixSteps

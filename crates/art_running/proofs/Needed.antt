@@ -42,7 +42,7 @@ use Rattle.art_writing.specs.declared.insert.InsertPoint.{InsertPoint}
 use Rattle.art_running.specs.declared.run.Command.{Command}
 use Rattle.art_running.specs.declared.run.Command.TheVariants.{Insert, InsertPrefix, Delete, DeleteMin, DeleteMax, Contains, LongestMatch, Clone}
 use Rattle.art_running.specs.declared.run.Reply.TheVariants.{Deleted}
-use Rattle.art_running.proofs.Counts.{one, count-join, more_in_hole, fewer_in_hole, gains, loses}
+use Rattle.art_running.proofs.KindCounts.{one, count-join, more_in_hole, fewer_in_hole, gains, loses}
 use Rattle.art_writing.proofs.Ways.{last_step-path_of}
 
 -- ---- a key that is new, or not

@@ -24,7 +24,7 @@ use Rattle.art_writing.specs.declared.insert.PrefixInsertPoint.TheVariants as po
 use Rattle.art_running.specs.declared.run.Side.{Side}
 use Rattle.art_running.specs.declared.run.Command.TheVariants.{Insert, InsertPrefix}
 use Rattle.art_running.specs.declared.run.Reply.TheVariants.{Overwrote, NoMemory}
-use Rattle.art_running.proofs.Counts.{fewer_in_hole, loses}
+use Rattle.art_running.proofs.KindCounts.{fewer_in_hole, loses}
 use Rattle.art_running.proofs.Moves.{Layout, StepFrom, nothing, own_pairs}
 use Rattle.art_running.proofs.Needed.{needs_inserted}
 use Rattle.art_writing.proofs.Standing.{tree_stays}

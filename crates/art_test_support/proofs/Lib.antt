@@ -1,1 +1,1 @@
-pub mod Beside
+pub mod PlacedOutside

@@ -2,8 +2,8 @@
 use Rattle.std.proofs.Common.{◌≡◌, ℕ, List, ap, sym, ◌∙◌, subst, Option, Some, None, IfNone, option_map}
 use Rattle.art_model.specs.Prelude.{Nodes, leaf_name, OpaqueNodePtr, IsCanonical, IsCanonicalTree, HasLeaf, first_of, last_of, remove_key, remove_reply, pairs_of, ForTree, IsCanonicalRoot, pair_of, Tree}
 use Rattle.art_model.proofs.leaves.LeavesFound.{leaf_found}
-use Rattle.art_reading.specs.declared.descent.End.{End}
-use Rattle.art_reading.specs.declared.descent.End.TheVariants.{First, Last}
+use Rattle.art_reading.specs.declared.lookup.descent.End.{End}
+use Rattle.art_reading.specs.declared.lookup.descent.End.TheVariants.{First, Last}
 use Rattle.art_reading.specs.PathSteps.{path_of}
 use Rattle.art_reading.specs.Descents.{LeadsToEnd, of_two}
 use Rattle.art_writing.specs.declared.delete.DeletePoint.{DeletePoint}

@@ -3,15 +3,15 @@ use Rattle.std.proofs.Common.{◌≡◌, ℕ, List, [], ◌∷◌, ◌++◌, ref
 use Rattle.art_model.specs.Prelude.{leaf_name, InnerPtr, OpaqueNodePtr, HasFirstLeaf, first_of, below, Frame, plug, pairs_of, Tree, leaf, as_inner}
 use Rattle.art_reading.specs.PartEnds.{HasAllBelow}
 use Rattle.art_reading.specs.PathSteps.{path_of, step_down}
-use Rattle.art_reading.specs.declared.descent.LastNode.{LastNode}
+use Rattle.art_reading.specs.declared.lookup.descent.LastNode.{LastNode}
 use Rattle.art_reading.specs.declared.path.TreePath.{TreePath}
 use Rattle.art_reading.specs.declared.path.TreePath.TheVariants.{Root, ChildOfRoot, Normal}
 use Rattle.art_writing.specs.Deleted.{LeadsTo}
-use Rattle.art_writing.specs.Subtrees.{ArePointsBelow, joined}
+use Rattle.art_writing.specs.SubtreePoints.{ArePointsBelow, joined}
 use Rattle.art_writing.specs.declared.delete.DeletePoint.{DeletePoint}
 use Rattle.art_writing.specs.declared.delete.subtree.SubtreeDeletePoint.{SubtreeDeletePoint}
 use Rattle.art_writing.proofs.Collapses.{plug-append}
-use Rattle.art_writing.proofs.Subtrees.{these_are, these_go}
+use Rattle.art_writing.proofs.SubtreePointLemmas.{these_are, these_go}
 
 -- a step further down is one after both paths
 joined_step : (above below : TreePath) (node : InnerPtr) (byte : ℕ) → joined above (step_down below node byte) ≡ step_down (joined above below) node byte

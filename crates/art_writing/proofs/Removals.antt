@@ -32,7 +32,7 @@ use Rattle.art_writing.specs.Inserted.{unlinked_leaf}
 use Rattle.art_reading.specs.PathSteps.{last_step, path_of, up, root_with}
 use Rattle.art_writing.specs.TakenOut.{IsLeafTaken}
 use Rattle.art_writing.specs.ParentWrites.{HasChild, LinksAreThere}
-use Rattle.art_writing.proofs.Below.{IsBelow, is_below, change_is, compressed_most, deleted_below, has_child}
+use Rattle.art_writing.proofs.RemovedLeaves.{IsBelow, is_below, change_is, compressed_most, deleted_below, has_child}
 use Rattle.art_writing.proofs.Deletions.{IsDeleted, some_same, taken_since}
 use Rattle.art_writing.proofs.Ways.{last_step-path_of, last_step-up, root_with-up, root_after_at}
 use Rattle.art_writing.specs.declared.delete.DeletePoint.{DeletePoint}

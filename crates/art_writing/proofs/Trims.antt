@@ -11,7 +11,7 @@ use Rattle.art_reading.specs.declared.path.ExplicitMismatch.{ExplicitMismatch}
 use Rattle.art_reading.specs.EndNodes.{IsLeafForPrefix}
 use Rattle.art_reading.specs.PartEnds.{IsPlaced}
 use Rattle.art_writing.specs.Points.{AnswersTo}
-use Rattle.art_writing.proofs.Branches.{end_laid, end_hole, end_depth}
+use Rattle.art_writing.proofs.BranchLemmas.{end_laid, end_hole, end_depth}
 use Rattle.art_writing.proofs.BranchReads.{end_full, inner_found, inner_named, inner_start, inner_least, prefix_inside}
 use Rattle.art_reading.proofs.Parts.{leaf_is_there, least_is, some_there}
 use Rattle.art_reading.proofs.Prefixes as prefixes

@@ -15,7 +15,7 @@ use Rattle.art_writing.specs.Points.{AnswersTo}
 use Rattle.art_reading.specs.declared.end_node.InsertKind.{InsertKind}
 use Rattle.art_reading.specs.declared.end_node.InsertKind.TheVariants.{MismatchPrefix, SplitLeaf, Exact, IntoExisting}
 use Rattle.art_writing.specs.declared.insert.InsertPoint.{InsertPoint}
-use Rattle.art_writing.proofs.Branches.{end_laid, end_hole, end_depth}
+use Rattle.art_writing.proofs.BranchLemmas.{end_laid, end_hole, end_depth}
 use Rattle.art_model.proofs.pairs.Puts.{any_is_first}
 use Rattle.art_model.proofs.keys.Keys.{not_same}
 

@@ -14,7 +14,7 @@ use Rattle.art_model.specs.Roots.{ForRoot, ForTree, IsCanonicalRoot}
 use Rattle.art_model.specs.Trees.{Tree, leaf}
 use Rattle.art_reading.specs.PathSteps.{path_of}
 use Rattle.art_writing.specs.Deleted.{parent_change}
-use Rattle.art_writing.specs.Subtrees.{LeadsToNode, pairs_beside}
+use Rattle.art_writing.specs.SubtreePoints.{LeadsToNode, pairs_beside}
 use Rattle.art_writing.specs.declared.delete.subtree.Collapsed.{Collapsed}
 use Rattle.art_writing.specs.declared.delete.subtree.SubtreeDeletePoint.{SubtreeDeletePoint}
 use Rattle.art_writing.specs.declared.delete.subtree.SubtreeDeleteResult.{SubtreeDeleteResult}

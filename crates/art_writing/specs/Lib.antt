@@ -26,7 +26,7 @@ pub mod Applied
 pub mod Deleted
 pub mod EndLaws
 pub mod TakenOut
-pub mod Subtrees
+pub mod SubtreePoints
 pub mod Collapsed
 pub mod Freed
 pub mod Cloned

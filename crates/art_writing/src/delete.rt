@@ -7,9 +7,9 @@ ghost use Rattle.art_writing.specs.Deleted.{HasDeletePoint, HasKeyPoint};
 
 use art_nodes::node::{AsBytes, LeafNode, LeafPtr, OpaqueNodePtr};
 use art_nodes::store::NodeStore;
-use art_reading::descent::{End, walk_to_end, walk_to_key};
+use art_reading::lookup::descent::{End, walk_to_end, walk_to_key};
+use art_reading::lookup::matching::{Asked, PrefixMatchBehavior};
 use art_reading::lookup::{KeyQuery, Visits};
-use art_reading::matching::{Asked, PrefixMatchBehavior};
 use art_reading::path::TreePath;
 
 mod apply;

@@ -11,9 +11,9 @@ ghost use Rattle.art_writing.specs.Conflicts.{conflict_text, bytes_text};
 
 use art_nodes::node::{AsBytes, InnerPtr, LeafNode, LeafPtr, OpaqueNodePtr};
 use art_nodes::store::NodeStore;
-use art_reading::descent::Visits;
 use art_reading::end_node::{walk_to_end_node, walk_to_end_node_visiting};
 use art_reading::lookup::KeyBytes;
+use art_reading::lookup::descent::Visits;
 use art_reading::path::TreePath;
 use std::alloc::{AllocError, AllocFailed, Global};
 use std::boxed::BoxedSlice;

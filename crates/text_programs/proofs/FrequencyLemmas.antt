@@ -16,7 +16,7 @@ use Rattle.art_model.proofs.lists.Lists.{Each-weaker}
 use Rattle.art_operations.specs.Keys.{is_before}
 use Rattle.art_operations.specs.Pairs.{Pairwise}
 use Rattle.text_lines.proofs.Writing.{appends_more}
-use Rattle.text_programs.specs.Counts.{line_of}
+use Rattle.text_programs.specs.WordCounts.{line_of}
 use Rattle.text_programs.specs.Frequency.{by_frequency, frequency_cmp, placed}
 
 -- examples: the more frequent word first, and words that occur as often in the order of bytes

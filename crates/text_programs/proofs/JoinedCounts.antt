@@ -4,7 +4,7 @@ use Rattle.std.proofs.lemmas.Bool.{eqb-false}
 use Rattle.std.proofs.lemmas.List.Elements.{filter-append}
 use Rattle.art_operations.specs.Keys.{are_same}
 use Rattle.art_operations.specs.Pairs.{first_of}
-use Rattle.text_programs.specs.Counts.{HasTimes, numbers_for, times}
+use Rattle.text_programs.specs.WordCounts.{HasTimes, numbers_for, times}
 use Rattle.text_programs.specs.Joined.{CountsOfJoined, SumsOfCounts, WordsOfJoined, number_of}
 use Rattle.text_programs.specs.Words.{words}
 use Rattle.text_programs.proofs.Tallies.{number_is, some_number}

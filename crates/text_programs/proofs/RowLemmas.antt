@@ -8,7 +8,7 @@ use Rattle.std.proofs.lemmas.List.Elements.{recursion_from_All}
 use Rattle.art_model.proofs.lists.Lists.{Each-append, Each-weaker}
 use Rattle.text_lines.proofs.Spaces.{HasNoSpace, has_space, same_words}
 use Rattle.text_lines.specs.Lines.{lines, lines_of, without_return}
-use Rattle.text_programs.specs.Counts.{line_of}
+use Rattle.text_programs.specs.WordCounts.{line_of}
 use Rattle.text_programs.specs.Rows.{IsCount, is_word, row_of}
 use Rattle.text_programs.specs.Words.{IsWord, is_gap}
 use Rattle.text_programs.proofs.RowNumbers.{decimal_without}

@@ -10,7 +10,7 @@ use Rattle.art_model.proofs.keys.Keys.{before_apart, not_same, same_equal}
 use Rattle.art_model.proofs.lists.Lists.{Each-weaker}
 use Rattle.art_model.proofs.pairs.MapLaws.{put_is_found}
 use Rattle.art_model.proofs.pairs.Puts.{stored_value}
-use Rattle.text_programs.specs.Counts.{HasTimes, IsCountOf, numbers_for, times}
+use Rattle.text_programs.specs.WordCounts.{HasTimes, IsCountOf, numbers_for, times}
 use Rattle.text_programs.specs.Rows.{IsCount}
 use Rattle.text_programs.specs.Sums.{AreCounts, HasSums, SumsOfOutputs, all_words, total}
 use Rattle.text_programs.specs.Words.{IsWord, is_filled, is_gap, words}

@@ -18,7 +18,7 @@ use Rattle.art_model.proofs.keys.KeyLaws.{order_is_total, order_is_transitive}
 use Rattle.art_model.proofs.lists.Lists.{Each-weaker, filter_none}
 use Rattle.art_model.proofs.pairs.MapLaws.{put_is_found}
 use Rattle.art_model.proofs.pairs.Puts.{stored_value}
-use Rattle.text_programs.specs.Counts.{CountIsOne, HasTimes, numbers_for, times}
+use Rattle.text_programs.specs.WordCounts.{CountIsOne, HasTimes, numbers_for, times}
 use Rattle.text_programs.proofs.EndedLemmas.{same_ended}
 
 -- one word more

@@ -15,7 +15,7 @@ use Rattle.art_operations.specs.Keys.{is_before}
 use Rattle.art_operations.specs.Pairs.{Pairwise}
 use Rattle.text_lines.proofs.Writing.{appends_kept}
 use Rattle.text_lines.specs.Lines.{lines}
-use Rattle.text_programs.specs.Counts.{AppendsCounts, HasTimes, IsCountOf, line_of}
+use Rattle.text_programs.specs.WordCounts.{AppendsCounts, HasTimes, IsCountOf, line_of}
 use Rattle.text_programs.specs.Words.{is_filled, is_gap, words}
 use Rattle.text_programs.proofs.WordTexts.{IsWhole, whole_parts, words_of_lines}
 

@@ -2,7 +2,7 @@
 use Rattle.std.specs.Prelude.{◌≡◌, ℕ, ◌+◌, true, List, ◌∷◌, ◌++◌, map, unwrap_or}
 use Rattle.art_operations.specs.Keys.{is_before}
 use Rattle.art_operations.specs.Pairs.{Pairwise, first_of, with_key}
-use Rattle.text_programs.specs.Counts.{IsCountOf, numbers_for}
+use Rattle.text_programs.specs.WordCounts.{IsCountOf, numbers_for}
 use Rattle.text_programs.specs.Words.{is_gap, words}
 
 -- the number of a word, which is 0 if the word is not counted

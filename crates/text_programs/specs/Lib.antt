@@ -1,6 +1,6 @@
 -- the words of a text, and how often each occurs
 pub mod Words
-pub mod Counts
+pub mod WordCounts
 pub mod Joined
 pub mod Frequency
 pub mod Rows

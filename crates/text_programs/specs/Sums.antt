@@ -4,7 +4,7 @@ use Rattle.std.specs.List.{AllByRecursion as Each}
 use Rattle.art_operations.specs.Keys.{are_same, is_before}
 use Rattle.art_operations.specs.Pairs.{Pairwise, with_key}
 use Rattle.text_lines.specs.Lines.{lines}
-use Rattle.text_programs.specs.Counts.{IsCountOf, line_of, numbers_for}
+use Rattle.text_programs.specs.WordCounts.{IsCountOf, line_of, numbers_for}
 use Rattle.text_programs.specs.Rows.{AreRows}
 use Rattle.text_programs.specs.Words.{words}
 

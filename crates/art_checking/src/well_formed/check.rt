@@ -26,7 +26,7 @@ use art_nodes::node::{
     AsBytes, Children, InnerPtr, InnerRef, LeafPtr, NodePtr, OpaqueNodePtr, OptionalLeafPtr,
 };
 use art_nodes::store::NodeStore;
-use art_reading::matching::begins_with;
+use art_reading::lookup::matching::begins_with;
 use std::alloc::AllocError;
 use std::cmp::Ordering;
 use std::collections::BTreeSet;

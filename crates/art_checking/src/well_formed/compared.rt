@@ -3,7 +3,7 @@ ghost use Rattle.std.specs.Prelude.{◌≡◌};
 ghost use Rattle.std.specs.Cmp.Lexicographic.{slice_cmp};
 ghost use Rattle.std.specs.Ordering.{nat_cmp};
 
-use art_reading::matching::shared_len;
+use art_reading::lookup::matching::shared_len;
 use std::cmp::Ordering;
 
 // The order of two keys, by the first byte in which they differ. A proper prefix comes first.

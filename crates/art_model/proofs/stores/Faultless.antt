@@ -22,7 +22,7 @@ use Rattle.art_model.proofs.stores.Stores.{HoldsBelow-right}
 use Rattle.art_model.proofs.radix.Radix.{AreRadix-right, radix_map}
 use Rattle.art_model.proofs.stores.Slots.{length-slots_of, kind_of-least}
 use Rattle.art_model.proofs.stores.StoreLaws.{has_one_layout}
-use Rattle.art_model.proofs.places.Subtrees.{IsSub, descent_apart, descent_front, descent_sub, is_held, prefix_front, read_whole, trail_sub}
+use Rattle.art_model.proofs.places.TrailEnds.{IsSub, descent_apart, descent_front, descent_sub, is_held, prefix_front, read_whole, trail_sub}
 
 -- a tree's node has at least its kind's minimum of children
 enough : (kind : NodeType) (n : ℕ) → kind ≡ kind_of n → 2 ≤ n → n < kind_least kind → ⊥

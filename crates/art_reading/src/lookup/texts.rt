@@ -11,12 +11,12 @@ ghost use Rattle.art_reading.specs.Found.{HasFoundFirst, HasFoundLast};
 ghost use Rattle.art_reading.specs.Readings.{CountsToText};
 ghost use Rattle.art_reading.specs.ShortTexts.{texts_from};
 ghost use Rattle.art_reading.specs.TextWays.{EndsAt, IsLeafOr, IsTextStep, bytes_along, leaf_of_end};
-ghost use Rattle.art_reading.specs.declared.descent.End.TheVariants.{First};
+ghost use Rattle.art_reading.specs.declared.lookup.descent.End.TheVariants.{First};
 
-use crate::descent::{End, Visits};
 use crate::guide::find_guide;
-use crate::matching::{begins_with, shared_len};
-use crate::query::KeyBytes;
+use crate::lookup::descent::{End, Visits};
+use crate::lookup::matching::{begins_with, shared_len};
+use crate::lookup::query::KeyBytes;
 use art_nodes::node::{
     AsBytes, InnerNode, InnerRef, LeafPtr, NodePtr, OpaqueNodePtr, OptionalLeafPtr,
 };

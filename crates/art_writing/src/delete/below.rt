@@ -4,13 +4,13 @@ ghost use Rattle.art_model.specs.Pairs.{first_of, of_key};
 ghost use Rattle.art_model.specs.Parts.{below};
 ghost use Rattle.art_model.specs.Roots.{ForTree, IsCanonicalRoot};
 ghost use Rattle.art_writing.specs.Deleted.{HasDeletePoint, HasKeyPoint};
-ghost use Rattle.art_writing.specs.Subtrees.{ArePointsBelow, IsPrefixPoint, IsSubtreePointIn, joined};
+ghost use Rattle.art_writing.specs.SubtreePoints.{ArePointsBelow, IsPrefixPoint, IsSubtreePointIn, joined};
 
 use super::DeletePoint;
 use super::subtree::SubtreeDeletePoint;
 use art_nodes::node::{AsBytes, OpaqueNodePtr};
 use art_nodes::store::NodeStore;
-use art_reading::descent::{End, walk_below, walk_to_end};
+use art_reading::lookup::descent::{End, walk_below, walk_to_end};
 use art_reading::lookup::{KeyBytes, starts_with};
 use art_reading::path::TreePath;
 

@@ -9,7 +9,7 @@ ghost use Rattle.art_model.specs.Radix.{pairs_of};
 ghost use Rattle.art_model.specs.Roots.{ForRoot, ForTree, IsCanonicalRoot};
 ghost use Rattle.art_reading.specs.PathSteps.{last_step};
 ghost use Rattle.art_writing.specs.Deleted.{placed_for_deletion};
-ghost use Rattle.art_writing.specs.Subtrees.{IsSubtreePointIn, LeadsToNode, pairs_beside};
+ghost use Rattle.art_writing.specs.SubtreePoints.{IsSubtreePointIn, LeadsToNode, pairs_beside};
 ghost use Rattle.art_writing.specs.Collapsed.{IsCollapsed};
 ghost use Rattle.art_writing.specs.ParentWrites.{HasChild};
 
@@ -19,7 +19,7 @@ use crate::deallocate::free_nodes;
 use crate::writes::{Direction, link, links_beside, replace_at};
 use art_nodes::node::{AsBytes, LeafPtr, NodeType, OpaqueNodePtr};
 use art_nodes::store::NodeStore;
-use art_reading::descent::{End, walk_to_end};
+use art_reading::lookup::descent::{End, walk_to_end};
 use art_reading::path::{TreePath, last_step};
 
 /// Where a node is removed from a tree with its whole subtree.

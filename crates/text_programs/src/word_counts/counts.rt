@@ -3,7 +3,7 @@ ghost use Rattle.std.specs.Prelude.{◌≡◌, ℕ, ◌++◌, ◌∷◌, [], Lis
 ghost use Rattle.std.specs.Io.Buffered.{writer_buffer, writer_contents};
 ghost use Rattle.std.specs.Io.KnownBytes.{Appends};
 ghost use Rattle.art_operations.specs.Ended.{HasNoZero};
-ghost use Rattle.text_programs.specs.Counts.{AppendsCounts, HasTimes, IsCountOf, line_of};
+ghost use Rattle.text_programs.specs.WordCounts.{AppendsCounts, HasTimes, IsCountOf, line_of};
 ghost use Rattle.text_programs.specs.Words.{is_gap, words};
 
 use art_operations::keys::Terminated;

@@ -1,5 +1,5 @@
 //! Laws of words and their counts: functions that do nothing, each with a law as its contract.
-ghost use Rattle.text_programs.specs.Counts.{CountIsOne};
+ghost use Rattle.text_programs.specs.WordCounts.{CountIsOne};
 ghost use Rattle.text_programs.specs.Joined.{CountsOfJoined, SumsOfCounts, WordsOfJoined};
 ghost use Rattle.text_programs.specs.Sums.{OutputsAreRows, RowsAreDetermined, SumsOfOutputs};
 ghost use Rattle.text_programs.specs.Words.{GapsAreNoWords, WordsAreRuns};

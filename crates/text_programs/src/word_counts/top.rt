@@ -1,7 +1,7 @@
 //! The most frequent words.
 ghost use Rattle.std.specs.Prelude.{◌≡◌, IfOk, OnOk, flat_map, map, take};
 ghost use Rattle.std.specs.Io.KnownBytes.{Appends};
-ghost use Rattle.text_programs.specs.Counts.{line_of};
+ghost use Rattle.text_programs.specs.WordCounts.{line_of};
 ghost use Rattle.text_programs.specs.Frequency.{by_frequency};
 
 use crate::word_counts::counts::{Counts, write_count};

@@ -1,7 +1,7 @@
 use Rattle.std.proofs.Common.{◌≡◌, rules, suc, [], ◌∷◌, ◌++◌, length, ap, sym, ◌∙◌, arith, subst, inr}
 use Rattle.std.specs.List.{AllByRecursion as Each}
 use Rattle.art_engine.specs.NodeWalks.{HasRoom, pending_root, after_turn}
-use Rattle.art_engine.proofs.Subtrees.{IsPendingTree, tree_taken, trees_turned}
+use Rattle.art_engine.proofs.NodesBelow.{IsPendingTree, tree_taken, trees_turned}
 use Rattle.art_engine.specs.NodeLines.{nodes_text}
 use Rattle.art_engine.proofs.NodeRows.{begins, ends, goes_on}
 use Rattle.art_engine.proofs.nodes.write_nodes.Goals as goal

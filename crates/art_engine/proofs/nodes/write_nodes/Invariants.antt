@@ -6,7 +6,7 @@ use Rattle.art_model.specs.Canonical.{IsCanonical}
 use Rattle.art_model.specs.Pairs.{of_key}
 use Rattle.art_engine.specs.KeptKeys.{Key, key_bytes}
 use Rattle.art_engine.specs.NodeWalks.{HasRoom, left_after}
-use Rattle.art_engine.proofs.Subtrees.{IsPendingTree}
+use Rattle.art_engine.proofs.NodesBelow.{IsPendingTree}
 use Rattle.art_engine.specs.NodeLines.{nodes_text}
 use Rattle.art_engine.proofs.NodeRows.{IsWritten}
 use Rattle.art_engine.proofs.nodes.write_nodes.Given as goal

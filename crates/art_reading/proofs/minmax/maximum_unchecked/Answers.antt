@@ -1,5 +1,5 @@
 use Rattle.art_reading.specs.declared.path.TreePath.TheVariants.{Root}
-use Rattle.art_reading.specs.declared.descent.End.TheVariants.{Last}
+use Rattle.art_reading.specs.declared.lookup.descent.End.TheVariants.{Last}
 use Rattle.art_reading.proofs.Along.{start, ends}
 use Rattle.art_reading.proofs.minmax.maximum_unchecked.Goals as goal
 

@@ -1,5 +1,5 @@
 use Rattle.art_reading.specs.declared.path.TreePath.TheVariants.{Root}
-use Rattle.art_reading.specs.declared.descent.End.TheVariants.{First}
+use Rattle.art_reading.specs.declared.lookup.descent.End.TheVariants.{First}
 use Rattle.art_reading.proofs.Along.{start, ends}
 use Rattle.art_reading.proofs.minmax.minimum_unchecked.Goals as goal
 

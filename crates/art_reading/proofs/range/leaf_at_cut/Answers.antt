@@ -1,6 +1,6 @@
 use Rattle.std.proofs.Common.{arith, rules, ◌≡◌, ◌+◌, ap, sym, ◌∙◌}
 use Rattle.art_reading.specs.PartEnds.{is_before_cut}
-use Rattle.art_reading.proofs.Counts.{count_both}
+use Rattle.art_reading.proofs.Readings.{count_both}
 use Rattle.art_reading.proofs.Cuts.{all_on_side, from_first, from_last, side}
 use Rattle.art_reading.proofs.Levels.{root_levels}
 use Rattle.art_reading.proofs.Parts.{first_is, first_there, leaf_is_there, node_full, node_holds}

@@ -2,7 +2,7 @@ use Rattle.std.proofs.Common.{◌≡◌, ◌-◌, ◌≤◌, length}
 use Rattle.art_model.specs.Prelude.{of_key, ForTree}
 use Rattle.art_reading.specs.Guides.{MayGuide}
 use Rattle.art_reading.specs.Readings.{CountsReadings}
-use Rattle.art_reading.proofs.Beside.{IsReadOnKey}
+use Rattle.art_reading.proofs.NeighbourDescents.{IsReadOnKey}
 use Rattle.art_reading.proofs.range.walk_beside.Given as goal
 
 abbrev pub invariant-down : goal.invariant-down

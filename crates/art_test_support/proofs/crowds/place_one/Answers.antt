@@ -1,5 +1,5 @@
 use Rattle.art_writing.proofs.Elsewhere.{placement_elsewhere, tree_stays}
-use Rattle.art_test_support.proofs.Beside.{inner_elsewhere}
+use Rattle.art_test_support.proofs.PlacedOutside.{inner_elsewhere}
 use Rattle.art_test_support.proofs.crowds.place_one.Goals as goal
 
 pub returns-then-eq : goal.returns-then-eq

@@ -5,9 +5,9 @@ use Rattle.art_checking.specs.Checked.{IsEntered, IsFirstLeast, IsFirstMet, IsLe
 use Rattle.art_checking.specs.Meetings.{place_in}
 use Rattle.art_checking.specs.declared.well_formed.check.Above.{Above}
 use Rattle.art_model.proofs.lists.Lists.{reverse-empty, reverse-last, some_of}
-use Rattle.art_checking.proofs.Below.{AreAbove, IsAt, all_reached, capacity_most, child_is_free, child_is_reached, cut_off, entered}
-use Rattle.art_checking.proofs.Below.{falls_by, falls_in, falls_out, few_left, leaf_over, one_more_above, own_reached, parent_above}
-use Rattle.art_checking.proofs.Below.{parent_goes_on, root_passed, started}
+use Rattle.art_checking.proofs.Traversals.{AreAbove, IsAt, all_reached, capacity_most, child_is_free, child_is_reached, cut_off, entered}
+use Rattle.art_checking.proofs.Traversals.{falls_by, falls_in, falls_out, few_left, leaf_over, one_more_above, own_reached, parent_above}
+use Rattle.art_checking.proofs.Traversals.{parent_goes_on, root_passed, started}
 use Rattle.art_checking.proofs.Faulty.{passed_on}
 use Rattle.art_checking.proofs.Passed.{inner_is_there, less_to_try, no_more_to_try, one_met}
 use Rattle.art_checking.proofs.Walked.{least_known, reach_root}

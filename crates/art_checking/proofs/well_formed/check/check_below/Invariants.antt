@@ -5,7 +5,7 @@ use Rattle.art_checking.specs.Checked.{IsFirstLeast}
 use Rattle.art_checking.specs.Meetings.{place_in}
 use Rattle.art_checking.specs.Untried.{untried}
 use Rattle.art_checking.specs.declared.well_formed.seen.Seen.{Seen}
-use Rattle.art_checking.proofs.Below.{IsAt}
+use Rattle.art_checking.proofs.Traversals.{IsAt}
 use Rattle.art_checking.proofs.well_formed.check.check_below.Given as goal
 
 -- how many inner nodes were not met yet

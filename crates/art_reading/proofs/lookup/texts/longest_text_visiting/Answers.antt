@@ -5,7 +5,7 @@ use Rattle.art_reading.proofs.Found.{has_found_last}
 use Rattle.art_reading.proofs.Parts.{leaf_is_there}
 use Rattle.art_model.specs.Texts.{text_of}
 use Rattle.art_reading.proofs.LongestTexts.{ends_at, ends_walk, found_again, found_none, found_whole, last_found, own_pair, shared_short, shared_within}
-use Rattle.art_reading.proofs.Counts.{count_both}
+use Rattle.art_reading.proofs.Readings.{count_both}
 use Rattle.art_reading.proofs.TextReads.{at_most, with_one}
 use Rattle.art_reading.proofs.lookup.texts.longest_text_visiting.Goals as goal
 

@@ -1,7 +1,7 @@
 use Rattle.std.proofs.Common.{rules, ◌∙◌}
 use Rattle.art_model.specs.Prelude.{of_key}
 use Rattle.art_writing.specs.Deleted.{is_compressed}
-use Rattle.art_writing.proofs.Below.{is_below, let_go}
+use Rattle.art_writing.proofs.RemovedLeaves.{is_below, let_go}
 use Rattle.art_writing.proofs.Deletions.{taken_out_of}
 use Rattle.art_writing.proofs.Removals.{IsOneOfTwo, IsOtherTaken, is_one_of_two, one_left, other_is, beside_ready, may_lengthen, lengthened_is, above_ready, two_deleted}
 use Rattle.art_writing.proofs.delete.DeletePoint.compress_parent.Goals as goal

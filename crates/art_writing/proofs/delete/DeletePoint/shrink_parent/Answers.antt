@@ -1,7 +1,7 @@
 use Rattle.std.proofs.Common.{rules, ap, refl, sym, ◌∙◌}
 use Rattle.art_model.specs.Prelude.{take_inner, with_child_at}
 use Rattle.art_reading.specs.PathSteps.{last_step, up, root_with}
-use Rattle.art_writing.proofs.Below.{IsSmaller, is_below, let_go, shrinks_fit, smaller_is, above_ready, parent_deleted}
+use Rattle.art_writing.proofs.RemovedLeaves.{IsSmaller, is_below, let_go, shrinks_fit, smaller_is, above_ready, parent_deleted}
 use Rattle.art_writing.proofs.Deletions.{taken_out_with}
 use Rattle.art_writing.proofs.delete.DeletePoint.shrink_parent.Goals as goal
 use Rattle.art_writing.proofs.delete.DeletePoint.shrink_parent.Goals.{After-put_smaller-node}

@@ -2,7 +2,7 @@ use Rattle.std.proofs.Common.{◌≡◌, rules, sym, ◌∙◌}
 use Rattle.std.proofs.lemmas.Bool.{ltb-true}
 use Rattle.art_model.specs.Prelude.{ref_kind}
 use Rattle.art_writing.specs.Deleted.{parent_change, keeps}
-use Rattle.art_writing.proofs.Below.{is_below, let_go, child_deleted, change_seen, change-keeps}
+use Rattle.art_writing.proofs.RemovedLeaves.{is_below, let_go, child_deleted, change_seen, change-keeps}
 use Rattle.art_writing.proofs.Deletions.{parent_at, taken_out_of}
 use Rattle.art_writing.proofs.delete.DeletePoint.take_from_parent.Goals as goal
 

@@ -3,8 +3,8 @@ use Rattle.art_model.specs.Prelude.{is_front, of_key}
 use Rattle.art_reading.specs.PartEnds.{EndsBelow}
 use Rattle.art_reading.proofs.Parts.{first_is, leaf_is_there, node_full, node_holds}
 use Rattle.art_writing.proofs.PointsBelow.{points_there}
-use Rattle.art_writing.proofs.Subtrees.{none_go}
-use Rattle.art_writing.specs.Subtrees.{joined}
+use Rattle.art_writing.proofs.SubtreePointLemmas.{none_go}
+use Rattle.art_writing.specs.SubtreePoints.{joined}
 use Rattle.art_writing.proofs.delete.below.points_below.Goals as goal
 
 pub returns-in_err-end : goal.returns-in_err-end

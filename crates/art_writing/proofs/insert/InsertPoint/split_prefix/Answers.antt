@@ -2,7 +2,7 @@ use Rattle.std.proofs.Common.{rules, ap, sym, ◌∙◌, subst, Some, IsTrue}
 use Rattle.art_model.specs.Prelude.{SameNodes, with_header, change, take_inner, take_leaf, Node4, IsThere, is_covered}
 use Rattle.art_writing.specs.Inserted.{placed_for}
 use Rattle.art_writing.proofs.Applied.{applied, granted, handed_back}
-use Rattle.art_writing.proofs.Branches.{previous_is_there, next_is_there, read_for}
+use Rattle.art_writing.proofs.BranchLemmas.{previous_is_there, next_is_there, read_for}
 use Rattle.art_writing.proofs.Reserved.{after_reserve, not_granted, was_refused}
 use Rattle.art_writing.proofs.Standing.{tree_stays}
 use Rattle.art_writing.proofs.Splits.{parent_stays, prefix_split}

@@ -1,5 +1,5 @@
 use Rattle.std.proofs.Common.{List, ℕ, ◌++◌, filter, map}
-use Rattle.text_programs.specs.Counts.{HasTimes}
+use Rattle.text_programs.specs.WordCounts.{HasTimes}
 use Rattle.text_programs.specs.Words.{is_filled}
 use Rattle.text_programs.proofs.word_counts.counts.count_line.Given as goal
 

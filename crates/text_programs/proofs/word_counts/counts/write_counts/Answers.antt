@@ -1,6 +1,6 @@
 use Rattle.std.proofs.Common.{◌∙◌}
 use Rattle.text_lines.proofs.Writing.{writing_begins, writing_ends, writing_goes_on}
-use Rattle.text_programs.specs.Counts.{line_of}
+use Rattle.text_programs.specs.WordCounts.{line_of}
 use Rattle.text_programs.proofs.word_counts.counts.write_counts.Goals as goal
 
 pub loop-word-init : goal.loop-word-init

@@ -1,5 +1,5 @@
 use Rattle.text_lines.proofs.Writing.{AreWritten}
-use Rattle.text_programs.specs.Counts.{line_of}
+use Rattle.text_programs.specs.WordCounts.{line_of}
 use Rattle.text_programs.proofs.word_counts.counts.write_counts.Given as goal
 
 -- the lines of the pairs so far are written

@@ -1,6 +1,6 @@
 use Rattle.std.proofs.Common.{flat_map, map, take}
 use Rattle.std.specs.Io.KnownBytes.{Appends}
-use Rattle.text_programs.specs.Counts.{line_of}
+use Rattle.text_programs.specs.WordCounts.{line_of}
 use Rattle.text_programs.proofs.word_counts.top.write_rows.Given as goal
 
 -- the lines of the rows so far are written

@@ -1,5 +1,5 @@
 use Rattle.std.proofs.Common.{refl}
-use Rattle.art_engine.proofs.Subtrees.{canonical_is_linked, canonical_is_tree}
+use Rattle.art_engine.proofs.NodesBelow.{canonical_is_linked, canonical_is_tree}
 use Rattle.art_engine.proofs.keeping.tree.KeptTree.tree.Goals as goal
 
 pub returns-clause-root : goal.returns-clause-root

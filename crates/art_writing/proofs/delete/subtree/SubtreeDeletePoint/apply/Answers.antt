@@ -1,8 +1,8 @@
 use Rattle.std.proofs.Common.{rules, ap₂, ◌∙◌}
 use Rattle.art_model.specs.Prelude.{of_key, promise_after}
 use Rattle.art_model.proofs.stores.Apart.{root_apart}
-use Rattle.art_writing.specs.Subtrees.{pairs_beside}
-use Rattle.art_writing.proofs.Subtrees.{one_point_in, same_placed, subtree_taken}
+use Rattle.art_writing.specs.SubtreePoints.{pairs_beside}
+use Rattle.art_writing.proofs.SubtreePointLemmas.{one_point_in, same_placed, subtree_taken}
 use Rattle.art_writing.proofs.delete.subtree.SubtreeDeletePoint.apply.Goals as goal
 
 pub take_out-done-requires : goal.take_out-done-requires
