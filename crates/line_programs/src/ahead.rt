@@ -170,7 +170,8 @@ fn append(reply: Reply<'_>, buffer: &mut Vec<u8>) -> Result<(), AllocError>
 
 // Returns what is after the first lines of a text, so many as asked for; `None` if a line feed ends fewer.
 fn after_lines(text: &[u8], count: u64) -> Option<&[u8]>
-    ensures lines { IfSome result (λ left. (more : List ℕ) → AreLinesBefore count (text.now ++ more) (left.now ++ more)) }
+    ensures lines { IfSome result (λ left. (more : List ℕ) →
+        AreLinesBefore count (text.now ++ more) (left.now ++ more)) }
     ensures ends { IfSome result (λ left. EndsWith text.now left.now) }
 {
     let mut left = text;

@@ -19,7 +19,8 @@ pub fn longest_values<'a, V>(
     addresses: &[IpAddr],
 ) -> Result<Vec<Option<&'a V>>, AllocError>
     requires { IsOrderedTable rows.now values.now }
-    ensures { IfOk result (λ found. AllZip (IsLongestValue (entries_of rows.now values.now)) addresses.now found.items) }
+    ensures { IfOk result (λ found.
+        AllZip (IsLongestValue (entries_of rows.now values.now)) addresses.now found.items) }
 {
     let parts = parts_for(alloc, rows, addresses)?;
     let counts = counts_for(alloc, rows, addresses, &parts)?;
@@ -68,7 +69,8 @@ fn values_for<'a, V>(
 ) -> Result<Vec<Option<&'a V>>, AllocError>
     requires table { IsOrderedTable rows.now values.now }
     requires counts { AllZip (IsCountFor rows.now) addresses.now counts.now }
-    ensures { IfOk result (λ found. AllZip (IsLongestValue (entries_of rows.now values.now)) addresses.now found.items) }
+    ensures { IfOk result (λ found.
+        AllZip (IsLongestValue (entries_of rows.now values.now)) addresses.now found.items) }
 {
     let mut found = Vec::with_capacity(alloc, addresses.len())?;
     for (index, address) in addresses.iter().enumerate() {
