@@ -8,7 +8,7 @@ use Rattle.art_model.proofs.stores.Canonical.{laid_out}
 use Rattle.art_model.proofs.stores.Faultless.{no_fault}
 use Rattle.art_checking.specs.Checked.{IsTrueAt, Says}
 use Rattle.art_checking.specs.Checks.{fault_of}
-use Rattle.art_checking.proofs.Descents.{inner_at}
+use Rattle.art_checking.proofs.LeastDescents.{inner_at}
 use Rattle.art_checking.specs.declared.well_formed.fault.MalformedTreeError.{MalformedTreeError}
 use Rattle.art_checking.specs.declared.well_formed.fault.MalformedTreeError.TheVariants.{LoopFound, WrongChildrenCount, PrefixMismatch}
 use Rattle.art_checking.specs.declared.well_formed.fault.MalformedTreeError.TheVariants.{EmptyTreeWithLen, LeafSiblingWrongOrder}

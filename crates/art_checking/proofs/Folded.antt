@@ -2,7 +2,7 @@
 use Rattle.std.proofs.Common.{◌≡◌, ◌≢◌, ℕ, ◌<◌, ◌≤◌, List, [], ◌∷◌, length, refl, ap, ap₂, sym, ◌∙◌, arith, subst, IsSome, Some, option_map}
 use Rattle.std.specs.FinMap as map
 use Rattle.art_model.specs.Prelude.{Inner, leaf_name, inner_name, Nodes, NodeType, Leaf, LeafPtr, InnerPtr, LeafNode, OpaqueNodePtr, Tree, inner, Subtrees, child, no_child, NodeHeader, join, bytes_of, HaveChildren, name_of, slots_of, names_of, names_below, AreDistinct, content_at, held_leaf, held_inner, node_at, header_at, height, tree_height, IsFullTree}
-use Rattle.art_model.proofs.places.Edges.{children_right, height_join}
+use Rattle.art_model.proofs.places.EdgeDescents.{children_right, height_join}
 use Rattle.art_model.proofs.stores.Heights.{height_is, enough_steps}
 use Rattle.art_model.proofs.lists.Pairwises.{Pairwise-left, Pairwise-right}
 use Rattle.art_model.proofs.places.Paths.{names_below-join}
@@ -10,7 +10,7 @@ use Rattle.art_model.proofs.places.PlaceLaws.{join_none}
 use Rattle.art_model.proofs.stores.Shown.{no_inner_gone, inner_shown, no_leaf_gone, leaf_shown}
 use Rattle.art_model.proofs.stores.Stores.{HoldsBelow-right}
 use Rattle.art_model.proofs.stores.Views.{held_in_inner}
-use Rattle.art_reading.proofs.Parts.{some_there}
+use Rattle.art_reading.proofs.PartIterations.{some_there}
 use Rattle.art_checking.specs.Folds.{Folds, JoinsAll, Joins}
 
 module _ {N A : Type 0} where

@@ -21,7 +21,7 @@ use Rattle.art_checking.specs.Checks.{IsWellFormed}
 use Rattle.art_checking.specs.Meetings.{Meets, IsMet, Places, count_met, leaves_with, place_in}
 use Rattle.art_checking.specs.Untried.{untried}
 use Rattle.art_checking.specs.declared.well_formed.seen.Seen.{Seen}
-use Rattle.art_checking.proofs.Descents.{inner_at}
+use Rattle.art_checking.proofs.LeastDescents.{inner_at}
 use Rattle.art_checking.proofs.Meetings.{meets_none, meets_one, meets_then, stays_met}
 use Rattle.art_checking.proofs.Untried.{untried_less, untried_no_more, key_of_inner}
 

@@ -11,7 +11,7 @@ use Rattle.art_model.proofs.lists.Lists.{front_cut}
 use Rattle.art_checking.specs.Checked.{AllBefore, IsFirstLeast, IsLeastLeaf, IsRead, IsWalked, NoneAfter}
 use Rattle.art_checking.specs.Marks.{same_name}
 use Rattle.art_checking.specs.Meetings.{Places, IsMet}
-use Rattle.art_checking.proofs.Descents.{inner_at, least_below}
+use Rattle.art_checking.proofs.LeastDescents.{inner_at, least_below}
 use Rattle.art_checking.proofs.Meetings.{same_is, same_self}
 
 -- ---- children by rising bytes

@@ -5,7 +5,7 @@ use Rattle.std.specs.Fmt.{decimal}
 use Rattle.std.proofs.lemmas.List.Elements.{All-head, All-tail, All-cons, All-map, All-weaker}
 use Rattle.std.proofs.lemmas.List.Splits.{slice_split_none, slice_split_at, length-slice_split, join_with_byte-slice_split}
 use Rattle.art_engine.specs.KeyTexts.{IsByteWord, AreBytes, IsKeyWord, key_word}
-use Rattle.art_engine.proofs.Numbers.{decimal_undotted}
+use Rattle.art_engine.proofs.Decimals.{decimal_undotted}
 
 abbrev is_dot : ℕ → Bool
 is_dot c = eqb c 46

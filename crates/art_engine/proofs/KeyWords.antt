@@ -5,7 +5,7 @@ use Rattle.std.specs.Fmt.{decimal}
 use Rattle.std.proofs.lemmas.List.Elements.{All-head, All-tail, All-cons, All-append}
 use Rattle.art_engine.specs.KeyTexts.{AreBytes, IsKeyWord}
 use Rattle.text_lines.proofs.Spaces.{HasNoSpace}
-use Rattle.art_engine.proofs.Numbers.{decimal_without}
+use Rattle.art_engine.proofs.Decimals.{decimal_without}
 
 joined_spaceless : (b : ℕ) (bs : List ℕ) → AreBytes (b ∷ bs) → HasNoSpace (join_with_byte 46 (map decimal (b ∷ bs)))
 joined_spaceless b [] small = decimal_without 32 b (λ h. omega (arith, h)) (All-head (λ n. n < 2 ^ 8) b [] small)

@@ -141,7 +141,7 @@ impl<const N: usize> ChildTable for Table<N> {
     #[inline(always)]
     fn remove(&mut self, byte: u8) -> Option<OpaqueNodePtr> {
         match self.rows().search(byte) {
-            Ok(at) => Some(self.take_out(at, byte)),
+            Ok(at) => Some(self.remove_at(at, byte)),
             Err(_) => None,
         }
     }
@@ -172,7 +172,7 @@ impl<const N: usize> Table<N> {
 
     // Removes the name at its place.
     #[inline(always)]
-    fn take_out(&mut self, at: usize, byte: u8) -> OpaqueNodePtr
+    fn remove_at(&mut self, at: usize, byte: u8) -> OpaqueNodePtr
         requires place { at ≡ count_below self.old byte }
         requires there { IsSome (child_at self.old byte) }
         ensures removed { Some result ≡ child_at self.old byte }

@@ -13,7 +13,7 @@ use Rattle.art_model.proofs.pairs.Puts.{first_has}
 use Rattle.art_map.specs.MapAnswers.{value_at, with_value_at}
 use Rattle.art_map.proofs.CallerLaws.{value_elsewhere, value_left, value_unwritten}
 use Rattle.art_map.proofs.PartsOut.{first_below, nothing_out}
-use Rattle.art_map.proofs.Puts.{as_many, one_more}
+use Rattle.art_map.proofs.MapPuts.{as_many, one_more}
 use Rattle.art_map.proofs.Results.{none_found, rest_found}
 use Rattle.art_map.proofs.Takings.{first_goes}
 use Rattle.art_keyed.specs.KeyedPairs.{HaveKeys}

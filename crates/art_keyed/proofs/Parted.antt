@@ -12,7 +12,7 @@ use Rattle.art_model.proofs.lists.Lists.{Each-right}
 use Rattle.art_map.specs.MapParts.{keys_before, keys_from, not_between, without}
 use Rattle.art_keyed.specs.KeyedPairs.{HaveKeys, OnBound, is_key_from, is_key_up_to}
 use Rattle.art_keyed.specs.KeyedParts.{keys_not_between, set_not_between}
-use Rattle.art_keyed.proofs.Between.{filter_same, map_twice, same_from, same_up_to}
+use Rattle.art_keyed.proofs.KeyRanges.{filter_same, map_twice, same_from, same_up_to}
 use denote.Ref.{Bor}
 
 -- what holds for the elements that pass a test and for the others holds for all

@@ -15,7 +15,7 @@ use Rattle.art_model.proofs.keys.KeyLaws.{order_is_strict}
 use Rattle.art_model.proofs.keys.Keys.{front_same, not_same}
 use Rattle.art_keyed.specs.KeyedPairs.{HaveKeys, keys_between}
 use Rattle.art_keyed.specs.KeyedSeconds.{pairs_with_both}
-use Rattle.art_keyed.proofs.Between.{filter_same}
+use Rattle.art_keyed.proofs.KeyRanges.{filter_same}
 
 -- a key that is less or greater is not the same
 less_other : (a b : List ℕ) → slice_cmp nat_cmp a b ≡ Less → are_same b a ≡ false

@@ -14,7 +14,7 @@ use Rattle.art_keys.specs.EscapeLaws.{escape_keeps_order}
 use Rattle.art_model.specs.Pairs.{of_key}
 use Rattle.art_model.specs.Parts.{between, is_from, is_up_to}
 use Rattle.art_keyed.specs.KeyedPairs.{HaveKeys, OnBound, is_key_from, is_key_up_to, keys_between, set_between}
-use Rattle.art_keyed.proofs.Between.{between_keys, filter_same, map_twice}
+use Rattle.art_keyed.proofs.KeyRanges.{between_keys, filter_same, map_twice}
 use denote.Ref.{Bor}
 
 -- ---- strings without a zero

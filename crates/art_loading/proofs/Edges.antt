@@ -10,9 +10,9 @@ use Rattle.art_loading.specs.declared.append.AppendReason.TheVariants.{Memory}
 use Rattle.art_loading.specs.EdgeSteps.{IsReach, path_by, step_of, steps_of}
 use Rattle.art_loading.specs.declared.edge.Step.{Step}
 use Rattle.art_loading.proofs.Next.{next_byte, next_precedes}
-use Rattle.art_loading.proofs.Points.{IsPointAt, leaf_point, into_byte, into_point, mismatch_point, plug_twice, prefix_len}
-use Rattle.art_loading.proofs.Puts.{before_last, ends_with_last, last_child, last_of_push, pairs_with_last, put_last}
-use Rattle.art_loading.proofs.Steps.{IsCut, cut_at, path_by-steps}
+use Rattle.art_loading.proofs.PointsOnPath.{IsPointAt, leaf_point, into_byte, into_point, mismatch_point, plug_twice, prefix_len}
+use Rattle.art_loading.proofs.PutsAtEnd.{before_last, ends_with_last, last_child, last_of_push, pairs_with_last, put_last}
+use Rattle.art_loading.proofs.StepsDown.{IsCut, cut_at, path_by-steps}
 use Rattle.art_model.proofs.keys.KeyLaws.{order_is_transitive}
 use Rattle.art_model.proofs.lists.Lists.{Each-append, Each-left, Each-right, Each-weaker}
 use Rattle.art_model.proofs.places.Paths.{radix_plug}

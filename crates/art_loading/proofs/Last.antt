@@ -7,8 +7,8 @@ use Rattle.art_model.specs.Prelude.{leaf_name, inner_name, InnerPtr, LeafPtr, Op
 use Rattle.art_loading.specs.Edges.{EndsUnder, EndsIfInto, IsEdge, IsEdgePoint}
 use Rattle.art_loading.specs.declared.edge.Step.{Step}
 use Rattle.art_loading.proofs.Edges.{edge_leaf}
-use Rattle.art_loading.proofs.Puts.{names_with_last}
-use Rattle.art_loading.proofs.Steps.{HasPush, push_view}
+use Rattle.art_loading.proofs.PutsAtEnd.{names_with_last}
+use Rattle.art_loading.proofs.StepsDown.{HasPush, push_view}
 use Rattle.art_model.proofs.leaves.Chains.{links_leaf}
 use Rattle.art_model.proofs.leaves.Links.{link_of}
 use Rattle.art_model.proofs.lists.Lists.{Each-right, Each-weaker}

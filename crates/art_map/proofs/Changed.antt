@@ -4,7 +4,7 @@ use Rattle.std.proofs.Common.{◌∙◌, subst, arith, append_assoc, append-nil,
 use Rattle.std.specs.FinMap.{get}
 use Rattle.std.specs.List.{AllByRecursion as Each}
 use Rattle.art_model.specs.Prelude.{with_value, with_leaf_value, Nodes, leaf_name, LeafNode, LeafPtr, OpaqueNodePtr, Precedes, are_same, AreDistinct, AreLinked, IsMap, first_of, of_key, without_first, links_at, pair_of}
-use Rattle.art_nodes.proofs.StoreLaws.{leaf_changed_at, leaf_changed_elsewhere}
+use Rattle.art_nodes.proofs.StoreChanges.{leaf_changed_at, leaf_changed_elsewhere}
 use Rattle.art_model.proofs.leaves.Chains.{links_inner, links_leaf}
 use Rattle.art_model.proofs.keys.Keys.{front_same, same_equal}
 use Rattle.art_model.proofs.leaves.Leaves.{same_leaf}
@@ -23,8 +23,8 @@ use Rattle.art_map.proofs.Items.{first_left, less_first, named_pairs, none_first
 use Rattle.art_map.proofs.LeafOf.{leaf_of_map}
 use Rattle.art_map.proofs.Ranges.{between_are, walk_counted}
 use Rattle.art_map.proofs.ValueLaws.{written_between}
-use Rattle.art_map.proofs.Views.{holds, map_held, view_of}
-use Rattle.art_map.proofs.Written.{value_written}
+use Rattle.art_map.proofs.ViewsOfPairs.{holds, map_held, view_of}
+use Rattle.art_map.proofs.WrittenValues.{value_written}
 
 module _ {K V F : Type 0} (calls : F → K × V → F → V → Type 0) where
   -- f was called on some pairs and then on one more

@@ -4,7 +4,7 @@ use Rattle.std.specs.List.{AllByRecursion as Each}
 use Rattle.std.specs.FinMap as map
 use Rattle.art_model.specs.Prelude.{Inner, Nodes, leaf_cmp, LeafNode, LeafPtr, NodeType, Node4, Node16, Node48, Node256, Leaf, OpaqueNodePtr, IsCanonicalTree, leaf_node, leaf_names, leaf_names_below, Holds, HoldsBelow, AreDistinct, held_leaf, held_inner, content_in, tree_node, node_at, Tree, leaf, inner, Subtrees, child, no_child}
 use Rattle.art_parts.proofs.NameLemmas.{leaf_cmp_total, leaf_cmp-IsAntisymmetric}
-use Rattle.art_nodes.proofs.StoreLaws.{gone_elsewhere}
+use Rattle.art_nodes.proofs.StoreChanges.{gone_elsewhere}
 use Rattle.art_model.proofs.stores.Canonical.{tree_radix}
 use Rattle.art_model.proofs.stores.Heights.{one_less}
 use Rattle.art_model.proofs.lists.Lists.{Each-append}

@@ -6,10 +6,10 @@ use Rattle.art_model.proofs.pairs.Puts.{any_is_first}
 use Rattle.art_map.specs.MapChanges.{HasKeyAt, IsLeafOfKey, NamesLeafOf}
 use Rattle.art_map.specs.MapPairs.{HoldsPairs, pairs_at}
 use Rattle.art_map.proofs.LeafOf.{leaf_of_map}
-use Rattle.art_map.proofs.Puts.{at_some, stays}
+use Rattle.art_map.proofs.MapPuts.{at_some, stays}
 use Rattle.art_map.proofs.ValueLaws.{new_written}
-use Rattle.art_map.proofs.Views.{map_held}
-use Rattle.art_map.proofs.Written.{is_stored, leaf_named, pair_swapped, value_written}
+use Rattle.art_map.proofs.ViewsOfPairs.{map_held}
+use Rattle.art_map.proofs.WrittenValues.{is_stored, leaf_named, pair_swapped, value_written}
 
 module _ {K V : Type 0} (bytes : K → List ℕ) (P : ℕ) {s : Nodes K V} where
   -- a leaf that has a key is the key's

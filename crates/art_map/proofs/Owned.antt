@@ -2,7 +2,7 @@
 use Rattle.std.proofs.Common.{◌≡◌, ◌≢◌, ℕ, ◌-◌, List, [], ◌∷◌, ◌++◌, length, refl, ap, sym, ◌∙◌, subst, inl, inr, Option, Some, None, option_map, option_and_then}
 use Rattle.std.specs.FinMap as map
 use Rattle.art_model.specs.Prelude.{leaf_name, Nodes, LeafNode, LeafPtr, OpaqueNodePtr, IsIn, AreDistinct, AreLinked, first_or, first_of, last_of, without_first, without_last, links_at, links_of, pair_of}
-use Rattle.art_nodes.proofs.StoreLaws.{leaf_gone_elsewhere}
+use Rattle.art_nodes.proofs.StoreChanges.{leaf_gone_elsewhere}
 use Rattle.art_model.proofs.lists.Lists.{each_in}
 use Rattle.art_model.proofs.stores.Names.{apart_in}
 use Rattle.art_model.proofs.leaves.Segments.{but_last}

@@ -11,8 +11,8 @@ use Rattle.art_model.proofs.pairs.MapLaws.{first_is_removed_by_key}
 use Rattle.art_writing.specs.SubtreePoints.{HasPrefixBelow, LeadsToNode, pairs_beside}
 use Rattle.art_writing.specs.declared.delete.subtree.SubtreeDeletePoint.{SubtreeDeletePoint}
 use Rattle.art_map.specs.MapPairs.{HoldsPairs}
-use Rattle.art_map.proofs.Puts.{HasTreeAt}
-use Rattle.art_map.proofs.Views.{none_other, with_tree}
+use Rattle.art_map.proofs.MapPuts.{HasTreeAt}
+use Rattle.art_map.proofs.ViewsOfPairs.{none_other, with_tree}
 
 module _ {A : Type 0} (bytes : A → List ℕ) (prefix : List ℕ) where
   first_begins : (pairs : List A) (x : A) → first_of (below bytes prefix pairs) ≡ Some x → is_front prefix (bytes x) ≡ true

@@ -6,7 +6,7 @@ use Rattle.std.specs.Fn.{Mut}
 use Rattle.std.specs.declared.ops.Bound.TheVariants.{Unbounded}
 use Rattle.art_model.specs.Prelude.{CalledOnPair, with_value, with_leaf_value, Nodes, leaf_name, LeafNode, LeafPtr, OpaqueNodePtr, IsCanonicalTree, IsMap, first_of, of_key, remove_key, remove_reply, without_first, is_between, ForTree, pair_of, Tree}
 use Rattle.art_nodes.specs.LeafCalls.{CallsOnLeaf}
-use Rattle.art_nodes.proofs.StoreLaws.{leaf_changed_at}
+use Rattle.art_nodes.proofs.StoreChanges.{leaf_changed_at}
 use Rattle.art_model.proofs.stores.StoreLaws.{has_one_map}
 use Rattle.art_reading.specs.Iterators.{IsIteratorOf}
 use Rattle.art_writing.specs.Deleted.{IsDeletePoint, IsDeletePointIn, LeadsTo}
@@ -18,8 +18,8 @@ use Rattle.art_map.specs.MapRetain.{CallsUpTo, FindsRefused, HasTakenRefused, Ta
 use Rattle.art_map.proofs.Changed.{Changing, first_after, held_after, keys_after, others_after, those_after}
 use Rattle.art_map.proofs.Items.{named_pairs}
 use Rattle.art_map.proofs.Retained.{passed, stored_once}
-use Rattle.art_map.proofs.Puts.{at_root}
-use Rattle.art_map.proofs.Views.{holds, map_held, view_of}
+use Rattle.art_map.proofs.MapPuts.{at_root}
+use Rattle.art_map.proofs.ViewsOfPairs.{holds, map_held, view_of}
 use denote.Ref.{Bor}
 
 pub same_some : {A : Type 0} {x y : A} → Some x ≡ Some y → x ≡ y

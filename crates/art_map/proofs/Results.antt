@@ -8,7 +8,7 @@ use Rattle.art_map.specs.MapChanges.{HasPut, HasPutOver, HasReplaced, HasTaken, 
 use Rattle.art_map.specs.MapPairs.{HoldsPairs, pairs_at}
 use Rattle.art_map.specs.declared.map.MapInsertError.{MapInsertError}
 use Rattle.art_map.proofs.CallerLaws.{value_elsewhere, value_gone, value_here, value_left}
-use Rattle.art_map.proofs.Views.{holds, view_of, view_sorted}
+use Rattle.art_map.proofs.ViewsOfPairs.{holds, view_of, view_sorted}
 
 module _ {K V : Type 0} (bytes : K → List ℕ) where
   -- What a caller knows after a pair is put.

@@ -16,8 +16,8 @@ use Rattle.art_writing.proofs.KeysFound.{deleted_pair}
 use Rattle.art_map.specs.MapAnswers.{value_at}
 use Rattle.art_map.specs.MapChanges.{NamesPair}
 use Rattle.art_map.specs.MapPairs.{HoldsPairs, pairs_at}
-use Rattle.art_map.proofs.Puts.{at_root, at_some, is_some-map}
-use Rattle.art_map.proofs.Views.{none_other, with_tree}
+use Rattle.art_map.proofs.MapPuts.{at_root, at_some, is_some-map}
+use Rattle.art_map.proofs.ViewsOfPairs.{none_other, with_tree}
 
 module _ {A : Type 0} (bytes : A → List ℕ) where
   -- a filter that an item passes leaves at least one

@@ -10,7 +10,7 @@ use Rattle.std.specs.declared.cmp.Ordering.{Ordering}
 use Rattle.slab.specs.Slab.{entries_from}
 use Rattle.art_nodes.specs.Nodes.{change}
 use Rattle.art_parts.proofs.NameLemmas.{apart, same_or_not}
-use Rattle.art_nodes.proofs.StoreLaws.{here, elsewhere, gone, gone_elsewhere, changed_from}
+use Rattle.art_nodes.proofs.StoreChanges.{here, elsewhere, gone, gone_elsewhere, changed_from}
 
 -- each slot gives an entry, whose name has the slot's number
 module _ {N X : Type 0} {R : N → N → Ordering} (same : IsAntisymmetric R) (slot_of : N → ℕ) (name_at : ℕ → N) (own : (at : ℕ) → slot_of (name_at at) ≡ at) where

@@ -2,7 +2,7 @@
 use Rattle.std.proofs.Common.{◌≡◌, ℕ, ◌-◌, ◌<◌, List, length, slice_get, refl, ap, sym, ◌∙◌}
 use Rattle.std.specs.FinMap as map
 use Rattle.art_model.specs.Prelude.{Inner, leaf_name, Nodes, LeafPtr, InnerPtr, OpaqueNodePtr, Tree, no_child, node_at, height, Frame, IsFullTree}
-use Rattle.art_model.proofs.places.Edges.{AreFirst, AreLast, IsAtEdge, edge_start, edge_down, first_child, last_child, first_leaf, last_leaf}
+use Rattle.art_model.proofs.places.EdgeDescents.{AreFirst, AreLast, IsAtEdge, edge_start, edge_down, first_child, last_child, first_leaf, last_leaf}
 use Rattle.art_model.proofs.stores.Shown.{IsShown}
 use Rattle.art_reading.specs.declared.lookup.descent.End.{End}
 use Rattle.art_reading.specs.declared.lookup.descent.End.TheVariants.{First, Last}

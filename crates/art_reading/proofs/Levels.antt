@@ -18,7 +18,7 @@ use Rattle.art_model.specs.Radix.{IsRadix}
 use Rattle.art_model.specs.Roots.{ForTree}
 use Rattle.art_model.specs.Stores.{header_at, node_at}
 use Rattle.art_model.specs.Trees.{Tree, inner, child}
-use Rattle.art_model.proofs.places.Edges.{height_join}
+use Rattle.art_model.proofs.places.EdgeDescents.{height_join}
 use Rattle.art_model.proofs.places.OnWay.{child_under}
 use Rattle.art_model.proofs.stores.Heights.{enough_steps, height_is}
 use Rattle.art_model.proofs.stores.Shown.{IsShown}
@@ -33,7 +33,7 @@ use Rattle.art_reading.specs.declared.path.ExplicitMismatch.{ExplicitMismatch}
 use Rattle.art_reading.specs.declared.path.PrefixMatch.{PrefixMatch}
 use Rattle.art_reading.specs.declared.path.TreePath.{TreePath}
 use Rattle.art_reading.proofs.EndNodes.{shown_there}
-use Rattle.art_reading.proofs.OnWay.{whole_child}
+use Rattle.art_reading.proofs.LookupWays.{whole_child}
 
 -- a tree is no higher than one that it is a part of
 height_plug : {N A : Type 0} (fs : List (Frame N A)) (t : Tree N A) → tree_height t ≤ tree_height (plug fs t)

@@ -13,7 +13,7 @@ use Rattle.art_reading.specs.EndNodes.{IsAt}
 use Rattle.art_reading.specs.PartEnds.{StandsBeside}
 use Rattle.art_reading.specs.PathSteps.{path_of}
 use Rattle.art_reading.specs.Readings.{guide_cost, left_on_way, levels}
-use Rattle.art_reading.proofs.Left.{child_left}
+use Rattle.art_reading.proofs.LeftOnWay.{child_left}
 use Rattle.art_reading.proofs.Descents.{IsDescent, start, shown_radix, front, front_len, child_there, each_under, down, down_leads}
 use Rattle.art_reading.proofs.Sides.{apart_left, apart_right, ended_left, ended_right}
 

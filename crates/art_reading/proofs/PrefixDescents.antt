@@ -15,7 +15,7 @@ use Rattle.art_reading.specs.declared.path.TreePath.{TreePath}
 use Rattle.art_reading.specs.declared.path.TreePath.TheVariants.{Root}
 use Rattle.art_reading.specs.Readings.{left_on_way, levels}
 use Rattle.art_reading.proofs.Descents.{IsDescent, start, front, front_len, child_there, each_under, down}
-use Rattle.art_reading.proofs.Left.{child_left}
+use Rattle.art_reading.proofs.LeftOnWay.{child_left}
 
 -- a key that continues after a part of the prefix with another byte than the prefix does not start with the prefix
 other_byte : (prefix front x : List ℕ) (c : ℕ) → length front < length prefix → c ≢ get_or prefix (length front) 0 →

@@ -21,9 +21,9 @@ use Rattle.art_reading.specs.Readings.{CountsReadings, CountsToText, left_on_way
 use Rattle.art_reading.specs.TextWays.{IsTextStep, bytes_along}
 use Rattle.art_reading.specs.declared.lookup.descent.End.{End}
 use Rattle.art_reading.specs.declared.lookup.descent.End.TheVariants.{First, Last}
-use Rattle.art_reading.proofs.Readings.{count_both}
+use Rattle.art_reading.proofs.Counters.{count_both}
 use Rattle.art_reading.proofs.Descents.{IsDescent, down, start}
-use Rattle.art_reading.proofs.Left.{child_left, end_left, gap_left, leaf_left}
+use Rattle.art_reading.proofs.LeftOnWay.{child_left, end_left, gap_left, leaf_left}
 use Rattle.art_reading.proofs.TextWays.{same_parts, unmapped}
 
 -- A descent to a node, above which the nodes on the key's path were read.

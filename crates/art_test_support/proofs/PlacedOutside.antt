@@ -6,7 +6,7 @@ use Rattle.art_inner.specs.Inner.{Inner}
 use Rattle.art_nodes.specs.Nodes.{Nodes}
 use Rattle.art_parts.specs.declared.names.InnerPtr.{InnerPtr}
 use Rattle.art_parts.specs.declared.names.OpaqueNodePtr.{OpaqueNodePtr}
-use Rattle.art_nodes.proofs.StoreLaws.{inner_elsewhere as elsewhere}
+use Rattle.art_nodes.proofs.StoreChanges.{inner_elsewhere as elsewhere}
 use Rattle.art_model.specs.Stores.{content_at, held_leaf, held_inner}
 use Rattle.art_model.proofs.stores.Views.{held_in_inner, leaf_or}
 

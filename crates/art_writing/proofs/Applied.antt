@@ -15,7 +15,7 @@ use Rattle.art_writing.specs.Applied.{IsApplied, IsPrefixApplied, TakesMemory}
 use Rattle.art_writing.specs.Inserted.{HasInserted, IsBelow, IsPointIn, unlinked_leaf}
 use Rattle.art_writing.specs.Points.{AnswersTo}
 use Rattle.art_writing.specs.Overwritten.{HasOverwritten, IsOverwritePointIn}
-use Rattle.art_writing.proofs.Left.{IsInserted, IsOverwritten}
+use Rattle.art_writing.proofs.LeftByPoints.{IsInserted, IsOverwritten}
 use Rattle.art_writing.proofs.Standing.{answers_to}
 
 -- ---- allocations

@@ -31,7 +31,7 @@ use Rattle.art_writing.specs.Inserted.{HasInserted, IsBelow, IsChange, Touches, 
 use Rattle.art_writing.specs.Points.{AnswersTo}
 use Rattle.art_writing.specs.ParentWrites.{HasChild}
 use Rattle.art_reading.specs.PathSteps.{last_step, root_with}
-use Rattle.art_writing.proofs.Left.{IsInserted}
+use Rattle.art_writing.proofs.LeftByPoints.{IsInserted}
 use Rattle.art_reading.proofs.Partings.{unrelated_after}
 use Rattle.art_writing.proofs.Ways.{last_step-path_of, root_with-path_of, root_told}
 

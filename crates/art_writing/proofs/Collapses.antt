@@ -3,7 +3,7 @@ use Rattle.std.proofs.Common.{◌≡◌, ◌≢◌, ℕ, ◌+◌, List, [], ◌�
 use Rattle.std.specs.List.{AllByRecursion as Each}
 use Rattle.std.specs.FinMap.{get}
 use Rattle.art_model.specs.Prelude.{without_child, leaf_name, LeafNode, LeafPtr, Leaf, OpaqueNodePtr, Nodes, change, IsIn, IsFront, ChangesInPlace, Frees, KeepsOthers, leaf_node, inner_node, name_of, names_of, names_below, leaf_names, entries_of, slots_of, first_or, last_or, AreDistinct, AreLinked, Holds, IsLayout, first_of, Frame, plug, IsPath, HoldsPath, pairs_before, pairs_after, leaves_before, leaves_after, names_before, names_after, IsRadix, join, pairs_of, content_at, held_leaf, held_inner, node_at, links_at, pair_of, tree_node, Tree, leaf, inner, child, no_child, as_inner, parent_of, with_links_around, with_child_at}
-use Rattle.art_nodes.proofs.StoreLaws.{inner_changed_here, inner_changed_elsewhere}
+use Rattle.art_nodes.proofs.StoreChanges.{inner_changed_here, inner_changed_elsewhere}
 use Rattle.art_model.proofs.stores.Canonical.{IsLaidOut}
 use Rattle.art_model.proofs.leaves.Chains.{AreBeside, relinked_beside}
 use Rattle.art_model.proofs.changes.Kept.{kept_leaves, kept_leaves_fewer}

@@ -2,7 +2,7 @@
 use Rattle.std.proofs.Common.{◌≡◌, ◌≢◌, ℕ, List, ap, sym, subst, ◌∙◌, None, Result, Ok, Err, IfOk, OnErr, inl, inr, option_map}
 use Rattle.std.specs.FinMap.{get, insert}
 use Rattle.art_model.specs.Prelude.{leaf_name, Nodes, LeafPtr, LeafNode, OpaqueNodePtr, IsCanonicalTree, content_at, held_leaf, held_inner, Tree}
-use Rattle.art_nodes.proofs.StoreLaws.{leaf_elsewhere as elsewhere}
+use Rattle.art_nodes.proofs.StoreChanges.{leaf_elsewhere as elsewhere}
 use Rattle.art_model.proofs.stores.Apart.{name_used, tree_kept}
 use Rattle.art_model.proofs.stores.Views.{held_in_inner, leaf_or}
 

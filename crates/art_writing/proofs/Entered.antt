@@ -4,7 +4,7 @@ use Rattle.std.proofs.Common.{refl, leb, ap, sym, ◌∙◌, subst, arith, appen
 use Rattle.std.specs.List.{AllByRecursion as Each}
 use Rattle.std.specs.FinMap as map
 use Rattle.art_model.specs.Prelude.{Inner, child_at, kind_capacity, leaf_name, inner_name, Nodes, Leaf, InnerPtr, LeafPtr, OpaqueNodePtr, IsCanonicalTree, IsFront, are_same, ChangesInPlace, slots_of, first_of, with_key, replace_key, Frame, plug, depth_of, prefix_of, IsRadix, AreRadix, bytes_of, join, pairs_of, pairs_below, node_at, links_at, Tree, leaf, inner, Subtrees, child, no_child, NodeHeader, kind_of, as_inner, parent_of}
-use Rattle.art_nodes.proofs.StoreLaws.{inner_gone_elsewhere}
+use Rattle.art_nodes.proofs.StoreChanges.{inner_gone_elsewhere}
 use Rattle.art_model.proofs.changes.AddedChild.{ChildAdded, split_at}
 use Rattle.art_model.proofs.stores.Canonical.{IsLaidOut, laid_out, canonical_from}
 use Rattle.art_model.proofs.places.InHole.{with_key-hole}
@@ -32,7 +32,7 @@ use Rattle.art_reading.specs.EndNodes.{IsKindOf}
 use Rattle.art_reading.specs.PathSteps.{last_step, path_of, root_with}
 use Rattle.art_writing.specs.ParentWrites.{ComesBetween, HasChild, HasGap}
 use Rattle.art_writing.specs.Points.{AnswersTo}
-use Rattle.art_writing.proofs.Left.{IsInserted}
+use Rattle.art_writing.proofs.LeftByPoints.{IsInserted}
 use Rattle.art_writing.proofs.Answered.{placed_end}
 use Rattle.art_writing.proofs.Standing.{answers_to}
 use Rattle.art_reading.proofs.Partings.{unrelated_after}

@@ -4,7 +4,7 @@ use Rattle.std.specs.FinMap as map
 use Rattle.std.proofs.lemmas.Bool.{false≢true}
 use Rattle.art_model.specs.Prelude.{leaf_name, leaf_cmp, Nodes, LeafPtr, LeafNode, OpaqueNodePtr, IsIn, Frees, AreDistinct, first_of, without_first, content_at, held_leaf, held_inner, links_of}
 use Rattle.art_parts.proofs.NameLemmas.{leaf_cmp_total}
-use Rattle.art_nodes.proofs.StoreLaws.{leaf_gone, leaf_gone_elsewhere}
+use Rattle.art_nodes.proofs.StoreChanges.{leaf_gone, leaf_gone_elsewhere}
 use Rattle.art_model.proofs.lists.Lists.{in_left, in_right, in_either}
 use Rattle.art_model.proofs.stores.Names.{apart_in}
 use Rattle.art_model.proofs.lists.Pairwises.{Pairwise-right}

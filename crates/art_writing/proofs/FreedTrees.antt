@@ -4,7 +4,7 @@ use Rattle.std.proofs.Common.{Some, None, IsSome, is_some, refl, ap, ap₂, sym,
 use Rattle.std.specs.List.{AllByRecursion as Each}
 use Rattle.std.specs.FinMap as map
 use Rattle.art_model.specs.Prelude.{Inner, leaf_name, inner_name, Nodes, change, NodeType, Node4, Node16, Node48, Node256, Leaf, LeafPtr, InnerPtr, LeafNode, OpaqueNodePtr, IsIn, tree_height, height_below, Frees, Node, name_of, leaf_node, inner_node, slots_of, names_of, names_below, leaf_names, leaf_names_below, inner_names, inner_names_below, shape_of, Holds, HoldsBelow, IsLayout, content_at, held_leaf, held_inner, IsUsed, header_at, node_at, tree_node, shape_at, Tree, leaf, inner, Subtrees, child, no_child, NodeHeader, as_inner}
-use Rattle.art_nodes.proofs.StoreLaws.{inner_gone, inner_gone_elsewhere, inner_changed_elsewhere}
+use Rattle.art_nodes.proofs.StoreChanges.{inner_gone, inner_gone_elsewhere, inner_changed_elsewhere}
 use Rattle.art_model.specs.Stores.{inner_seen, shape_in}
 use Rattle.art_model.proofs.stores.Heights.{height_long, enough_inners}
 use Rattle.art_model.proofs.lists.Lists.{Each-append, Each-weaker, in_left, in_right, in_either, each_in, each_from}

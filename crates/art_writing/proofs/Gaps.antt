@@ -5,7 +5,7 @@ use Rattle.std.specs.FinMap as map
 use Rattle.art_model.specs.Prelude.{Inner, Children, child_at, inner_name, Nodes, Leaf, InnerPtr, LeafPtr, OpaqueNodePtr, IsNextTo, AreDistinct, name_of, names_of, names_below, slots_of, BytesRise, bytes_of, join, IsFullTree, node_at, Tree, inner, Subtrees, child, no_child, NodeHeader}
 use Rattle.std.proofs.lemmas.Bool.{cases_eq, ltb-true, ltb-false}
 use Rattle.art_inner.proofs.ChildrenLaws.{at_here, at_later}
-use Rattle.art_model.proofs.places.Edges.{children_right}
+use Rattle.art_model.proofs.places.EdgeDescents.{children_right}
 use Rattle.art_model.proofs.lists.Pairwises.{Pairwise-left, Pairwise-right}
 use Rattle.art_model.proofs.places.Paths.{names_below-join}
 use Rattle.art_model.proofs.places.PlaceLaws.{join_assoc}

@@ -2,7 +2,7 @@
 use Rattle.std.proofs.Common.{◌≡◌, ◌≢◌, ℕ, Option, Some, None, IsSome, IsSomeAnd, refl, ap, sym, ◌∙◌, subst}
 use Rattle.std.specs.FinMap as map
 use Rattle.art_model.specs.Prelude.{Inner, child_at, InnerPtr, Inners}
-use Rattle.art_nodes.proofs.StoreLaws.{inner_elsewhere, inner_gone_elsewhere}
+use Rattle.art_nodes.proofs.StoreChanges.{inner_elsewhere, inner_gone_elsewhere}
 use Rattle.art_writing.specs.ParentWrites.{HasChild}
 
 -- a node that is placed leaves the parent

@@ -21,7 +21,7 @@ use Rattle.art_writing.specs.declared.insert.InsertResult.{InsertResult}
 use Rattle.art_writing.specs.Inserted.{Touches, is_full}
 use Rattle.art_writing.specs.ParentWrites.{ComesBetween}
 use Rattle.art_reading.specs.PathSteps.{last_step, root_with}
-use Rattle.art_writing.proofs.Left.{IsInserted}
+use Rattle.art_writing.proofs.LeftByPoints.{IsInserted}
 use Rattle.art_writing.proofs.LeafNeighbours.{between_links}
 use Rattle.art_writing.proofs.Entered.{IsEntry, entry_laid, entry_kind, entry_full, entry_inner, entry_count, entered_inserted}
 use Rattle.art_writing.proofs.Ways.{last_step-path_of, root_with-path_of}

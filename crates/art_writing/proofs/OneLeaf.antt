@@ -3,7 +3,7 @@ use Rattle.std.proofs.Common.{◌≡◌, ℕ, List, [], ◌∷◌, refl, ap, sym
 use Rattle.std.specs.FinMap.{get, insert}
 use Rattle.art_model.specs.Prelude.{leaf_name, Nodes, take_leaf, LeafNode, LeafPtr, Leaf, IsCanonicalTree, ChangesInPlace, of_key, IsCanonicalRoot, held_leaf, tree_node, links_of, leaf, KeepsApart}
 use Rattle.art_parts.proofs.NameLemmas.{leaf_cmp_total, leaf_cmp-IsAntisymmetric}
-use Rattle.art_nodes.proofs.StoreLaws.{leaf_here}
+use Rattle.art_nodes.proofs.StoreChanges.{leaf_here}
 use Rattle.art_model.proofs.stores.Apart.{tree_apart}
 use Rattle.art_model.proofs.stores.Canonical.{canonical_from}
 use Rattle.art_model.proofs.changes.InPlace.{others_kept}

@@ -6,7 +6,7 @@ use Rattle.std.specs.FinMap as map
 use Rattle.std.proofs.lemmas.Bool.{eq-eqb, ne_eqb}
 use Rattle.art_model.specs.Prelude.{Inner, Children, IsRising, child_at, put_child, remove_child, with_child, without_child, Nodes, change, Leaf, OpaqueNodePtr, IsIn, KeepsOthers, Frees, AreDistinct, Holds, HoldsBelow, IsLayout, Node, inner_node, leaf_node, leaf_names, leaf_names_below, name_of, names_of, names_below, slots_of, first_of, join, IsUsed, content_at, header_at, shape_at, Tree, leaf, inner, Subtrees, child, no_child, NodeHeader, as_inner}
 use Rattle.art_inner.specs.Inner.{IsBelow, HasPlace}
-use Rattle.art_nodes.proofs.StoreLaws.{inner_changed_here}
+use Rattle.art_nodes.proofs.StoreChanges.{inner_changed_here}
 use Rattle.art_parts.proofs.NameLemmas.{same_or_not, inner_cmp_total, inner_cmp-IsAntisymmetric}
 use Rattle.art_model.proofs.lists.Lists.{Each-append, Each-left, Each-right, each_from, each_in, in_left, in_right, in_either}
 use Rattle.art_model.proofs.stores.Names.{apart_in, takes_leaves, taken_in}

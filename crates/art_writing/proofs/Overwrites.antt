@@ -28,7 +28,7 @@ use Rattle.art_reading.specs.EndNodes.{IsOverwrittenWith}
 use Rattle.art_reading.specs.PathSteps.{last_step, path_of, root_with}
 use Rattle.art_writing.specs.declared.writes.Direction.TheVariants.{Before, After}
 use Rattle.art_writing.specs.ParentWrites.{HasChild, IsBeside}
-use Rattle.art_writing.proofs.Left.{IsOverwritten}
+use Rattle.art_writing.proofs.LeftByPoints.{IsOverwritten}
 use Rattle.art_writing.proofs.BranchReads.{beside_is}
 use Rattle.art_writing.proofs.Answered.{IsEndLeaf, end_leaf, placed_end}
 use Rattle.art_writing.proofs.Standing.{overwrite_answers_to}

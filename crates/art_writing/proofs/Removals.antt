@@ -8,7 +8,7 @@ use Rattle.art_model.specs.Prelude.{with_child, with_header, without_child, Inne
 use Rattle.art_inner.specs.Inner as nodes
 use Rattle.art_parts.specs.Headers as headers
 use Rattle.art_parts.proofs.HeaderLaws.{header_by_parts}
-use Rattle.art_nodes.proofs.StoreLaws.{inner_gone_elsewhere}
+use Rattle.art_nodes.proofs.StoreChanges.{inner_gone_elsewhere}
 use Rattle.art_model.proofs.stores.Canonical.{IsLaidOut, laid_out}
 use Rattle.art_model.proofs.changes.Changes.{child_left}
 use Rattle.art_model.proofs.changes.Changes as changes

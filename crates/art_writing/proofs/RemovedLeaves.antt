@@ -4,7 +4,7 @@ use Rattle.std.specs.FinMap.{get, insert, remove}
 use Rattle.std.proofs.lemmas.Bool.{leb-true, leb-false, lt-leb}
 use Rattle.art_model.specs.Prelude.{without_child, Inner, child_at, remove_child, kind_capacity, kind_least, smaller_kind, leaf_name, inner_name, Nodes, change, NodeType, Node4, Node16, Node48, Node256, Leaf, InnerPtr, LeafNode, OpaqueNodePtr, IsCanonicalTree, ChangesInPlace, name_of, remove_key, Frame, plug, bytes_of, join, IsRootOf, node_at, links_at, pair_of, Tree, leaf, child, Inners, as_inner, parent_of, with_child_at, without_leaf}
 use Rattle.art_parts.specs.Kinds.{next_smaller}
-use Rattle.art_nodes.proofs.StoreLaws.{inner_fresh_differs, inner_gone_elsewhere}
+use Rattle.art_nodes.proofs.StoreChanges.{inner_fresh_differs, inner_gone_elsewhere}
 use Rattle.art_model.proofs.stores.Canonical.{IsLaidOut, laid_out, canonical_from}
 use Rattle.art_model.proofs.changes.OutOf.{HasLeafBelow, ParentStays, ParentShrinks, with_leaf_in, links_there, parent_is, one_more}
 use Rattle.art_model.proofs.changes.OutOf.{slots_left, room_in_smaller, above_same, above_holds, hole, left_out, stays_laid_out}

@@ -4,7 +4,7 @@ use Rattle.std.proofs.lemmas.List.{take-append-drop, take-append-le, append_canc
 use Rattle.std.specs.FinMap.{get}
 use Rattle.art_model.specs.Prelude.{SameNodes, with_header, child_at, leaf_name, inner_name, Nodes, change, InnerPtr, LeafPtr, LeafNode, OpaqueNodePtr, IsCanonicalTree, IsIn, IsFront, inner_node, slots_of, names_of, Holds, Frame, plug, depth_of, least_key, prefix_of, bytes_of, node_at, links_at, pair_of, Tree, leaf, inner, Subtrees, NodeHeader, canonical_header, Inners, as_inner, parent_of}
 use Rattle.art_parts.specs.Headers.{Prefix, header_of as whole_header}
-use Rattle.art_nodes.proofs.StoreLaws.{inner_changed_elsewhere}
+use Rattle.art_nodes.proofs.StoreChanges.{inner_changed_elsewhere}
 use Rattle.art_model.proofs.changes.PlacedBranches.{BranchStored, leaf_branched, prefix_branched, header_touches, branch_touches}
 use Rattle.art_model.proofs.stores.Canonical.{IsLaidOut}
 use Rattle.art_model.proofs.changes.Inserted.{BranchInserted}
@@ -25,7 +25,7 @@ use Rattle.art_writing.specs.Inserted.{IsChange, Touches}
 use Rattle.art_writing.specs.Points.{AnswersTo}
 use Rattle.art_writing.specs.ParentWrites.{HasChild}
 use Rattle.art_reading.specs.PathSteps.{last_step}
-use Rattle.art_writing.proofs.Left.{IsInserted}
+use Rattle.art_writing.proofs.LeftByPoints.{IsInserted}
 use Rattle.art_writing.proofs.Ways.{last_step-path_of}
 use Rattle.art_writing.proofs.BranchLemmas.{end_laid, end_depth, end_parent, branch_stored, branch_done}
 use Rattle.art_writing.proofs.BranchReads.{leaf_found, leaf_named, inner_found, inner_named, prefix_way, prefix_inside}

@@ -7,7 +7,7 @@ use Rattle.std.specs.FinMap as map
 use Rattle.std.proofs.lemmas.Bool.{true≢false}
 use Rattle.std.proofs.lemmas.List.Elements.{filter-append}
 use Rattle.art_model.specs.Prelude.{without_child, LeafNode, InnerPtr, LeafPtr, OpaqueNodePtr, leaf_cmp, leaf_name, Nodes, change, IsCanonical, IsCanonicalTree, IsIn, ChangesInPlace, Frees, IsFront, Precedes, is_front, Holds, IsLayout, entries_of, first_or, leaf_names, name_of, names_of, slots_of, first_of, remove_key, below, not_below, Frame, HoldsPath, IsPath, plug, pairs_before, pairs_after, leaves_before, leaves_after, inner_nodes, inner_nodes_below, least_key, least_below, AreRadix, IsRadix, bytes_of, pairs_of, pairs_below, ForRoot, ForTree, IsCanonicalRoot, IsFullTree, IsRootOf, node_at, links_at, pair_of, Tree, leaf, inner, Subtrees, child, no_child, Inners, IsThere, as_inner, with_links_around, parent_of, with_child_at}
-use Rattle.art_nodes.proofs.StoreLaws.{inner_changed_elsewhere}
+use Rattle.art_nodes.proofs.StoreChanges.{inner_changed_elsewhere}
 use Rattle.art_model.specs.Kept.{KeepsInners, KeepsLeaves, inners_in, leaves_in}
 use Rattle.art_model.proofs.pairs.Between.{remove_key-between}
 use Rattle.art_model.proofs.stores.Canonical.{IsLaidOut, canonical_from, laid_out, tree_radix}

@@ -9,7 +9,7 @@ use Rattle.line_programs.specs.Outcomes.{outcome_of, worst}
 abbrev pub reply_line : Reply → List ℕ
 reply_line reply = reply.text.now ++ codes "\n"
 
--- The first so many replies, one after another, are these bytes, and the others are left.
+-- The first so many replies, one after another, are these bytes, the worst of their outcomes is this one, and the others are left.
 pub record AreGathered (replies others : List Reply) (count : ℕ) (outcome : Outcome) (bytes : List ℕ) : Type 0 where
   pub first : List Reply
   pub replies_are : replies ≡ first ++ others

@@ -16,9 +16,10 @@ use std::io;
 use std::io::{BufRead, BufReader, Read, Write};
 use text_lines::lines::{first_line, write_out};
 
-// How many replies are gathered at most, and how many bytes of them before another one is.
+// At most so many replies are gathered.
 const MOST_REPLIES: u64 = 1 << 16;
 
+// Once the gathered replies have so many bytes, no other is added.
 const MOST_BYTES: usize = 1 << 20;
 
 /// The first lines of a text, once they are answered.

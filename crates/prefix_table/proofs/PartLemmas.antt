@@ -19,7 +19,7 @@ use Rattle.prefix_table.proofs.CoverLemmas.{after_is_not_inside, before_is_not_i
 use Rattle.prefix_table.proofs.FilterLemmas.{last_passes, none_later, none_passes, part_passes}
 use Rattle.prefix_table.proofs.RowLemmas.{no_row}
 use Rattle.prefix_table.proofs.OrderLemmas.{no_network}
-use Rattle.prefix_table.proofs.TableLemmas.{length-entries}
+use Rattle.prefix_table.proofs.NetworkTables.{length-entries}
 
 module _ {V : Type 0} where
   -- the network of an entry, whatever the default

@@ -206,8 +206,8 @@ impl<V> PrefixTable<V> {
         self.longest_match_counted(address).0
     }
 
-    /// Returns for each address the value of the longest network that covers it, or `None` where none does. Addresses that
-    /// are looked up together take less time each, in a table that no cache holds.
+    /// Returns for each address the value of the longest network that covers it, or `None` where none does. Fails if an
+    /// allocation fails.
     pub fn longest_values(
         &self,
         alloc: Global,

@@ -8,7 +8,7 @@ use Rattle.snapshot_format.specs.Numbers.{FitsWithin, number_bytes, number_withi
 use Rattle.snapshot_format.specs.Reading.{is_above, is_next}
 use Rattle.snapshot_format.specs.Snapshots.{key_bytes, shared_len, sized}
 use Rattle.snapshot_format.specs.Faults.{EntryFault, FitsBelow, first, second, third, IsCutEntry, IsCutNumber, IsCutOf, IsCutSized, IsCutWithin, IsMisplaced, IsNot, IsOtherThan, NumberFault, SizedFault, WithinFault, parts}
-use Rattle.snapshot_format.proofs.Keys.{after_is_above, shared_within}
+use Rattle.snapshot_format.proofs.SharedKeys.{after_is_above, shared_within}
 use Rattle.snapshot_format.proofs.Numbers.{fits_within, within_joined, within_small}
 use Rattle.snapshot_format.proofs.NumberReads.{is_last, none_high, wrong_high}
 

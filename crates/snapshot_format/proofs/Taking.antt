@@ -6,7 +6,7 @@ use Rattle.snapshot_format.specs.Snapshots.{Entry, FitsEntry, IsAfter, IsNext, I
 use Rattle.snapshot_format.specs.declared.source.Source.{Source}
 use Rattle.snapshot_format.specs.Reading.{HasTaken, Reads}
 use Rattle.snapshot_format.proofs.Known.{left_of, reads_more, reads_none}
-use Rattle.snapshot_format.proofs.Parts.{after_entry, each_middle, each_more, entries_more, last_more, next_of, rising_more, rising_next}
+use Rattle.snapshot_format.proofs.RestsOfBytes.{after_entry, each_middle, each_more, entries_more, last_more, next_of, rising_more, rising_next}
 
 -- whether the next entry is the first one
 pub is_first : (taken : List Entry) (count : ℕ) → length taken ≡ count → eqb count 0 ≡ is_none taken

@@ -13,7 +13,7 @@ use Rattle.snapshot_format.specs.declared.source.Source.{Source}
 use Rattle.snapshot_format.specs.Reading.{IfFault, IsOutside, Reads}
 use Rattle.snapshot_format.proofs.Known.{left_of, reads_more}
 use Rattle.snapshot_format.proofs.Numbers.{one_form}
-use Rattle.snapshot_format.proofs.Parts.{entries_split}
+use Rattle.snapshot_format.proofs.RestsOfBytes.{entries_split}
 
 -- an error that can't be about the bytes is about something else
 pub outside : {P : Type 0} (error : ReadError) → IfFault error P → (P → ⊥) → IsOutside error

@@ -5,7 +5,7 @@ use Rattle.art_model.proofs.lists.Lists.{Each-append}
 use Rattle.text_programs.specs.Merged.{AreAdded}
 use Rattle.text_programs.specs.Rows.{IsBadRow, IsCount, row_of}
 use Rattle.text_programs.specs.Sums.{HasSums, OutputsAreRows, RowsAreDetermined}
-use Rattle.text_programs.proofs.RowLemmas.{rows_determined, written_rows}
+use Rattle.text_programs.proofs.CountRows.{rows_determined, written_rows}
 use Rattle.text_programs.proofs.SumLemmas.{counts_are}
 
 pub none_added : (counts : List (List ℕ × ℕ)) → AreAdded counts counts []

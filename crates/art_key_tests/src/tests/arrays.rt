@@ -45,14 +45,27 @@ fn fill(times: &mut Times) -> Option<()> {
     Some(())
 }
 
-// How many times of a user there are, and how many from -1 up to 2, by two calls.
-fn counts(times: &Times, user: u64) -> [usize; 3] {
-    let first = U64Key::from(user);
+// How many times of a user there are.
+fn count(times: &Times, user: u64) -> usize {
+    times.with_first(&U64Key::from(user)).count()
+}
+
+// How many times of a user from -1 up to 2 there are.
+fn count_between(times: &Times, user: u64) -> usize {
     let range = I64Key::from(-1)..I64Key::from(2);
+    times.range_with(&U64Key::from(user), range).count()
+}
+
+// The same by whole keys.
+fn count_in_range(times: &Times, user: u64) -> usize {
+    times.range(time_of(user, -1)..time_of(user, 2)).count()
+}
+
+fn counts(times: &Times, user: u64) -> [usize; 3] {
     [
-        times.with_first(&first).count(),
-        times.range_with(&first, range).count(),
-        times.range(time_of(user, -1)..time_of(user, 2)).count(),
+        count(times, user),
+        count_between(times, user),
+        count_in_range(times, user),
     ]
 }
 

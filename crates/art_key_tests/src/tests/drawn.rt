@@ -51,15 +51,29 @@ fn pop_below(model: &mut Model, string: Short) -> Option<usize> {
     None
 }
 
-// Whether they find the same value, and as many strings that start with this one, and that are at it or after it.
-fn agree_on_questions(map: &Map, model: &Model, key: Escaped, string: Short) -> bool {
+// How many strings start with this one, and how many are at it or after it.
+fn counts_of_model(model: &Model, string: Short) -> [usize; 2] {
     let (mut begin, mut follow) = (0usize, 0usize);
     for (other, _) in model.iter() {
         begin = begin.saturating_add(other.starts_with(string) as usize);
         follow = follow.saturating_add((*other >= string) as usize);
     }
+    [begin, follow]
+}
+
+fn count_below(map: &Map, key: &Escaped) -> usize {
+    map.prefix(key).count()
+}
+
+fn count_from(map: &Map, key: Escaped) -> usize {
+    map.range(key..).count()
+}
+
+// Whether they find the same value, and as many strings that start with this one, and that are at it or after it.
+fn agree_on_questions(map: &Map, model: &Model, key: Escaped, string: Short) -> bool {
     let found = map.get(&key).copied() == model.get(&string).copied();
-    found && map.prefix(&key).count() == begin && map.range(key..).count() == follow
+    let below = count_below(map, &key);
+    found && [below, count_from(map, key)] == counts_of_model(model, string)
 }
 
 // A number that the values make in their order.

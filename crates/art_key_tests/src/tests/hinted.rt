@@ -159,24 +159,71 @@ fn counts(map: &AnyMap) -> [usize; 6] {
     counts
 }
 
-// The counts after each change: of a map, of what a clone without two words gets by the pairs of the map, and of a map of
-// the pairs.
-fn counted_and_copied(alloc: Global, state: RandomState) -> Option<[[usize; 6]; 4]> {
+// A map in which each word was counted twice.
+fn counted_twice(alloc: Global, state: RandomState) -> Option<AnyMap> {
     let mut map = AnyMap::new(alloc, state);
-    if !count_words(&mut map, alloc) || !count_words(&mut map, alloc) {
-        return None;
+    let all = count_words(&mut map, alloc) && count_words(&mut map, alloc);
+    if all { Some(map) } else { None }
+}
+
+// Sets the count of a word that is stored, and whether it is.
+fn set(map: &mut AnyMap, word: &[u8], count: usize) -> bool {
+    let Some(stored) = map.get_text_mut(word) else {
+        return false;
+    };
+    *stored = count;
+    true
+}
+
+// Whether a word was stored twice; it is removed.
+fn takes_two(map: &mut AnyMap, word: &[u8]) -> bool {
+    match map.remove_text(word) {
+        Some((_, count)) => count == 2,
+        None => false,
     }
+}
+
+// Inserts clones of the pairs of a map, and whether that succeeds.
+fn extend(map: &mut AnyMap, source: &AnyMap) -> bool {
+    match source.as_tree_map().clone() {
+        Ok(tree) => map.extend(tree).is_ok(),
+        Err(_) => false,
+    }
+}
+
+// The counts of a clone once it was changed, and once it has the pairs of the map again.
+fn changed_and_extended(map: &AnyMap) -> Option<[[usize; 6]; 2]> {
     let mut copy = map.clone().ok()?;
-    *copy.get_text_mut(b"ab")? = 7;
-    let (_, first) = copy.remove_text(b"a\0")?;
-    let (_, second) = copy.remove_text(b"a")?;
+    let set = set(&mut copy, b"ab", 7);
+    let taken = takes_two(&mut copy, b"a\0") && takes_two(&mut copy, b"a");
     let changed = counts(&copy);
+    let extended = extend(&mut copy, map);
+    let all = set && taken && extended;
+    if all {
+        Some([changed, counts(&copy)])
+    } else {
+        None
+    }
+}
+
+// The counts of a map of the same tree with other hints, once one was changed.
+fn hinted_again(map: AnyMap, state: RandomState) -> Option<[usize; 6]> {
+    let mut again = HintedMap::from_tree_map(map.into_tree_map(), state);
+    if set(&mut again, b"\x01b", 4) {
+        Some(counts(&again))
+    } else {
+        None
+    }
+}
+
+// The counts of a map; of a clone without two words, and once it has the pairs of the map again; of a map of its tree.
+fn counted_and_copied(alloc: Global, state: RandomState) -> Option<[[usize; 6]; 4]> {
+    let map = counted_twice(alloc, state)?;
     let before = counts(&map);
-    let tree = map.into_tree_map();
-    copy.extend(tree.clone().ok()?).ok()?;
-    let mut again = HintedMap::from_tree_map(tree, state);
-    *again.get_text_mut(b"\x01b")? = first.wrapping_add(second);
-    Some([before, changed, counts(&copy), counts(&again)])
+    let copied = changed_and_extended(&map);
+    let again = hinted_again(map, state)?;
+    let [changed, extended] = copied?;
+    Some([before, changed, extended, again])
 }
 
 #[test]

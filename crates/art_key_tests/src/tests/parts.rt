@@ -92,8 +92,20 @@ fn agree_on_entry(map: &mut Map, model: &mut Model, key: u16) -> bool {
     }
 }
 
-// Whether both are split at a number into the same maps, and are the same once the second part is appended, after an
-// insertion that may replace a pair.
+// Whether the second parts are appended, after an insertion into both that may replace a pair.
+fn agree_on_append(
+    map: &mut Map,
+    model: &mut Model,
+    tail: &mut Map,
+    rest: &mut Model,
+    numbers: &mut Numbers,
+) -> bool {
+    let put = put_both(tail, rest, numbers);
+    let joined = map.append(tail).is_ok() && model.append(rest).is_ok();
+    put && joined && tail.is_empty()
+}
+
+// Whether both are split at a number into the same maps, and the second part is appended.
 fn agree_on_split(map: &mut Map, model: &mut Model, numbers: &mut Numbers) -> bool {
     let key = drawn_key(numbers);
     let Ok(mut tail) = map.split_off(&U16Key::from(key)) else {
@@ -103,9 +115,7 @@ fn agree_on_split(map: &mut Map, model: &mut Model, numbers: &mut Numbers) -> bo
         return false;
     };
     let split = [digest(map), digest(&tail)] == [digest_of_model(model), digest_of_model(&rest)];
-    let put = put_both(&mut tail, &mut rest, numbers);
-    let joined = map.append(&mut tail).is_ok() && model.append(&mut rest).is_ok();
-    split && put && joined && tail.is_empty()
+    split && agree_on_append(map, model, &mut tail, &mut rest, numbers)
 }
 
 // A number that the pairs make in their order.

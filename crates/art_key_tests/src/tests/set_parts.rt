@@ -21,14 +21,23 @@ fn agree_on_insertion(set: &mut Set, model: &mut Model, key: u16) -> bool {
     own.is_some() && own == model.insert(key).ok()
 }
 
-// Whether both have the number, and equally many before it.
-fn agree_on_questions(set: &Set, model: &Model, key: u16) -> bool {
+// How many numbers there are before another.
+fn count_before(set: &Set, key: u16) -> usize {
+    set.range(..U16Key::from(key)).count()
+}
+
+fn count_in_model_before(model: &Model, key: u16) -> usize {
     let mut before = 0usize;
     for other in model.iter() {
         before = before.saturating_add((*other < key) as usize);
     }
-    let own = U16Key::from(key);
-    set.contains(&own) == model.contains(&key) && set.range(..own).count() == before
+    before
+}
+
+// Whether both have the number, and equally many before it.
+fn agree_on_questions(set: &Set, model: &Model, key: u16) -> bool {
+    set.contains(&U16Key::from(key)) == model.contains(&key)
+        && count_before(set, key) == count_in_model_before(model, key)
 }
 
 // The first number from one to before another.
@@ -61,8 +70,20 @@ fn agree_on_range(set: &mut Set, model: &mut Model, low: u16, high: u16) -> bool
     removed == before.saturating_sub(model.len())
 }
 
-// Whether both are split at a number into the same sets, once the second part has one more number, which the first part
-// may have, and is appended.
+// Whether the second parts are appended with one more number, which the first ones may have.
+fn agree_on_append(
+    set: &mut Set,
+    model: &mut Model,
+    tail: &mut Set,
+    rest: &mut Model,
+    more: u16,
+) -> bool {
+    let put = agree_on_insertion(tail, rest, more);
+    let joined = set.append(tail).is_ok() && model.append(rest).is_ok();
+    put && joined && tail.is_empty()
+}
+
+// Whether both are split at a number into the same sets, and the second part is appended.
 fn agree_on_split(set: &mut Set, model: &mut Model, low: u16, high: u16) -> bool {
     let Ok(mut tail) = set.split_off(&U16Key::from(low)) else {
         return false;
@@ -71,9 +92,7 @@ fn agree_on_split(set: &mut Set, model: &mut Model, low: u16, high: u16) -> bool
         return false;
     };
     let split = [digest(set), digest(&tail)] == [digest_of_model(model), digest_of_model(&rest)];
-    let put = agree_on_insertion(&mut tail, &mut rest, high);
-    let joined = set.append(&mut tail).is_ok() && model.append(&mut rest).is_ok();
-    split && put && joined && tail.is_empty()
+    split && agree_on_append(set, model, &mut tail, &mut rest, high)
 }
 
 // A number that the keys make in their order.

@@ -37,7 +37,7 @@ pub(super) fn take_key<Q: KeyQuery, K: AsBytes + Drop, V: Drop, const P: usize>(
     let Some(point) = search_for_delete_point_by_lengths(store, name, query) else {
         return None;
     };
-    Some(take_out(store, root, len, name, point))
+    Some(take_pair(store, root, len, name, point))
 }
 
 // Removes the pair of a key whose bytes need not stand in a slice from the tree.
@@ -61,7 +61,7 @@ pub(super) fn take_bytes<B: KeyBytes + Drop, K: AsBytes + Drop, V: Drop, const P
     let Some(point) = search_for_delete_point_by(store, name, bytes) else {
         return None;
     };
-    Some(take_out(store, root, len, name, point))
+    Some(take_pair(store, root, len, name, point))
 }
 
 // Removes the first pair whose key starts with a prefix from the tree.
@@ -84,7 +84,7 @@ pub(super) fn take_below<K: AsBytes + Drop, V: Drop, const P: usize>(
     let Some(point) = search_for_first_delete_point_below(store, name, prefix) else {
         return None;
     };
-    Some(take_out(store, root, len, name, point))
+    Some(take_pair(store, root, len, name, point))
 }
 
 // Removes the first pair from the tree.
@@ -103,7 +103,7 @@ pub(super) fn take_first<K: AsBytes + Drop, V: Drop, const P: usize>(
         return None;
     };
     let point = find_minimum_to_delete(store, name);
-    Some(take_out(store, root, len, name, point))
+    Some(take_pair(store, root, len, name, point))
 }
 
 // Removes the last pair from the tree.
@@ -122,7 +122,7 @@ pub(super) fn take_last<K: AsBytes + Drop, V: Drop, const P: usize>(
         return None;
     };
     let point = find_maximum_to_delete(store, name);
-    Some(take_out(store, root, len, name, point))
+    Some(take_pair(store, root, len, name, point))
 }
 
 // Removes all pairs, with the tree.
@@ -142,7 +142,7 @@ pub(super) fn take_all<K: AsBytes + Drop, V: Drop, const P: usize>(
 
 // Removes the pair of a point from the tree.
 #[inline(always)]
-pub(super) fn take_out<K: AsBytes + Drop, V: Drop, const P: usize>(
+pub(super) fn take_pair<K: AsBytes + Drop, V: Drop, const P: usize>(
     store: &mut NodeStore<K, V, P>,
     root: &mut Option<OpaqueNodePtr>,
     len: &mut usize,

@@ -6,7 +6,7 @@ ghost use Rattle.art_model.specs.Pairs.{of_key};
 ghost use Rattle.art_map.specs.MapPairs.{HoldsPairs, pairs_at};
 ghost use Rattle.art_map.specs.MapRetain.{FindsRefused, HasTakenRefused, RetainsAllPairs, RetainsPairs, TakesRefused, after_pair};
 
-use super::remove::take_out;
+use super::remove::take_pair;
 use super::{ByteMap, pair_at};
 use art_nodes::node::{AsBytes, OpaqueNodePtr};
 use art_nodes::store::NodeStore;
@@ -77,7 +77,7 @@ fn take_refused<K: AsBytes + Drop, V: Drop, const P: usize, F: FnMut(&K, &mut V)
     let Some(point) = find_refused(store, name, *len, last, f) else {
         return None;
     };
-    Some(take_out(store, root, len, name, point))
+    Some(take_pair(store, root, len, name, point))
 }
 
 // The point of the first pair after another one for which the closure returns false.

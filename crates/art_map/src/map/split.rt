@@ -9,7 +9,7 @@ ghost use Rattle.art_map.specs.MapChanges.{HasTaken};
 ghost use Rattle.art_map.specs.MapPairs.{HoldsPairs, pairs_at};
 ghost use Rattle.art_map.specs.MapParts.{PutsSome, keys_before, keys_from, not_between, without};
 
-use super::remove::take_out;
+use super::remove::take_pair;
 use super::{ByteMap, MapInsertError, bound_of, pair_at};
 use art_nodes::node::{AsBytes, OpaqueNodePtr};
 use art_nodes::store::NodeStore;
@@ -161,5 +161,5 @@ fn take_between<K: AsBytes + Drop, V: Drop, const P: usize>(
     };
     let key_bytes = pair_at(store, leaf).0.as_bytes();
     let point = search_for_delete_point_by_lengths(store, name, key_bytes).unwrap();
-    Some(take_out(store, root, len, name, point))
+    Some(take_pair(store, root, len, name, point))
 }

@@ -69,27 +69,38 @@ fn from_back(map: &Map) -> u64 {
     digest
 }
 
-// The sum of the keys, and what the values make from the back.
-fn keys_and_values(map: &Map) -> (u64, u64) {
-    let (mut keys, mut values) = (0u64, 1u64);
+// The sum of the keys.
+fn sum_of_keys(map: &Map) -> u64 {
+    let mut sum = 0u64;
     for key in map.keys() {
-        keys = keys.wrapping_add(number_of(*key, 0));
+        sum = sum.wrapping_add(number_of(*key, 0));
     }
-    for value in map.values().rev() {
-        values = added(values, [0; 4], *value);
-    }
-    (keys, values)
+    sum
 }
 
-// Whether both have the same pairs from the back, and the same keys and values.
-fn agree_from_back(map: &Map, model: &Model) -> bool {
+// What the values make from the back.
+fn values_from_back(map: &Map) -> u64 {
+    let mut digest = 1u64;
+    for value in map.values().rev() {
+        digest = added(digest, [0; 4], *value);
+    }
+    digest
+}
+
+// What the pairs of the other map make from the back, the sum of its keys, and what its values make from the back.
+fn from_back_of_model(model: &Model) -> [u64; 3] {
     let (mut back, mut keys, mut values) = (1u64, 0u64, 1u64);
     for (key, value) in model.iter().rev() {
         back = added(back, *key, *value);
         keys = keys.wrapping_add(number_of(*key, 0));
         values = added(values, [0; 4], *value);
     }
-    from_back(map) == back && keys_and_values(map) == (keys, values)
+    [back, keys, values]
+}
+
+// Whether both have the same pairs from the back, and the same keys and values.
+fn agree_from_back(map: &Map, model: &Model) -> bool {
+    [from_back(map), sum_of_keys(map), values_from_back(map)] == from_back_of_model(model)
 }
 
 fn first(map: &Map) -> Option<(Key, u32)> {

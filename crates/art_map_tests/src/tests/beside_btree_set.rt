@@ -50,32 +50,43 @@ fn agree_on_questions(set: &Set, model: &Model, key: Key) -> bool {
         && set.is_empty() == model.is_empty()
 }
 
-// What the keys make from the front, and from the back.
-fn digests(set: &Set) -> [u64; 2] {
-    let (mut front, mut back) = (set.len() as u64, 1u64);
+// What the keys make.
+fn digest(set: &Set) -> u64 {
+    let mut digest = set.len() as u64;
     for key in set.iter() {
-        front = added(front, *key);
+        digest = added(digest, *key);
     }
-    for key in set.iter().rev() {
-        back = added(back, *key);
-    }
-    [front, back]
+    digest
 }
 
-fn digests_of_model(model: &Model) -> [u64; 2] {
-    let (mut front, mut back) = (model.len() as u64, 1u64);
+// What the keys make from the back.
+fn from_back(set: &Set) -> u64 {
+    let mut digest = 1u64;
+    for key in set.iter().rev() {
+        digest = added(digest, *key);
+    }
+    digest
+}
+
+fn digest_of_model(model: &Model) -> u64 {
+    let mut digest = model.len() as u64;
     for key in model.iter() {
-        front = added(front, *key);
+        digest = added(digest, *key);
     }
+    digest
+}
+
+fn from_back_of_model(model: &Model) -> u64 {
+    let mut digest = 1u64;
     for key in model.iter().rev() {
-        back = added(back, *key);
+        digest = added(digest, *key);
     }
-    [front, back]
+    digest
 }
 
 // Whether both have the same keys from both ends.
 pub(super) fn agree_on_keys(set: &Set, model: &Model) -> bool {
-    digests(set) == digests_of_model(model)
+    digest(set) == digest_of_model(model) && from_back(set) == from_back_of_model(model)
 }
 
 // ---- two sets

@@ -14,16 +14,26 @@ fn fill_unsorted(map: &mut Map) {
     }
 }
 
+// The values as the digits of a number.
+fn from_front(map: &Map) -> u32 {
+    let mut digits = 0u32;
+    for (_, digit) in map.iter() {
+        digits = digits.wrapping_mul(10).wrapping_add(*digit);
+    }
+    digits
+}
+
+fn from_back(map: &Map) -> u32 {
+    let mut digits = 0u32;
+    for (_, digit) in map.iter().rev() {
+        digits = digits.wrapping_mul(10).wrapping_add(*digit);
+    }
+    digits
+}
+
 // The values as the digits of a number, from the front, and from the back.
 fn digits(map: &Map) -> [u32; 2] {
-    let (mut front, mut back) = (0u32, 0u32);
-    for (_, digit) in map.iter() {
-        front = front.wrapping_mul(10).wrapping_add(*digit);
-    }
-    for (_, digit) in map.iter().rev() {
-        back = back.wrapping_mul(10).wrapping_add(*digit);
-    }
-    [front, back]
+    [from_front(map), from_back(map)]
 }
 
 // Whether a map is compacted, its digits then, and the values of two keys.

@@ -58,8 +58,20 @@ fn agree_on_range(set: &mut Set, model: &mut Model, from: Edge, to: Edge) -> boo
     set.remove_range((from.bound(), to.bound())) == before.saturating_sub(model.len())
 }
 
-// Whether both are split at a key into the same sets, and are the same after the second part is appended, with a key
-// that may be in the first one.
+// Whether both are the same after the second parts are appended, with a key that may be in the first ones.
+fn agree_on_append(
+    set: &mut Set,
+    model: &mut Model,
+    tail: &mut Set,
+    rest: &mut Model,
+    more: Key,
+) -> bool {
+    let put = tail.insert(more).is_ok() && rest.insert(more).is_ok();
+    let joined = set.append(tail).is_ok() && model.append(rest).is_ok();
+    put && joined && tail.is_empty() && agree_on_keys(set, model)
+}
+
+// Whether both are split at a key into the same sets, and are the same after the second part is appended.
 fn agree_on_split(set: &mut Set, model: &mut Model, numbers: &mut Numbers) -> bool {
     let (at, more) = (drawn_key(numbers), drawn_key(numbers));
     let Ok(mut tail) = set.split_off(&at) else {
@@ -69,9 +81,7 @@ fn agree_on_split(set: &mut Set, model: &mut Model, numbers: &mut Numbers) -> bo
         return false;
     };
     let split = agree_on_keys(set, model) && agree_on_keys(&tail, &rest);
-    let put = tail.insert(more).is_ok() && rest.insert(more).is_ok();
-    let joined = set.append(&mut tail).is_ok() && model.append(&mut rest).is_ok();
-    split && put && joined && tail.is_empty() && agree_on_keys(set, model)
+    split && agree_on_append(set, model, &mut tail, &mut rest, more)
 }
 
 /// Reads a drawn part of both or changes it, and returns whether they agree.

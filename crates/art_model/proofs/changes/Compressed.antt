@@ -5,7 +5,7 @@ use Rattle.std.specs.FinMap.{get, remove}
 use Rattle.art_model.specs.Prelude.{with_header, leaf_name, inner_name, Nodes, change, NodeType, Leaf, LeafPtr, InnerPtr, LeafNode, OpaqueNodePtr, Tree, leaf, inner, Subtrees, child, no_child, NodeHeader, canonical_header, IsRadix, bytes_of, join, remove_key, Frame, plug, leaves_before, leaves_after, HoldsPath, Node, inner_node, name_of, slots_of, names_of, names_below, leaf_names_below, Holds, node_at, links_at, pair_of, Inners, as_inner, parent_of, with_child_at, ChangesInPlace, IsIn, TouchesAtMost}
 use Rattle.art_parts.specs.Headers as headers
 use Rattle.art_parts.proofs.NameLemmas.{inner_cmp_total, inner_cmp-IsAntisymmetric}
-use Rattle.art_nodes.proofs.StoreLaws.{inner_changed_at, inner_changed_elsewhere, inner_gone_elsewhere}
+use Rattle.art_nodes.proofs.StoreChanges.{inner_changed_at, inner_changed_elsewhere, inner_gone_elsewhere}
 use Rattle.art_model.proofs.stores.Canonical.{IsLaidOut}
 use Rattle.art_model.proofs.changes.InPlace.{AreNames, in_place}
 use Rattle.art_model.proofs.lists.Lists.{each_in, in_left, in_right}

@@ -4,7 +4,7 @@ use Rattle.std.specs.List.{AllByRecursion as Each}
 use Rattle.std.specs.FinMap.{get, insert, remove}
 use Rattle.art_model.specs.Prelude.{Inner, put_child, kind_capacity, larger_kind, with_child, leaf_name, Nodes, Node256, Leaf, LeafPtr, LeafNode, OpaqueNodePtr, leaf, inner, Subtrees, NodeHeader, canonical_header, kind_of, bytes_of, join, Frame, plug, leaves_before, leaves_after, names_of, slots_of, leaf_names_below, header_at, node_at, links_at, pair_of, Inners, as_inner, parent_of, with_child_at, IsIn, TouchesAtMost}
 use Rattle.art_parts.proofs.NameLemmas.{inner_cmp_total, inner_cmp-IsAntisymmetric}
-use Rattle.art_nodes.proofs.StoreLaws.{inner_here, inner_elsewhere, inner_gone_elsewhere}
+use Rattle.art_nodes.proofs.StoreChanges.{inner_here, inner_elsewhere, inner_gone_elsewhere}
 use Rattle.art_model.proofs.changes.AddedChild.{ChildAdded, child_added, kind_of-larger}
 use Rattle.art_model.proofs.places.InHole.{both_in, parents_in}
 use Rattle.art_model.proofs.leaves.LeafChild.{names_with_both}

@@ -3,7 +3,7 @@ use Rattle.std.proofs.Common.{◌≡◌, ◌≢◌, ℕ, List, [], ◌∷◌, So
 use Rattle.std.specs.FinMap.{get}
 use Rattle.art_model.specs.Prelude.{with_pair, leaf_name, Nodes, change, LeafPtr, LeafNode, OpaqueNodePtr, IsFront, are_related, are_same, first_of, only_or_count, related_to, with_key, overwrite, overwrite_reply, put, put_reply, replace_key, replace_related, stored_for, leaf, Frame, plug, HoldsPath, leaf_node, node_at, links_at, pair_of, as_inner, Footprint, TouchesAtMost, ChangesInPlace}
 use Rattle.art_parts.proofs.NameLemmas.{leaf_cmp_total, leaf_cmp-IsAntisymmetric}
-use Rattle.art_nodes.proofs.StoreLaws.{leaf_changed_at, leaf_changed_elsewhere}
+use Rattle.art_nodes.proofs.StoreChanges.{leaf_changed_at, leaf_changed_elsewhere}
 use Rattle.art_model.proofs.pairs.Between.{IsLocal, replace_key-between, replace_related-between}
 use Rattle.art_model.proofs.stores.Canonical.{IsLaidOut}
 use Rattle.art_model.proofs.leaves.Chains.{links_leaf, links_inner}

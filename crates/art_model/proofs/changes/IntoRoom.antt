@@ -3,7 +3,7 @@ use Rattle.std.proofs.Common.{◌≡◌, ◌≢◌, ℕ, suc, ◌<◌, List, [],
 use Rattle.std.specs.FinMap.{get}
 use Rattle.art_model.specs.Prelude.{put_child, kind_capacity, with_child, leaf_name, inner_name, Nodes, change, Leaf, LeafPtr, LeafNode, OpaqueNodePtr, leaf, inner, Subtrees, NodeHeader, kind_of, bytes_of, join, Frame, plug, leaves_before, leaves_after, names_of, slots_of, leaf_names_below, node_at, links_at, pair_of, as_inner, IsIn, TouchesAtMost}
 use Rattle.art_parts.proofs.NameLemmas.{inner_cmp_total, inner_cmp-IsAntisymmetric}
-use Rattle.art_nodes.proofs.StoreLaws.{inner_changed_at, inner_changed_elsewhere}
+use Rattle.art_nodes.proofs.StoreChanges.{inner_changed_at, inner_changed_elsewhere}
 use Rattle.art_model.proofs.stores.Canonical.{IsLaidOut}
 use Rattle.art_model.proofs.stores.Stores.{path_holds, parent_apart}
 use Rattle.art_model.proofs.changes.Inserted.{ChildInserted, IsGap}

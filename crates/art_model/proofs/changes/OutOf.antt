@@ -5,7 +5,7 @@ use Rattle.std.specs.FinMap.{get, insert, remove}
 use Rattle.std.proofs.lemmas.Bool.{ne_eqb}
 use Rattle.art_model.specs.Prelude.{Inner, remove_child, kind_capacity, kind_least, larger_kind, smaller_kind, without_child, leaf_name, inner_name, Nodes, change, NodeType, Node4, Node16, Node48, Node256, Leaf, InnerPtr, LeafPtr, LeafNode, OpaqueNodePtr, Tree, leaf, inner, Subtrees, child, no_child, canonical_header, kind_of, bytes_of, join, pairs_below, BytesRise, remove_key, Frame, fill, plug, leaves_before, leaves_after, HoldsPath, name_of, slots_of, names_of, node_at, links_at, pair_of, header_at, Inners, as_inner, parent_of, with_child_at, without_leaf, IsThere, IsIn, TouchesAtMost, ChangesInPlace}
 use Rattle.art_parts.proofs.NameLemmas.{inner_cmp_total, inner_cmp-IsAntisymmetric}
-use Rattle.art_nodes.proofs.StoreLaws.{inner_here, inner_elsewhere, inner_gone_elsewhere, inner_changed_at, inner_changed_elsewhere}
+use Rattle.art_nodes.proofs.StoreChanges.{inner_here, inner_elsewhere, inner_gone_elsewhere, inner_changed_at, inner_changed_elsewhere}
 use Rattle.art_model.proofs.places.InHole.{both_in, in_hole, names_around, parents_in}
 use Rattle.art_model.proofs.stores.Canonical.{IsLaidOut}
 use Rattle.art_model.proofs.changes.InPlace.{AreNames, in_place, names_back}

@@ -5,7 +5,7 @@ use Rattle.std.specs.FinMap.{get, insert}
 use Rattle.art_model.specs.Prelude.{Inner, childless, put_child, Prefix, leaf_name, inner_name, Nodes, change, NodeType, Node4, Leaf, InnerPtr, LeafPtr, LeafNode, OpaqueNodePtr, IsFront, Tree, leaf, inner, Subtrees, child, no_child, NodeHeader, canonical_header, kind_of, bytes_of, Frame, plug, leaves_before, leaves_after, Node, inner_node, name_of, slots_of, names_of, leaf_names, node_at, links_at, pair_of, Inners, as_inner, parent_of, with_child_at, ChangesInPlace, IsIn, Footprint, TouchesAtMost}
 use Rattle.art_inner.specs.InnerChanges.{with_header, with_child as child_put}
 use Rattle.art_parts.proofs.NameLemmas.{inner_cmp_total, inner_cmp-IsAntisymmetric}
-use Rattle.art_nodes.proofs.StoreLaws.{inner_here, inner_elsewhere, inner_changed_at}
+use Rattle.art_nodes.proofs.StoreChanges.{inner_here, inner_elsewhere, inner_changed_at}
 use Rattle.art_model.proofs.lists.Lists.{each_in, in_map, in_left, in_right, in_either}
 use Rattle.art_model.proofs.stores.Canonical.{IsLaidOut}
 use Rattle.art_model.proofs.changes.Changes.{two_children}

@@ -4,7 +4,7 @@ use Rattle.std.proofs.lemmas.Bool.{cases_eq}
 use Rattle.std.specs.FinMap.{get, insert}
 use Rattle.art_model.specs.Prelude.{leaf_name, LeafPtr, OpaqueNodePtr, LeafNode, pair_of, IsThere, Leaves, with_next, with_previous, change_some, with_links_around, with_leaf, without_leaf, IsIn}
 use Rattle.art_parts.proofs.NameLemmas.{leaf_cmp_total, leaf_cmp-IsAntisymmetric}
-use Rattle.art_nodes.proofs.StoreLaws.{leaf_here, leaf_elsewhere, leaf_gone_elsewhere, leaf_changed_at, leaf_changed_elsewhere}
+use Rattle.art_nodes.proofs.StoreChanges.{leaf_here, leaf_elsewhere, leaf_gone_elsewhere, leaf_changed_at, leaf_changed_elsewhere}
 use Rattle.art_model.proofs.lists.Lists.{in_either}
 use Rattle.art_model.proofs.stores.Touches.{Touched, touched_none, then_placed, then_changed, then_freed, still_placed, still_changed}
 

@@ -6,7 +6,7 @@ use Rattle.std.proofs.lemmas.Bool.{lt-ltb}
 use Rattle.std.proofs.lemmas.List.{map-append}
 use Rattle.art_model.specs.Prelude.{with_child, Inner, put_child, leaf_name, inner_name, Nodes, change, Leaf, LeafPtr, LeafNode, InnerPtr, OpaqueNodePtr, Tree, leaf, inner, Subtrees, child, no_child, NodeHeader, join, bytes_of, leaf_node, inner_node, name_of, slots_of, names_of, names_below, leaf_names, leaf_names_below, inner_names, inner_names_below, Holds, HoldsBelow, AreDistinct, AreLinked, first_or, last_or, content_at, held_leaf, held_inner, tree_node, node_at, links_at, links_of, pair_of, header_at, Leaves, as_inner, with_links_around, change_some, with_next, with_previous, IsIn, KeepsOthers, Frees, without, Gains}
 use Rattle.art_parts.proofs.NameLemmas.{leaf_cmp_total, inner_cmp_total, leaf_cmp-IsAntisymmetric, inner_cmp-IsAntisymmetric}
-use Rattle.art_nodes.proofs.StoreLaws.{leaf_here, inner_here, inner_changed_here, inner_changed_elsewhere}
+use Rattle.art_nodes.proofs.StoreChanges.{leaf_here, inner_here, inner_changed_here, inner_changed_elsewhere}
 use Rattle.art_model.specs.Gains.{as_leaf, Loses}
 use Rattle.art_model.proofs.leaves.Chains.{links_leaf, relinked_beside}
 use Rattle.art_model.proofs.leaves.Leaves.{joined_pair}

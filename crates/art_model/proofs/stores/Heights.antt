@@ -6,7 +6,7 @@ use Rattle.std.specs.FinMap as map
 use Rattle.std.proofs.lemmas.Bool.{false≢true}
 use Rattle.art_model.specs.Prelude.{Inner, Nodes, inner_cmp, OpaqueNodePtr, Tree, leaf, inner, Subtrees, child, no_child, Node, name_of, slots_of, names_of, inner_names, inner_names_below, Holds, HoldsBelow, AreDistinct, height, tree_height, height_below, node_at, as_inner}
 use Rattle.art_parts.proofs.NameLemmas.{inner_cmp_total, inner_cmp-IsAntisymmetric}
-use Rattle.art_nodes.proofs.StoreLaws.{gone_elsewhere}
+use Rattle.art_nodes.proofs.StoreChanges.{gone_elsewhere}
 use Rattle.art_model.specs.Heights.{highest}
 use Rattle.art_model.proofs.stores.Views.{inner_is_used}
 use Rattle.art_model.proofs.lists.Lists.{Each-append, Each-weaker}

@@ -6,7 +6,7 @@ use Rattle.std.specs.Ordering.{eq_by_cmp}
 use Rattle.std.specs.Cmp.{IsTotalOrder}
 use Rattle.std.specs.FinMap.{FinMap, IsAntisymmetric, get, insert, remove, get-insert, get-remove}
 use Rattle.art_model.specs.Prelude.{Inner, LeafNode, leaf_name, inner_name, Nodes, change, Leaf, LeafPtr, InnerPtr, OpaqueNodePtr, Held, held_leaf, held_inner, content_at, IsIn, Footprint, TouchesAtMost}
-use Rattle.art_nodes.proofs.StoreLaws.{elsewhere, here, gone, gone_elsewhere, changed_from, changed_elsewhere}
+use Rattle.art_nodes.proofs.StoreChanges.{elsewhere, here, gone, gone_elsewhere, changed_from, changed_elsewhere}
 use Rattle.art_model.proofs.lists.Lists.{Each-append, Each-weaker, each_in, each_from, in_left, in_right, in_map, each_map}
 use Rattle.art_model.proofs.stores.Views.{held_in_inner, leaf_or}
 

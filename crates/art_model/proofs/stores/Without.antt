@@ -4,7 +4,7 @@ use Rattle.std.specs.Cmp.{IsTotalOrder}
 use Rattle.std.specs.FinMap.{FinMap, IsAntisymmetric, get, insert, remove, same_map}
 use Rattle.art_model.specs.Prelude.{change, IsIn, without}
 use Rattle.art_parts.proofs.NameLemmas.{same_or_not}
-use Rattle.art_nodes.proofs.StoreLaws.{elsewhere, gone, gone_elsewhere, changed_elsewhere}
+use Rattle.art_nodes.proofs.StoreChanges.{elsewhere, gone, gone_elsewhere, changed_elsewhere}
 use Rattle.art_model.proofs.lists.Lists.{in_left, in_right, in_either}
 use Rattle.art_model.proofs.stores.Touches.{still_gone}
 

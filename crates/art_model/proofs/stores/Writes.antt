@@ -4,7 +4,7 @@ use Rattle.std.specs.List.{AllByRecursion as Each}
 use Rattle.std.specs.FinMap.{get}
 use Rattle.art_model.specs.Prelude.{Inner, put_child, child_at, with_child, leaf_name, Nodes, Leaf, LeafPtr, LeafNode, InnerPtr, OpaqueNodePtr, NodeHeader, canonical_header, kind_of, bytes_of, Frame, IsPath, HoldsPath, Node, leaf_node, inner_node, slots_of, held_leaf, held_inner, tree_node, header_at, node_at, pair_of, Inners, as_inner, parent_of, with_child_at, IsIn}
 use Rattle.art_parts.proofs.NameLemmas.{inner_cmp_total, inner_cmp-IsAntisymmetric}
-use Rattle.art_nodes.proofs.StoreLaws.{inner_changed_at, inner_changed_elsewhere}
+use Rattle.art_nodes.proofs.StoreChanges.{inner_changed_at, inner_changed_elsewhere}
 use Rattle.art_model.proofs.lists.Pairwises.{Pairwise-before}
 use Rattle.art_model.proofs.stores.Slots.{put_child-there, child_at-there}
 use Rattle.art_model.proofs.stores.Stores.{IsParent, ParentHas, SameBut}

@@ -153,14 +153,6 @@ fn has_place(store: &Store, name: InnerPtr, byte: u8) -> bool
     }
 }
 
-/// What is changed of a leaf.
-#[derive(Clone, Copy)]
-enum LeafChange {
-    Links,
-    Pair,
-    Value,
-}
-
 /// A store, and a list of the names that it returned with what should be under them. Each call returns whether the
 /// store did as the list says, or None if it needs a listed name and there is none.
 #[derive(Drop)]
@@ -234,30 +226,38 @@ impl Trial {
         Some(node.node_type() == name.kind && is_like(node.as_ref(), &want))
     }
 
-    /// Changes a leaf, and compares what was replaced.
-    fn change_leaf(&mut self, change: LeafChange) -> Option<bool> {
+    /// Sets the links of a leaf.
+    fn set_links(&mut self) -> Option<bool> {
+        let links = (drawn_link(&mut self.numbers), drawn_link(&mut self.numbers));
         let (name, want) = drawn_of(&mut self.numbers, &mut self.leaves)?;
         if self.store.leaf(*name).is_none() {
             return Some(false);
         }
-        let is_right = match change {
-            LeafChange::Links => {
-                want.links = (drawn_link(&mut self.numbers), drawn_link(&mut self.numbers));
-                self.store.set_links(*name, want.links.0, want.links.1);
-                true
-            }
-            LeafChange::Pair => {
-                let (key, value) = drawn_pair(&mut self.numbers);
-                let old = mem::replace(&mut want.pair, (key, value));
-                self.store.swap_pair(*name, key, value) == old
-            }
-            LeafChange::Value => {
-                let value = self.numbers.value();
-                let old = mem::replace(&mut want.pair.1, value);
-                self.store.swap_value(*name, value) == old
-            }
-        };
-        Some(is_right)
+        want.links = links;
+        self.store.set_links(*name, links.0, links.1);
+        Some(true)
+    }
+
+    /// Replaces the pair of a leaf, and compares what was replaced.
+    fn swap_pair(&mut self) -> Option<bool> {
+        let (key, value) = drawn_pair(&mut self.numbers);
+        let (name, want) = drawn_of(&mut self.numbers, &mut self.leaves)?;
+        if self.store.leaf(*name).is_none() {
+            return Some(false);
+        }
+        let old = mem::replace(&mut want.pair, (key, value));
+        Some(self.store.swap_pair(*name, key, value) == old)
+    }
+
+    /// Replaces the value of a leaf, and compares what was replaced.
+    fn swap_value(&mut self) -> Option<bool> {
+        let value = self.numbers.value();
+        let (name, want) = drawn_of(&mut self.numbers, &mut self.leaves)?;
+        if self.store.leaf(*name).is_none() {
+            return Some(false);
+        }
+        let old = mem::replace(&mut want.pair.1, value);
+        Some(self.store.swap_value(*name, value) == old)
     }
 
     /// Replaces the header of an inner node.
@@ -331,9 +331,9 @@ impl Trial {
             1 => self.free_inner(),
             2 | 3 => self.write_children(),
             4 => self.remove_children(),
-            5 => self.change_leaf(LeafChange::Links),
-            6 if is_rare => self.change_leaf(LeafChange::Pair),
-            6 => self.change_leaf(LeafChange::Value),
+            5 => self.set_links(),
+            6 if is_rare => self.swap_pair(),
+            6 => self.swap_value(),
             7 => self.set_header(),
             _ => Some(self.reserve()?),
         };

@@ -226,7 +226,7 @@ fn replace<N: InnerNode<4>>(node: &mut N) -> Option<OpaqueNodePtr> {
 }
 
 // Removes the child under 2 twice, and returns what each call returned, and how many there are.
-fn take_out<N: InnerNode<4>>(node: &mut N) -> ([Option<OpaqueNodePtr>; 2], usize) {
+fn remove_twice<N: InnerNode<4>>(node: &mut N) -> ([Option<OpaqueNodePtr>; 2], usize) {
     let removed = [node.remove_child(2), node.remove_child(2)];
     (removed, node.num_children())
 }
@@ -240,7 +240,7 @@ fn live<N: InnerNode<4>>(last: u8) -> [bool; 6] {
         is_filled(&node, last),
         are_ranges(&node, last),
         replace(&mut node) == Some(name(7)),
-        take_out(&mut node) == ([Some(name(2)), None], last as usize),
+        remove_twice(&mut node) == ([Some(name(2)), None], last as usize),
         node.into_any().node_type() == N::TYPE,
     ]
 }

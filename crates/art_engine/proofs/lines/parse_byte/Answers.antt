@@ -1,5 +1,5 @@
 use Rattle.std.proofs.Common.{rules}
-use Rattle.art_engine.proofs.Numbers.{too_large}
+use Rattle.art_engine.proofs.Decimals.{too_large}
 use Rattle.art_engine.proofs.lines.parse_byte.Goals as goal
 
 pub returns-clause-none : goal.returns-clause-none

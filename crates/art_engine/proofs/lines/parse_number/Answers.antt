@@ -1,5 +1,5 @@
 use Rattle.std.proofs.Common.{◌≡◌, ◌≢◌, length, get_or, arith}
-use Rattle.art_engine.proofs.Numbers.{parsed, not_parsed, decimal_is_utf8}
+use Rattle.art_engine.proofs.Decimals.{parsed, not_parsed, decimal_is_utf8}
 use Rattle.art_engine.proofs.lines.parse_number.Goals as goal
 
 pub returns-in_default-clause-none : goal.returns-in_default-clause-none

@@ -1,5 +1,5 @@
 use Rattle.std.proofs.Common.{length}
-use Rattle.art_loading.proofs.Steps.{AreLeft}
+use Rattle.art_loading.proofs.StepsDown.{AreLeft}
 use Rattle.art_loading.proofs.edge.last_within.Given as goal
 
 abbrev pub invariant-up : goal.invariant-up

@@ -1,7 +1,7 @@
 use Rattle.std.proofs.Common.{ap, sym, ◌∙◌, ◌++◌, ◌∷◌, []}
 use Rattle.art_loading.specs.EdgeSteps.{path_by}
 use Rattle.art_reading.specs.declared.path.TreePath.TheVariants.{Root}
-use Rattle.art_loading.proofs.Steps.{path_by-two}
+use Rattle.art_loading.proofs.StepsDown.{path_by-two}
 use Rattle.art_loading.proofs.edge.path_down.Goals as goal
 
 pub returns : goal.returns

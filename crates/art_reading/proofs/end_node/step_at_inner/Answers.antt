@@ -1,6 +1,6 @@
 use Rattle.std.proofs.Common.{rules, ◌+◌, ap, length, refl, sym, arith}
 use Rattle.art_reading.proofs.EndNodes.{prefix_fits, mismatch_fits, inner_there, shown_there, prefix_step, mismatch_step}
-use Rattle.art_reading.proofs.Readings.{count_both}
+use Rattle.art_reading.proofs.Counters.{count_both}
 use Rattle.art_reading.proofs.Levels.{end_costs, lower, past_costs, stored_at}
 use Rattle.art_reading.proofs.end_node.step_at_inner.Goals as goal
 

@@ -1,7 +1,7 @@
 use Rattle.std.proofs.Common.{◌+◌, ◌∙◌, arith, refl, rules}
 use Rattle.art_reading.specs.PathSteps.{path_after}
 use Rattle.art_reading.proofs.EndNodes.{inside, start}
-use Rattle.art_reading.proofs.Readings.{count_both}
+use Rattle.art_reading.proofs.Counters.{count_both}
 use Rattle.art_reading.proofs.Levels.{guide_most, root_levels}
 use Rattle.art_reading.proofs.Parents.{step_proper}
 use Rattle.art_reading.proofs.end_node.walk_to_end_node_visiting.Goals as goal

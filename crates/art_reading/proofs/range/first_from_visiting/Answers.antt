@@ -4,7 +4,7 @@ use Rattle.art_model.specs.Prelude.{is_before, first_of, is_from, leaves_where}
 use Rattle.art_model.proofs.stores.StoreLaws.{has_children}
 use Rattle.art_reading.proofs.Bounds.{first_there, where_any, where_same}
 use Rattle.art_reading.proofs.Levels.{root_levels}
-use Rattle.art_reading.proofs.Parts.{leaf_is_there}
+use Rattle.art_reading.proofs.PartIterations.{leaf_is_there}
 use Rattle.art_reading.proofs.Spans.{not_not}
 use Rattle.art_reading.proofs.range.first_from_visiting.Goals as goal
 

@@ -1,7 +1,7 @@
 use Rattle.std.proofs.Common.{rules, ◌+◌, ◌≤◌, length, ap, refl, sym, subst, arith}
 use Rattle.art_model.specs.Pairs.{of_key}
 use Rattle.art_reading.specs.EndNodes.{IsAt}
-use Rattle.art_reading.proofs.Readings.{count_both}
+use Rattle.art_reading.proofs.Counters.{count_both}
 use Rattle.art_reading.proofs.EndNodes.{inside, part_there}
 use Rattle.art_reading.proofs.Guides.{guide_is, guide_there}
 use Rattle.art_reading.proofs.Prefixes.{goes_read, goes_stored, long_enough}

@@ -4,7 +4,7 @@ use Rattle.art_model.specs.Prelude.{last_of, is_up_to, leaves_where}
 use Rattle.art_model.proofs.stores.StoreLaws.{has_children}
 use Rattle.art_reading.proofs.Bounds.{last_there, where_any}
 use Rattle.art_reading.proofs.Levels.{root_levels}
-use Rattle.art_reading.proofs.Parts.{leaf_is_there}
+use Rattle.art_reading.proofs.PartIterations.{leaf_is_there}
 use Rattle.art_reading.proofs.range.last_up_to_visiting.Goals as goal
 
 pub walk_to_end_visiting-requires : goal.walk_to_end_visiting-requires

@@ -1,9 +1,9 @@
 use Rattle.std.proofs.Common.{arith, rules, ◌≡◌, ◌+◌, ap, sym, ◌∙◌}
 use Rattle.art_reading.specs.PartEnds.{is_before_cut}
-use Rattle.art_reading.proofs.Readings.{count_both}
+use Rattle.art_reading.proofs.Counters.{count_both}
 use Rattle.art_reading.proofs.Cuts.{all_on_side, from_first, from_last, side}
 use Rattle.art_reading.proofs.Levels.{root_levels}
-use Rattle.art_reading.proofs.Parts.{first_is, first_there, leaf_is_there, node_full, node_holds}
+use Rattle.art_reading.proofs.PartIterations.{first_is, first_there, leaf_is_there, node_full, node_holds}
 use Rattle.art_reading.proofs.range.leaf_at_cut.Goals as goal
 
 pub walk_to_end_visiting-requires : goal.walk_to_end_visiting-requires

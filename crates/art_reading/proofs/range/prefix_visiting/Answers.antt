@@ -1,8 +1,8 @@
 use Rattle.std.proofs.Common.{arith, ◌+◌, rules, ◌≡◌, ap, sym, ◌∙◌}
 use Rattle.art_model.specs.Prelude.{is_front, leaf_names}
-use Rattle.art_reading.proofs.Readings.{count_both}
+use Rattle.art_reading.proofs.Counters.{count_both}
 use Rattle.art_reading.proofs.Levels.{root_levels, under_root}
-use Rattle.art_reading.proofs.Parts.{first_is, first_there, node_full, node_segment, none_begins, others_begin, these_begin}
+use Rattle.art_reading.proofs.PartIterations.{first_is, first_there, node_full, node_segment, none_begins, others_begin, these_begin}
 use Rattle.art_reading.proofs.range.prefix_visiting.Goals as goal
 
 pub returns-in_default-clause-leaves : goal.returns-in_default-clause-leaves

@@ -3,7 +3,7 @@ use Rattle.std.specs.Range.Bound.{bound_map}
 use Rattle.art_model.specs.Prelude.{leaf_name, of_key, is_between, is_from, is_up_to, leaves_where}
 use Rattle.art_reading.specs.Readings.{nodes_to}
 use Rattle.art_reading.proofs.Bounds.{first_past, last_is_there, none_after, span_walk}
-use Rattle.art_reading.proofs.Readings.{count_both, if_any_most, if_no_first, if_none}
+use Rattle.art_reading.proofs.Counters.{count_both, if_any_most, if_no_first, if_none}
 use Rattle.art_reading.proofs.range.range_visiting.Goals as goal
 
 pub returns-in_default-clause-leaves : goal.returns-in_default-clause-leaves

@@ -7,12 +7,12 @@ use Rattle.art_model.proofs.stores.Shown.{inner_met, leaf_named, shown_met}
 use Rattle.art_model.specs.Keys.{IsFront}
 use Rattle.art_reading.specs.PathSteps.{path_of}
 use Rattle.art_reading.proofs.NeighbourDescents.{at_on, beside_end, beside_gap, beside_leaf, beside_off, goes_on, has_child, on_key_start, onto_child}
-use Rattle.art_reading.proofs.Readings.{count_both}
+use Rattle.art_reading.proofs.Counters.{count_both}
 use Rattle.art_reading.proofs.Descents.{front, stands_there}
 use Rattle.art_reading.proofs.Endings.{byte_is, byte_within, past}
-use Rattle.art_reading.proofs.Left.{end_left, gap_left, leaf_left, off_left}
+use Rattle.art_reading.proofs.LeftOnWay.{end_left, gap_left, leaf_left, off_left}
 use Rattle.art_reading.proofs.Levels.{guide_most, lower}
-use Rattle.art_reading.proofs.Parts.{some_there}
+use Rattle.art_reading.proofs.PartIterations.{some_there}
 use Rattle.art_reading.proofs.range.walk_beside.Goals as goal
 
 pub down-init : goal.down-init

@@ -1,6 +1,6 @@
 use Rattle.std.proofs.Common.{Some, refl, rules, sym}
 use Rattle.art_model.specs.Prelude.{first_of, last_of, of_key, remove_reply, pairs_of}
-use Rattle.art_running.proofs.Found.{deletion_at, takes_first, takes_key, takes_last}
+use Rattle.art_running.proofs.RemovedPairs.{deletion_at, takes_first, takes_key, takes_last}
 use Rattle.art_running.proofs.Moves.{absent_step, asked, canonical_root, found_step, match_step}
 use Rattle.art_running.specs.declared.run.Command.TheVariants.{Delete, DeleteMin, DeleteMax}
 use Rattle.art_writing.proofs.KeysFound.{found_stored, point_none, removes_none}

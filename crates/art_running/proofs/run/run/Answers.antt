@@ -1,6 +1,6 @@
 use Rattle.std.proofs.Common.{◌∙◌, refl, ap, sym, append_assoc, arith, rules, ◌++◌}
 use Rattle.std.proofs.lemmas.List.{append-nil, nil_from_length}
-use Rattle.art_running.proofs.Chains.{run_none, run_more}
+use Rattle.art_running.proofs.RunChains.{run_none, run_more}
 use Rattle.art_running.proofs.Moves.{canonical_sound, on_canonical}
 use Rattle.art_running.specs.declared.run.Side.TheVariants.{First}
 use Rattle.art_running.proofs.run.run.Goals as goal

@@ -23,7 +23,7 @@ pub fn point_of<K: AsBytes + Drop, const P: usize>(
 }
 
 /// Removes a key, and returns the root that is left. The outer `None` is for an absent key or a failure.
-pub fn take_out<K: AsBytes + Drop, const P: usize>(
+pub fn remove_stored<K: AsBytes + Drop, const P: usize>(
     store: &mut NodeStore<K, u32, P>,
     root: OpaqueNodePtr,
     key_bytes: &[u8],
@@ -67,7 +67,7 @@ pub fn deletion_from<const P: usize>(
 ) -> Option<Deletion> {
     let root = planted_all(store, slices).ok()??;
     let before = nodes_seen(store).ok()?;
-    let new_root = take_out(store, root, key_bytes)?;
+    let new_root = remove_stored(store, root, key_bytes)?;
     Some(Deletion {
         root,
         new_root,

@@ -2,7 +2,7 @@
 ghost use Rattle.art_model.specs.Pairs.{of_key};
 ghost use Rattle.art_model.specs.Roots.{IsCanonicalRoot};
 
-use super::points::{delete, deletion_from, take_out};
+use super::points::{delete, deletion_from, remove_stored};
 use art_nodes::node::{NodeType, OpaqueNodePtr};
 use art_nodes::store::NodeStore;
 use art_test_support::cases::planted_bytes;
@@ -43,7 +43,7 @@ fn take_all_out<const P: usize>(
     for turn in 0..=255u8 {
         // 77 is odd: each byte occurs once, and few are in order.
         let top = root?;
-        root = take_out(store, top, &[turn.wrapping_mul(77)])?;
+        root = remove_stored(store, top, &[turn.wrapping_mul(77)])?;
         let left = usize::from(255 - turn);
         if kind_left(root) != kind_for(left) {
             return Some((root, Some(left)));
@@ -164,7 +164,7 @@ fn compress_without_memory<const P: usize>(
 ) -> Option<Option<NodeType>> {
     let root = planted_all(store, &[&[1, 1, 5], &[1, 1, 6], &[1, 9]]).ok()??;
     let held = all_memory(store.alloc()).ok()?;
-    let left = take_out(store, root, &[1, 9]);
+    let left = remove_stored(store, root, &[1, 9]);
     drop(held);
     Some(kind_left(left?))
 }

@@ -1,6 +1,6 @@
 use Rattle.std.proofs.Common.{◌∙◌, sym, ap, rules, arith}
 use Rattle.std.specs.FinMap as map
-use Rattle.art_nodes.proofs.StoreLaws.{inner_gone_elsewhere}
+use Rattle.art_nodes.proofs.StoreChanges.{inner_gone_elsewhere}
 use Rattle.art_writing.proofs.Freed.{leaf_less}
 use Rattle.art_writing.proofs.FreedTrees.{inner_is_there, inner_goes, leaf_goes, leaf_is_there}
 use Rattle.art_writing.proofs.deallocate.free_end.Goals as goal

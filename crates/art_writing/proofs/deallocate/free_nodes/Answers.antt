@@ -1,7 +1,7 @@
 use Rattle.std.proofs.Common.{◌∙◌, sym, refl, ap, rules, arith}
 use Rattle.std.specs.FinMap as map
 use Rattle.art_model.specs.Prelude.{without_child, change, first_of, as_inner}
-use Rattle.art_nodes.proofs.StoreLaws.{inner_changed_elsewhere, inner_gone_elsewhere}
+use Rattle.art_nodes.proofs.StoreChanges.{inner_changed_elsewhere, inner_gone_elsewhere}
 use Rattle.art_writing.proofs.OneTree.{all_is_left, fewer_left, is_end, last_cut, less_is_left, node_there, none_is_left, only_goes, root_hangs, some_children, still_left}
 use Rattle.art_writing.proofs.deallocate.free_nodes.Goals as goal
 

@@ -1,7 +1,7 @@
 use Rattle.std.proofs.Common.{◌∙◌, sym, refl, ap, rules}
 use Rattle.std.specs.FinMap as map
 use Rattle.art_model.specs.Prelude.{with_child, change, kind_capacity, as_inner}
-use Rattle.art_nodes.proofs.StoreLaws.{inner_changed_elsewhere}
+use Rattle.art_nodes.proofs.StoreChanges.{inner_changed_elsewhere}
 use Rattle.art_writing.proofs.OneTree.{child_moves, end_gone, fewer_below, first_has_place, has_children, is_end, moved_on, none_moved}
 use Rattle.art_writing.proofs.deallocate.hang.Goals as goal
 

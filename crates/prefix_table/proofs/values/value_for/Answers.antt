@@ -1,6 +1,6 @@
 use Rattle.std.proofs.Common.{◌-◌, ◌∙◌, ap, refl, sym, subst, arith, slice_index_or}
 use Rattle.prefix_table.specs.Rows.{IsRowCount, network_of, row_at}
-use Rattle.prefix_table.proofs.TableLemmas.{longest_is, none_covers}
+use Rattle.prefix_table.proofs.NetworkTables.{longest_is, none_covers}
 use Rattle.prefix_table.proofs.values.value_for.Goals as goal
 
 pub returns-then-found-eq0 : goal.returns-then-found-eq0

@@ -1,5 +1,5 @@
 use Rattle.snapshot_format.proofs.Faults.{if_err_fault}
-use Rattle.snapshot_format.proofs.Parts.{no_value}
+use Rattle.snapshot_format.proofs.RestsOfBytes.{no_value}
 use Rattle.std.proofs.Common.{arith}
 use Rattle.snapshot_format.proofs.Causes.{finds_after, if_err_malformed}
 use Rattle.snapshot_format.proofs.PartFaults.{value_entry}

@@ -5,7 +5,7 @@ use Rattle.snapshot_format.specs.Snapshots.{head_bytes, magic}
 use Rattle.snapshot_format.specs.Reading.{Reads}
 use Rattle.snapshot_format.proofs.Faults.{if_fault, if_err_fault}
 use Rattle.snapshot_format.proofs.Known.{reads_more}
-use Rattle.snapshot_format.proofs.Parts.{after_same, after_first, not_at_end}
+use Rattle.snapshot_format.proofs.RestsOfBytes.{after_same, after_first, not_at_end}
 use Rattle.snapshot_format.proofs.Causes.{finds_after, finds_now, finds_part, if_err_malformed, if_malformed}
 use Rattle.snapshot_format.proofs.WholeFaults.{count_fault, magic_fault, version_fault}
 use Rattle.snapshot_format.specs.declared.error.Fault.TheVariants as faults

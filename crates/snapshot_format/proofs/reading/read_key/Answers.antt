@@ -5,7 +5,7 @@ use Rattle.snapshot_format.specs.Numbers.{number_bytes}
 use Rattle.snapshot_format.specs.Snapshots.{sized}
 use Rattle.snapshot_format.proofs.Faults.{if_fault}
 use Rattle.snapshot_format.proofs.Known.{reads_more}
-use Rattle.snapshot_format.proofs.Parts.{key_is, no_number_key, no_rest, not_above, rest_is, tested, shares_less}
+use Rattle.snapshot_format.proofs.RestsOfBytes.{key_is, no_number_key, no_rest, not_above, rest_is, tested, shares_less}
 use Rattle.snapshot_format.proofs.Causes.{finds_after, finds_now, finds_part, if_malformed}
 use Rattle.snapshot_format.proofs.PartFaults.{misplaced, number_entry, others_entry}
 use Rattle.snapshot_format.specs.declared.error.Fault.TheVariants as faults

@@ -2,7 +2,7 @@ use Rattle.std.proofs.Common.{◌+◌, ◌-◌, ◌/◌, ◌%◌, ◌++◌, ◌�
 use Rattle.std.proofs.lemmas.Result.{on_ok_weaker}
 use Rattle.snapshot_format.specs.Numbers.{number_within}
 use Rattle.snapshot_format.proofs.Numbers.{within_small}
-use Rattle.snapshot_format.proofs.Written.{fits_large, fits_high, large_is}
+use Rattle.snapshot_format.proofs.WrittenNumbers.{fits_large, fits_high, large_is}
 use Rattle.snapshot_format.proofs.writing.+push_within.Goals as goal
 
 pub returns-then-number-lt128 : goal.returns-then-number-lt128

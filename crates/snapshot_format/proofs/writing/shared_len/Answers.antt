@@ -1,5 +1,5 @@
 use Rattle.std.proofs.Common.{sym, ◌∙◌, arith}
-use Rattle.snapshot_format.proofs.Written.{shared_more, shared_stops, first_ends, second_ends}
+use Rattle.snapshot_format.proofs.WrittenNumbers.{shared_more, shared_stops, first_ends, second_ends}
 use Rattle.snapshot_format.proofs.writing.shared_len.Goals as goal
 
 pub returns-then-key-shared-clause-shared : goal.returns-then-key-shared-clause-shared

@@ -2,7 +2,7 @@ use Rattle.std.proofs.Common.{◌≡◌, ◌<◌, ◌^◌, ℕ, List, length, ap
 use Rattle.snapshot_format.specs.Entries.{IsGiven}
 use Rattle.snapshot_format.specs.Snapshots.{entry, entry_bytes}
 use Rattle.snapshot_format.specs.Writing.{Writes}
-use Rattle.snapshot_format.proofs.Written.{writing_begins, writing_goes_on}
+use Rattle.snapshot_format.proofs.WrittenNumbers.{writing_begins, writing_goes_on}
 use Rattle.snapshot_format.proofs.writing.write_entries.Goals as goal
 
 -- the length of the same bytes

@@ -3,7 +3,7 @@ use Rattle.std.proofs.lemmas.Result.{on_ok_weaker}
 use Rattle.std.specs.Io.KnownBytes.{Appends}
 use Rattle.snapshot_format.specs.Snapshots.{body_of, head_bytes}
 use Rattle.snapshot_format.specs.Writing.{Writes}
-use Rattle.snapshot_format.proofs.Written.{body_written, snapshot_written}
+use Rattle.snapshot_format.proofs.WrittenNumbers.{body_written, snapshot_written}
 use Rattle.snapshot_format.proofs.writing.write_snapshot.Goals as goal
 
 pub returns-clause-written : goal.returns-clause-written

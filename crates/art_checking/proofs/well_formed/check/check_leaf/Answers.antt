@@ -7,7 +7,7 @@ use Rattle.art_model.specs.Faults.{ReachesLeaf}
 use Rattle.art_checking.specs.Checked.{IsBetween, IsInOrder, IsTrueAt}
 use Rattle.art_checking.specs.Checks.{between, fault_of}
 use Rattle.art_checking.specs.declared.well_formed.fault.MalformedTreeError.{MalformedTreeError}
-use Rattle.art_checking.proofs.Descents.{leaf_at}
+use Rattle.art_checking.proofs.LeastDescents.{leaf_at}
 use Rattle.art_checking.proofs.Faulty.{passed_on, said}
 use Rattle.art_checking.proofs.well_formed.check.check_leaf.Goals as goal
 

@@ -8,7 +8,7 @@ use Rattle.art_parts.specs.contracts.names.LeafPtrPartialEq.TheImpl as derived
 use Rattle.art_model.specs.Pairs.{first_of as first_name, last_of, of_key}
 use Rattle.art_checking.specs.Checked.{names_of_leaves}
 use Rattle.art_checking.specs.Checks.{between}
-use Rattle.art_checking.proofs.Descents.{leaf_at}
+use Rattle.art_checking.proofs.LeastDescents.{leaf_at}
 use Rattle.art_checking.proofs.Faulty.{said}
 use Rattle.art_checking.proofs.well_formed.check.check_links.Goals as goal
 use Rattle.art_checking.proofs.well_formed.check.check_links.Goals.{then-ne-via-then-ne, then-ne-via-else-ne+then-ne-2}

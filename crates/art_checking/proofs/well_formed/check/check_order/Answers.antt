@@ -4,7 +4,7 @@ use Rattle.std.specs.Cmp.Lexicographic.{slice_cmp}
 use Rattle.std.specs.Ordering.{nat_cmp, ordering_index}
 use Rattle.art_model.specs.Prelude.{leaf_name, HasSibling, of_key, node_at, pair_of}
 use Rattle.art_checking.specs.Checked.{IsInOrder}
-use Rattle.art_checking.proofs.Descents.{leaf_at, none_at_leaf}
+use Rattle.art_checking.proofs.LeastDescents.{leaf_at, none_at_leaf}
 use Rattle.art_checking.proofs.Faulty.{said}
 use Rattle.art_checking.proofs.well_formed.check.check_order.Goals as goal
 

@@ -1,7 +1,7 @@
 use Rattle.std.proofs.Common.{sym, subst}
 use Rattle.art_model.specs.Prelude.{ref_view, inner_name, of_key, header_at}
 use Rattle.art_checking.specs.Checked.{IsFirstLeast}
-use Rattle.art_checking.proofs.Descents.{inner_at}
+use Rattle.art_checking.proofs.LeastDescents.{inner_at}
 use Rattle.art_checking.proofs.Walked.{first_least}
 use Rattle.art_checking.proofs.well_formed.check.enter.Goals as goal
 

@@ -7,7 +7,7 @@ use Rattle.std.specs.BTreeSet.{contains}
 use Rattle.std.specs.FinMap as map
 use Rattle.art_parts.specs.contracts.names.InnerPtrOrd.TheImpl as derived
 use Rattle.art_model.specs.Trails.{HasLeast}
-use Rattle.art_checking.proofs.Descents.{inner_at, down_more, ends_at_leaf, ends_nowhere, ends_again, ends_childless}
+use Rattle.art_checking.proofs.LeastDescents.{inner_at, down_more, ends_at_leaf, ends_nowhere, ends_again, ends_childless}
 use Rattle.art_checking.proofs.Meetings.{same_inner}
 use Rattle.art_checking.proofs.Untried.{untried_less, key_of_inner, still, was_new}
 use Rattle.art_checking.proofs.well_formed.check.least_leaf.Goals as goal

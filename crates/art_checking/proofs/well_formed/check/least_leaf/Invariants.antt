@@ -3,7 +3,7 @@ use Rattle.std.specs.FinMap as map
 use Rattle.art_parts.specs.contracts.names.InnerPtrOrd.TheImpl as derived
 use Rattle.art_model.specs.Prelude.{node_at}
 use Rattle.art_checking.specs.Untried.{untried}
-use Rattle.art_checking.proofs.Descents.{IsDown}
+use Rattle.art_checking.proofs.LeastDescents.{IsDown}
 use Rattle.art_checking.proofs.well_formed.check.least_leaf.Given as goal
 
 abbrev pub invariant-down : goal.invariant-down

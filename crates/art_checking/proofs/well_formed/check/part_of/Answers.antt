@@ -1,7 +1,7 @@
 use Rattle.std.proofs.Common.{◌≡◌, ◌∙◌, ◌+◌, ◌-◌, ◌<◌, ◌≤◌, ◌⊎◌, inl, inr, ℕ, List, length, take, drop, Bor, Option, Some, None, ap, arith, sym, subst, slice_range, MatchOption}
 use Rattle.art_model.specs.Prelude.{Node, leaf_node, OpaqueNodePtr}
 use Rattle.art_checking.specs.Checked.{IsPartOf}
-use Rattle.art_checking.proofs.Descents.{leaf_at}
+use Rattle.art_checking.proofs.LeastDescents.{leaf_at}
 use Rattle.art_checking.proofs.well_formed.check.part_of.Goals as goal
 
 -- there is one leaf under a name

@@ -1,7 +1,7 @@
 use Rattle.std.proofs.Common.{◌≡◌, sym, ◌∙◌, subst, Some, IfSome}
 use Rattle.art_model.specs.Prelude.{inner_name, of_key}
 use Rattle.art_checking.specs.Checked.{IsLeastLeaf, IsReadFrom}
-use Rattle.art_checking.proofs.Readings.{read_none, read_part}
+use Rattle.art_checking.proofs.PrefixReadings.{read_none, read_part}
 use Rattle.art_checking.proofs.well_formed.check.read_least.Goals as goal
 use Rattle.art_checking.proofs.well_formed.check.read_least.Goals.{in-Some, in-None+in_ok-found-in-None, in-Some-found, in-None-found}
 

@@ -5,7 +5,7 @@ use Rattle.std.proofs.lemmas.Slice.Eq.{slice_eq-Decides}
 use Rattle.std.specs.Cmp.Lexicographic.{pointwise}
 use Rattle.art_model.specs.Prelude.{ref_view, inner_name, IsUnreadable, StoresOthers, of_key}
 use Rattle.art_checking.proofs.Faulty.{passed_on, said}
-use Rattle.art_checking.proofs.Readings.{least_if, read_found, read_long, read_whole, stores_others, unreadable}
+use Rattle.art_checking.proofs.PrefixReadings.{least_if, read_found, read_long, read_whole, stores_others, unreadable}
 use Rattle.art_checking.proofs.well_formed.check.whole_prefix.Goals as goal
 
 differs : (xs ys : List ℕ) → not (pointwise eqb xs ys) ≡ true → xs ≢ ys

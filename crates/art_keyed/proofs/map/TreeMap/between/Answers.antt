@@ -1,7 +1,7 @@
 use Rattle.std.proofs.Common.{ap, ◌∙◌}
 use Rattle.std.specs.Range.Bound.{bound_map}
 use Rattle.art_keyed.specs.KeyedPairs.{keys_between}
-use Rattle.art_keyed.proofs.Between.{between_keys}
+use Rattle.art_keyed.proofs.KeyRanges.{between_keys}
 use Rattle.art_keyed.proofs.Keyed.{rises}
 use Rattle.art_keyed.proofs.map.TreeMap.between.Goals as goal
 

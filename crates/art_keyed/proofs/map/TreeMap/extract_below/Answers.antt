@@ -1,5 +1,5 @@
-use Rattle.art_keyed.proofs.Between.{first_out_keeps}
-use Rattle.art_keyed.proofs.Extracted.{extracts_strings}
+use Rattle.art_keyed.proofs.KeyRanges.{first_out_keeps}
+use Rattle.art_keyed.proofs.ExtractedKeys.{extracts_strings}
 use Rattle.art_keyed.proofs.map.TreeMap.extract_below.Goals as goal
 
 pub invariant_of-self : goal.invariant_of-self

@@ -1,5 +1,5 @@
 use Rattle.art_model.specs.Pairs.{of_key}
-use Rattle.art_keyed.proofs.Extracted.{extracts_keys}
+use Rattle.art_keyed.proofs.ExtractedKeys.{extracts_keys}
 use Rattle.art_keyed.proofs.Parted.{without_keeps}
 use Rattle.art_keyed.proofs.map.TreeMap.extract_in.Goals as goal
 

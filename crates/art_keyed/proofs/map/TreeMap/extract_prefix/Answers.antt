@@ -1,5 +1,5 @@
 use Rattle.std.proofs.Common.{refl}
-use Rattle.art_keyed.proofs.Extracted.{prefix_all}
+use Rattle.art_keyed.proofs.ExtractedKeys.{prefix_all}
 use Rattle.art_keyed.proofs.map.TreeMap.extract_prefix.Goals as goal
 
 pub returns-clause-all : goal.returns-clause-all

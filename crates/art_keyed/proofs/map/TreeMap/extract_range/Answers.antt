@@ -1,5 +1,5 @@
 use Rattle.std.proofs.Common.{refl}
-use Rattle.art_keyed.proofs.Extracted.{range_all}
+use Rattle.art_keyed.proofs.ExtractedKeys.{range_all}
 use Rattle.art_keyed.proofs.map.TreeMap.extract_range.Goals as goal
 
 pub returns-clause-all : goal.returns-clause-all

@@ -3,7 +3,7 @@ use Rattle.std.specs.Range.Bound.{bound_map}
 use Rattle.std.specs.declared.ops.Bound.TheVariants.{Unbounded}
 use Rattle.art_model.specs.Pairs.{first_of}
 use Rattle.art_keyed.specs.KeyedPairs.{keys_between}
-use Rattle.art_keyed.proofs.Between.{between_keys}
+use Rattle.art_keyed.proofs.KeyRanges.{between_keys}
 use Rattle.art_keyed.proofs.map.TreeMap.first_from.Goals as goal
 
 pub returns : goal.returns

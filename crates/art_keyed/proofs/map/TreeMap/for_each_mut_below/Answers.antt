@@ -3,8 +3,8 @@ use Rattle.art_model.specs.Pairs.{of_key}
 use Rattle.art_model.specs.Parts.{below}
 use Rattle.art_map.specs.MapCalls.{ChangesPairs}
 use Rattle.art_keyed.specs.KeyedPairs.{strings_below, strings_not_below}
-use Rattle.art_keyed.proofs.Between.{below_strings, not_below_strings}
-use Rattle.art_keyed.proofs.Retained.{keys_keep}
+use Rattle.art_keyed.proofs.KeyRanges.{below_strings, not_below_strings}
+use Rattle.art_keyed.proofs.KeptByAll.{keys_keep}
 use Rattle.art_keyed.proofs.map.TreeMap.for_each_mut_below.Goals as goal
 
 pub invariant_of-self : goal.invariant_of-self

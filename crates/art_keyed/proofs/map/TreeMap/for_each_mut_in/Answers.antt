@@ -5,9 +5,9 @@ use Rattle.art_model.specs.Parts.{between}
 use Rattle.art_map.specs.MapCalls.{ChangesPairs}
 use Rattle.art_keyed.specs.KeyedPairs.{keys_between}
 use Rattle.art_keyed.specs.KeyedParts.{keys_not_between}
-use Rattle.art_keyed.proofs.Between.{between_keys}
+use Rattle.art_keyed.proofs.KeyRanges.{between_keys}
 use Rattle.art_keyed.proofs.Parted.{not_between_keys}
-use Rattle.art_keyed.proofs.Retained.{keys_keep}
+use Rattle.art_keyed.proofs.KeptByAll.{keys_keep}
 use Rattle.art_keyed.proofs.map.TreeMap.for_each_mut_in.Goals as goal
 
 pub invariant_of-self : goal.invariant_of-self

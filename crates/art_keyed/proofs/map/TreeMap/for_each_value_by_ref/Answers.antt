@@ -1,4 +1,4 @@
-use Rattle.art_keyed.proofs.Retained.{keys_keep}
+use Rattle.art_keyed.proofs.KeptByAll.{keys_keep}
 use Rattle.art_keyed.proofs.map.TreeMap.for_each_value_by_ref.Goals as goal
 
 pub invariant_of-self : goal.invariant_of-self

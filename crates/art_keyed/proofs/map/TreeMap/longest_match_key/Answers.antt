@@ -1,7 +1,7 @@
 use Rattle.std.proofs.Common.{rules, ap, subst, ◌∙◌}
 use Rattle.art_model.specs.Pairs.{IsMap, last_of, of_key}
 use Rattle.art_keyed.specs.KeyedPairs.{strings_in_front}
-use Rattle.art_keyed.proofs.Fronts.{are_ended, fronts_are}
+use Rattle.art_keyed.proofs.EndedFronts.{are_ended, fronts_are}
 use Rattle.art_keyed.proofs.map.TreeMap.longest_match_key.Goals as goal
 
 pub longest_text-requires : goal.longest_text-requires

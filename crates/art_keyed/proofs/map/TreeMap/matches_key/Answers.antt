@@ -1,7 +1,7 @@
 use Rattle.std.proofs.Common.{◌∙◌}
 use Rattle.art_model.specs.Pairs.{of_key}
 use Rattle.art_keyed.proofs.CutTexts.{from_none}
-use Rattle.art_keyed.proofs.Fronts.{fronts_are}
+use Rattle.art_keyed.proofs.EndedFronts.{fronts_are}
 use Rattle.art_keyed.proofs.map.TreeMap.matches_key.Goals as goal
 
 pub returns : goal.returns

@@ -1,6 +1,6 @@
 use Rattle.std.proofs.Common.{ap, ◌∙◌}
 use Rattle.art_model.specs.Pairs.{first_of}
-use Rattle.art_keyed.proofs.Between.{below_strings, first_out_keeps, without_string}
+use Rattle.art_keyed.proofs.KeyRanges.{below_strings, first_out_keeps, without_string}
 use Rattle.art_keyed.proofs.KeyedLaws.{below_told, seen_as}
 use Rattle.art_keyed.proofs.map.TreeMap.pop_first_below.Goals as goal
 

@@ -1,6 +1,6 @@
 use Rattle.std.proofs.Common.{ap, ◌∙◌}
 use Rattle.art_keyed.specs.KeyedPairs.{strings_below}
-use Rattle.art_keyed.proofs.Between.{below_strings}
+use Rattle.art_keyed.proofs.KeyRanges.{below_strings}
 use Rattle.art_keyed.proofs.map.TreeMap.prefix.Goals as goal
 
 pub returns-clause-pairs : goal.returns-clause-pairs

@@ -1,5 +1,5 @@
 use Rattle.std.proofs.Common.{ap, length, ◌∙◌}
-use Rattle.art_keyed.proofs.Between.{below_strings, not_below_strings, others_keep}
+use Rattle.art_keyed.proofs.KeyRanges.{below_strings, not_below_strings, others_keep}
 use Rattle.art_keyed.proofs.map.TreeMap.remove_prefix.Goals as goal
 
 pub invariant_of-self : goal.invariant_of-self

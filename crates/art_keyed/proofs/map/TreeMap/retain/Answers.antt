@@ -1,4 +1,4 @@
-use Rattle.art_keyed.proofs.Retained.{pairs_keep}
+use Rattle.art_keyed.proofs.KeptByAll.{pairs_keep}
 use Rattle.art_keyed.proofs.map.TreeMap.retain.Goals as goal
 
 pub invariant_of-self : goal.invariant_of-self

@@ -2,7 +2,7 @@ use Rattle.std.proofs.Common.{rules, ap, ◌∙◌}
 use Rattle.art_model.specs.Pairs.{first_of, of_key}
 use Rattle.art_keyed.specs.KeyedPairs.{strings_in_front}
 use Rattle.art_keyed.proofs.CutTexts.{from_none}
-use Rattle.art_keyed.proofs.Fronts.{are_ended, fronts_are}
+use Rattle.art_keyed.proofs.EndedFronts.{are_ended, fronts_are}
 use Rattle.art_keyed.proofs.map.TreeMap.shortest_match_key.Goals as goal
 
 pub shortest_text-requires : goal.shortest_text-requires

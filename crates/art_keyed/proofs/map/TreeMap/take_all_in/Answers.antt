@@ -3,7 +3,7 @@ use Rattle.std.specs.Range.Bound.{bound_map}
 use Rattle.art_model.specs.Pairs.{of_key}
 use Rattle.art_keyed.specs.KeyedPairs.{keys_between}
 use Rattle.art_keyed.specs.KeyedParts.{keys_not_between}
-use Rattle.art_keyed.proofs.Between.{between_keys}
+use Rattle.art_keyed.proofs.KeyRanges.{between_keys}
 use Rattle.art_keyed.proofs.Parted.{not_between_keys, others_keep}
 use Rattle.art_keyed.proofs.map.TreeMap.take_all_in.Goals as goal
 

@@ -2,7 +2,7 @@ use Rattle.std.proofs.Common.{ap, ◌∙◌}
 use Rattle.std.specs.Range.Bound.{bound_map}
 use Rattle.art_model.specs.Pairs.{first_of, of_key}
 use Rattle.art_keyed.specs.KeyedPairs.{keys_between}
-use Rattle.art_keyed.proofs.Between.{between_keys}
+use Rattle.art_keyed.proofs.KeyRanges.{between_keys}
 use Rattle.art_keyed.proofs.Parted.{without_keeps}
 use Rattle.art_keyed.proofs.map.TreeMap.take_first_in.Goals as goal
 

@@ -1,7 +1,7 @@
 use Rattle.std.proofs.Common.{ap, ◌∙◌}
 use Rattle.std.specs.Range.Bound.{bound_map}
 use Rattle.art_keyed.specs.KeyedPairs.{set_between}
-use Rattle.art_keyed.proofs.Between.{between_in_set}
+use Rattle.art_keyed.proofs.KeyRanges.{between_in_set}
 use Rattle.art_keyed.proofs.set.TreeSet.between.Goals as goal
 
 pub returns-clause-keys : goal.returns-clause-keys

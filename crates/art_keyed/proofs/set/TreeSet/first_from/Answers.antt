@@ -3,7 +3,7 @@ use Rattle.std.specs.Range.Bound.{bound_map}
 use Rattle.std.specs.declared.ops.Bound.TheVariants.{Unbounded}
 use Rattle.art_model.specs.Pairs.{first_of}
 use Rattle.art_keyed.specs.KeyedPairs.{set_between}
-use Rattle.art_keyed.proofs.Between.{between_in_set}
+use Rattle.art_keyed.proofs.KeyRanges.{between_in_set}
 use Rattle.art_keyed.proofs.set.TreeSet.first_from.Goals as goal
 
 pub returns : goal.returns

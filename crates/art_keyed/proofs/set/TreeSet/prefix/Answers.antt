@@ -1,6 +1,6 @@
 use Rattle.std.proofs.Common.{ap, ◌∙◌}
 use Rattle.art_keyed.specs.KeyedPairs.{set_below}
-use Rattle.art_keyed.proofs.Between.{below_in_set}
+use Rattle.art_keyed.proofs.KeyRanges.{below_in_set}
 use Rattle.art_keyed.proofs.set.TreeSet.prefix.Goals as goal
 
 pub returns-clause-keys : goal.returns-clause-keys

@@ -1,5 +1,5 @@
 use Rattle.std.specs.Fn.{CalledAt}
-use Rattle.art_keyed.proofs.Retained.{retains_keep}
+use Rattle.art_keyed.proofs.KeptByAll.{retains_keep}
 use Rattle.art_keyed.proofs.set.TreeSet.retain.Goals as goal
 
 pub invariant_of-self : goal.invariant_of-self

@@ -2,7 +2,7 @@ use Rattle.std.proofs.Common.{ap, length, ◌∙◌}
 use Rattle.std.specs.Range.Bound.{bound_map}
 use Rattle.art_keyed.specs.KeyedPairs.{set_between}
 use Rattle.art_keyed.specs.KeyedParts.{set_not_between}
-use Rattle.art_keyed.proofs.Between.{between_in_set}
+use Rattle.art_keyed.proofs.KeyRanges.{between_in_set}
 use Rattle.art_keyed.proofs.Parted.{not_between_in_set, others_keep}
 use Rattle.art_keyed.proofs.set.TreeSet.take_all_in.Goals as goal
 

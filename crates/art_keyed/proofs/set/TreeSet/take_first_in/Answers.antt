@@ -2,7 +2,7 @@ use Rattle.std.proofs.Common.{ap, ◌∙◌}
 use Rattle.std.specs.Range.Bound.{bound_map}
 use Rattle.art_model.specs.Pairs.{first_of}
 use Rattle.art_keyed.specs.KeyedPairs.{set_between}
-use Rattle.art_keyed.proofs.Between.{between_in_set}
+use Rattle.art_keyed.proofs.KeyRanges.{between_in_set}
 use Rattle.art_keyed.proofs.Parted.{without_keeps}
 use Rattle.art_keyed.proofs.set.TreeSet.take_first_in.Goals as goal
 

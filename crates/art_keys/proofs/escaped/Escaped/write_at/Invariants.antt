@@ -1,5 +1,5 @@
 use Rattle.std.proofs.Common.{length}
-use Rattle.art_keys.proofs.Writes.{IsWriting}
+use Rattle.art_keys.proofs.TextWrites.{IsWriting}
 use Rattle.art_keys.proofs.escaped.Escaped.write_at.Given as goal
 
 abbrev pub invariant-loop-byte : goal.invariant-loop-byte

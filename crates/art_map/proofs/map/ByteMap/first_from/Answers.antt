@@ -4,7 +4,7 @@ use Rattle.std.specs.declared.ops.Bound.TheVariants.{Unbounded}
 use Rattle.art_model.specs.Prelude.{first_of, of_key, between, is_from}
 use Rattle.art_map.specs.MapItems.{deref_pair}
 use Rattle.art_map.specs.MapPairs.{pairs_at}
-use Rattle.art_map.proofs.Puts.{at_some}
+use Rattle.art_map.proofs.MapPuts.{at_some}
 use Rattle.art_map.proofs.Ranges.{also_true, first_pair, no_first_pair}
 use Rattle.art_map.proofs.map.ByteMap.first_from.Goals as goal
 

@@ -3,7 +3,7 @@ use Rattle.art_model.specs.Prelude.{is_front, of_key, below, not_below}
 use Rattle.art_map.specs.MapCalls.{ChangesPairs}
 use Rattle.art_map.specs.MapPairs.{pairs_at}
 use Rattle.art_map.proofs.Items.{no_pairs}
-use Rattle.art_map.proofs.Puts.{at_some}
+use Rattle.art_map.proofs.MapPuts.{at_some}
 use Rattle.art_map.proofs.Ranges.{range_pairs, range_there}
 use Rattle.art_map.proofs.map.ByteMap.for_each_mut_below.Goals as goal
 

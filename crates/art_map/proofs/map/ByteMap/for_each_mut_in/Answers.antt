@@ -5,7 +5,7 @@ use Rattle.art_map.specs.MapCalls.{ChangesPairs}
 use Rattle.art_map.specs.MapPairs.{pairs_at}
 use Rattle.art_map.specs.MapParts.{not_between}
 use Rattle.art_map.proofs.Items.{no_pairs}
-use Rattle.art_map.proofs.Puts.{at_some}
+use Rattle.art_map.proofs.MapPuts.{at_some}
 use Rattle.art_map.proofs.Ranges.{range_pairs, range_there}
 use Rattle.art_map.proofs.map.ByteMap.for_each_mut_in.Goals as goal
 

@@ -3,7 +3,7 @@ use Rattle.std.specs.Range.Bound.{bound_map}
 use Rattle.std.specs.declared.ops.Bound.TheVariants.{Unbounded}
 use Rattle.art_model.specs.Prelude.{last_of, of_key, between, is_up_to}
 use Rattle.art_map.specs.MapItems.{deref_pair}
-use Rattle.art_map.proofs.Puts.{at_some}
+use Rattle.art_map.proofs.MapPuts.{at_some}
 use Rattle.art_map.proofs.Ranges.{last_pair, no_last_pair}
 use Rattle.art_map.proofs.map.ByteMap.last_up_to.Goals as goal
 

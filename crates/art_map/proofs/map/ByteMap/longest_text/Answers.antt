@@ -1,7 +1,7 @@
 use Rattle.std.proofs.Common.{rules, ap, ◌∙◌, option_map}
 use Rattle.art_model.specs.Prelude.{last_of, of_key, AreEnded, texts_in_front}
 use Rattle.art_map.specs.MapItems.{deref_pair}
-use Rattle.art_map.proofs.Puts.{canonical_root}
+use Rattle.art_map.proofs.MapPuts.{canonical_root}
 use Rattle.art_map.proofs.Takings.{found_in, named_pair, tree_has}
 use Rattle.art_map.proofs.map.ByteMap.longest_text.Goals as goal
 

@@ -3,7 +3,7 @@ use Rattle.std.specs.Range.Bound.{bound_map}
 use Rattle.art_model.specs.Prelude.{of_key, between, is_between}
 use Rattle.art_map.specs.MapItems.{pairs_between}
 use Rattle.art_map.proofs.Items.{no_pairs}
-use Rattle.art_map.proofs.Puts.{at_some}
+use Rattle.art_map.proofs.MapPuts.{at_some}
 use Rattle.art_map.proofs.Ranges.{no_range, range_pairs, range_there}
 use Rattle.art_map.proofs.map.ByteMap.range_by.Goals as goal
 

@@ -1,4 +1,4 @@
-use Rattle.art_map.proofs.Puts.{planted}
+use Rattle.art_map.proofs.MapPuts.{planted}
 use Rattle.art_map.proofs.map.insert.begin.Goals as goal
 
 pub returns-in-Ok : goal.returns-in-Ok

@@ -8,7 +8,7 @@ use Rattle.art_writing.proofs.Unstored.{refused_new}
 use Rattle.art_map.specs.MapPairs.{pairs_at}
 use Rattle.art_map.proofs.Enough.{enough}
 use Rattle.art_map.proofs.Items.{no_pairs}
-use Rattle.art_map.proofs.Puts.{accepted, at_some, canonical_root, left_holds, pair_more, same_many, stays}
+use Rattle.art_map.proofs.MapPuts.{accepted, at_some, canonical_root, left_holds, pair_more, same_many, stays}
 use Rattle.art_map.proofs.map.insert.put_in.Goals as goal
 
 -- a search without a point for the key has found a conflict

@@ -5,7 +5,7 @@ use Rattle.art_writing.specs.Points.{IsPointFor}
 use Rattle.art_writing.proofs.RelatedPairs.{not_alone}
 use Rattle.art_map.specs.MapPairs.{pairs_at}
 use Rattle.art_map.proofs.Enough.{enough}
-use Rattle.art_map.proofs.Puts.{at_some, left_holds, over_counted, stays}
+use Rattle.art_map.proofs.MapPuts.{at_some, left_holds, over_counted, stays}
 use Rattle.art_map.proofs.map.insert.put_over.Goals as goal
 
 pub overflow_sub-len : goal.overflow_sub-len

@@ -4,8 +4,8 @@ use Rattle.art_writing.proofs.KeysFound.{stored_free}
 use Rattle.art_map.specs.MapChanges.{HasKeyAt}
 use Rattle.art_map.specs.MapPairs.{pairs_at}
 use Rattle.art_map.proofs.Near.{near_named, value_put, value_replaced}
-use Rattle.art_map.proofs.Views.{map_held}
-use Rattle.art_map.proofs.Written.{is_stored}
+use Rattle.art_map.proofs.ViewsOfPairs.{map_held}
+use Rattle.art_map.proofs.WrittenValues.{is_stored}
 use Rattle.art_map.proofs.map.near.put_near.Goals as goal
 
 pub returns-then-has_key_at : goal.returns-then-has_key_at

@@ -5,7 +5,7 @@ use Rattle.art_reading.specs.Iterators.{IsIteratorOf}
 use Rattle.art_map.specs.MapItems.{pairs_left}
 use Rattle.art_map.proofs.Items.{none_left, no_pairs, whole_len, whole_pairs}
 use Rattle.art_map.proofs.Items as items
-use Rattle.art_map.proofs.Puts.{at_some}
+use Rattle.art_map.proofs.MapPuts.{at_some}
 use Rattle.art_map.proofs.map.owned.whole_walk.Goals as goal
 
 pub returns-in_default-clause-pairs : goal.returns-in_default-clause-pairs

@@ -4,11 +4,11 @@ use Rattle.art_writing.proofs.KeysFound.{conflict_new, stored_free}
 use Rattle.art_writing.proofs.OneLeaf as one_leaf
 use Rattle.art_map.specs.MapPairs.{pairs_at}
 use Rattle.art_map.proofs.Enough.{enough}
-use Rattle.art_map.proofs.Entered.{leaf_of_result, new_is_put, none_back, point_new}
+use Rattle.art_map.proofs.EnteredLeaves.{leaf_of_result, new_is_put, none_back, point_new}
 use Rattle.art_map.proofs.Items.{no_pairs}
-use Rattle.art_map.proofs.Puts.{at_some, left_holds, one_more, planted, stays}
-use Rattle.art_map.proofs.Views.{map_held}
-use Rattle.art_map.proofs.Written.{is_stored}
+use Rattle.art_map.proofs.MapPuts.{at_some, left_holds, one_more, planted, stays}
+use Rattle.art_map.proofs.ViewsOfPairs.{map_held}
+use Rattle.art_map.proofs.WrittenValues.{is_stored}
 use Rattle.art_map.proofs.map.position.enter.Goals as goal
 
 pub one_more-requires : goal.one_more-requires

@@ -3,7 +3,7 @@ use Rattle.art_model.specs.Prelude.{of_key, remove_reply, with_key}
 use Rattle.art_model.proofs.pairs.Puts.{first_none}
 use Rattle.art_writing.proofs.KeysFound.{point_none, point_some, removed_key}
 use Rattle.art_map.specs.MapPairs.{pairs_at}
-use Rattle.art_map.proofs.Puts.{at_some}
+use Rattle.art_map.proofs.MapPuts.{at_some}
 use Rattle.art_map.proofs.map.position.leaf_by.Goals as goal
 
 pub returns-in_err-point-clause-leaf : goal.returns-in_err-point-clause-leaf

@@ -5,8 +5,8 @@ use Rattle.art_writing.proofs.KeysFound.{stored_free}
 use Rattle.art_map.specs.MapChanges.{HasEntered, HasKeyAt, NamesLeafOf}
 use Rattle.art_map.specs.MapPairs.{pairs_at}
 use Rattle.art_map.proofs.Near.{near_named}
-use Rattle.art_map.proofs.Views.{map_held}
-use Rattle.art_map.proofs.Written.{is_stored}
+use Rattle.art_map.proofs.ViewsOfPairs.{map_held}
+use Rattle.art_map.proofs.WrittenValues.{is_stored}
 use Rattle.art_map.proofs.map.position.leaf_from.Goals as goal
 
 pub returns-then-has_bytes_at : goal.returns-then-has_bytes_at

@@ -1,5 +1,5 @@
 use Rattle.std.proofs.Common.{ap, sym, ◌∙◌, Some}
-use Rattle.art_map.proofs.Entered.{leaf_of_point}
+use Rattle.art_map.proofs.EnteredLeaves.{leaf_of_point}
 use Rattle.art_map.proofs.map.position.position_of.Goals as goal
 
 pub returns-in-Exact : goal.returns-in-Exact

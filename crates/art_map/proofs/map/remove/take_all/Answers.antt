@@ -1,5 +1,5 @@
 use Rattle.art_model.specs.Pairs.{of_key}
-use Rattle.art_map.proofs.Views.{new_holds}
+use Rattle.art_map.proofs.ViewsOfPairs.{new_holds}
 use Rattle.art_map.proofs.map.remove.take_all.Goals as goal
 
 pub returns : goal.returns

@@ -2,7 +2,7 @@ use Rattle.std.proofs.Common.{ap, sym, ◌∙◌, subst, length}
 use Rattle.art_model.specs.Prelude.{of_key, below, not_below}
 use Rattle.art_map.specs.MapPairs.{HoldsPairs}
 use Rattle.art_map.proofs.PartsOut.{none_begins, none_held, others_hold, removed_few, removed_is}
-use Rattle.art_map.proofs.Puts.{at_some}
+use Rattle.art_map.proofs.MapPuts.{at_some}
 use Rattle.art_map.proofs.map.remove.take_all_below.Goals as goal
 
 pub returns-in_default : goal.returns-in_default

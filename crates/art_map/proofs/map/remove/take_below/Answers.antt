@@ -5,7 +5,7 @@ use Rattle.art_writing.proofs.KeysFound.{point_none, point_some}
 use Rattle.art_map.specs.MapChanges.{HasTaken}
 use Rattle.art_map.specs.MapPairs.{HoldsPairs, pairs_at}
 use Rattle.art_map.proofs.PartsOut.{first_below, nothing_out}
-use Rattle.art_map.proofs.Puts.{at_some}
+use Rattle.art_map.proofs.MapPuts.{at_some}
 use Rattle.art_map.proofs.map.remove.take_below.Goals as goal
 
 pub returns-in_default-search_for_first_delete_point_below : goal.returns-in_default-search_for_first_delete_point_below
@@ -28,6 +28,6 @@ returns g c =
     (c.in-Some-search_for_first_delete_point_below.ensures.point pairs has.layout has.by) in
     let Taken = HasTaken g.K.AsBytes.bytes g.row.P in
     subst (λ reply. Taken reply (without_below B c.args.prefix.now 1 pairs)
-    (Some c.take_out.result) c.take_out.new.store c.take_out.new.root c.take_out.new.len) (sym e)
-    (subst (λ rest. Taken (Some x) rest (Some c.take_out.result) c.take_out.new.store c.take_out.new.root c.take_out.new.len)
-    (first_below B c.args.prefix.now pairs x has.by.is_map e).1 (c.take_out.ensures pairs has.layout has.by x leads))
+    (Some c.take_pair.result) c.take_pair.new.store c.take_pair.new.root c.take_pair.new.len) (sym e)
+    (subst (λ rest. Taken (Some x) rest (Some c.take_pair.result) c.take_pair.new.store c.take_pair.new.root c.take_pair.new.len)
+    (first_below B c.args.prefix.now pairs x has.by.is_map e).1 (c.take_pair.ensures pairs has.layout has.by x leads))

@@ -3,7 +3,7 @@ use Rattle.art_model.specs.Pairs.{first_of, of_key, without_first}
 use Rattle.art_writing.proofs.KeysFound.{point_some}
 use Rattle.art_map.specs.MapChanges.{HasTaken}
 use Rattle.art_map.specs.MapPairs.{pairs_at}
-use Rattle.art_map.proofs.Puts.{at_some, canonical_root}
+use Rattle.art_map.proofs.MapPuts.{at_some, canonical_root}
 use Rattle.art_map.proofs.Takings.{first_goes}
 use Rattle.art_map.proofs.map.remove.take_first.Goals as goal
 
@@ -19,7 +19,7 @@ returns g c =
     point_some has.layout c.find_minimum_to_delete-point.result (first_of pairs)
     (c.find_minimum_to_delete-point.ensures.point pairs has.layout has.by) in
     let Taken = HasTaken g.K.AsBytes.bytes g.row.P in
-    subst (λ reply. Taken reply (without_first pairs) (Some c.take_out.result) c.take_out.new.store c.take_out.new.root c.take_out.new.len) (sym e)
-    (subst (λ left. Taken (Some x) left (Some c.take_out.result) c.take_out.new.store c.take_out.new.root c.take_out.new.len)
+    subst (λ reply. Taken reply (without_first pairs) (Some c.take_pair.result) c.take_pair.new.store c.take_pair.new.root c.take_pair.new.len) (sym e)
+    (subst (λ left. Taken (Some x) left (Some c.take_pair.result) c.take_pair.new.store c.take_pair.new.root c.take_pair.new.len)
     (first_goes B pairs x has.by.is_map e)
-    (c.take_out.ensures pairs has.layout has.by x leads))
+    (c.take_pair.ensures pairs has.layout has.by x leads))

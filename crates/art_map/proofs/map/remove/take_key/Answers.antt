@@ -3,7 +3,7 @@ use Rattle.art_model.specs.Pairs.{of_key, remove_reply, remove_key}
 use Rattle.art_writing.proofs.KeysFound.{point_none, point_some, removed_key, removes_none}
 use Rattle.art_map.specs.MapChanges.{HasTaken}
 use Rattle.art_map.specs.MapPairs.{HoldsPairs, pairs_at}
-use Rattle.art_map.proofs.Puts.{at_some}
+use Rattle.art_map.proofs.MapPuts.{at_some}
 use Rattle.art_map.proofs.map.remove.take_key.Goals as goal
 
 pub returns-in_default-search_for_delete_point_by_lengths : goal.returns-in_default-search_for_delete_point_by_lengths
@@ -29,8 +29,8 @@ returns g c =
     (remove_reply B (g.Q.KeyBytes.key c.args.query) pairs) leads_there in
     let Taken = HasTaken g.K.AsBytes.bytes g.row.P in
     subst (λ reply. Taken reply (remove_key B (g.Q.KeyBytes.key c.args.query) pairs)
-    (Some c.take_out.result) c.take_out.new.store c.take_out.new.root c.take_out.new.len) (sym e)
+    (Some c.take_pair.result) c.take_pair.new.store c.take_pair.new.root c.take_pair.new.len) (sym e)
     (subst (λ key. Taken (Some x) (remove_key B key pairs)
-    (Some c.take_out.result) c.take_out.new.store c.take_out.new.root c.take_out.new.len)
+    (Some c.take_pair.result) c.take_pair.new.store c.take_pair.new.root c.take_pair.new.len)
     (removed_key B (g.Q.KeyBytes.key c.args.query) pairs x e)
-    (c.take_out.ensures pairs has.layout has.by x leads))
+    (c.take_pair.ensures pairs has.layout has.by x leads))

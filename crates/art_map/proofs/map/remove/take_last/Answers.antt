@@ -4,7 +4,7 @@ use Rattle.art_model.proofs.pairs.MapLaws.{last_is_removed_by_key}
 use Rattle.art_writing.proofs.KeysFound.{point_some}
 use Rattle.art_map.specs.MapChanges.{HasTaken}
 use Rattle.art_map.specs.MapPairs.{pairs_at}
-use Rattle.art_map.proofs.Puts.{at_some}
+use Rattle.art_map.proofs.MapPuts.{at_some}
 use Rattle.art_map.proofs.map.remove.take_last.Goals as goal
 
 pub returns : goal.returns
@@ -16,7 +16,7 @@ returns g c =
     point_some has.layout c.find_maximum_to_delete-point.result (last_of pairs)
     (c.find_maximum_to_delete-point.ensures.point pairs has.layout has.by) in
     let Taken = HasTaken g.K.AsBytes.bytes g.row.P in
-    subst (λ reply. Taken reply (without_last pairs) (Some c.take_out.result) c.take_out.new.store c.take_out.new.root c.take_out.new.len) (sym e)
-    (subst (λ left. Taken (Some x) left (Some c.take_out.result) c.take_out.new.store c.take_out.new.root c.take_out.new.len)
+    subst (λ reply. Taken reply (without_last pairs) (Some c.take_pair.result) c.take_pair.new.store c.take_pair.new.root c.take_pair.new.len) (sym e)
+    (subst (λ left. Taken (Some x) left (Some c.take_pair.result) c.take_pair.new.store c.take_pair.new.root c.take_pair.new.len)
     (last_is_removed_by_key B x pairs has.by.is_map e)
-    (c.take_out.ensures pairs has.layout has.by x leads))
+    (c.take_pair.ensures pairs has.layout has.by x leads))

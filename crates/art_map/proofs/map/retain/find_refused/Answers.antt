@@ -7,7 +7,7 @@ use Rattle.art_writing.specs.Deleted.{IsDeletePoint}
 use Rattle.art_map.specs.MapItems.{deref_pair, pairs_between}
 use Rattle.art_map.specs.MapPairs.{pairs_at}
 use Rattle.art_map.proofs.Changed.{begins, ends, fewer, goes_on}
-use Rattle.art_map.proofs.Puts.{at_root}
+use Rattle.art_map.proofs.MapPuts.{at_root}
 use Rattle.art_map.proofs.Ranges.{range_pairs, range_there}
 use Rattle.art_map.proofs.Refusing.{all_kept, finds, refused_at, same_some}
 use Rattle.art_map.proofs.map.retain.find_refused.Goals as goal

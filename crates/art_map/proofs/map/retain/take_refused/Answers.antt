@@ -3,7 +3,7 @@ use Rattle.art_model.specs.Prelude.{of_key}
 use Rattle.art_map.specs.MapPairs.{HoldsPairs, pairs_at}
 use Rattle.art_map.specs.MapRetain.{CallsUpTo}
 use Rattle.art_map.proofs.Items.{no_pairs}
-use Rattle.art_map.proofs.Puts.{at_root}
+use Rattle.art_map.proofs.MapPuts.{at_root}
 use Rattle.art_map.proofs.Refusing.{none_refused, refused_taken}
 use Rattle.art_map.proofs.map.retain.take_refused.Goals as goal
 
@@ -37,5 +37,5 @@ returns-clause-taken g c =
     let told = subst (λ all. CallsUpTo g.F.FnMut bytes c.args.last.now c.args.f.now all (Some x) new.f (pairs_at new.store (Some c.in-Some.name)))
     (ap (pairs_at c.args.store.now) (sym c.in-Some.is)) up_to in
     refused_taken g.F.FnMut bytes g.row.P c.args.last.now c.args.f.now (pairs_at c.args.store.now c.args.root.now)
-    new.f c.take_out.new.store c.take_out.new.root c.take_out.new.len told c.take_out.result
-    (c.take_out.ensures _ has.layout has.by x (leads _ has.layout has.by))
+    new.f c.take_pair.new.store c.take_pair.new.root c.take_pair.new.len told c.take_pair.result
+    (c.take_pair.ensures _ has.layout has.by x (leads _ has.layout has.by))

@@ -1,14 +1,14 @@
 use Rattle.std.proofs.Common.{rules, refl, subst, sym, Some, None}
 use Rattle.std.specs.Range.Bound.{bound_map}
 use Rattle.art_model.specs.Prelude.{of_key, remove_reply, is_between}
-use Rattle.art_reading.proofs.Parts.{some_there}
+use Rattle.art_reading.proofs.PartIterations.{some_there}
 use Rattle.art_writing.proofs.KeysFound.{point_none, point_some}
 use Rattle.art_map.specs.MapChanges.{HasTaken}
 use Rattle.art_map.specs.MapItems.{deref_pair}
 use Rattle.art_map.specs.MapPairs.{pairs_at}
 use Rattle.art_map.specs.MapParts.{without}
 use Rattle.art_map.proofs.FirstOut.{point_is_first, point_not_none}
-use Rattle.art_map.proofs.Puts.{at_some, canonical_root}
+use Rattle.art_map.proofs.MapPuts.{at_some, canonical_root}
 use Rattle.art_map.proofs.Ranges.{first_pair, no_first_pair}
 use Rattle.art_map.proofs.map.split.take_between.Goals as goal
 
@@ -59,5 +59,5 @@ returns g c =
     point_is_first B test pairs (deref_pair c.pair_at.result)
     c.as_bytes-key_bytes.result.now has.by.is_map first c.as_bytes-key_bytes.ensures x e in
     subst (λ o. HasTaken g.K.AsBytes.bytes g.row.P o (without B o pairs)
-    (Some c.take_out.result) c.take_out.new.store c.take_out.new.root c.take_out.new.len) is_first
-    (c.take_out.ensures pairs has.layout has.by x leads)
+    (Some c.take_pair.result) c.take_pair.new.store c.take_pair.new.root c.take_pair.new.len) is_first
+    (c.take_pair.ensures pairs has.layout has.by x leads)

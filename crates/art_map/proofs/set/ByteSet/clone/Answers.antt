@@ -1,7 +1,7 @@
 use Rattle.std.proofs.Common.{subst}
 use Rattle.std.specs.List.{AllZip}
 use Rattle.art_map.specs.MapItems.{keys_of}
-use Rattle.art_map.proofs.SetClones.{cloned_keys}
+use Rattle.art_map.proofs.ClonedKeys.{cloned_keys}
 use Rattle.art_map.proofs.set.ByteSet.clone.Goals as goal
 
 pub returns : goal.returns

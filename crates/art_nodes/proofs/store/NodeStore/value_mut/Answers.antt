@@ -4,7 +4,7 @@ use Rattle.std.specs.Option.{option_map}
 use Rattle.art_nodes.specs.LeafChanges.{with_value}
 use Rattle.art_nodes.specs.Lends.{with_leaf_value}
 use Rattle.art_nodes.specs.StoreView.{inners_of}
-use Rattle.art_nodes.proofs.StoreLaws.{lends_same}
+use Rattle.art_nodes.proofs.StoreChanges.{lends_same}
 use Rattle.art_nodes.proofs.StoreLemmas.{leaf_under, leaves_written}
 use Rattle.art_nodes.proofs.store.NodeStore.value_mut.Goals as goal
 

@@ -1,7 +1,7 @@
 use Rattle.std.proofs.Common.{◌+◌, ◌-◌, ◌≤◌, length}
 use Rattle.art_model.specs.Prelude.{of_key, ForTree}
 use Rattle.art_reading.specs.PathSteps.{path_after}
-use Rattle.art_reading.proofs.OnWay.{IsOnWay}
+use Rattle.art_reading.proofs.LookupWays.{IsOnWay}
 use Rattle.art_reading.proofs.lookup.descent.walk.Given as goal
 
 abbrev pub invariant-down : goal.invariant-down

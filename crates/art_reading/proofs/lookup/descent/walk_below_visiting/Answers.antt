@@ -2,12 +2,12 @@ use Rattle.std.proofs.Common.{◌+◌, ap, arith, refl, rules, sym, ◌∙◌}
 use Rattle.art_model.specs.Prelude.{child_at}
 use Rattle.art_model.proofs.stores.Shown.{inner_met, leaf_named, shown_met}
 use Rattle.art_reading.proofs.PrefixDescents.{at_end, at_gap, at_leaf, goes_down, way_begins}
-use Rattle.art_reading.proofs.Readings.{count_both}
+use Rattle.art_reading.proofs.Counters.{count_both}
 use Rattle.art_reading.proofs.Descents.{stands_there}
 use Rattle.art_reading.proofs.Endings.{byte_is, byte_within, past}
-use Rattle.art_reading.proofs.Left.{end_left, gap_left, leaf_left}
+use Rattle.art_reading.proofs.LeftOnWay.{end_left, gap_left, leaf_left}
 use Rattle.art_reading.proofs.Levels.{lower}
-use Rattle.art_reading.proofs.Parts.{some_there}
+use Rattle.art_reading.proofs.PartIterations.{some_there}
 use Rattle.art_reading.proofs.lookup.descent.walk_below_visiting.Goals as goal
 
 pub down-init : goal.down-init

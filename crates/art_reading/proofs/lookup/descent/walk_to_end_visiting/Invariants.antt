@@ -1,7 +1,7 @@
 use Rattle.std.proofs.Common.{◌+◌, ◌≤◌}
 use Rattle.std.specs.FinMap as map
 use Rattle.art_model.specs.Prelude.{OpaqueNodePtr, Tree, node_at, height, IsFullTree}
-use Rattle.art_model.proofs.places.Edges.{IsAtEdge}
+use Rattle.art_model.proofs.places.EdgeDescents.{IsAtEdge}
 use Rattle.art_reading.specs.Readings.{CountsReadings, levels}
 use Rattle.art_reading.specs.PathSteps.{path_after}
 use Rattle.art_reading.proofs.Along.{IsAlong}

@@ -2,10 +2,10 @@ use Rattle.std.proofs.Common.{◌+◌, None, length, length-take, ap, arith, ref
 use Rattle.art_model.specs.Keys.{common_front}
 use Rattle.art_model.specs.Pairs.{of_key, without_last}
 use Rattle.art_reading.proofs.Found.{has_found_last}
-use Rattle.art_reading.proofs.Parts.{leaf_is_there}
+use Rattle.art_reading.proofs.PartIterations.{leaf_is_there}
 use Rattle.art_model.specs.Texts.{text_of}
 use Rattle.art_reading.proofs.LongestTexts.{ends_at, ends_walk, found_again, found_none, found_whole, last_found, own_pair, shared_short, shared_within}
-use Rattle.art_reading.proofs.Readings.{count_both}
+use Rattle.art_reading.proofs.Counters.{count_both}
 use Rattle.art_reading.proofs.TextReads.{at_most, with_one}
 use Rattle.art_reading.proofs.lookup.texts.longest_text_visiting.Goals as goal
 

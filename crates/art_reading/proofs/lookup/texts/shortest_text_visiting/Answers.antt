@@ -4,7 +4,7 @@ use Rattle.art_model.specs.Pairs.{of_key, without_last}
 use Rattle.art_model.specs.Texts.{text_of}
 use Rattle.art_reading.proofs.Found.{has_found_first}
 use Rattle.art_reading.proofs.LongestTexts.{ends_at, own_pair}
-use Rattle.art_reading.proofs.Parts.{leaf_is_there}
+use Rattle.art_reading.proofs.PartIterations.{leaf_is_there}
 use Rattle.art_reading.proofs.ShortTexts.{first_found, first_missed, first_none}
 use Rattle.art_reading.proofs.TextReads.{at_most, with_one}
 use Rattle.art_reading.proofs.lookup.texts.shortest_text_visiting.Goals as goal

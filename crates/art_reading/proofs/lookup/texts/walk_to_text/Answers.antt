@@ -6,8 +6,8 @@ use Rattle.art_model.specs.Stores.{pair_of}
 use Rattle.art_model.proofs.stores.Shown.{inner_met, leaf_met, leaf_named, leaf_shown, shown_met}
 use Rattle.art_reading.specs.TextWays.{bytes_along}
 use Rattle.art_reading.proofs.Descents.{stands_there}
-use Rattle.art_reading.proofs.Parts.{some_there}
-use Rattle.art_reading.proofs.Readings.{count_both}
+use Rattle.art_reading.proofs.PartIterations.{some_there}
+use Rattle.art_reading.proofs.Counters.{count_both}
 use Rattle.art_reading.proofs.TextReads.{along_least, along_query, text_kept, read_begins, read_last, read_leaf, text_read, text_reads_on}
 use Rattle.art_reading.proofs.TextWays.{IsNestedWay, none_kept, step_first, ended_all, other_leaf, over_ends, own_leaf, step_ends, step_goes, way_begins}
 use Rattle.art_reading.specs.declared.lookup.texts.TextEnd.TheVariants.{Passed, Whole}

@@ -7,7 +7,7 @@ use Rattle.art_writing.specs.ParentWrites.{HasChild}
 use Rattle.art_reading.specs.PathSteps.{last_step}
 use Rattle.art_writing.proofs.Applied.{applied, granted, handed_back}
 use Rattle.art_writing.proofs.Entered.{beside_for, entry, entry_at, entry_gap, entry_met, entry_parent}
-use Rattle.art_writing.proofs.Left.{IsInserted}
+use Rattle.art_writing.proofs.LeftByPoints.{IsInserted}
 use Rattle.art_writing.proofs.LeafAdded.{asked_of, previous_is_there, next_is_there, room_inserted, full_inserted, has_room, larger_has_room, asked_full, asked_room}
 use Rattle.art_writing.proofs.Reserved.{leaf_promised, inner_promised, after_reserve, is_none, not_granted, not_refused, was_refused}
 use Rattle.art_writing.proofs.insert.InsertPoint.add_child_between.Goals as goal

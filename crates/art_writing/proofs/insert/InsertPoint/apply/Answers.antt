@@ -2,7 +2,7 @@ use Rattle.std.proofs.Common.{rules, refl, ap, sym, ◌∙◌}
 use Rattle.art_model.specs.Prelude.{promise_after}
 use Rattle.art_writing.specs.Inserted.{placed_for}
 use Rattle.art_writing.proofs.Applied.{applied, granted}
-use Rattle.art_writing.proofs.Replaced.{own_leaf_there, value_replaced}
+use Rattle.art_writing.proofs.ReplacedValues.{own_leaf_there, value_replaced}
 use Rattle.art_writing.proofs.Reserved.{nothing_after}
 use Rattle.art_writing.proofs.insert.InsertPoint.apply.Goals as goal
 

@@ -1,5 +1,5 @@
 use Rattle.ip_routes.proofs.ResultLemmas.{if_err, on_err, on_ok}
-use Rattle.ip_routes.proofs.EntryLemmas.{one_route_more, route_fault, routes_kept}
+use Rattle.ip_routes.proofs.RouteEntries.{one_route_more, route_fault, routes_kept}
 use Rattle.ip_routes.proofs.answers.TableLineTable.add.Goals as goal
 
 pub returns-clause-added : goal.returns-clause-added

@@ -1,6 +1,6 @@
 use Rattle.std.proofs.Common.{subst}
 use Rattle.ip_routes.specs.Faults.{IsRefusal}
-use Rattle.ip_routes.proofs.EntryLemmas.{refused_entry}
+use Rattle.ip_routes.proofs.RouteEntries.{refused_entry}
 use Rattle.ip_routes.proofs.answers.TableLineTable.finish.Goals as goal
 
 pub returns-in-Err-clause-fault : goal.returns-in-Err-clause-fault

@@ -4,7 +4,7 @@ use Rattle.std.specs.List.Sorted.{IsPermutation}
 use Rattle.prefix_table.specs.Sorting.{in_order}
 use Rattle.prefix_table.proofs.ArrangeLemmas.{all_written}
 use Rattle.prefix_table.proofs.OrderLemmas.{length_rows}
-use Rattle.prefix_table.proofs.TableLemmas.{arranged_table, entries_arranged, entries_in_order, has_all_entries, is_table}
+use Rattle.prefix_table.proofs.NetworkTables.{arranged_table, entries_arranged, entries_in_order, has_all_entries, is_table}
 use Rattle.prefix_table.proofs.table.PrefixTable.build.Goals as goal
 
 pub invariant_of-result : goal.invariant_of-result

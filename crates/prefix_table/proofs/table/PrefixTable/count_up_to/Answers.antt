@@ -3,7 +3,7 @@ use Rattle.std.specs.List.{AllPairs}
 use Rattle.prefix_table.specs.Networks.{IsUpTo, Precedes, start_of}
 use Rattle.prefix_table.specs.Parts.{AreStarted, network_in}
 use Rattle.prefix_table.proofs.PartLemmas.{others_start_later, started_entries}
-use Rattle.prefix_table.proofs.TableLemmas.{entries_in_order}
+use Rattle.prefix_table.proofs.NetworkTables.{entries_in_order}
 use Rattle.prefix_table.proofs.table.PrefixTable.count_up_to.Goals as goal
 
 pub returns-clause-started : goal.returns-clause-started

@@ -4,7 +4,7 @@ use Rattle.prefix_table.specs.Networks.{covers}
 use Rattle.prefix_table.specs.Rows.{network_of}
 use Rattle.prefix_table.specs.Entries.{IsLongest, nesting}
 use Rattle.prefix_table.proofs.PartLemmas.{looked_fits, within_nesting}
-use Rattle.prefix_table.proofs.TableLemmas.{length-entries, longest_is, none_covers}
+use Rattle.prefix_table.proofs.NetworkTables.{length-entries, longest_is, none_covers}
 use Rattle.prefix_table.proofs.table.PrefixTable.longest_match_counted.Goals as goal
 
 pub returns-then-found-eq0-clause-found : goal.returns-then-found-eq0-clause-found

@@ -3,7 +3,7 @@ use Rattle.std.specs.List.{All, AllPairs}
 use Rattle.prefix_table.specs.Networks.{IsNetwork, Precedes}
 use Rattle.prefix_table.specs.Parts.{IsPositionIn}
 use Rattle.prefix_table.proofs.PartLemmas.{position_in}
-use Rattle.prefix_table.proofs.TableLemmas.{entries_are_networks, entries_in_order}
+use Rattle.prefix_table.proofs.NetworkTables.{entries_are_networks, entries_in_order}
 use Rattle.prefix_table.proofs.table.PrefixTable.position.Goals as goal
 
 pub returns : goal.returns

@@ -4,7 +4,7 @@ use Rattle.art_keyed.specs.KeyedValues.{KeepsOtherKeys}
 use Rattle.art_map.specs.MapAnswers.{value_at}
 use Rattle.art_model.specs.Pairs.{of_key, put_reply}
 use Rattle.route_map.specs.Routes.{KeepsOthers, entries_of, value_of}
-use Rattle.route_map.proofs.AnswerLemmas.{after_insertion, if_err, if_ok, on_err, on_ok, replaced_value}
+use Rattle.route_map.proofs.TreeReplies.{after_insertion, if_err, if_ok, on_err, on_ok, replaced_value}
 use Rattle.route_map.proofs.ValueLemmas.{IsKeyOf, IsStored, bytes_of, four_keeps_others, is_key_of, six_keeps_others, value_in_four, value_in_six}
 use Rattle.route_map.proofs.map.RouteMap.insert.Goals as goal
 

@@ -1,6 +1,6 @@
 use Rattle.std.proofs.Common.{sym, ◌∙◌, subst}
 use Rattle.text_lines.proofs.Spaces.{HasNoSpace, has_space}
-use Rattle.text_programs.proofs.EntryLemmas.{no_entry}
+use Rattle.text_programs.proofs.CodeEntries.{no_entry}
 use Rattle.text_programs.proofs.dial_codes.entry.parse_entry.Goals as goal
 
 pub returns-in_err-code-clause-none : goal.returns-in_err-code-clause-none

@@ -1,5 +1,5 @@
 use Rattle.std.proofs.Common.{refl}
-use Rattle.text_programs.proofs.EntryLemmas.{line_comes, name_is_stored, none_is_stored}
+use Rattle.text_programs.proofs.CodeEntries.{line_comes, name_is_stored, none_is_stored}
 use Rattle.text_programs.proofs.dial_codes.table.add_line.Goals as goal
 
 pub returns-in-Some-get_text-clause-fault : goal.returns-in-Some-get_text-clause-fault

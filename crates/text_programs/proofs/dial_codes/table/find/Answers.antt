@@ -1,7 +1,7 @@
 use Rattle.std.proofs.Common.{Some, ap, ap₂, subst, sym, ◌∙◌}
 use Rattle.std.specs.Option.{option_map}
 use Rattle.text_programs.specs.Entries.{IsNoLonger, entries_of}
-use Rattle.text_programs.proofs.EntryLemmas.{entries_rise, last_match, match_entry, no_longer}
+use Rattle.text_programs.proofs.CodeEntries.{entries_rise, last_match, match_entry, no_longer}
 use Rattle.text_programs.proofs.dial_codes.table.find.Goals as goal
 
 pub returns-in-Some-clause-last : goal.returns-in-Some-clause-last

@@ -3,7 +3,7 @@ use Rattle.art_keys.specs.Escapes.{escape}
 use Rattle.art_model.specs.Keys.{are_same}
 use Rattle.art_model.proofs.pairs.Puts.{any_is_first}
 use Rattle.art_map.specs.MapItems.{deref_pair}
-use Rattle.art_map.proofs.Puts.{is_some-map}
+use Rattle.art_map.proofs.MapPuts.{is_some-map}
 use Rattle.art_hinted.proofs.map.escaped_texts.HintedMap+Escaped+V+P.contains_text.Goals as goal
 
 pub returns : goal.returns

@@ -2,7 +2,7 @@ use Rattle.std.proofs.Common.{ap, ◌∙◌}
 use Rattle.art_model.specs.Pairs.{first_of, of_key}
 use Rattle.art_model.specs.Parts.{below, without_below}
 use Rattle.art_keys.specs.Joins.{AreKeys, joined_bytes}
-use Rattle.art_keyed.proofs.Between.{below_first, first_out, first_out_keeps}
+use Rattle.art_keyed.proofs.KeyRanges.{below_first, first_out, first_out_keeps}
 use Rattle.art_keys.specs.InjectiveLaws.{joins_injective}
 use Rattle.art_keyed.proofs.KeyedLaws.{below_told, seen_as}
 use Rattle.art_keyed.proofs.map.joined.TreeMap+Joined+A+B+V+P.pop_first_with.Goals as goal

@@ -2,7 +2,7 @@ use Rattle.std.proofs.Common.{ap, length, ◌∙◌}
 use Rattle.art_model.specs.Pairs.{of_key}
 use Rattle.art_model.specs.Parts.{below, not_below}
 use Rattle.art_keys.specs.Joins.{joined_bytes}
-use Rattle.art_keyed.proofs.Between.{below_first, not_below_first, others_keep}
+use Rattle.art_keyed.proofs.KeyRanges.{below_first, not_below_first, others_keep}
 use Rattle.art_keyed.proofs.map.joined.TreeMap+Joined+A+B+V+P.remove_with_first.Goals as goal
 
 pub invariant_of-self : goal.invariant_of-self

@@ -2,7 +2,7 @@ use Rattle.std.proofs.Common.{ap, ◌∙◌}
 use Rattle.art_model.specs.Pairs.{first_of, of_key}
 use Rattle.art_model.specs.Parts.{below, without_below}
 use Rattle.art_keys.specs.Joins.{joined_bytes}
-use Rattle.art_keyed.proofs.Between.{below_first, first_out, first_out_keeps, of_two_keys}
+use Rattle.art_keyed.proofs.KeyRanges.{below_first, first_out, first_out_keeps, of_two_keys}
 use Rattle.art_keyed.proofs.map.joined_array.TreeMap+JoinedArray+A+B+N+V+P.pop_first_with.Goals as goal
 
 pub invariant_of-self : goal.invariant_of-self

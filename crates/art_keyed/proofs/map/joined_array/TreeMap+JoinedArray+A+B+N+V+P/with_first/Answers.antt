@@ -3,7 +3,7 @@ use Rattle.art_model.specs.Pairs.{of_key}
 use Rattle.art_model.specs.Parts.{below}
 use Rattle.art_keys.specs.Joins.{joined_bytes}
 use Rattle.art_keyed.specs.KeyedPairs.{pairs_with_first}
-use Rattle.art_keyed.proofs.Between.{below_first, of_two_keys}
+use Rattle.art_keyed.proofs.KeyRanges.{below_first, of_two_keys}
 use Rattle.art_keyed.proofs.map.joined_array.TreeMap+JoinedArray+A+B+N+V+P.with_first.Goals as goal
 
 pub returns-clause-pairs : goal.returns-clause-pairs

@@ -2,7 +2,7 @@ use Rattle.std.proofs.Common.{ℕ, List, refl, ◌∙◌}
 use Rattle.art_keys.specs.Ended.{HasNoZero, ended}
 use Rattle.art_model.specs.Pairs.{of_key}
 use Rattle.art_keyed.proofs.CutTexts.{from_none}
-use Rattle.art_keyed.proofs.Fronts.{fronts_are}
+use Rattle.art_keyed.proofs.EndedFronts.{fronts_are}
 use Rattle.art_keyed.proofs.map.matches.TreeMap+Terminated+V+P.matches.Goals as goal
 
 pub returns : goal.returns

@@ -5,7 +5,7 @@ use Rattle.art_map.specs.MapItems.{deref_pair}
 use Rattle.art_model.specs.Texts.{AreEnded, texts_in_front}
 use Rattle.art_keyed.specs.Matches.{matches_left}
 use Rattle.art_keyed.proofs.CutTexts.{key_short, last_came, none_last, too_short}
-use Rattle.art_keyed.proofs.Fronts.{are_ended}
+use Rattle.art_keyed.proofs.EndedFronts.{are_ended}
 use Rattle.art_keyed.proofs.map.matches.TreeMapNested.next_back_match.Goals as goal
 
 pub longest_text-requires : goal.longest_text-requires

@@ -6,7 +6,7 @@ use Rattle.art_model.specs.Texts.{AreEnded}
 use Rattle.art_reading.specs.ShortTexts.{texts_from}
 use Rattle.art_keyed.specs.Matches.{matches_left}
 use Rattle.art_keyed.proofs.CutTexts.{first_came, none_first}
-use Rattle.art_keyed.proofs.Fronts.{are_ended}
+use Rattle.art_keyed.proofs.EndedFronts.{are_ended}
 use Rattle.art_keyed.proofs.map.matches.TreeMapNested.next_match.Goals as goal
 
 pub shortest_text-requires : goal.shortest_text-requires

@@ -5,7 +5,7 @@ use Rattle.art_keys.specs.EscapeLaws.{escape-plain, escape_is, escape_keeps_fron
 use Rattle.art_model.specs.Pairs.{last_of, of_key}
 use Rattle.art_model.specs.Texts.{texts_in_front}
 use Rattle.art_keyed.specs.KeyedPairs.{strings_in_front}
-use Rattle.art_keyed.proofs.Fronts.{are_ended, fronts_are}
+use Rattle.art_keyed.proofs.EndedFronts.{are_ended, fronts_are}
 use Rattle.art_keyed.proofs.map.texts.TreeMap+Escaped+V+P.longest_match.Goals as goal
 
 pub longest_text-requires : goal.longest_text-requires

@@ -5,7 +5,7 @@ use Rattle.art_keys.specs.EscapeLaws.{escape_begins}
 use Rattle.art_model.specs.Pairs.{of_key}
 use Rattle.art_model.specs.Parts.{below}
 use Rattle.art_keyed.specs.KeyedPairs.{strings_below}
-use Rattle.art_keyed.proofs.Between.{below_strings}
+use Rattle.art_keyed.proofs.KeyRanges.{below_strings}
 use Rattle.art_keyed.proofs.map.texts.TreeMap+Escaped+V+P.prefix_text.Goals as goal
 
 pub returns-clause-pairs : goal.returns-clause-pairs

@@ -8,7 +8,7 @@ use Rattle.art_map.specs.MapAnswers.{value_at}
 use Rattle.art_map.specs.MadeKeys.{IsSourceRefusal}
 use Rattle.art_map.specs.declared.map.to_key.MapSourceError.{MapSourceError}
 use Rattle.art_map.specs.declared.map.to_key.MapSourceError.TheVariants.{Insert, Memory, NoKey}
-use Rattle.art_map.proofs.Written.{lends_same}
+use Rattle.art_map.proofs.WrittenValues.{lends_same}
 use Rattle.art_keyed.specs.KeyedPairs.{HaveKeys}
 use Rattle.art_keyed.specs.TextCalls.{IsTextRefusal, text_refused}
 use Rattle.art_keyed.proofs.Keyed.{new_put_keeps, source_refused}

@@ -2,7 +2,7 @@ use Rattle.std.proofs.Common.{rules, ℕ, List, ap, refl, ◌∙◌}
 use Rattle.art_keys.specs.Ended.{HasNoZero, ended}
 use Rattle.art_model.specs.Pairs.{last_of}
 use Rattle.art_keyed.specs.KeyedPairs.{strings_in_front}
-use Rattle.art_keyed.proofs.Fronts.{are_ended, fronts_are}
+use Rattle.art_keyed.proofs.EndedFronts.{are_ended, fronts_are}
 use Rattle.art_keyed.proofs.map.texts.TreeMap+Terminated+V+P.longest_match.Goals as goal
 
 pub longest_text-requires : goal.longest_text-requires

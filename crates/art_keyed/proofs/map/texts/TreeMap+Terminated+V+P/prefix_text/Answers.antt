@@ -2,7 +2,7 @@ use Rattle.std.proofs.Common.{ℕ, List, ap, sym, ◌∙◌}
 use Rattle.art_keys.specs.Ended.{HasNoZero, ended}
 use Rattle.art_keys.specs.EndedLaws.{ended_begins}
 use Rattle.art_keyed.specs.KeyedPairs.{strings_below}
-use Rattle.art_keyed.proofs.Between.{below_strings}
+use Rattle.art_keyed.proofs.KeyRanges.{below_strings}
 use Rattle.art_keyed.proofs.TextParts.{none_between, none_start}
 use Rattle.art_keyed.proofs.map.texts.TreeMap+Terminated+V+P.prefix_text.Goals as goal
 

@@ -2,7 +2,7 @@ use Rattle.std.proofs.Common.{ℕ, List, ap, length, subst, sym, ◌∙◌}
 use Rattle.art_keys.specs.Ended.{HasNoZero, ended}
 use Rattle.art_keys.specs.EndedLaws.{ended_begins}
 use Rattle.art_keyed.specs.KeyedPairs.{HaveKeys, strings_below, strings_not_below}
-use Rattle.art_keyed.proofs.Between.{below_strings, not_below_strings, others_keep}
+use Rattle.art_keyed.proofs.KeyRanges.{below_strings, not_below_strings, others_keep}
 use Rattle.art_keyed.proofs.TextParts.{all_stay, none_start}
 use Rattle.art_keyed.proofs.map.texts.TreeMap+Terminated+V+P.remove_prefix_text.Goals as goal
 

@@ -2,7 +2,7 @@ use Rattle.std.proofs.Common.{ap, ◌∙◌}
 use Rattle.art_model.specs.Parts.{below}
 use Rattle.art_keys.specs.Joins.{joined_bytes}
 use Rattle.art_keyed.specs.KeyedPairs.{set_with_first}
-use Rattle.art_keyed.proofs.Between.{below_first_in_set}
+use Rattle.art_keyed.proofs.KeyRanges.{below_first_in_set}
 use Rattle.art_keyed.proofs.set.joined.TreeSet+Joined+A+B+P.with_first.Goals as goal
 
 pub returns-clause-keys : goal.returns-clause-keys

@@ -1,6 +1,6 @@
 use Rattle.std.proofs.Common.{rules, ap, ◌∙◌}
 use Rattle.art_model.specs.Pairs.{last_of, match_of}
-use Rattle.art_keyed.proofs.Fronts.{keys_are_ended, key_fronts_are}
+use Rattle.art_keyed.proofs.EndedFronts.{keys_are_ended, key_fronts_are}
 use Rattle.art_keyed.proofs.set.strings.TreeSet+Terminated+P.longest_match.Goals as goal
 
 pub longest_text-requires : goal.longest_text-requires

@@ -2,7 +2,7 @@ use Rattle.std.proofs.Common.{rules, ap, ◌∙◌}
 use Rattle.art_keys.specs.Ended.{ended}
 use Rattle.art_model.specs.Pairs.{first_of, match_of}
 use Rattle.art_keyed.proofs.CutTexts.{from_none}
-use Rattle.art_keyed.proofs.Fronts.{keys_are_ended, key_fronts_are}
+use Rattle.art_keyed.proofs.EndedFronts.{keys_are_ended, key_fronts_are}
 use Rattle.art_keyed.proofs.set.strings.TreeSet+Terminated+P.shortest_match.Goals as goal
 
 pub shortest_text-requires : goal.shortest_text-requires

@@ -1,5 +1,5 @@
 use Rattle.text_programs.proofs.CodeTableLemmas.{table_is}
-use Rattle.text_programs.proofs.EntryLemmas.{entries_rise}
+use Rattle.text_programs.proofs.CodeEntries.{entries_rise}
 use Rattle.text_programs.proofs.dial_codes.answers.CodeTableLineTable.finish.Goals as goal
 
 pub returns-clause-finished : goal.returns-clause-finished

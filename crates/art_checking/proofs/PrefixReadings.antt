@@ -4,7 +4,7 @@ use Rattle.std.proofs.lemmas.List.{take_all}
 use Rattle.std.specs.FinMap as map
 use Rattle.art_model.specs.Prelude.{Inner, leaf_name, inner_name, Nodes, InnerPtr, LeafPtr, Leaf, OpaqueNodePtr, Reaches, IsUnreadable, StoresOthers, leaf_node, node_at, header_at, IsPrefix}
 use Rattle.art_checking.specs.Checked.{IsLeastLeaf, IsPartOf, IsRead, IsReadFrom}
-use Rattle.art_checking.proofs.Descents.{inner_at}
+use Rattle.art_checking.proofs.LeastDescents.{inner_at}
 
 module _ {K V : Type 0} (bytes : K × V → List ℕ) (P : ℕ) (s : Nodes K V) where
   pub read_none : {name : OpaqueNodePtr} (depth len : ℕ) → IsLeastLeaf bytes P s name None → IsReadFrom bytes P s name depth len None

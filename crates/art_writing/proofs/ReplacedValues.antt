@@ -11,7 +11,7 @@ use Rattle.art_writing.specs.declared.insert.InsertPoint.{InsertPoint}
 use Rattle.art_writing.specs.Inserted.{HasInserted, IsChange, IsPointIn, Touches, unlinked_leaf}
 use Rattle.art_reading.specs.EndNodes.{IsKindOf}
 use Rattle.art_writing.specs.Points.{AnswersTo}
-use Rattle.art_writing.proofs.Left.{IsInserted}
+use Rattle.art_writing.proofs.LeftByPoints.{IsInserted}
 use Rattle.art_writing.proofs.Answered.{IsEndLeaf, end_leaf}
 use Rattle.art_writing.proofs.Standing.{answers_to}
 

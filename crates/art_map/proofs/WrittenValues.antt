@@ -7,7 +7,7 @@ use Rattle.art_model.proofs.pairs.Between.{IsLocal, replace_key-between}
 use Rattle.art_model.proofs.stores.Canonical.{IsLaidOut, canonical_from, laid_out}
 use Rattle.art_model.proofs.places.InHole.{with_key-hole}
 use Rattle.art_model.proofs.changes.IntoLeaf.{IntoLeaf, leaf_changed, leaf_kept}
-pub use Rattle.art_nodes.proofs.StoreLaws.{lends_same}
+pub use Rattle.art_nodes.proofs.StoreChanges.{lends_same}
 pub use Rattle.art_model.proofs.lists.Lists.{some_of}
 use Rattle.art_model.proofs.keys.Keys.{front_same, same_equal}
 use Rattle.art_model.proofs.leaves.LeavesFound.{leaf_found}
@@ -16,10 +16,10 @@ use Rattle.art_model.proofs.pairs.Puts.{any_is_first}
 use Rattle.art_map.specs.MapAnswers.{value_at, with_value_at}
 use Rattle.art_map.specs.MapChanges.{NamesLeafOf}
 use Rattle.art_map.specs.MapPairs.{HoldsPairs, pairs_at}
-use Rattle.art_map.proofs.Puts.{at_some}
+use Rattle.art_map.proofs.MapPuts.{at_some}
 use Rattle.art_map.proofs.Takings.{for_tree}
 use Rattle.art_map.proofs.ValueLaws.{has_the_key, written_between}
-use Rattle.art_map.proofs.Views.{none_other, view_is}
+use Rattle.art_map.proofs.ViewsOfPairs.{none_other, view_is}
 
 -- a list with one item replaced is as long
 same_length : {A : Type 0} (before after : List A) (x y : A) → length (before ++ (x ∷ []) ++ after) ≡ length (before ++ (y ∷ []) ++ after)

@@ -35,7 +35,7 @@ use Rattle.art_reading.specs.Stored.{ComparesAll}
 use Rattle.art_reading.specs.Descents.{IsLastLeaf}
 use Rattle.art_reading.proofs.Outcomes.{Why, err_why, ok_compared, ok_sure}
 use Rattle.art_reading.proofs.Endings.{none_beyond}
-use Rattle.art_reading.proofs.OnWay.{IsOnWay, leaf_leads, leaf_whole, leaf_only, leaf_least, leaf_exactly, IsEnd, ends_short, ends_off, ends_childless, still_compared, goes_on}
+use Rattle.art_reading.proofs.LookupWays.{IsOnWay, leaf_leads, leaf_whole, leaf_only, leaf_least, leaf_exactly, IsEnd, ends_short, ends_off, ends_childless, still_compared, goes_on}
 
 -- what is there is there once
 pub same_there : {A : Type 0} {x y : A} {o : Option A} → Some x ≡ o → Some y ≡ o → x ≡ y

@@ -15,7 +15,7 @@ use Rattle.art_keyed.specs.KeyedExtract.{ExtractsKeys, ExtractsStrings}
 use Rattle.art_keyed.specs.KeyedPairs.{HaveKeys, OnBound, is_key_from, is_key_up_to}
 use Rattle.art_keyed.specs.declared.map.extract.TreeExtractPrefixOf.{TreeExtractPrefixOf}
 use Rattle.art_keyed.specs.declared.map.extract.TreeExtractRangeOf.{TreeExtractRangeOf}
-use Rattle.art_keyed.proofs.Between.{filter_same, first_out_keeps, map_twice, same_from, same_up_to}
+use Rattle.art_keyed.proofs.KeyRanges.{filter_same, first_out_keeps, map_twice, same_from, same_up_to}
 use Rattle.art_keyed.proofs.Parted.{without_keeps}
 use denote.Ref.{Bor}
 

@@ -15,7 +15,7 @@ use Rattle.art_writing.proofs.OneLeaf as one_leaf
 use Rattle.art_writing.proofs.Standing.{tree_stays}
 use Rattle.art_map.specs.MapChanges.{gone_count}
 use Rattle.art_map.specs.MapPairs.{HoldsPairs, pairs_at}
-use Rattle.art_map.proofs.Views.{none_other}
+use Rattle.art_map.proofs.ViewsOfPairs.{none_other}
 
 module _ {K V : Type 0} (bytes : K × V → List ℕ) (P : ℕ) where
   -- The pairs have a tree, and the store has no names but the tree's.

@@ -7,7 +7,7 @@ use Rattle.art_model.proofs.places.Places.{place_is}
 use Rattle.art_model.proofs.stores.Shown.{IsShown}
 use Rattle.art_reading.specs.Readings.{left_on_way}
 use Rattle.art_reading.proofs.Descents.{IsDescent, down, front as front_of, front_len, shown_radix}
-use Rattle.art_reading.proofs.OnWay.{count_front, count_most, count_on_way}
+use Rattle.art_reading.proofs.LookupWays.{count_front, count_most, count_on_way}
 
 module _ {A : Type 0} (bytes : A → List ℕ) (P : ℕ) (key place : List ℕ) (on_way : IsFront place key) where
   -- the node itself, and those below

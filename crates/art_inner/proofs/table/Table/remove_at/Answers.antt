@@ -3,7 +3,7 @@ use Rattle.std.proofs.lemmas.List.{length-take-le}
 use Rattle.art_inner.specs.Inner.{IsRising}
 use Rattle.art_inner.proofs.ChildrenLaws.{IsRising-remove_child}
 use Rattle.art_inner.proofs.RowTables.{length_around, shows_of, table_place, table_found, table_removed}
-use Rattle.art_inner.proofs.table.Table.take_out.Goals as goal
+use Rattle.art_inner.proofs.table.Table.remove_at.Goals as goal
 
 pub bounds-self-inside-at : goal.bounds-self-inside-at
 bounds-self-inside-at g c =

@@ -9,7 +9,7 @@ use Rattle.art_model.proofs.lists.Lists.{Each-weaker}
 use Rattle.art_model.specs.Texts.{AreEnded, IsEndedBy, texts_in_front, text_of}
 use Rattle.art_model.proofs.keys.Texts.{ended_text}
 use Rattle.art_keyed.specs.KeyedPairs.{HaveKeys, strings_in_front}
-use Rattle.art_keyed.proofs.Between.{filter_same}
+use Rattle.art_keyed.proofs.KeyRanges.{filter_same}
 
 module _ {K : Type 0} (is_key : K → Type 0) (bytes text : K → List ℕ) (inside : List ℕ → List ℕ)
     (is_inside : IsInside is_key bytes text inside) (keeps : KeepsFronts inside) {V : Type 0}

@@ -8,7 +8,7 @@ use Rattle.sha2.specs.declared.Sha256.{Sha256}
 use Rattle.sha2.specs.Sha256.{sha256}
 use Rattle.snapshot_format.specs.Snapshots.{Entry, FitsEntry, body_of, entries_bytes, entry_bytes, head_bytes, last_key, shared_len, snapshot_of}
 use Rattle.snapshot_format.specs.Writing.{HasWritten, Writes}
-use Rattle.snapshot_format.proofs.Parts.{each_more, entries_more, last_more}
+use Rattle.snapshot_format.proofs.RestsOfBytes.{each_more, entries_more, last_more}
 use Rattle.text_lines.proofs.Writing.{appends_none, appends_more}
 use Rattle.snapshot_format.proofs.Numbers.{fits_last, fits_more, within_large}
 

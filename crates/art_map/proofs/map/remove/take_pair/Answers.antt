@@ -1,5 +1,5 @@
 use Rattle.art_map.proofs.Takings.{taken}
-use Rattle.art_map.proofs.map.remove.take_out.Goals as goal
+use Rattle.art_map.proofs.map.remove.take_pair.Goals as goal
 
 pub returns : goal.returns
 returns g c pairs layout by x leads =

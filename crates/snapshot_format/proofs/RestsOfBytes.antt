@@ -8,7 +8,7 @@ use Rattle.snapshot_format.specs.Snapshots.{Entry, FitsEntry, IsAfter, IsNext, I
 use Rattle.snapshot_format.specs.Reading.{is_above, is_next}
 use Rattle.snapshot_format.proofs.Known.{left_of}
 use Rattle.snapshot_format.proofs.Numbers.{one_form, same_split}
-use Rattle.snapshot_format.proofs.Keys.{above_is_after, after_is_above, shared_rest, shared_within}
+use Rattle.snapshot_format.proofs.SharedKeys.{above_is_after, after_is_above, shared_rest, shared_within}
 
 some_is : (a : Option (List ℕ)) (xs ys : List ℕ) → a ≡ Some xs → xs ≡ ys → a ≡ Some ys
 some_is a xs ys e f = e ∙ ap (λ bs. Some bs) f

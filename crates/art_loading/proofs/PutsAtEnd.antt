@@ -3,7 +3,7 @@ use Rattle.std.proofs.Common.{◌≡◌, ℕ, List, [], ◌∷◌, ◌++◌, Som
 use Rattle.std.specs.List.{AllByRecursion as Each}
 use Rattle.std.proofs.lemmas.Bool.{true≢false}
 use Rattle.std.proofs.lemmas.List.{same_from_push}
-use Rattle.art_loading.proofs.Steps.{HasPush, push_view}
+use Rattle.art_loading.proofs.StepsDown.{HasPush, push_view}
 use Rattle.art_model.specs.Prelude.{Precedes, is_before, are_same, leaf_names, HasLastLeaf, add_in_order, first_of, last_of, put, remove_key, with_key, Frame, IsPath, plug, leaves_before, leaves_after, pairs_before, pairs_after, AreRadix, IsRadix, pairs_below, pairs_of, leaf, Subtrees, child, no_child}
 use Rattle.art_model.proofs.keys.KeyLaws.{order_is_strict}
 use Rattle.art_model.proofs.keys.Keys.{before_apart, not_same}
