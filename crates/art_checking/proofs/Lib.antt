@@ -1,7 +1,7 @@
 pub mod Folded
 pub mod Folding
-pub mod Descents
-pub mod Readings
+pub mod LeastDescents
+pub mod PrefixReadings
 pub mod Marks
 pub mod Meetings
 pub mod Untried

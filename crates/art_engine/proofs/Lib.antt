@@ -1,4 +1,4 @@
-mod Numbers
+mod Decimals
 mod KeyLemmas
 mod KeyWords
 mod Requests

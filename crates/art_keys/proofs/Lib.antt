@@ -2,4 +2,4 @@ mod Backs
 mod Beginnings
 pub mod EndedTests
 mod Rooms
-mod Writes
+mod TextWrites

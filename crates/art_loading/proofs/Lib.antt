@@ -1,6 +1,6 @@
-pub mod Steps
+pub mod StepsDown
 pub mod Next
-pub mod Points
-pub mod Puts
+pub mod PointsOnPath
+pub mod PutsAtEnd
 pub mod Edges
 pub mod Last

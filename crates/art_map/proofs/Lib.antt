@@ -1,6 +1,6 @@
-pub mod Views
+pub mod ViewsOfPairs
 pub mod Enough
-pub mod Puts
+pub mod MapPuts
 pub mod Results
 pub mod Takings
 pub mod Items
@@ -9,11 +9,11 @@ pub mod PartsOut
 pub mod Owned
 pub mod CallerLaws
 pub mod ValueLaws
-pub mod Written
+pub mod WrittenValues
 pub mod LeafOf
 pub mod Changed
-pub mod Entered
-pub mod SetClones
+pub mod EnteredLeaves
+pub mod ClonedKeys
 pub mod Reserving
 pub mod SetLaws
 pub mod SetMembers

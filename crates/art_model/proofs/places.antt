@@ -4,7 +4,7 @@ pub mod Places
 pub mod PlaceLaws
 pub mod Wholes
 pub mod OnWay
-pub mod Edges
+pub mod EdgeDescents
 pub mod Trails
 pub mod InHole
 pub mod TrailEnds

@@ -1,7 +1,7 @@
-pub mod Examples
-pub mod Chains
+pub mod CommandExamples
+pub mod RunChains
 pub mod Moves
-pub mod Found
+pub mod RemovedPairs
 pub mod Planted
 pub mod KindCounts
 pub mod Needed

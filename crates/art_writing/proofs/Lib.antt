@@ -20,10 +20,10 @@ pub mod Elsewhere
 pub mod Standing
 pub mod Trims
 pub mod Splits
-pub mod Left
+pub mod LeftByPoints
 pub mod Applied
 pub mod Answered
-pub mod Replaced
+pub mod ReplacedValues
 pub mod Overwrites
 pub mod Points
 pub mod RelatedPairs

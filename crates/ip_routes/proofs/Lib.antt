@@ -3,5 +3,5 @@ pub mod WrittenLemmas
 pub mod SourceLemmas
 pub mod LookUpLemmas
 pub mod AnswerLemmas
-pub mod EntryLemmas
+pub mod RouteEntries
 mod WrittenExamples

@@ -4,4 +4,4 @@ mod ServeLemmas
 mod AheadLemmas
 mod CheckLemmas
 mod JsonLemmas
-mod Examples
+mod ReplyExamples

@@ -14,7 +14,7 @@ pub mod SortingLemmas
 pub mod OrderLemmas
 mod ArrangeLemmas
 -- tables of rows and values
-pub mod TableLemmas
+pub mod NetworkTables
 -- parts of tables
 pub mod PartLemmas
 -- items that are made of those of a list

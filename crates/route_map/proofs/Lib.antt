@@ -7,4 +7,4 @@ mod ValueLemmas
 -- the last network up to another one, and the longest one of an address
 mod LongestLemmas
 -- what calls return
-mod AnswerLemmas
+mod TreeReplies

@@ -8,11 +8,11 @@ mod WordLines
 -- counts by frequency, and counts that are added up
 mod FrequencyLemmas
 mod RowNumbers
-mod RowLemmas
+mod CountRows
 mod SumLemmas
 mod MergeLemmas
 -- codes with names, and the longest one that a number starts with
-mod EntryLemmas
+mod CodeEntries
 mod CodeTableLemmas
 -- paths, and requests about them
 mod PathPieceLemmas
