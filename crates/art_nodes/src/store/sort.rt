@@ -1,5 +1,5 @@
 //! Moves the leaves to slots in the order of their links.
-ghost use Rattle.std.specs.Prelude.{◌≡◌, ℕ, ◌≤◌, ◌^◌, List, [], length, Option, Some, None, OnOk, OnErr};
+ghost use Rattle.std.specs.Prelude.{◌≡◌, ℕ, ◌≤◌, ◌^◌, List, [], length, Option, Some, None, IfOk, OnOk, OnErr};
 ghost use Rattle.std.specs.Option.{option_map};
 ghost use Rattle.slab.specs.Slab as slab;
 ghost use Rattle.slab.specs.Slab.{HasRoomFor, slab_len};
@@ -20,7 +20,7 @@ use super::{InnerSlabs, NodeStore};
 use crate::node::{AsBytes, InnerNode, LeafNode, LeafPtr};
 use art_inner::renaming::new_name;
 use slab::Slab;
-use std::alloc::AllocError;
+use std::alloc::{AllocError, Global};
 
 impl<K: AsBytes + Drop, V: Drop, const P: usize> NodeStore<K, V, P> {
     /// Moves the leaves of a row, from its first one on, to new slots in its order, and updates their names in all
@@ -37,11 +37,8 @@ impl<K: AsBytes + Drop, V: Drop, const P: usize> NodeStore<K, V, P> {
         ensures promise { OnOk result (self.new.promise ≡ no_promise) }
         ensures refused { OnErr result (self.new ≡ self.old) }
     {
-        let mut sorted = Slab::with_capacity(self.alloc, self.leaves.len())?;
-        if sorted.capacity() > MOST_SLOTS {
-            return Err(AllocError);
-        }
         let mut places = vec![in self.alloc; 0; self.leaves.capacity()]?;
+        let mut sorted = empty_slab(self.alloc, self.leaves.len())?;
         let table = places.as_mut_slice();
         self.promised_leaves = 0;
         self.promised_inner = None;
@@ -67,6 +64,19 @@ impl<const P: usize> InnerSlabs<P> {
         rename_children(&mut self.node48, table);
         rename_children(&mut self.node256, table);
     }
+}
+
+// A slab without a value, with room for so many in slots whose numbers fit a name.
+fn empty_slab<T: Drop>(alloc: Global, additional: usize) -> Result<Slab<T>, AllocError>
+    ensures empty { IfOk result (λ slab. slab.slots ≡ []) }
+    ensures room { IfOk result (λ slab. HasRoomFor slab additional) }
+    ensures few { IfOk result (λ slab. slab.capacity ≤ 2 ^ 32) }
+{
+    let slab = Slab::with_capacity(alloc, additional)?;
+    if slab.capacity() > MOST_SLOTS {
+        return Err(AllocError);
+    }
+    Ok(slab)
 }
 
 // Moves the leaves of a row into an empty slab, and writes into a table the new slot of each under its old one.
