@@ -176,7 +176,7 @@ fn parse_byte(digits: &[u8]) -> Option<u8>
 }
 
 // A number in decimal, without a sign and without leading zeros.
-#[tactic(auto, using(crate::proofs::Numbers::decimal_begins, crate::proofs::Numbers::decimal_unsigned, crate::proofs::Numbers::decimal_unpadded, crate::proofs::Numbers::decimal_is_utf8))]
+#[tactic(auto, using(crate::proofs::Decimals::decimal_begins, crate::proofs::Decimals::decimal_unsigned, crate::proofs::Decimals::decimal_unpadded, crate::proofs::Decimals::decimal_is_utf8))]
 fn parse_number(digits: &[u8]) -> Option<u32>
     ensures value { IfSome result (λ n. digits.now ≡ decimal n) }
     ensures none { IfNone result ((n : ℕ) → n < 2 ^ 32 → digits.now ≢ decimal n) }

@@ -118,7 +118,7 @@ impl<V> PrefixTable<V> {
     }
 
     // Returns the network at an index, and its value.
-    #[tactic(auto, using(crate::proofs::TableLemmas::entry_facts))]
+    #[tactic(auto, using(crate::proofs::NetworkTables::entry_facts))]
     pub(crate) fn entry(&self, index: usize) -> (Network, &V)
         requires { index < length self.now }
         ensures { shown result ≡ slice_index_or self.now index (shown result) }
