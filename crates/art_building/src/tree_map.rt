@@ -9,12 +9,12 @@ ghost use Rattle.art_keyed.specs.KeyedPairs.{HaveKeys};
 ghost use Rattle.art_loading.specs.declared.append.AppendReason.TheVariants.{Conflict};
 ghost use Rattle.art_map.specs.MapCalls.{put_all};
 ghost use Rattle.art_map.specs.MapItems.{keys_of};
-ghost use Rattle.art_map.specs.SetKeys.{add_all};
+ghost use Rattle.art_sets.specs.SetKeys.{add_all};
 ghost use Rattle.art_model.specs.Pairs.{IsMap, of_key, put};
 
 use crate::byte_map::{AppendError, AppendReason, MapBuilder};
 use art_keyed::map::TreeMap;
-use art_keyed::set::TreeSet;
+use art_keyed_sets::set::TreeSet;
 use art_keys::laws::NoPrefixesBytes;
 use std::alloc::{AllocError, Global};
 use std::cmp::Ordering;

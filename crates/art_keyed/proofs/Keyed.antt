@@ -5,10 +5,9 @@ use Rattle.std.specs.declared.cmp.Ordering.{Ordering}
 use Rattle.std.specs.declared.cmp.Ordering.TheVariants.{Less}
 use Rattle.art_keys.specs.Prefixes.{HasNoPrefixes, IsKept, KeepsOrder}
 use Rattle.art_model.specs.Clones.{AreClones}
-use Rattle.art_keyed.specs.KeyedPairs.{HaveKeys, RiseBy, KeysRiseBy, IsNeverInConflict}
+use Rattle.art_keyed.specs.KeyedPairs.{HaveKeys, RiseBy, IsNeverInConflict}
 use Rattle.art_model.specs.Keys.{IsFront, Precedes, are_related, are_same}
-use Rattle.art_model.specs.Pairs.{IsMap, first_of, has_key, is_conflict, with_key, of_key, put, stored_for, remove_key, replace_key, without_first, without_last}
-use Rattle.art_map.specs.SetKeys.{add_key}
+use Rattle.art_model.specs.Pairs.{IsMap, first_of, has_key, is_conflict, with_key, of_key, put, stored_for, remove_key, without_first, without_last}
 use Rattle.std.proofs.lemmas.Bool.{true≢false}
 use Rattle.art_map.specs.MapAnswers.{IsRefusalOf, refused_pair, with_value_at}
 use Rattle.art_map.specs.declared.map.MapInsertError.{MapInsertError}
@@ -141,36 +140,6 @@ module _ {K : Type 0} (V : Type 0) (is_key : K → Type 0) (bytes : K → List �
       each : (others : List (K × V)) → HaveKeys is_key others → Each (λ y. Precedes (bytes x.0) (bytes y.0)) others → Each (λ y. order x.0 y.0 ≡ Less) others
       each [] of_others h = tt
       each (y ∷ others) of_others h = (sym (keeps x.0 y.0 all.0 of_others.0) ∙ before_less _ h.0.0, each others of_others.1 h.1)
-
-  -- ---- sets
-
-  pub key_put_keeps : (key : K) (keys : List K) → is_key key → Each is_key keys → Each is_key (add_key bytes key keys)
-  key_put_keeps key keys of_key' all = go (has_key bytes (bytes key) keys) refl
-    where
-      go : (t : Bool) → has_key bytes (bytes key) keys ≡ t → Each is_key (add_key bytes key keys)
-      go true e = rw e all
-      go false e = rw e (Each-add bytes is_key key keys of_key' all)
-
-  pub key_replace_keeps : (key : K) (keys : List K) → is_key key → Each is_key keys → Each is_key (replace_key bytes key keys)
-  key_replace_keeps key keys of_key' all = Each-add bytes is_key key (remove_key bytes (bytes key) keys) of_key' (Each-filter is_key _ keys all)
-
-  pub key_remove_keeps : (key : List ℕ) (keys : List K) → Each is_key keys → Each is_key (remove_key bytes key keys)
-  key_remove_keeps key keys all = Each-filter is_key _ keys all
-
-  pub key_last_keeps : (keys : List K) → Each is_key keys → Each is_key (without_last keys)
-  key_last_keeps keys all = Each-without_last is_key keys all
-
-  pub key_first_keeps : (keys : List K) → Each is_key keys → Each is_key (without_first keys)
-  key_first_keeps [] all = tt
-  key_first_keeps (x ∷ keys) all = all.1
-
-  pub keys_rise : {order : K → K → Ordering} → KeepsOrder is_key bytes order → (keys : List K) → Each is_key keys → IsMap bytes keys → KeysRiseBy order keys
-  keys_rise keeps [] all sorted = tt
-  keys_rise {order} keeps (x ∷ keys) all sorted = (each keys all.1 sorted.0, keys_rise keeps keys all.1 sorted.1)
-    where
-      each : (others : List K) → Each is_key others → Each (λ y. Precedes (bytes x) (bytes y)) others → Each (λ y. order x y ≡ Less) others
-      each [] of_others h = tt
-      each (y ∷ others) of_others h = (sym (keeps x y all.0 of_others.0) ∙ before_less _ h.0.0, each others of_others.1 h.1)
 
 -- of two pairs that were not inserted, one has a key that is not stored
 pub one_is_new : {K V L W : Type 0} (is_key : K → Type 0) (bytes : K → List ℕ) (is_other : L → Type 0) (other_bytes : L → List ℕ) →

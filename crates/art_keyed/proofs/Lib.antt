@@ -7,7 +7,6 @@ pub mod KeptByAll
 pub mod Parted
 pub mod EndedFronts
 pub mod CutTexts
-pub mod SetClones
 pub mod TextParts
 pub mod LongestOf
 pub mod Seconds

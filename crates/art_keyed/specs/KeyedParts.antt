@@ -4,10 +4,8 @@ use Rattle.std.specs.declared.cmp.Ordering.{Ordering}
 use Rattle.std.specs.declared.ops.Bound.{Bound}
 use Rattle.art_model.specs.Pairs.{has_key, of_key}
 use Rattle.art_map.specs.MapCalls.{put_all}
-use Rattle.art_map.specs.SetKeys.{add_all}
 use Rattle.art_keyed.specs.KeyedPairs.{is_key_from, is_key_up_to}
 use Rattle.art_writing.specs.declared.insert.PairRefused.{PairRefused}
-use Rattle.art_keyed.specs.declared.set.KeyRefused.{KeyRefused}
 
 -- the pairs whose keys are not between two bounds in this order
 abbrev pub keys_not_between : {K V : Type 0} → (K → K → Ordering) → Bound K → Bound K → List (K × V) → List (K × V)
@@ -24,9 +22,3 @@ module _ {K V : Type 0} (bytes : K → List ℕ) where
 -- the keys of a set that are not between two bounds in this order
 abbrev pub set_not_between : {K : Type 0} → (K → K → Ordering) → Bound K → Bound K → List K → List K
 set_not_between order from to keys = filter (λ key. not (is_key_from order from key && is_key_up_to order to key)) keys
-
--- the first of the given keys were added, in their order; the error returns the next one, which is not stored, and the
--- others are left
-abbrev pub AddsSomeOf : {K : Type 0} → (K → List ℕ) → List K → List K → KeyRefused K → List K → List K → Type 0
-AddsSomeOf {K} bytes before given refused after left =
-    (ks : List K) × (given ≡ ks ++ refused.key ∷ left) × (after ≡ add_all bytes ks before) × (has_key bytes (bytes refused.key) after ≡ false)

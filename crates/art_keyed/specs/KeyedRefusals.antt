@@ -4,12 +4,10 @@ use Rattle.std.specs.Iterator.{YieldsThen}
 use Rattle.art_model.specs.Pairs.{has_key, of_key}
 use Rattle.art_map.specs.MapAnswers.{refused_pair}
 use Rattle.art_map.specs.MapCalls.{put_all}
-use Rattle.art_map.specs.SetKeys.{add_all}
 use Rattle.art_map.specs.declared.map.both.BothInsertError.{BothInsertError}
 use Rattle.art_map.specs.declared.map.both.BothInsertError.TheVariants.{First, Second}
 use Rattle.art_writing.specs.declared.insert.PairRefused.{PairRefused}
 use Rattle.art_keyed.specs.declared.map.both.BothRefused.{BothRefused}
-use Rattle.art_keyed.specs.declared.set.KeyRefused.{KeyRefused}
 
 module _ {I K V : Type 0} (steps : I → Option (K × V) → I → Type 0) (bytes : K → List ℕ) where
   -- the pairs before one were inserted; the error returns that one, whose key is not stored, and the iterator has the
@@ -23,17 +21,6 @@ module _ {I K V : Type 0} (steps : I → Option (K × V) → I → Type 0) (byte
   abbrev pub PutsUntilNew : {U : Type 0} → (U → I → Type 0) → U → List (K × V) → List (K × V) → Type 0
   PutsUntilNew gives given before after =
       (from to : I) × (refused : PairRefused K V) × gives given from × PutsUntilRefused from before refused to after
-
-module _ {I K : Type 0} (steps : I → Option K → I → Type 0) (bytes : K → List ℕ) where
-  -- the keys before one were added; the error returns that one, which is not stored, and the iterator has the others
-  abbrev pub AddsUntilRefused : I → List K → KeyRefused K → I → List K → Type 0
-  AddsUntilRefused from before refused to after =
-      (ks : List K) × YieldsThen steps from ks (Some refused.key) to × (after ≡ add_all bytes ks before) × (has_key bytes (bytes refused.key) after ≡ false)
-
-  -- the same of the iterator of a value that is given: the key after them is not stored
-  abbrev pub AddsUntilNew : {U : Type 0} → (U → I → Type 0) → U → List K → List K → Type 0
-  AddsUntilNew gives given before after =
-      (from to : I) × (refused : KeyRefused K) × gives given from × AddsUntilRefused from before refused to after
 
 -- the pairs of an error
 abbrev pub AreHandedBack : {K V L W : Type 0} → BothInsertError K V L W → BothRefused K V L W → Type 0

@@ -4,7 +4,6 @@ pub mod KeyedRefusals
 pub mod KeyedLends
 pub mod KeyedParts
 pub mod Matches
-pub mod SetClones
 pub mod TextCalls
 pub mod EscapedBytes
 pub mod TextLends

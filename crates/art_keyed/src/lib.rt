@@ -1,9 +1,9 @@
-//! Maps and sets of keys that never conflict.
+//! Maps of keys that never conflict.
 #![tactic(auto)]
 
+pub mod bounds;
 mod escaped_bytes;
 mod escaped_front;
 pub mod laws;
 pub mod map;
-pub mod set;
 mod terminated_text;

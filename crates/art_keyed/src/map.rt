@@ -43,8 +43,6 @@ pub use both::BothRefused;
 pub use entry::{TreeEntry, TreeEntryOf};
 pub use extract::{TreeExtractPrefix, TreeExtractPrefixOf, TreeExtractRange, TreeExtractRangeOf};
 pub use matches::{Matches, MatchesOf, Nested};
-pub(crate) use ordered::bytes_of;
-pub(crate) use text_ranges::bound_of;
 pub use texts::TextRefused;
 
 /// A map whose keys are in the order of their bytes. No key of the type is a prefix of another one, so an insertion

@@ -2,13 +2,8 @@
 use Rattle.std.proofs.Common.{◌≡◌, ℕ, List, [], ◌∷◌, ◌++◌, refl}
 use Rattle.art_model.specs.Prelude.{of_key, put}
 use Rattle.art_map.specs.MapCalls.{put_all}
-use Rattle.art_map.specs.SetKeys.{add_all, add_key}
 
 pub put_last : {K V : Type 0} (bytes : K → List ℕ) (x : K × V) (xs pairs : List (K × V)) →
     put_all bytes (xs ++ x ∷ []) pairs ≡ put (of_key bytes) x (put_all bytes xs pairs)
 put_last bytes x [] pairs = refl
 put_last bytes x (y ∷ ys) pairs = put_last bytes x ys (put (of_key bytes) y pairs)
-
-pub add_last : {K : Type 0} (bytes : K → List ℕ) (k : K) (ks keys : List K) → add_all bytes (ks ++ k ∷ []) keys ≡ add_key bytes k (add_all bytes ks keys)
-add_last bytes k [] keys = refl
-add_last bytes k (j ∷ js) keys = add_last bytes k js (add_key bytes j keys)

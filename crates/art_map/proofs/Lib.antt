@@ -13,11 +13,7 @@ pub mod WrittenValues
 pub mod LeafOf
 pub mod Changed
 pub mod EnteredLeaves
-pub mod ClonedKeys
 pub mod Reserving
-pub mod SetLaws
-pub mod SetMembers
-pub mod SetOrders
 pub mod Extended
 pub mod FirstOut
 pub mod Moved
@@ -26,7 +22,5 @@ pub mod Retained
 pub mod RetainLaws
 pub mod Refusing
 pub mod Compacted
-pub mod SetSides
-pub mod SetParts
 pub mod Copied
 pub mod Extracted

@@ -7,8 +7,6 @@ pub mod MapLends
 pub mod MapCalls
 pub mod MapBoth
 pub mod Reserved
-pub mod SetKeys
-pub mod SetAlgebra
 pub mod MapRetain
 pub mod MapParts
 pub mod MapExtract

@@ -1,6 +1,4 @@
-//! Ordered maps and sets with keys of bytes, on an adaptive radix tree.
+//! Ordered maps with keys of bytes, on an adaptive radix tree.
 #![tactic(auto)]
 
-pub mod laws;
 pub mod map;
-pub mod set;

@@ -51,8 +51,8 @@ pub use Rattle.art_nodes.specs.LeafCalls
 pub use Rattle.art_map.specs.MapCalls
 pub use Rattle.art_map.specs.MapBoth
 pub use Rattle.art_map.specs.MapRetain
-pub use Rattle.art_map.specs.SetKeys
-pub use Rattle.art_map.specs.SetAlgebra
+pub use Rattle.art_sets.specs.SetKeys
+pub use Rattle.art_sets.specs.SetAlgebra
 -- keys that never conflict, and their maps and sets
 pub use Rattle.art_keys.specs.Prefixes
 pub use Rattle.art_keys.specs.Decoded
@@ -63,9 +63,10 @@ pub use Rattle.art_keys.specs.Joins
 pub use Rattle.art_keyed.specs.KeyedPairs
 pub use Rattle.art_keyed.specs.KeyedRefusals
 pub use Rattle.art_keyed.specs.KeyedValues
-pub use Rattle.art_keyed.specs.SetClones
 pub use Rattle.art_keyed.specs.KeyedLends
 pub use Rattle.art_keyed.specs.Matches
+pub use Rattle.art_keyed_sets.specs.SetRefusals
+pub use Rattle.art_keyed_sets.specs.SetClones
 -- maps with hints
 pub use Rattle.art_hinted.specs.HintedLends
 pub use Rattle.art_hinted.specs.HintedTexts

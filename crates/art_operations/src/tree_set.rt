@@ -1,3 +1,3 @@
 //! An ordered set of keys that never conflict.
-pub use art_keyed::set::{KeyRefused, TreeSet};
-pub use art_map::set::SetSplitRefused;
+pub use art_keyed_sets::set::{KeyRefused, TreeSet};
+pub use art_sets::set::SetSplitRefused;

@@ -11,7 +11,7 @@ use crate::giving::GivingKeys;
 use crate::maps::read_map;
 use crate::traits::SnapshotKey;
 use art_keyed::map::TreeMap;
-use art_keyed::set::TreeSet;
+use art_keyed_sets::set::TreeSet;
 use snapshot_format::{ReadError, write_snapshot};
 use std::alloc::Global;
 use std::io;

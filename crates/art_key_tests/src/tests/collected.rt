@@ -2,7 +2,7 @@
 ghost use Rattle.std.specs.Prelude.{◌<◌};
 
 use art_keyed::map::TreeMap;
-use art_keyed::set::TreeSet;
+use art_keyed_sets::set::TreeSet;
 use art_keys::signed::I16Key;
 use art_keys::unsigned::U8Key;
 use art_node_support::expected::same;

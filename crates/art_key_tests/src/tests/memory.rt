@@ -1,6 +1,6 @@
 //! Keys, maps and sets while every allocation fails.
 use art_keyed::map::{TextRefused, TreeMap};
-use art_keyed::set::TreeSet;
+use art_keyed_sets::set::TreeSet;
 use art_keys::escaped::Escaped;
 use art_keys::joined::Joined;
 use art_keys::terminated::{EndError, Terminated};

@@ -1,5 +1,5 @@
 //! Sets of keys that never conflict.
-use art_keyed::set::TreeSet;
+use art_keyed_sets::set::TreeSet;
 use art_keys::joined::Joined;
 use art_keys::signed::I16Key;
 use art_keys::unsigned::U8Key;

@@ -1,6 +1,6 @@
 //! Calls of a set of numbers, removals by their bounds, and moves of keys into another set, at random, beside a
 //! `BTreeSet`.
-use art_keyed::set::TreeSet;
+use art_keyed_sets::set::TreeSet;
 use art_keys::unsigned::U16Key;
 use art_node_support::expected::same;
 use art_node_support::numbers::Numbers;

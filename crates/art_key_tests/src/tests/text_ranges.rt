@@ -2,7 +2,7 @@
 //! are short ones, most of which are prefixes of others; a third of the strings is not stored.
 use super::short::{COUNT, Short};
 use art_keyed::map::TreeMap;
-use art_keyed::set::TreeSet;
+use art_keyed_sets::set::TreeSet;
 use art_keys::escaped::Escaped;
 use art_keys::terminated::Terminated;
 use art_node_support::expected::same;

@@ -6,7 +6,8 @@ ghost use Rattle.art_map.specs.MapItems.{keys_of};
 ghost use Rattle.art_keyed.specs.KeyedPairs.{keys_between, strings_below, strings_not_below};
 ghost use Rattle.art_keyed.specs.KeyedParts.{keys_not_between};
 
-use super::{TreeMap, bytes_of};
+use super::TreeMap;
+use crate::bounds::bytes_of;
 use art_keys::laws::{NoPrefixesBytes, OrderedBytes, StringBytes};
 use std::ops::Bound;
 

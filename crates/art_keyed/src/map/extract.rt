@@ -9,7 +9,8 @@ ghost use Rattle.art_map.specs.MapExtract.{ExtractsAll, ExtractsFirst};
 ghost use Rattle.art_keyed.specs.KeyedExtract.{ExtractsKeys, ExtractsStrings};
 ghost use Rattle.art_keyed.specs.KeyedPairs.{is_key_from, is_key_up_to};
 
-use super::{TreeMap, bytes_of};
+use super::TreeMap;
+use crate::bounds::bytes_of;
 use art_keys::laws::{OrderedBytes, StringBytes};
 use std::iter::FusedIterator;
 use std::ops::{Bound, RangeBounds};

@@ -5,9 +5,10 @@ ghost use Rattle.std.specs.Range.Bound.{bound_map};
 ghost use Rattle.std.specs.declared.ops.Bound.TheVariants.{Unbounded};
 ghost use Rattle.art_model.specs.Pairs.{IsMap, first_of, last_of, of_key};
 ghost use Rattle.art_map.specs.MapItems.{deref_pair};
-ghost use Rattle.art_keyed.specs.KeyedPairs.{HaveKeys, OnBound, RiseBy, keys_between};
+ghost use Rattle.art_keyed.specs.KeyedPairs.{HaveKeys, RiseBy, keys_between};
 
 use super::TreeMap;
+use crate::bounds::bytes_of;
 use art_keys::laws::OrderedBytes;
 use art_map::map::Range;
 use std::ops::{Bound, RangeBounds};
@@ -61,24 +62,5 @@ impl<K: OrderedBytes + Drop, V: Drop, const P: usize> TreeMap<K, V, P> {
             (bound_map (λ b. b.now) to.entry) self.now) }
     {
         self.map.last_up_to(bytes_of(to))
-    }
-}
-
-// Returns the bound with the bytes of its key.
-pub(crate) fn bytes_of<'k, K: OrderedBytes>(bound: Bound<&'k K>) -> Bound<&'k [u8]>
-    ensures bytes { bound_map (λ b. b.now) result ≡
-        bound_map (λ b. K.bytes b.now) bound.entry }
-    ensures key { OnBound K.is_key (bound_map (λ b. b.now) bound.entry) }
-{
-    match bound {
-        Bound::Included(key) => {
-            key.as_key();
-            Bound::Included(key.as_bytes())
-        }
-        Bound::Excluded(key) => {
-            key.as_key();
-            Bound::Excluded(key.as_bytes())
-        }
-        Bound::Unbounded => Bound::Unbounded,
     }
 }

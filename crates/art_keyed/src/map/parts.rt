@@ -7,7 +7,8 @@ ghost use Rattle.art_map.specs.MapParts.{keys_before, keys_from, without};
 ghost use Rattle.art_keyed.specs.KeyedPairs.{keys_between};
 ghost use Rattle.art_keyed.specs.KeyedParts.{PutsSomeOf, keys_not_between};
 
-use super::{PairRefused, TreeMap, bytes_of};
+use super::{PairRefused, TreeMap};
+use crate::bounds::bytes_of;
 use art_keys::laws::{NoPrefixesBytes, OrderedBytes};
 use art_map::map::SplitRefused;
 use std::ops::{Bound, RangeBounds};

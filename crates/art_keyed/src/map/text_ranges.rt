@@ -9,11 +9,11 @@ ghost use Rattle.art_model.specs.Pairs.{IsMap, of_key};
 ghost use Rattle.art_keyed.specs.KeyedPairs.{keys_between};
 
 use super::TreeMap;
+use crate::bounds::bound_of;
 use crate::escaped_bytes::EscapedBytes;
 use art_keys::escaped::Escaped;
 use art_keys::terminated::Terminated;
 use art_map::map::Range;
-use art_reading::lookup::EndedQuery;
 use std::ops::Bound;
 
 impl<V: Drop, const P: usize> TreeMap<Terminated, V, P> {
@@ -50,19 +50,6 @@ fn bytes_at(bound: Bound<&[u8]>) -> Bound<EscapedBytes<'_>>
     match bound {
         Bound::Included(text) => Bound::Included(EscapedBytes::new(text)),
         Bound::Excluded(text) => Bound::Excluded(EscapedBytes::new(text)),
-        Bound::Unbounded => Bound::Unbounded,
-    }
-}
-
-// Returns the bound at the key of a text that is ended by a zero, which is not built.
-#[inline(always)]
-pub(crate) fn bound_of(bound: Bound<&[u8]>) -> Bound<EndedQuery<'_>>
-    ensures { bound_map (λ query. query.text.now ++ query.end ∷ []) result ≡
-        bound_map (λ text. ended text.now) bound.entry }
-{
-    match bound {
-        Bound::Included(text) => Bound::Included(EndedQuery { text, end: 0 }),
-        Bound::Excluded(text) => Bound::Excluded(EndedQuery { text, end: 0 }),
         Bound::Unbounded => Bound::Unbounded,
     }
 }

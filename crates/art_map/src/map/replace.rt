@@ -11,12 +11,9 @@ use art_nodes::node::{AsBytes, OpaqueNodePtr};
 use art_nodes::store::NodeStore;
 
 impl<K: AsBytes + Drop, V: Drop, const P: usize> ByteMap<K, V, P> {
-    // Inserts a pair in place of the one with an equal key, which is returned.
-    pub(crate) fn replace(
-        &mut self,
-        key: K,
-        value: V,
-    ) -> Result<Option<(K, V)>, MapInsertError<K, V>>
+    /// Inserts a pair in place of the one with an equal key, which is returned; `None` if there is none. Both keys have
+    /// the same bytes. Errors and cost are those of `insert`.
+    pub fn replace(&mut self, key: K, value: V) -> Result<Option<(K, V)>, MapInsertError<K, V>>
         ensures pairs { OnOk result
             (self.new ≡ replace_key (of_key K.bytes) (key, value) self.old) }
         ensures replaced { IfOk result (λ replaced.

@@ -1,7 +1,7 @@
 //! Drawn calls of sets, compared with the same calls of `BTreeSet`s. The keys have one length, so that none is a prefix
 //! of another.
 use super::set_splits;
-use art_map::set::ByteSet;
+use art_sets::set::ByteSet;
 use art_node_support::expected::same;
 use art_node_support::numbers::Numbers;
 use std::collections::BTreeSet;

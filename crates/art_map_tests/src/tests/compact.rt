@@ -1,7 +1,7 @@
 //! Maps whose pairs were moved into the order of their keys.
 use super::calls::Map;
 use art_map::map::ByteMap;
-use art_map::set::ByteSet;
+use art_sets::set::ByteSet;
 use art_node_support::expected::same;
 use art_node_support::memory::{all_memory, begin_refusals, end_refusals};
 use std::alloc::Global;

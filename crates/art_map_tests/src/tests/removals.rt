@@ -5,7 +5,7 @@ use super::beside_btree::{
 };
 use super::calls::{Map, Removal};
 use art_map::map::ByteMap;
-use art_map::set::ByteSet;
+use art_sets::set::ByteSet;
 use art_node_support::expected::same;
 use art_node_support::memory::all_memory;
 use art_node_support::numbers::Numbers;

@@ -1,5 +1,5 @@
 //! A set of keys that can be told apart although they are equal.
-use art_map::set::ByteSet;
+use art_sets::set::ByteSet;
 use art_node_support::expected::same;
 use art_node_support::tagged::Tagged;
 use std::alloc::Global;

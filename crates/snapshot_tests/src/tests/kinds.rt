@@ -1,6 +1,6 @@
 //! Maps of each kind of key, and a set: their bytes, which a script worked out, and what is read from them.
 use art_keyed::map::TreeMap;
-use art_keyed::set::TreeSet;
+use art_keyed_sets::set::TreeSet;
 use art_keys::escaped::Escaped;
 use art_keys::signed::I16Key;
 use art_keys::terminated::Terminated;

@@ -4,7 +4,7 @@ use Rattle.std.proofs.lemmas.Iterator.{YieldsList-from_map, items_from_collect}
 use Rattle.std.proofs.lemmas.Iterator.Adapters.{YieldsList-from_vec}
 use Rattle.std.proofs.lemmas.Iterator.Consumers.{YieldsList-at}
 use Rattle.std.proofs.lemmas.Result.{IfOk-at_ok}
-use Rattle.art_map.specs.SetKeys.{as_pairs}
+use Rattle.art_sets.specs.SetKeys.{as_pairs}
 use Rattle.art_building.proofs.Unsorted.{as_keys}
 use Rattle.art_building.proofs.tree_map.TreeMapBuilder+K+unit+P.from_unsorted_keys.Goals as goal
 

@@ -1,0 +1,2 @@
+pub mod KeptKeys
+pub mod SetClones

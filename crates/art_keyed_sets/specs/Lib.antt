@@ -1,0 +1,2 @@
+pub mod SetRefusals
+pub mod SetClones

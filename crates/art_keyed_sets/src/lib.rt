@@ -1,0 +1,4 @@
+//! Sets of keys that never conflict.
+#![tactic(auto)]
+
+pub mod set;

@@ -1,0 +1,2 @@
+pub mod SetKeys
+pub mod SetAlgebra
