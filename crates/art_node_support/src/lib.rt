@@ -7,5 +7,6 @@ pub mod nodes;
 pub mod numbers;
 pub mod placing;
 pub mod shapes;
+pub mod short;
 pub mod side_by_side;
 pub mod tagged;

@@ -1,10 +1,10 @@
 //! Random calls of a map of strings beside the same calls of a `BTreeMap`. Most strings are prefixes of others. What a
 //! value leaves of `COUNT` is the number of its string, so that values tell pairs apart.
-use super::short::{COUNT, Short};
 use art_keyed::map::TreeMap;
 use art_keys::escaped::Escaped;
 use art_node_support::expected::same;
 use art_node_support::numbers::Numbers;
+use art_node_support::short::{COUNT, Short};
 use std::alloc::Global;
 use std::collections::BTreeMap;
 use std::test::Fail;

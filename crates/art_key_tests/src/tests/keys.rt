@@ -1,10 +1,10 @@
 //! Keys: their bytes, and how they are formatted.
-use super::short::{COUNT, Short};
 use art_keys::escaped::Escaped;
 use art_keys::signed::{I8Key, I16Key, I32Key, I64Key, I128Key};
 use art_keys::terminated::{EndError, Terminated};
 use art_keys::unsigned::{U8Key, U16Key, U32Key, U64Key, U128Key};
 use art_node_support::expected::same;
+use art_node_support::short::{COUNT, Short};
 use art_nodes::node::AsBytes;
 use std::alloc::Global;
 use std::fmt::{Debug, Display};

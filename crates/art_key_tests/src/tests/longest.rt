@@ -1,12 +1,12 @@
 //! Strings that are prefixes of others: the longest one, all of them, and calls by text.
 ghost use Rattle.std.specs.Prelude.{◌<◌};
 
-use super::short::{COUNT, Short};
 use art_keyed::map::{TextRefused, TreeMap};
 use art_keys::escaped::Escaped;
 use art_keys::terminated::Terminated;
 use art_node_support::expected::same;
 use art_node_support::numbers::Numbers;
+use art_node_support::short::{COUNT, Short};
 use std::alloc::Global;
 use std::test::Fail;
 

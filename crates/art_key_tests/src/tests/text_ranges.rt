@@ -1,12 +1,11 @@
 //! Ranges of maps and sets of strings between two texts, beside the same parts of a `BTreeMap`. The strings and texts
 //! are short ones, most of which are prefixes of others; a third of the strings is not stored.
-use super::short::{COUNT, Short};
 use art_keyed::map::TreeMap;
-use art_keyed_sets::set::TreeSet;
 use art_keys::escaped::Escaped;
 use art_keys::terminated::Terminated;
 use art_node_support::expected::same;
 use art_node_support::numbers::Numbers;
+use art_node_support::short::{COUNT, Short};
 use std::alloc::Global;
 use std::collections::BTreeMap;
 use std::ops::Bound;
@@ -201,23 +200,4 @@ fn parts_of_strings_without_a_zero_are_those_of_a_btree_map(rt: HostRuntime) -> 
     let alloc = rt.alloc();
     let differ = ended_differ_at(&mut TreeMap::new(alloc), &mut BTreeMap::new(alloc), alloc);
     same(differ, None)
-}
-
-// How many strings of a set are from "b" on, and how many start with "a".
-fn parts_of_set(set: &mut TreeSet<Terminated, 2>, alloc: Global) -> Option<[usize; 2]> {
-    for text in ["a", "ab", "b", "ba", "c"] {
-        set.insert(Terminated::encode_str(alloc, text).ok()??).ok()?;
-    }
-    let prefix = Terminated::encode_str(alloc, "a").ok()??;
-    Some([
-        set.range_text(Bound::Included(b"b"), Bound::Unbounded)
-            .count(),
-        set.prefix(&prefix).count(),
-    ])
-}
-
-#[test]
-fn a_set_has_parts_by_texts(rt: HostRuntime) -> Result<(), Fail> {
-    let seen = parts_of_set(&mut TreeSet::new(rt.alloc()), rt.alloc());
-    same(seen, Some([3, 2]))
 }

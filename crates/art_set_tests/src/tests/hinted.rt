@@ -1,11 +1,11 @@
 //! Random calls of a map with hints beside the same calls of a `BTreeMap`. Pairs are removed through a `TreeMap` and moved in
 //! memory meanwhile, so that hints are missing and wrong.
-use super::short::{COUNT, Short};
 use art_hinted::map::HintedMap;
 use art_keys::escaped::Escaped;
 use art_keys::terminated::Terminated;
 use art_node_support::expected::same;
 use art_node_support::numbers::Numbers;
+use art_node_support::short::{COUNT, Short};
 use std::alloc::Global;
 use std::collections::BTreeMap;
 use std::hash::RandomState;

@@ -1,0 +1,7 @@
+mod built;
+mod collected;
+mod hinted;
+mod memory;
+mod set;
+mod set_parts;
+mod texts;
