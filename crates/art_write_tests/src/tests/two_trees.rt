@@ -10,7 +10,7 @@ use art_reading::lookup::search_unchecked;
 use art_test_support::expected::as_expected;
 use art_test_support::numbers::Numbers;
 use art_test_support::trees::value_of;
-use art_writing::deallocate::deallocate_tree;
+use art_copying::deallocate::deallocate_tree;
 use art_writing::delete::search_for_delete_point;
 use art_writing::insert::{plant, search_for_insert_point};
 use std::collections::BTreeMap;

@@ -8,7 +8,7 @@ use art_test_support::cases::FOUR;
 use art_test_support::expected::same;
 use art_test_support::nodes::{count_nodes, count_touched, nodes_seen};
 use art_test_support::trees::{Key, planted_all};
-use art_writing::deallocate::deallocate_tree;
+use art_copying::deallocate::deallocate_tree;
 use std::test::Fail;
 
 // The result of freeing a tree.
