@@ -19,8 +19,8 @@ ghost use Rattle.art_reading.specs.PathSteps.{last_step};
 ghost use Rattle.art_reading.specs.declared.end_node.InsertKind.TheVariants as kinds;
 
 use super::{InsertParentNodeChange, InsertPoint, InsertResult, PairRefused};
-use art_copying::links::Direction;
 use crate::writes::{links_beside, place_between, replace_at};
+use art_copying::links::Direction;
 use art_nodes::node::{
     AsBytes, Header, InnerPtr, LeafPtr, NodeType, OpaqueNodePtr, OptionalLeafPtr,
 };

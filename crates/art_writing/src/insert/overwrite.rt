@@ -15,9 +15,9 @@ ghost use Rattle.art_writing.specs.declared.insert.PrefixInsertPoint.TheVariants
 use super::{
     InsertParentNodeChange, InsertResult, OverwritePoint, PairRefused, PrefixInsertResult,
 };
+use crate::writes::{links_beside, place_between, replace_at};
 use art_copying::deallocate::deallocate_tree;
 use art_copying::links::Direction;
-use crate::writes::{links_beside, place_between, replace_at};
 use art_nodes::node::{AsBytes, OptionalLeafPtr};
 use art_nodes::store::NodeStore;
 
