@@ -1,5 +1,5 @@
 -- A leaf that is freed.
-use Rattle.std.proofs.Common.{◌≡◌, ◌≢◌, ◌-◌, suc, [], ◌∷◌, Option, Some, None, IsSome, ap, sym, ◌∙◌, subst, arith, cond, is_some, true, inl, inr, option_map}
+use Rattle.std.proofs.Common.{◌≡◌, ◌≢◌, ◌-◌, suc, [], ◌∷◌, Option, Some, None, IsSome, refl, ap, sym, ◌∙◌, subst, arith, cond, is_some, true, inl, inr, option_map}
 use Rattle.std.specs.FinMap as map
 use Rattle.std.proofs.lemmas.Bool.{false≢true}
 use Rattle.art_model.specs.Prelude.{leaf_name, leaf_cmp, Nodes, LeafPtr, LeafNode, Frees, content_at, held_leaf, held_inner}
