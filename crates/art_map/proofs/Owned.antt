@@ -8,7 +8,7 @@ use Rattle.art_model.proofs.stores.Names.{apart_in}
 use Rattle.art_model.proofs.leaves.Segments.{but_last}
 use Rattle.art_reading.specs.Iterators.{IsIteratorOf}
 use Rattle.art_reading.proofs.Iterators.{goes_on, linked_leaf}
-use Rattle.art_writing.proofs.Freed.{leaf_freed}
+use Rattle.art_copying.proofs.Freed.{leaf_freed}
 use Rattle.art_map.specs.MapItems.{pairs_from, pairs_left, IsWalk}
 use Rattle.art_map.proofs.Items.{from_there, first_first, first_step, first_walk, last_step, last_walk}
 

@@ -26,8 +26,8 @@ pub use Rattle.art_model.proofs.stores.StoreLaws.{has_children}
 pub use Rattle.art_model.proofs.stores.Apart.{apart_of_none, apart_turned, both_beside, both_changed, both_same, both_turned, others_apart, root_of_first, same_apart, same_tree, tree_kept}
 pub use Rattle.art_reading.proofs.Iterators.{walks_whole}
 pub use Rattle.art_checking.proofs.Folding.{folds_to}
-pub use Rattle.art_writing.proofs.Freed.{first_freed}
-pub use Rattle.art_writing.proofs.FreedTrees.{all_can}
+pub use Rattle.art_copying.proofs.FreedTrees.{all_can}
+pub use Rattle.art_writing.proofs.FreedLeaves.{first_freed}
 pub use Rattle.art_writing.proofs.Elsewhere.{placement_elsewhere, tree_stays}
 pub use Rattle.art_map.proofs.CallerLaws.{map_laws, value_here, value_elsewhere, value_gone, value_left, value_written, value_unwritten}
 pub use Rattle.art_map.proofs.RetainLaws.{changes_known, retained_known, retained_pairs_known}

@@ -23,6 +23,7 @@ pub use Rattle.art_model.specs.Kept
 pub use Rattle.art_model.specs.Apart
 pub use Rattle.art_model.specs.Footprints
 pub use Rattle.art_model.specs.Promises
+pub use Rattle.art_copying.specs.Directions
 pub use Rattle.art_writing.specs.ParentWrites
 -- insertion
 pub use Rattle.art_reading.specs.EndNodes

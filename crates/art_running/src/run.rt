@@ -18,11 +18,11 @@ ghost use Rattle.art_running.specs.declared.run.Command.TheVariants as commands;
 ghost use Rattle.art_running.specs.declared.run.Command.{Command};
 ghost use Rattle.art_running.specs.declared.run.Side.TheVariants.{First};
 
+use art_copying::clone::clone_unchecked;
+use art_copying::deallocate::deallocate_tree;
 use art_nodes::node::{AsBytes, OpaqueNodePtr};
 use art_nodes::store::NodeStore;
 use art_reading::lookup::{prefix_search_unchecked, search_unchecked};
-use art_writing::clone::clone_unchecked;
-use art_writing::deallocate::deallocate_tree;
 use art_writing::delete::{
     DeletePoint, find_maximum_to_delete, find_minimum_to_delete, search_for_delete_point,
 };

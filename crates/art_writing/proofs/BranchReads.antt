@@ -18,8 +18,9 @@ use Rattle.art_model.proofs.radix.TreeLaws.{one_child, have_two_children}
 use Rattle.art_writing.specs.declared.insert.InsertPoint.{InsertPoint}
 use Rattle.art_writing.specs.declared.insert.branch.Branch.{Branch}
 use Rattle.art_writing.specs.Branches.{IsBranch}
-use Rattle.art_writing.specs.declared.writes.Direction.TheVariants.{Before, After}
-use Rattle.art_writing.specs.ParentWrites.{IsBeside, side_of}
+use Rattle.art_copying.specs.declared.links.Direction.TheVariants.{Before, After}
+use Rattle.art_writing.specs.ParentWrites.{IsBeside}
+use Rattle.art_copying.specs.Directions.{side_of}
 use Rattle.art_reading.specs.declared.end_node.InsertKind.TheVariants.{SplitLeaf, MismatchPrefix}
 use Rattle.art_reading.specs.declared.path.ExplicitMismatch.{ExplicitMismatch}
 use Rattle.art_reading.specs.Matching.{shared_len}

@@ -12,9 +12,10 @@ use Rattle.art_model.proofs.places.PlaceLaws.{join_assoc}
 use Rattle.art_model.proofs.stores.Slots.{length-slots_of}
 use Rattle.art_model.proofs.stores.Stores.{HoldsBelow-right}
 use Rattle.art_model.proofs.stores.Views as views
-use Rattle.art_writing.specs.declared.writes.Direction.{Direction}
-use Rattle.art_writing.specs.declared.writes.Direction.TheVariants.{Before, After}
-use Rattle.art_writing.specs.ParentWrites.{ComesBetween, HasGap, IsBeside, side_of}
+use Rattle.art_copying.specs.declared.links.Direction.{Direction}
+use Rattle.art_copying.specs.declared.links.Direction.TheVariants.{Before, After}
+use Rattle.art_writing.specs.ParentWrites.{ComesBetween, HasGap, IsBeside}
+use Rattle.art_copying.specs.Directions.{side_of}
 
 -- a child of a full tree is one
 full_child : {K V : Type 0} (s : Nodes K V) {name m to : OpaqueNodePtr} {h : NodeHeader} (l r : Subtrees OpaqueNodePtr (K × V)) (c : ℕ)

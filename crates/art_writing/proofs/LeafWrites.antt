@@ -1,18 +1,13 @@
 -- The leaves after some links are changed.
 use Rattle.std.proofs.Common.{◌≡◌, Option, Some, IsSome, ap, sym, ◌∙◌, option_map}
 use Rattle.std.specs.FinMap.{get, insert}
-use Rattle.art_model.specs.Prelude.{change, LeafPtr, LeafNode, pair_of, Leaves, IsThere, with_links_around}
+use Rattle.art_model.specs.Prelude.{LeafPtr, LeafNode, pair_of, Leaves, IsThere, with_links_around}
 use Rattle.art_parts.proofs.NameLemmas.{leaf_cmp_total, leaf_cmp-IsAntisymmetric}
-use Rattle.art_nodes.proofs.StoreChanges.{changed_from}
 use Rattle.art_model.proofs.stores.Touches.{still_placed}
 use Rattle.art_model.proofs.leaves.Leaves.{joined_pair}
 use Rattle.art_reading.proofs.PartIterations.{some_there}
 
 module _ {K V : Type 0} (m : Leaves K V) where
-  -- two changes that agree on the names in the store
-  pub change_as : (p : LeafPtr) (f h : LeafNode K V → LeafNode K V) (x : LeafNode K V) → get m p ≡ Some x → f x ≡ h x → change m p f ≡ change m p h
-  change_as p f h x e same = changed_from m p f (Some x) e ∙ ap (insert m p) same ∙ sym (changed_from m p h (Some x) e)
-
   -- a new leaf leaves the others in the store
   pub there_placed : (n : LeafPtr) (x : LeafNode K V) (o : Option LeafPtr) → IsThere m o → IsThere (insert m n x) o
   there_placed n x o h p e = still_placed leaf_cmp_total leaf_cmp-IsAntisymmetric m n p x (h p e)

@@ -1,7 +1,5 @@
 pub mod Ways
-pub mod Freed
-pub mod FreedTrees
-pub mod OneTree
+pub mod FreedLeaves
 pub mod LeafWrites
 pub mod KeysFound
 pub mod EndsAgree
@@ -35,6 +33,3 @@ pub mod Larger
 pub mod Entered
 pub mod LeafNeighbours
 pub mod LeafAdded
-pub mod Cloning
-pub mod Copying
-pub mod Cloned

@@ -26,7 +26,7 @@ use Rattle.art_writing.specs.Inserted.{unlinked_leaf}
 use Rattle.art_writing.specs.Overwritten.{IsOverwritePointIn, TouchesForNode, placed_for_overwrite}
 use Rattle.art_reading.specs.EndNodes.{IsOverwrittenWith}
 use Rattle.art_reading.specs.PathSteps.{last_step, path_of, root_with}
-use Rattle.art_writing.specs.declared.writes.Direction.TheVariants.{Before, After}
+use Rattle.art_copying.specs.declared.links.Direction.TheVariants.{Before, After}
 use Rattle.art_writing.specs.ParentWrites.{HasChild, IsBeside}
 use Rattle.art_writing.proofs.LeftByPoints.{IsOverwritten}
 use Rattle.art_writing.proofs.BranchReads.{beside_is}

@@ -42,7 +42,7 @@ use Rattle.art_writing.specs.declared.delete.DeletePoint.{DeletePoint}
 use Rattle.art_writing.specs.declared.delete.DeleteResult.{DeleteResult}
 use Rattle.art_writing.specs.declared.delete.subtree.Collapsed.{Collapsed}
 use Rattle.art_writing.specs.declared.delete.subtree.SubtreeDeletePoint.{SubtreeDeletePoint}
-use Rattle.art_writing.specs.declared.writes.Direction.TheVariants.{After}
+use Rattle.art_copying.specs.declared.links.Direction.TheVariants.{After}
 use Rattle.art_writing.proofs.RemovedLeaves.{change_seen, has_child}
 use Rattle.art_writing.proofs.BranchReads.{beside_is}
 use Rattle.art_writing.proofs.Collapses as collapses

@@ -1,22 +1,21 @@
 -- What the writes of the operations require and return: a child of the parent at the end of a path, and the neighbours of a leaf.
-use Rattle.std.specs.Prelude.{◌≡◌, ◌⊎◌, ◌<◌, ℕ, if◌then◌else◌, nat_lt, Option, Some, None, IsSome, IsSomeAnd, IfSome, ⊤}
+use Rattle.std.specs.Prelude.{◌≡◌, ◌⊎◌, ◌<◌, ℕ, Option, Some, None, IsSome, IsSomeAnd, IfSome, ⊤}
 use Rattle.std.specs.List.{AllByRecursion as Each}
 use Rattle.std.specs.FinMap as map
 use Rattle.art_inner.specs.Inner.{child_at}
 use Rattle.art_parts.specs.Names.{leaf_name, inner_name}
 use Rattle.art_nodes.specs.Nodes.{Nodes, take_leaf}
 use Rattle.art_parts.specs.declared.names.InnerPtr.{InnerPtr}
-use Rattle.art_parts.specs.declared.leaf.LeafNode.{LeafNode}
 use Rattle.art_parts.specs.declared.names.LeafPtr.{LeafPtr}
 use Rattle.art_parts.specs.declared.names.OpaqueNodePtr.{OpaqueNodePtr}
 use Rattle.art_model.specs.Lookups.{HasFirstLeaf, HasLastLeaf}
 use Rattle.art_model.specs.Radix.{BytesRise, bytes_of, join}
 use Rattle.art_model.specs.Roots.{IsFullTree}
 use Rattle.art_model.specs.Trees.{Tree, inner, Subtrees, child, no_child, NodeHeader}
-use Rattle.art_model.specs.Writes.{Leaves, Inners, IsThere, with_next, with_previous}
+use Rattle.art_model.specs.Writes.{Leaves, Inners, IsThere}
 use Rattle.art_writing.specs.Inserted.{unlinked_leaf}
-use Rattle.art_writing.specs.declared.writes.Direction.{Direction}
-use Rattle.art_writing.specs.declared.writes.Direction.TheVariants.{Before, After}
+use Rattle.art_copying.specs.declared.links.Direction.{Direction}
+use Rattle.art_copying.specs.declared.links.Direction.TheVariants.{Before, After}
 
 -- the parent, where there is one, has a child under its byte
 abbrev pub HasChild : Inners → Option (InnerPtr × ℕ) → Type 0
@@ -34,15 +33,6 @@ pub record IsPlanted {K V : Type 0} (s t : Nodes K V) (name : LeafPtr) (pair : K
 abbrev pub LinksAreThere : {K V : Type 0} → Leaves K V → LeafPtr → Type 0
 LinksAreThere leaves name =
     IfSome (map.get leaves name) (λ leaf. IsThere leaves leaf.previous × IsThere leaves leaf.next)
-
--- the side of a child's byte on which that of a new one is
-abbrev pub side_of : ℕ → ℕ → Direction
-side_of new other = if nat_lt other new then After else Before
-
--- the leaf with another one on a side
-abbrev pub with_beside : {K V : Type 0} → Direction → Option LeafPtr → LeafNode K V → LeafNode K V
-with_beside Before other = with_previous other
-with_beside After other = with_next other
 
 -- a new leaf right before a tree's first leaf, or right after its last one, has these neighbours
 abbrev pub IsBeside : {K V : Type 0} → Nodes K V → Tree OpaqueNodePtr (K × V) → Direction → Option LeafPtr →

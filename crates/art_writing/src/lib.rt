@@ -1,7 +1,6 @@
 //! Operations that change a radix tree in a store.
 #![tactic(auto)]
 
-pub mod clone;
 pub mod deallocate;
 pub mod delete;
 pub mod insert;

@@ -7,9 +7,9 @@ ghost use Rattle.art_map.specs.MapChanges.{HoldsClones};
 ghost use Rattle.art_map.specs.MapPairs.{HoldsPairs, pairs_at};
 
 use super::ByteMap;
+use art_copying::clone::clone_unchecked;
 use art_nodes::node::{AsBytes, OpaqueNodePtr};
 use art_nodes::store::NodeStore;
-use art_writing::clone::clone_unchecked;
 use std::alloc::AllocError;
 
 impl<K: AsBytes + Clone + Drop, V: Clone + Drop, const P: usize> ByteMap<K, V, P> {

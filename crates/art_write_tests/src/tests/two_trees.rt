@@ -4,13 +4,13 @@ ghost use Rattle.art_checking.specs.Checks.{IsWellFormed};
 ghost use Rattle.art_model.specs.Pairs.{of_key};
 
 use art_checking::well_formed::{WellFormedChecker, WellFormedTreeStats};
+use art_copying::deallocate::deallocate_tree;
 use art_nodes::node::{AsBytes, OpaqueNodePtr};
 use art_nodes::store::NodeStore;
 use art_reading::lookup::search_unchecked;
 use art_test_support::expected::as_expected;
 use art_test_support::numbers::Numbers;
 use art_test_support::trees::value_of;
-use art_writing::deallocate::deallocate_tree;
 use art_writing::delete::search_for_delete_point;
 use art_writing::insert::{plant, search_for_insert_point};
 use std::collections::BTreeMap;

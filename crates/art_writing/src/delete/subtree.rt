@@ -15,8 +15,9 @@ ghost use Rattle.art_writing.specs.ParentWrites.{HasChild};
 
 use super::DeletePoint;
 use super::apply::has_spare_child;
-use crate::deallocate::free_nodes;
-use crate::writes::{Direction, link, links_beside, replace_at};
+use crate::writes::{links_beside, replace_at};
+use art_copying::deallocate::free_nodes;
+use art_copying::links::{Direction, link};
 use art_nodes::node::{AsBytes, LeafPtr, NodeType, OpaqueNodePtr};
 use art_nodes::store::NodeStore;
 use art_reading::lookup::descent::{End, walk_to_end};

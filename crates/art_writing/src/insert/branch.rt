@@ -13,12 +13,14 @@ ghost use Rattle.art_model.specs.Writes.{IsThere};
 ghost use Rattle.art_writing.specs.Applied.{IsApplied, TakesMemory};
 ghost use Rattle.art_writing.specs.Branches.{ForEnd, IsBranch, IsBranchPlaced};
 ghost use Rattle.art_writing.specs.Inserted.{IsPointIn, placed_for};
-ghost use Rattle.art_writing.specs.ParentWrites.{HasChild, IsBeside, side_of};
+ghost use Rattle.art_writing.specs.ParentWrites.{HasChild, IsBeside};
+ghost use Rattle.art_copying.specs.Directions.{side_of};
 ghost use Rattle.art_reading.specs.PathSteps.{last_step};
 ghost use Rattle.art_reading.specs.declared.end_node.InsertKind.TheVariants as kinds;
 
 use super::{InsertParentNodeChange, InsertPoint, InsertResult, PairRefused};
-use crate::writes::{Direction, links_beside, place_between, replace_at};
+use crate::writes::{links_beside, place_between, replace_at};
+use art_copying::links::Direction;
 use art_nodes::node::{
     AsBytes, Header, InnerPtr, LeafPtr, NodeType, OpaqueNodePtr, OptionalLeafPtr,
 };

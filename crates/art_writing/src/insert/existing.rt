@@ -6,7 +6,8 @@ ghost use Rattle.art_writing.specs.Inserted.{IsPointIn, placed_for};
 ghost use Rattle.art_reading.specs.declared.end_node.InsertKind.TheVariants as kinds;
 
 use super::{InsertParentNodeChange, InsertPoint, InsertResult, PairRefused};
-use crate::writes::{Direction, links_beside, place_between, replace_at};
+use crate::writes::{links_beside, place_between, replace_at};
+use art_copying::links::Direction;
 use art_nodes::node::{
     AsBytes, InnerPtr, InnerRef, LeafPtr, NodeType, OpaqueNodePtr, OptionalLeafPtr,
 };

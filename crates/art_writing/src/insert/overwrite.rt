@@ -8,15 +8,16 @@ ghost use Rattle.art_model.specs.Roots.{IsFullTree};
 ghost use Rattle.art_model.specs.Trees.{Tree};
 ghost use Rattle.art_writing.specs.Applied.{IsPrefixApplied, TakesMemory};
 ghost use Rattle.art_writing.specs.ParentWrites.{IsBeside};
-ghost use Rattle.art_writing.specs.declared.writes.Direction.TheVariants.{Before, After};
+ghost use Rattle.art_copying.specs.declared.links.Direction.TheVariants.{Before, After};
 ghost use Rattle.art_writing.specs.Overwritten.{IsOverwritePointIn, placed_for_overwrite};
 ghost use Rattle.art_writing.specs.declared.insert.PrefixInsertPoint.TheVariants as points;
 
 use super::{
     InsertParentNodeChange, InsertResult, OverwritePoint, PairRefused, PrefixInsertResult,
 };
-use crate::deallocate::deallocate_tree;
-use crate::writes::{Direction, links_beside, place_between, replace_at};
+use crate::writes::{links_beside, place_between, replace_at};
+use art_copying::deallocate::deallocate_tree;
+use art_copying::links::Direction;
 use art_nodes::node::{AsBytes, OptionalLeafPtr};
 use art_nodes::store::NodeStore;
 

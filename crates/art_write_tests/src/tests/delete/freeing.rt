@@ -2,13 +2,13 @@
 ghost use Rattle.art_model.specs.Pairs.{of_key};
 ghost use Rattle.art_model.specs.Roots.{IsCanonicalRoot};
 
+use art_copying::deallocate::deallocate_tree;
 use art_nodes::node::OpaqueNodePtr;
 use art_nodes::store::NodeStore;
 use art_test_support::cases::FOUR;
 use art_test_support::expected::same;
 use art_test_support::nodes::{count_nodes, count_touched, nodes_seen};
 use art_test_support::trees::{Key, planted_all};
-use art_writing::deallocate::deallocate_tree;
 use std::test::Fail;
 
 // The result of freeing a tree.

@@ -1,7 +1,8 @@
 use Rattle.std.proofs.Common.{◌∙◌, refl, ap, rules, arith}
 use Rattle.std.specs.FinMap as map
 use Rattle.art_reading.proofs.Iterators.{end_there}
-use Rattle.art_writing.proofs.Freed.{all_left, none_come, one_goes, leaf_less}
+use Rattle.art_copying.proofs.Freed.{leaf_less}
+use Rattle.art_writing.proofs.FreedLeaves.{all_left, none_come, one_goes}
 use Rattle.art_writing.proofs.deallocate.deallocate_leaves.Goals as goal
 
 pub leaves-init : goal.leaves-init

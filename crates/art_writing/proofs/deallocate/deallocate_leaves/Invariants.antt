@@ -2,7 +2,7 @@ use Rattle.std.proofs.Common.{◌≡◌, List}
 use Rattle.std.specs.FinMap as map
 use Rattle.art_model.specs.Prelude.{OpaqueNodePtr}
 use Rattle.art_reading.specs.Iterators.{IsIteratorOf}
-use Rattle.art_writing.proofs.Freed.{AreLeft}
+use Rattle.art_writing.proofs.FreedLeaves.{AreLeft}
 use Rattle.art_writing.proofs.deallocate.deallocate_leaves.Given as goal
 
 abbrev pub invariant-leaves : goal.invariant-leaves

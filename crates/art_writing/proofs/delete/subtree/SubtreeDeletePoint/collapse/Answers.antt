@@ -2,7 +2,7 @@ use Rattle.std.proofs.Common.{rules, ap, sym, ◌∙◌, Some, arith}
 use Rattle.art_model.specs.Prelude.{leaf_name, shape_of, with_links_around, with_child_at}
 use Rattle.art_reading.specs.PathSteps.{last_step, root_with}
 use Rattle.art_writing.proofs.Deletions.{leaf_at}
-use Rattle.art_writing.proofs.FreedTrees.{all_can, all_counted, all_go}
+use Rattle.art_copying.proofs.FreedTrees.{all_can, all_counted, all_go}
 use Rattle.art_writing.proofs.SubtreePointLemmas.{above_ready, collapsed_below, collapsed_leaf, count_fits, first_below, first_there, is_leaf}
 use Rattle.art_writing.proofs.SubtreePointLemmas.{leads_to_one, next_is, next_there, node_full, parent_there, rest, rest_there, up_same}
 use Rattle.art_writing.proofs.Ways.{root_with-path_of}
