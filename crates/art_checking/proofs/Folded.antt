@@ -10,7 +10,7 @@ use Rattle.art_model.proofs.places.PlaceLaws.{join_none}
 use Rattle.art_model.proofs.stores.Shown.{no_inner_gone, inner_shown, no_leaf_gone, leaf_shown}
 use Rattle.art_model.proofs.stores.Stores.{HoldsBelow-right}
 use Rattle.art_model.proofs.stores.Views.{held_in_inner}
-use Rattle.art_reading.proofs.PartIterations.{some_there}
+use Rattle.art_reading.proofs.PartNodes.{some_there}
 use Rattle.art_checking.specs.Folds.{Folds, JoinsAll, Joins}
 
 module _ {N A : Type 0} where

@@ -5,7 +5,7 @@ use Rattle.std.specs.Iterator.{Drains}
 use Rattle.art_keys.specs.Prefixes.{IsKept}
 use Rattle.art_map.specs.MapItems.{ShowsFirst}
 use Rattle.art_sets.specs.SetKeys.{add_key}
-use Rattle.art_map.proofs.Extended.{add_last}
+use Rattle.art_sets.proofs.AddedKeys.{add_last}
 use Rattle.art_keyed_sets.specs.SetClones.{AreAddedClones}
 
 -- what holds for keys holds for their clones

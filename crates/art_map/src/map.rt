@@ -14,10 +14,10 @@ ghost use Rattle.art_map.specs.MapPairs.{HoldsPairs, pairs_at};
 
 use art_nodes::node::{AsBytes, LeafNode, LeafPtr, OpaqueNodePtr};
 use art_nodes::store::NodeStore;
+use art_ranges::range::{first_from_unchecked, last_up_to_unchecked};
 use art_reading::iterator::RawIterator;
 use art_reading::lookup::{Asked, KeyBytes, KeyQuery, find_unchecked, search_unchecked};
 use art_reading::minmax::{maximum_unchecked, minimum_unchecked};
-use art_reading::range::{first_from_unchecked, last_up_to_unchecked};
 use art_writing::insert::InsertPrefixError;
 use std::alloc::Global;
 use std::fmt;

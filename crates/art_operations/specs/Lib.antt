@@ -17,6 +17,7 @@ pub use Rattle.art_reading.specs.PathSteps
 pub use Rattle.art_reading.specs.Stored
 pub use Rattle.art_reading.specs.Descents
 pub use Rattle.art_reading.specs.Found
+pub use Rattle.art_ranges.specs.FoundTexts
 pub use Rattle.art_reading.specs.Iterators
 -- what every change keeps and touches, and what it takes from a promise
 pub use Rattle.art_model.specs.Kept

@@ -48,7 +48,7 @@ use Rattle.art_reading.specs.PartEnds.{IsPlaced}
 use Rattle.art_reading.specs.PathSteps.{step_down}
 use Rattle.art_reading.specs.Readings.{left_on_way}
 use Rattle.art_reading.proofs.LeftOnWay.{left_aside, left_child, left_leaf}
-use Rattle.art_reading.proofs.PartIterations.{some_there}
+use Rattle.art_reading.proofs.PartNodes.{some_there}
 use Rattle.art_reading.proofs.Partings.{parted_unrelated, unrelated_after, conflict-related, no_conflict, first_conflict, same_conflict}
 
 -- as much of the key was used as it has

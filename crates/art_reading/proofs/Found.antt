@@ -1,19 +1,13 @@
 -- The leaf that is found in the tree is in the store, with its pair.
-use Rattle.std.proofs.Common.{◌≡◌, ℕ, List, refl, ap, sym, ◌∙◌, Option, Some, None, IsSome, option_map}
-use Rattle.std.specs.FinMap.{get}
-use Rattle.art_model.specs.Prelude.{Nodes, leaf_name, LeafPtr, OpaqueNodePtr, IsCanonicalTree, FindsLast, FindsLeaf, HasLeaf, first_of, last_of, ForTree, IsCanonicalRoot, pair_of, Tree}
-use Rattle.art_model.proofs.leaves.LeavesFound.{found_is_there, leaf_found, pair_found}
-use Rattle.art_reading.specs.Found.{HasFound, HasFoundFirst, HasFoundLast}
-use Rattle.art_reading.specs.ShortTexts.{FindsFirst}
+use Rattle.std.proofs.Common.{◌≡◌, ℕ, List, ap, ◌∙◌, sym, subst, Option, Some}
+use Rattle.std.specs.FinMap as map
+use Rattle.art_model.specs.Prelude.{Nodes, leaf_name, LeafNode, LeafPtr, OpaqueNodePtr, IsCanonicalTree, FindsLeaf, HasLeaf, ForTree, Holds, IsCanonicalRoot, node_at, pair_of, Tree, leaf}
+use Rattle.art_model.proofs.leaves.LeavesFound.{found_is_there, pair_found}
+use Rattle.art_model.proofs.stores.Stores.{path_holds}
+use Rattle.art_model.proofs.stores.Views as views
+use Rattle.art_reading.specs.Found.{HasFound}
 
 module _ {K V : Type 0} (bytes : K × V → List ℕ) (P : ℕ) {s : Nodes K V} {root : OpaqueNodePtr} where
-  module _ {pairs : List (K × V)} {layout : Tree OpaqueNodePtr (K × V)} (by : IsCanonicalTree bytes P s root pairs layout) where
-    there : {p : LeafPtr} {x : K × V} → HasLeaf layout (leaf_name p) x → IsSome (get s.leaves p)
-    there has = let (node, is, its) = leaf_found bytes P by has in rw is refl
-
-    shown : {p : LeafPtr} {x : K × V} → HasLeaf layout (leaf_name p) x → option_map pair_of (get s.leaves p) ≡ Some x
-    shown has = let (node, is, its) = leaf_found bytes P by has in ap (option_map pair_of) is ∙ ap Some its
-
   module _ (is : IsCanonicalRoot bytes P s root) {sought : List (K × V) → List (K × V)} where
     -- of the only pair that is sought
     pub has_found : {result : Option LeafPtr} → ForTree bytes P s root (λ pairs layout. FindsLeaf layout (sought pairs) result) →
@@ -26,26 +20,13 @@ module _ {K V : Type 0} (bytes : K × V → List ℕ) (P : ℕ) {s : Nodes K V} 
           pair = λ ps l b. pair_found bytes P b result (sought ps) (leaf ps l b);
         }
 
-    -- of the first
-    pub has_found_first : {result : Option LeafPtr} → ForTree bytes P s root (λ pairs layout. FindsFirst layout (sought pairs) result) →
-        HasFoundFirst bytes P s root sought result
-    has_found_first {result = None} leaf = record { leaf = leaf; there = tt; pair = λ pairs layout by. ap first_of (sym (leaf pairs layout by)) }
-    has_found_first {result = Some p} leaf =
-        let (pairs, layout, by) = is in
-        record {
-          leaf = leaf;
-          there = there by (leaf pairs layout by).2;
-          pair = λ ps l b. let (x, first, has) = leaf ps l b in shown b has ∙ sym first;
-        }
-
-    -- of the last
-    pub has_found_last : {result : Option LeafPtr} → ForTree bytes P s root (λ pairs layout. FindsLast layout (sought pairs) result) →
-        HasFoundLast bytes P s root sought result
-    has_found_last {result = None} leaf = record { leaf = leaf; there = tt; pair = λ pairs layout by. ap last_of (sym (leaf pairs layout by)) }
-    has_found_last {result = Some p} leaf =
-        let (pairs, layout, by) = is in
-        record {
-          leaf = leaf;
-          there = there by (leaf pairs layout by).2;
-          pair = λ ps l b. let (x, last, has) = leaf ps l b in shown b has ∙ sym last;
-        }
+module _ {K V : Type 0} {s : Nodes K V} {bytes : K × V → List ℕ} {P : ℕ} {root : OpaqueNodePtr} {pairs : List (K × V)} {layout : Tree OpaqueNodePtr (K × V)}
+    (by : IsCanonicalTree bytes P s root pairs layout) where
+  -- the node under the name of a leaf has its pair
+  pub own_pair : {name : LeafPtr} {x : K × V} → HasLeaf layout (leaf_name name) x → {node : LeafNode K V} → Some node ≡ map.get s.leaves name → pair_of node ≡ x
+  own_pair {name} {x} has {node} read =
+      let (other, there, same) =
+      views.leaf_there s name x (path_holds (node_at s) has.path (leaf (leaf_name name) x)
+      (subst (Holds (node_at s)) (sym has.whole) by.stands.0.holds)).1 in
+      let is : node ≡ other = cc in
+      ap pair_of is ∙ same

@@ -21,7 +21,7 @@ use Rattle.art_reading.specs.EndNodes.{IsAt}
 use Rattle.art_reading.specs.Guides.{AllGuide, GoesAlong, IsGuide}
 use Rattle.art_reading.specs.PartEnds.{StandsBetween}
 use Rattle.art_reading.specs.declared.path.TreePath.{TreePath}
-use Rattle.art_reading.proofs.PartIterations.{node_full, node_holds}
+use Rattle.art_reading.proofs.PartNodes.{node_full, node_holds}
 
 -- where a node's place is a prefix of the key, it is one of the other key too
 abbrev pub GoesToo : {N : Type 0} → List ℕ → List ℕ → (List ℕ × N) → Type 0

@@ -1,9 +1,16 @@
--- What a list shares with another one and a byte after it.
-use Rattle.std.proofs.Common.{◌≡◌, ℕ, suc, ◌<◌, List, [], ◌∷◌, ◌++◌, length, get_or, slice_get, is_some, refl, ap, sym, ◌∙◌, arith}
-use Rattle.std.proofs.Common.{Bool, true, false, not, eqb, eq-eqb, eqb-true}
+-- What a list shares with another one, and with that one and a byte after it.
+use Rattle.std.proofs.Common.{◌≡◌, ℕ, suc, ◌<◌, ◌≤◌, List, [], ◌∷◌, ◌++◌, length, get_or, slice_get, is_some, refl, ap, sym, ◌∙◌, arith, Bool, true, false, not, eqb, eq-eqb, eqb-true}
 use Rattle.std.proofs.lemmas.Bool.{false≢true, ne_eqb}
-use Rattle.art_model.specs.Prelude.{is_front}
+use Rattle.art_model.specs.Prelude.{common_front, is_front}
+use Rattle.art_model.proofs.keys.Texts.{front_short}
+use Rattle.art_model.proofs.lists.Lists.{common_front_left, common_front_right}
 use Rattle.art_reading.specs.Matching.{shared_len}
+
+pub shared_short : (a b : List ℕ) → length (common_front a b) ≤ length b
+shared_short a b = front_short (common_front a b) b (common_front_right a b)
+
+pub shared_within : (a b : List ℕ) → length (common_front a b) ≤ length a
+shared_within a b = front_short (common_front a b) a (common_front_left a b)
 
 none_with : (a : List ℕ) → shared_len a [] ≡ 0
 none_with [] = refl

@@ -4,11 +4,10 @@ use Rattle.std.specs.FinMap as map
 use Rattle.art_nodes.specs.Nodes.{Nodes}
 use Rattle.art_parts.specs.declared.names.LeafPtr.{LeafPtr}
 use Rattle.art_parts.specs.declared.names.OpaqueNodePtr.{OpaqueNodePtr}
-use Rattle.art_model.specs.Lookups.{FindsLast, FindsLeaf, pair_under}
-use Rattle.art_model.specs.Pairs.{first_of, last_of}
+use Rattle.art_model.specs.Lookups.{FindsLeaf, pair_under}
+use Rattle.art_model.specs.Pairs.{first_of}
 use Rattle.art_model.specs.Roots.{ForTree}
 use Rattle.art_model.specs.Trees.{Tree}
-use Rattle.art_reading.specs.ShortTexts.{FindsFirst}
 
 module _ {K V : Type 0} (bytes : K × V → List ℕ) (P : ℕ) (s : Nodes K V) (root : OpaqueNodePtr) where
   -- The leaf of one of these pairs is found in the tree; it is in the store, and has the pair there.
@@ -21,11 +20,3 @@ module _ {K V : Type 0} (bytes : K × V → List ℕ) (P : ℕ) (s : Nodes K V) 
   -- of the only pair that is sought
   abbrev pub HasFound : (List (K × V) → List (K × V)) → Option LeafPtr → Type 0
   HasFound sought result = HasFoundOne FindsLeaf first_of sought result
-
-  -- of the first of the pairs that are sought
-  abbrev pub HasFoundFirst : (List (K × V) → List (K × V)) → Option LeafPtr → Type 0
-  HasFoundFirst sought result = HasFoundOne FindsFirst first_of sought result
-
-  -- of the last of the pairs that are sought
-  abbrev pub HasFoundLast : (List (K × V) → List (K × V)) → Option LeafPtr → Type 0
-  HasFoundLast sought result = HasFoundOne FindsLast last_of sought result

@@ -12,6 +12,5 @@ pub mod Readings
 pub mod Descents
 pub mod Iterators
 pub mod PartEnds
-pub mod TextWays
 pub mod ShortTexts
 pub mod Found

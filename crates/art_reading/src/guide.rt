@@ -20,7 +20,7 @@ use art_nodes::store::NodeStore;
 /// A descent finds it, without comparing a prefix. The leaf serves for the whole path, so that a search makes this
 /// descent once.
 #[inline(always)]
-pub(crate) fn guide_from<B: KeyBytes, K: AsBytes + Drop, V: Drop, const P: usize>(
+pub fn guide_from<B: KeyBytes, K: AsBytes + Drop, V: Drop, const P: usize>(
     store: &NodeStore<K, V, P>,
     root: OpaqueNodePtr,
     key_bytes: &mut B,
@@ -50,10 +50,10 @@ pub(crate) fn guide_from<B: KeyBytes, K: AsBytes + Drop, V: Drop, const P: usize
     }
 }
 
-// Such a leaf, below a node on the key's path, and how many nodes were read. This is a call, so that the loops into
-// which `guide_from` is inlined stay small.
+/// Returns such a leaf, below a node on the key's path, and how many nodes were read. This is a call, so that the loops
+/// into which `guide_from` is inlined stay small.
 #[inline(never)]
-pub(crate) fn find_guide<B: KeyBytes, K: AsBytes + Drop, V: Drop, const P: usize>(
+pub fn find_guide<B: KeyBytes, K: AsBytes + Drop, V: Drop, const P: usize>(
     store: &NodeStore<K, V, P>,
     root: OpaqueNodePtr,
     key_bytes: &mut B,

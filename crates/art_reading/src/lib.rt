@@ -2,10 +2,9 @@
 #![tactic(auto)]
 
 pub mod end_node;
-mod guide;
+pub mod guide;
 pub mod iterator;
 pub mod laws;
 pub mod lookup;
 pub mod minmax;
 pub mod path;
-pub mod range;

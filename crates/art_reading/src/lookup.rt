@@ -10,7 +10,6 @@ ghost use Rattle.art_reading.specs.Found.{HasFound};
 pub mod descent;
 pub mod matching;
 pub mod query;
-mod texts;
 
 use art_nodes::node::{AsBytes, LeafNode, OpaqueNodePtr, OptionalLeafPtr};
 use art_nodes::store::NodeStore;
@@ -18,10 +17,6 @@ pub use descent::Visits;
 use descent::walk_to_key;
 pub use matching::{Asked, PrefixMatchBehavior};
 pub use query::{EndedQuery, KeyBytes, KeyQuery, starts_with};
-pub use texts::{
-    longest_text_by, longest_text_unchecked, longest_text_visiting, shortest_text_unchecked,
-    shortest_text_visiting,
-};
 
 /// Returns the leaf of a key, or `None` if no stored key is equal to it.
 ///

@@ -27,7 +27,7 @@ use Rattle.art_reading.specs.Matching.{shared_len}
 use Rattle.art_reading.specs.EndNodes.{IsKindOf, IsMismatch, IsLeafForPrefix}
 use Rattle.art_writing.specs.Points.{AnswersTo}
 use Rattle.art_writing.proofs.BranchLemmas.{end_laid, end_hole, end_depth}
-use Rattle.art_reading.proofs.PartIterations.{some_there}
+use Rattle.art_reading.proofs.PartNodes.{some_there}
 
 -- ---- the neighbouring leaves
 

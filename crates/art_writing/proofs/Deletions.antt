@@ -16,7 +16,7 @@ use Rattle.art_writing.specs.Deleted.{IsDeletePointIn, IsRootAfter, LeadsTo, Par
 use Rattle.art_writing.specs.Inserted.{unlinked_leaf}
 use Rattle.art_writing.specs.TakenOut.{IsLeafTaken, IsTakenOut}
 use Rattle.art_reading.specs.PathSteps.{last_step}
-use Rattle.art_reading.proofs.PartIterations.{some_there}
+use Rattle.art_reading.proofs.PartNodes.{some_there}
 use Rattle.art_writing.proofs.Reserved.{nothing_after, taken_unasked}
 use Rattle.art_writing.proofs.Ways.{last_step-path_of}
 

@@ -5,7 +5,7 @@ use Rattle.art_model.specs.Prelude.{LeafPtr, LeafNode, pair_of, Leaves, IsThere,
 use Rattle.art_parts.proofs.NameLemmas.{leaf_cmp_total, leaf_cmp-IsAntisymmetric}
 use Rattle.art_model.proofs.stores.Touches.{still_placed}
 use Rattle.art_model.proofs.leaves.Leaves.{joined_pair}
-use Rattle.art_reading.proofs.PartIterations.{some_there}
+use Rattle.art_reading.proofs.PartNodes.{some_there}
 
 module _ {K V : Type 0} (m : Leaves K V) where
   -- a new leaf leaves the others in the store

@@ -13,7 +13,7 @@ use Rattle.art_reading.specs.PartEnds.{IsPlaced}
 use Rattle.art_writing.specs.Points.{AnswersTo}
 use Rattle.art_writing.proofs.BranchLemmas.{end_laid, end_hole, end_depth}
 use Rattle.art_writing.proofs.BranchReads.{end_full, inner_found, inner_named, inner_start, inner_least, prefix_inside}
-use Rattle.art_reading.proofs.PartIterations.{leaf_is_there, least_is, some_there}
+use Rattle.art_reading.proofs.PartNodes.{leaf_is_there, least_is, some_there}
 use Rattle.art_reading.proofs.Prefixes as prefixes
 
 module _ {K V : Type 0} {bytes : K × V → List ℕ} {P : ℕ} {s : Nodes K V} {key : List ℕ} {point : InsertPoint} {pairs : List (K × V)}

@@ -15,8 +15,8 @@ use super::ByteMap;
 use super::owned::whole_walk;
 use art_nodes::node::{AsBytes, OpaqueNodePtr};
 use art_nodes::store::NodeStore;
+use art_ranges::range::{prefix_unchecked, range_unchecked};
 use art_reading::iterator::RawIterator;
-use art_reading::range::{prefix_unchecked, range_unchecked};
 use std::ops::Bound;
 
 impl<K: AsBytes + Drop, V: Drop, const P: usize> ByteMap<K, V, P> {

@@ -13,9 +13,9 @@ use super::position::leaf_by;
 use super::remove::{take_all_below, take_bytes, take_key};
 use super::{ByteMap, Range, RangeOf, pair_at};
 use art_nodes::node::AsBytes;
+use art_ranges::range::{prefix_unchecked, range_unchecked};
 use art_reading::iterator::RawIterator;
 use art_reading::lookup::{Asked, KeyBytes, KeyQuery, search_for};
-use art_reading::range::{prefix_unchecked, range_unchecked};
 use std::ops::Bound;
 
 impl<K: AsBytes + Drop, V: Drop, const P: usize> ByteMap<K, V, P> {

@@ -10,7 +10,7 @@ use super::remove::take_pair;
 use super::{ByteMap, pair_at};
 use art_nodes::node::{AsBytes, OpaqueNodePtr};
 use art_nodes::store::NodeStore;
-use art_reading::range::range_unchecked;
+use art_ranges::range::range_unchecked;
 use art_writing::delete::{DeletePoint, search_for_delete_point_by_lengths};
 use std::ops::Bound;
 

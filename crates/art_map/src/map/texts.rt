@@ -8,9 +8,8 @@ ghost use Rattle.art_reading.specs.ShortTexts.{texts_from};
 
 use super::{ByteMap, pair_at};
 use art_nodes::node::AsBytes;
-use art_reading::lookup::{
-    KeyBytes, longest_text_by, longest_text_unchecked, shortest_text_unchecked,
-};
+use art_ranges::texts::{longest_text_by, longest_text_unchecked, shortest_text_unchecked};
+use art_reading::lookup::KeyBytes;
 
 impl<K: AsBytes + Drop, V: Drop, const P: usize> ByteMap<K, V, P> {
     /// Returns the pair with the longest text that is a prefix of the query, or `None` if there is none. Each key must

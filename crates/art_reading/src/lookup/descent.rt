@@ -60,9 +60,9 @@ impl Visits {
         self.count = self.count.saturating_add(more.count);
     }
 
-    // Counts the reading of a node in the same way.
+    /// Counts the reading of a node. The counter stops at the greatest number that it can hold.
     #[inline(always)]
-    pub(crate) fn count_one(&mut self)
+    pub fn count_one(&mut self)
         ensures { self.new ≡ self.old + min 1 (2 ^ 64 - 1 - self.old) }
     {
         self.add(Visits { count: 1 });
@@ -225,9 +225,9 @@ pub enum End {
 }
 
 impl End {
-    // The first of two, or the last.
+    /// Returns the first of two, or the last.
     #[inline(always)]
-    pub(crate) fn of<T: Copy>(self, two: (T, T)) -> T
+    pub fn of<T: Copy>(self, two: (T, T)) -> T
         ensures { result ≡ of_two self two }
     {
         match self {
@@ -251,9 +251,9 @@ pub fn walk_to_end<K: AsBytes + Drop, V: Drop, const P: usize>(
     walk_to_end_visiting(store, root, end, &mut Visits::new())
 }
 
-// The same, and counts each node that it reads.
+/// Returns what `walk_to_end` does, and counts each inner node that it reads.
 #[inline(always)]
-pub(crate) fn walk_to_end_visiting<K: AsBytes + Drop, V: Drop, const P: usize>(
+pub fn walk_to_end_visiting<K: AsBytes + Drop, V: Drop, const P: usize>(
     store: &NodeStore<K, V, P>,
     root: OpaqueNodePtr,
     end: End,
@@ -315,9 +315,9 @@ pub fn walk_below<B: KeyBytes, K: AsBytes + Drop, V: Drop, const P: usize>(
     walk_below_visiting(store, root, prefix, &mut Visits::new())
 }
 
-// The same, and counts each inner node that it reads.
+/// Returns what `walk_below` does, and counts each inner node that it reads.
 #[inline(always)]
-pub(crate) fn walk_below_visiting<B: KeyBytes, K: AsBytes + Drop, V: Drop, const P: usize>(
+pub fn walk_below_visiting<B: KeyBytes, K: AsBytes + Drop, V: Drop, const P: usize>(
     store: &NodeStore<K, V, P>,
     root: OpaqueNodePtr,
     prefix: &mut B,

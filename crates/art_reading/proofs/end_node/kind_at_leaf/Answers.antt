@@ -1,7 +1,7 @@
 use Rattle.std.proofs.Common.{ap, arith, inl, inr, length, refl}
 use Rattle.art_reading.proofs.Endings.{byte_within, past}
 use Rattle.art_reading.proofs.Partings.{both_end, both_go_on, one_ends}
-use Rattle.art_reading.proofs.LongestTexts.{shared_short}
+use Rattle.art_reading.proofs.Shared.{shared_short}
 use Rattle.art_reading.proofs.end_node.kind_at_leaf.Goals as goal
 
 pub byte_after-requires : goal.byte_after-requires

@@ -5,7 +5,7 @@ use Rattle.art_reading.proofs.EndNodes.{inside}
 use Rattle.art_reading.proofs.Endings.{byte_is, byte_within, past}
 use Rattle.art_reading.proofs.Guides.{by_places, by_there, gap_ends, goes_below, leaf_ends, short_ends}
 use Rattle.art_reading.proofs.Levels.{lower, under_root}
-use Rattle.art_reading.proofs.PartIterations.{some_there}
+use Rattle.art_reading.proofs.PartNodes.{some_there}
 use Rattle.art_reading.proofs.guide.walk_by_places.Goals as goal
 
 pub down-init : goal.down-init

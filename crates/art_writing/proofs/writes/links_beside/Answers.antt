@@ -1,5 +1,5 @@
 use Rattle.std.proofs.Common.{rules}
-use Rattle.art_reading.proofs.PartIterations.{leaf_is_there}
+use Rattle.art_reading.proofs.PartNodes.{leaf_is_there}
 use Rattle.art_writing.proofs.writes.links_beside.Goals as goal
 
 pub leaf_at-leaf-requires : goal.leaf_at-leaf-requires

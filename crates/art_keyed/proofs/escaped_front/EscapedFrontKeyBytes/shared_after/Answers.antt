@@ -1,6 +1,6 @@
 use Rattle.std.proofs.Common.{arith, drop}
 use Rattle.art_keys.specs.Escapes.{escape}
-use Rattle.art_reading.proofs.LongestTexts.{shared_within}
+use Rattle.art_reading.proofs.Shared.{shared_within}
 use Rattle.art_keyed.proofs.EscapedFronts.{inside_shorter, others_shared, same_inside, zero_shared}
 use Rattle.art_keyed.proofs.escaped_front.EscapedFrontKeyBytes.shared_after.Goals as goal
 use Rattle.art_keyed.proofs.escaped_front.EscapedFrontKeyBytes.shared_after.Goals.{else-shared-gt0-via-then-shared-gt0+else-bytes-shared-eq0, else-shared-gt0-via-else-shared-gt0}

@@ -2,7 +2,7 @@ use Rattle.std.proofs.Common.{refl, ap, ap₂, sym, ◌∙◌, arith, [], ◌∷
 use Rattle.art_model.specs.Pairs.{without_first}
 use Rattle.art_model.proofs.pairs.Puts.{first_none}
 use Rattle.art_sets.specs.SetKeys.{add_all, add_key}
-use Rattle.art_map.proofs.Extended.{add_last}
+use Rattle.art_sets.proofs.AddedKeys.{add_last}
 use Rattle.art_map.proofs.Moved.{first_and_others}
 use Rattle.art_keyed_sets.proofs.set.TreeSet.append.Goals as goal
 

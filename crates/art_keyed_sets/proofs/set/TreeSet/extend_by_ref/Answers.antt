@@ -2,7 +2,7 @@ use Rattle.std.proofs.Common.{Some, refl, ap, sym, subst, ◌∙◌}
 use Rattle.std.specs.Iterator.{YieldsThen}
 use Rattle.std.proofs.iter.Next as it
 use Rattle.art_sets.specs.SetKeys.{add_key}
-use Rattle.art_map.proofs.Extended.{add_last}
+use Rattle.art_sets.proofs.AddedKeys.{add_last}
 use Rattle.art_keyed_sets.proofs.set.TreeSet.extend_by_ref.Goals as goal
 
 pub loop-key-init : goal.loop-key-init

@@ -3,9 +3,8 @@ use Rattle.std.proofs.lemmas.Bool.{false≢true}
 use Rattle.art_model.specs.Prelude.{is_front}
 use Rattle.art_model.proofs.keys.Keys.{same_equal}
 use Rattle.art_model.proofs.keys.Texts.{true_front}
-use Rattle.art_reading.proofs.LongestTexts.{shared_short}
+use Rattle.art_reading.proofs.Shared.{shared_short, some_left}
 use Rattle.art_reading.proofs.Partings.{all_shared}
-use Rattle.art_reading.proofs.Shared.{some_left}
 use Rattle.art_map.proofs.map.position.is_same.Goals as goal
 
 pub byte_after-requires : goal.byte_after-requires

@@ -6,7 +6,7 @@ use Rattle.art_model.proofs.stores.Shown.{leaf_met, inner_met}
 use Rattle.art_reading.proofs.Endings.{front_byte, front_near, front_within, parts_rest}
 use Rattle.art_reading.proofs.DescentSteps.{begins, node_there, ref_proper, same_there, shown_here, last_leaf, steps, steps_last, stops, stops_after, stops_last, stops_whole}
 use Rattle.art_reading.proofs.LookupWays.{stored_short}
-use Rattle.art_reading.proofs.PartIterations.{some_there}
+use Rattle.art_reading.proofs.PartNodes.{some_there}
 use Rattle.art_reading.proofs.lookup.descent.walk.Goals as goal
 
 pub down-init : goal.down-init

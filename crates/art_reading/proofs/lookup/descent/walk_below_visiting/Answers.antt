@@ -7,7 +7,7 @@ use Rattle.art_reading.proofs.Descents.{stands_there}
 use Rattle.art_reading.proofs.Endings.{byte_is, byte_within, past}
 use Rattle.art_reading.proofs.LeftOnWay.{end_left, gap_left, leaf_left}
 use Rattle.art_reading.proofs.Levels.{lower}
-use Rattle.art_reading.proofs.PartIterations.{some_there}
+use Rattle.art_reading.proofs.PartNodes.{some_there}
 use Rattle.art_reading.proofs.lookup.descent.walk_below_visiting.Goals as goal
 
 pub down-init : goal.down-init

@@ -3,7 +3,7 @@ use Rattle.art_model.proofs.places.EdgeDescents.{edge_inner_there, edge_shown, e
 use Rattle.art_reading.specs.PathSteps.{path_after}
 use Rattle.art_reading.proofs.Along.{IsAlong, start, ends, steps}
 use Rattle.art_reading.proofs.Counters.{count_both}
-use Rattle.art_reading.proofs.PartIterations.{some_there}
+use Rattle.art_reading.proofs.PartNodes.{some_there}
 use Rattle.art_reading.proofs.lookup.descent.walk_to_end_visiting.Goals as goal
 
 pub down-init : goal.down-init

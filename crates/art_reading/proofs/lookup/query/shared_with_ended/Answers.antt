@@ -1,8 +1,7 @@
 use Rattle.std.proofs.Common.{◌≡◌, ◌≤◌, ◌++◌, ◌∷◌, [], ◌∙◌, List, ℕ, ap, arith, drop, get_or, length, length-append, length-drop, sym, slice_range}
 use Rattle.std.proofs.lemmas.List.{drop-append-le, take_rest}
 use Rattle.art_reading.specs.Matching.{shared_len}
-use Rattle.art_reading.proofs.LongestTexts.{shared_short}
-use Rattle.art_reading.proofs.Shared.{end_apart, end_shared}
+use Rattle.art_reading.proofs.Shared.{shared_short, end_apart, end_shared}
 use Rattle.art_reading.proofs.lookup.query.shared_with_ended.Goals as goal
 use Rattle.art_reading.proofs.lookup.query.shared_with_ended.Goals.{else-shared-rest-via-then-shared-rest+then-shared-bytes+else-bytes-shared, else-shared-rest-via-then-shared-rest+else-shared-bytes, else-shared-rest-via-else-shared-rest}
 

@@ -1,7 +1,6 @@
 use Rattle.std.proofs.Common.{◌≡◌, ◌+◌, ◌∙◌, Bool, true, false, ap, arith, is_some, not, refl, slice_get, sym}
 use Rattle.std.proofs.lemmas.Bool.{false≢true, true≢false}
-use Rattle.art_reading.proofs.LongestTexts.{shared_short}
-use Rattle.art_reading.proofs.Shared.{some_left}
+use Rattle.art_reading.proofs.Shared.{shared_short, some_left}
 use Rattle.art_reading.proofs.lookup.query.starts_with.Goals as goal
 
 pub byte_after-requires : goal.byte_after-requires

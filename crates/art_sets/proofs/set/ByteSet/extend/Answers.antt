@@ -1,7 +1,7 @@
 use Rattle.std.proofs.Common.{ap, sym, subst, ◌∙◌}
 use Rattle.std.proofs.iter.Next as it
 use Rattle.art_sets.specs.SetKeys.{IsKeyRefusal, add_key}
-use Rattle.art_map.proofs.Extended.{add_last}
+use Rattle.art_sets.proofs.AddedKeys.{add_last}
 use Rattle.art_sets.proofs.set.ByteSet.extend.Goals as goal
 
 pub loop-key-preserved : goal.loop-key-preserved

@@ -1,7 +1,7 @@
 use Rattle.std.proofs.Common.{rules, ◌≡◌, ap, sym, ◌∙◌, subst}
 use Rattle.art_model.specs.Prelude.{is_front, of_key}
 use Rattle.art_reading.specs.PartEnds.{EndsBelow}
-use Rattle.art_reading.proofs.PartIterations.{first_is, leaf_is_there, node_full, node_holds}
+use Rattle.art_reading.proofs.PartNodes.{first_is, leaf_is_there, node_full, node_holds}
 use Rattle.art_writing.proofs.PointsBelow.{points_there}
 use Rattle.art_writing.proofs.SubtreePointLemmas.{none_go}
 use Rattle.art_writing.specs.SubtreePoints.{joined}

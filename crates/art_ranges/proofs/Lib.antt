@@ -1,0 +1,13 @@
+pub mod PartReadings
+pub mod PartIterations
+pub mod Sides
+pub mod NeighbourDescents
+pub mod Cuts
+pub mod Spans
+pub mod Bounds
+pub mod TextWays
+pub mod LongestTexts
+pub mod ShortTexts
+pub mod GuideTexts
+pub mod TextReads
+pub mod FoundTexts

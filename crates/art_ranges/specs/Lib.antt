@@ -1,0 +1,4 @@
+pub mod Cuts
+pub mod PartReadings
+pub mod TextWays
+pub mod FoundTexts
