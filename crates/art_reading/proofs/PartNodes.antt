@@ -1,4 +1,4 @@
--- nodes of a tree between two parts of it
+-- nodes of a tree in a store
 use Rattle.std.proofs.Common.{◌≡◌, ℕ, List, [], refl, ap, sym, ◌∙◌, subst, Option, Some, None, IsSome}
 use Rattle.std.specs.List.{AllByRecursion as Each}
 use Rattle.std.specs.FinMap as map
@@ -34,6 +34,15 @@ module _ {K V : Type 0} (s : Nodes K V) {tree : Tree OpaqueNodePtr (K × V)} (ho
 
 module _ {K V : Type 0} {s : Nodes K V} {bytes : K × V → List ℕ} {P : ℕ} {root : OpaqueNodePtr} {pairs : List (K × V)} {layout : Tree OpaqueNodePtr (K × V)}
     (by : IsCanonicalTree bytes P s root pairs layout) where
+  -- the node under the name of a leaf has its pair
+  pub own_pair : {name : LeafPtr} {x : K × V} → HasLeaf layout (leaf_name name) x → {node : LeafNode K V} → Some node ≡ map.get s.leaves name → pair_of node ≡ x
+  own_pair {name} {x} has {node} read =
+      let (other, there, same) =
+      views.leaf_there s name x (path_holds (node_at s) has.path (leaf (leaf_name name) x)
+      (subst (Holds (node_at s)) (sym has.whole) by.stands.0.holds)).1 in
+      let is : node ≡ other = cc in
+      ap pair_of is ∙ same
+
   module _ {Lower Upper : K × V → Type 0} {name : OpaqueNodePtr} (at : StandsBetween Lower Upper layout name) where
     own_radix : (place : List ℕ) × IsRadix bytes P place at.node
     own_radix = let (place, path, radix) = radix_plug bytes P at.path at.node (subst (IsRadix bytes P []) (sym at.whole) (tree_radix by).0) in (place, radix)

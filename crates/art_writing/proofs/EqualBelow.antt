@@ -7,7 +7,7 @@ use Rattle.art_model.proofs.keys.KeyLaws.{common_front_is_longest}
 use Rattle.art_model.proofs.keys.Texts.{front_short, not_front, true_front}
 use Rattle.art_model.proofs.leaves.LeavesFound.{leaf_found}
 use Rattle.art_reading.specs.Matching.{shared_len}
-use Rattle.art_reading.proofs.Found.{own_pair}
+use Rattle.art_reading.proofs.PartNodes.{own_pair}
 use Rattle.art_writing.specs.Deleted.{IsDeletePoint, LeadsTo}
 use Rattle.art_writing.specs.declared.delete.DeletePoint.{DeletePoint}
 use Rattle.art_writing.proofs.DeletePoints.{point_there}

@@ -5,7 +5,7 @@ use Rattle.art_reading.proofs.EndNodes.{start}
 use Rattle.art_ranges.proofs.FoundTexts.{has_found_last}
 use Rattle.art_reading.proofs.Guides.{guide_there}
 use Rattle.art_ranges.proofs.GuideTexts.{same_texts}
-use Rattle.art_reading.proofs.Found.{own_pair}
+use Rattle.art_reading.proofs.PartNodes.{own_pair}
 use Rattle.art_reading.proofs.Shared.{shared_within}
 use Rattle.art_ranges.proofs.texts.longest_text_by.Goals as goal
 

@@ -2,10 +2,9 @@ use Rattle.std.proofs.Common.{◌+◌, None, length, length-take, ap, arith, ref
 use Rattle.art_model.specs.Keys.{common_front}
 use Rattle.art_model.specs.Pairs.{of_key, without_last}
 use Rattle.art_ranges.proofs.FoundTexts.{has_found_last}
-use Rattle.art_reading.proofs.PartNodes.{leaf_is_there}
+use Rattle.art_reading.proofs.PartNodes.{leaf_is_there, own_pair}
 use Rattle.art_model.specs.Texts.{text_of}
 use Rattle.art_ranges.proofs.LongestTexts.{ends_at, ends_walk, found_again, found_none, found_whole, last_found}
-use Rattle.art_reading.proofs.Found.{own_pair}
 use Rattle.art_reading.proofs.Shared.{shared_short, shared_within}
 use Rattle.art_reading.proofs.Counters.{count_both}
 use Rattle.art_ranges.proofs.TextReads.{at_most, with_one}

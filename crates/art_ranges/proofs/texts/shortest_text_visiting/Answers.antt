@@ -4,8 +4,7 @@ use Rattle.art_model.specs.Pairs.{of_key, without_last}
 use Rattle.art_model.specs.Texts.{text_of}
 use Rattle.art_ranges.proofs.FoundTexts.{has_found_first}
 use Rattle.art_ranges.proofs.LongestTexts.{ends_at}
-use Rattle.art_reading.proofs.Found.{own_pair}
-use Rattle.art_reading.proofs.PartNodes.{leaf_is_there}
+use Rattle.art_reading.proofs.PartNodes.{leaf_is_there, own_pair}
 use Rattle.art_ranges.proofs.ShortTexts.{first_found, first_missed, first_none}
 use Rattle.art_ranges.proofs.TextReads.{at_most, with_one}
 use Rattle.art_ranges.proofs.texts.shortest_text_visiting.Goals as goal
