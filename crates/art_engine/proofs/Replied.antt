@@ -2,10 +2,10 @@
 use Rattle.std.proofs.Common.{◌≡◌, ℕ, List, [], ◌∷◌, ◌++◌, codes, Option, Some, OnOk, Result, Ok, Err, inl, inr}
 use Rattle.std.specs.Io.KnownBytes.{Appends}
 use Rattle.art_engine.specs.declared.lines.Request.{Request}
-use Rattle.art_operations.specs.Runs.{IsRun}
-use Rattle.art_operations.specs.declared.run.Command.{Command}
-use Rattle.art_operations.specs.declared.run.Reply.{Reply}
-use Rattle.art_operations.specs.declared.run.Side.{Side}
+use Rattle.art_running.specs.Runs.{IsRun}
+use Rattle.art_running.specs.declared.run.Command.{Command}
+use Rattle.art_running.specs.declared.run.Reply.{Reply}
+use Rattle.art_running.specs.declared.run.Side.{Side}
 use Rattle.art_engine.specs.Commands.{AsksForCommand, IsCommandFor}
 use Rattle.art_engine.specs.KeptTrees.{state_of, state_before}
 use Rattle.art_engine.specs.KeptKeys.{Key, key_bytes}

@@ -1,9 +1,9 @@
 -- A run of one command has one reply.
 use Rattle.std.proofs.Common.{◌≡◌, ℕ, suc, refl, List, [], ◌∷◌, ◌++◌, length, ap, arith, length-append}
-use Rattle.art_operations.specs.Runs.{Chain, Shown, IsRun}
-use Rattle.art_operations.specs.Steps.{Step}
-use Rattle.art_operations.specs.declared.run.Command.{Command}
-use Rattle.art_operations.specs.declared.run.Reply.{Reply}
+use Rattle.art_running.specs.Runs.{Chain, Shown, IsRun}
+use Rattle.art_running.specs.Steps.{Step}
+use Rattle.art_running.specs.declared.run.Command.{Command}
+use Rattle.art_running.specs.declared.run.Reply.{Reply}
 
 -- a chain has as many replies as commands
 chain_long : {S C R : Type 0} (Step : S → C → R → S → Type 0) (old new : S) (cs : List C) (rs : List R) → Chain Step old cs rs new → length rs ≡ length cs

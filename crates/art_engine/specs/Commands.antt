@@ -1,10 +1,10 @@
 -- The commands that lines ask for, and what they make of the tree that the program keeps.
 use Rattle.std.specs.Prelude.{◌≡◌, ℕ, ⊤, ◌⊎◌, [], ◌∷◌, Option, Some, None}
-use Rattle.art_operations.specs.Runs.{IsRun}
-use Rattle.art_operations.specs.declared.run.Command.{Command}
-use Rattle.art_operations.specs.declared.run.Command.TheVariants as commands
-use Rattle.art_operations.specs.declared.run.Reply.{Reply}
-use Rattle.art_operations.specs.declared.run.Side.{Side}
+use Rattle.art_running.specs.Runs.{IsRun}
+use Rattle.art_running.specs.declared.run.Command.{Command}
+use Rattle.art_running.specs.declared.run.Command.TheVariants as commands
+use Rattle.art_running.specs.declared.run.Reply.{Reply}
+use Rattle.art_running.specs.declared.run.Side.{Side}
 use Rattle.art_engine.specs.KeyTexts.{key_word}
 use Rattle.art_engine.specs.KeptTrees.{state_of, state_before}
 use Rattle.art_engine.specs.KeptKeys.{Key, key_bytes}

@@ -1,8 +1,8 @@
 -- The tree that the program keeps, as contracts see it.
 use Rattle.std.specs.Prelude.{ℕ}
-use Rattle.art_operations.specs.Runs.{Shown, on, from_side}
-use Rattle.art_operations.specs.declared.run.Side.{Side}
-use Rattle.art_operations.specs.declared.run.Side.TheVariants.{First}
+use Rattle.art_running.specs.Runs.{Shown, on, from_side}
+use Rattle.art_running.specs.declared.run.Side.{Side}
+use Rattle.art_running.specs.declared.run.Side.TheVariants.{First}
 use Rattle.art_engine.specs.KeptKeys.{Key, HasCanonicalTree}
 use Rattle.art_engine.specs.declared.keeping.tree.KeptTree.{KeptTree}
 

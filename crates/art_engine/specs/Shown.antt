@@ -6,13 +6,13 @@ use Rattle.art_engine.specs.declared.lines.Request.TheVariants.{Walk, Back, Node
 use Rattle.art_model.specs.Canonical.{IsCanonical}
 use Rattle.art_model.specs.Faults.{out_of_memory}
 use Rattle.art_model.specs.Pairs.{of_key}
-use Rattle.art_operations.specs.Checks.{IsWellFormed, fault_of}
-use Rattle.art_operations.specs.Runs.{IsRun}
-use Rattle.art_operations.specs.declared.run.Command.{Command}
-use Rattle.art_operations.specs.declared.run.Reply.{Reply}
-use Rattle.art_operations.specs.declared.run.Side.{Side}
-use Rattle.art_operations.specs.declared.well_formed.MalformedTreeError.{MalformedTreeError}
-use Rattle.art_operations.specs.declared.well_formed.WellFormedTreeStats.{WellFormedTreeStats}
+use Rattle.art_checking.specs.Checks.{IsWellFormed, fault_of}
+use Rattle.art_running.specs.Runs.{IsRun}
+use Rattle.art_running.specs.declared.run.Command.{Command}
+use Rattle.art_running.specs.declared.run.Reply.{Reply}
+use Rattle.art_running.specs.declared.run.Side.{Side}
+use Rattle.art_checking.specs.declared.well_formed.fault.MalformedTreeError.{MalformedTreeError}
+use Rattle.art_checking.specs.declared.well_formed.WellFormedTreeStats.{WellFormedTreeStats}
 use Rattle.art_engine.specs.declared.keeping.tree.KeptTree.{KeptTree}
 use Rattle.art_engine.specs.Commands.{AsksForCommand, IsCommandFor}
 use Rattle.art_engine.specs.KeptTrees.{state_of, state_before}

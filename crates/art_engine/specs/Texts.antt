@@ -8,12 +8,12 @@ use Rattle.art_reading.specs.declared.lookup.descent.End.{End}
 use Rattle.art_reading.specs.declared.lookup.descent.End.TheVariants.{First, Last}
 use Rattle.art_engine.specs.declared.pairs.Order.{Order}
 use Rattle.art_engine.specs.declared.pairs.Order.TheVariants.{Rising, Falling}
-use Rattle.art_operations.specs.declared.well_formed.WellFormedTreeStats.{WellFormedTreeStats}
-use Rattle.art_operations.specs.declared.well_formed.MalformedTreeError.{MalformedTreeError}
-use Rattle.art_operations.specs.declared.well_formed.MalformedTreeError.TheVariants.{OutOfMemory}
-use Rattle.art_operations.specs.Conflicts.{conflict_text}
-use Rattle.art_operations.specs.declared.run.Reply.{Reply}
-use Rattle.art_operations.specs.declared.run.Reply.TheVariants.{Inserted, Conflict, Overwrote, Deleted, Cloned, Found, MatchLen, NoMemory}
+use Rattle.art_checking.specs.declared.well_formed.WellFormedTreeStats.{WellFormedTreeStats}
+use Rattle.art_checking.specs.declared.well_formed.fault.MalformedTreeError.{MalformedTreeError}
+use Rattle.art_checking.specs.declared.well_formed.fault.MalformedTreeError.TheVariants.{OutOfMemory}
+use Rattle.art_writing.specs.Conflicts.{conflict_text}
+use Rattle.art_running.specs.declared.run.Reply.{Reply}
+use Rattle.art_running.specs.declared.run.Reply.TheVariants.{Inserted, Conflict, Overwrote, Deleted, Cloned, Found, MatchLen, NoMemory}
 
 -- what became of a pair, and its key and its value
 abbrev pub pair_text : List ℕ → Key × ℕ → List ℕ

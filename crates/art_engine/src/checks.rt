@@ -4,7 +4,7 @@ ghost use Rattle.std.specs.Io.KnownBytes.{Appends};
 ghost use Rattle.art_engine.specs.Texts.{check_text};
 
 use crate::replies::write_no_memory;
-use art_operations::well_formed::{MalformedTreeError, WellFormedTreeStats};
+use art_checking::well_formed::{MalformedTreeError, WellFormedTreeStats};
 use std::io;
 use std::io::Write;
 

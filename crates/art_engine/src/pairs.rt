@@ -13,8 +13,8 @@ ghost use Rattle.art_engine.specs.Texts.{entry_text, gap_after, in_order, pairs_
 use crate::key::ShownKey;
 use art_nodes::node::{LeafNode, LeafPtr, OpaqueNodePtr};
 use art_nodes::store::NodeStore;
-use art_operations::iterator::RawIterator;
-use art_operations::minmax::{maximum_unchecked, minimum_unchecked};
+use art_reading::iterator::RawIterator;
+use art_reading::minmax::{maximum_unchecked, minimum_unchecked};
 use std::io;
 use std::io::{ErrorKind, Write};
 

@@ -4,7 +4,7 @@ ghost use Rattle.std.specs.Io.KnownBytes.{Appends};
 ghost use Rattle.art_engine.specs.Texts.{pair_text, reply_text};
 
 use crate::key::ShownKey;
-use art_operations::run::Reply;
+use art_running::run::Reply;
 use std::io;
 use std::io::Write;
 

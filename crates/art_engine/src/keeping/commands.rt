@@ -3,7 +3,7 @@ ghost use Rattle.std.specs.Prelude.{IfOk, OnErr};
 ghost use Rattle.art_engine.specs.Commands.{AsksForCommand, IsCommandFor};
 
 use crate::lines::Request;
-use art_operations::run::Command;
+use art_running::run::Command;
 use std::alloc::{AllocError, Global};
 
 /// Returns the command that a request asks for, if it asks for one. Fails only if the allocation of its key fails, and

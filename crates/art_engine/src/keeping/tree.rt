@@ -3,16 +3,16 @@ ghost use Rattle.std.specs.Prelude.{◌≡◌, ◌∷◌, [], None, IfOk, IfErr,
 ghost use Rattle.art_parts.specs.LeafClones.{IsPairClone};
 ghost use Rattle.art_model.specs.Faults.{out_of_memory};
 ghost use Rattle.art_model.specs.Pairs.{of_key};
-ghost use Rattle.art_operations.specs.Checks.{IsWellFormed, fault_of};
-ghost use Rattle.art_operations.specs.Runs.{IsRun};
-ghost use Rattle.art_operations.specs.declared.run.Side.{Side};
+ghost use Rattle.art_checking.specs.Checks.{IsWellFormed, fault_of};
+ghost use Rattle.art_running.specs.Runs.{IsRun};
+ghost use Rattle.art_running.specs.declared.run.Side.{Side};
 ghost use Rattle.art_engine.specs.KeptKeys.{IsLinkedTreeIn, IsTreeIn, key_bytes};
 ghost use Rattle.art_engine.specs.KeptTrees.{IsKept, state_of, state_before};
 
+use art_checking::well_formed::{MalformedTreeError, WellFormedChecker, WellFormedTreeStats};
 use art_nodes::node::OpaqueNodePtr;
 use art_nodes::store::NodeStore;
-use art_operations::run::{Command, Reply, Side, run};
-use art_operations::well_formed::{MalformedTreeError, WellFormedChecker, WellFormedTreeStats};
+use art_running::run::{Command, Reply, Side, run};
 use std::alloc::{AllocError, Global};
 use std::mem;
 
