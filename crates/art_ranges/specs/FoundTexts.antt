@@ -11,8 +11,8 @@ use Rattle.art_reading.specs.Found.{HasFoundOne}
 module _ {K V : Type 0} (bytes : K × V → List ℕ) (P : ℕ) (s : Nodes K V) (root : OpaqueNodePtr) where
   -- of the first of the pairs that are sought
   abbrev pub HasFoundFirst : (List (K × V) → List (K × V)) → Option LeafPtr → Type 0
-  HasFoundFirst sought result = HasFoundOne FindsFirst first_of sought result
+  HasFoundFirst sought result = HasFoundOne bytes P s root FindsFirst first_of sought result
 
   -- of the last of the pairs that are sought
   abbrev pub HasFoundLast : (List (K × V) → List (K × V)) → Option LeafPtr → Type 0
-  HasFoundLast sought result = HasFoundOne FindsLast last_of sought result
+  HasFoundLast sought result = HasFoundOne bytes P s root FindsLast last_of sought result
