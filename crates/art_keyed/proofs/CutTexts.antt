@@ -14,7 +14,7 @@ use Rattle.art_model.proofs.lists.Pairwises.{Pairwise-before}
 use Rattle.art_model.specs.Texts.{AreEnded, IsEndedBy, texts_in_front, text_of}
 use Rattle.art_model.proofs.keys.Texts.{ended_text, front_of_fronts, front_short, fronts_first, not_front, true_front}
 use Rattle.art_model.proofs.pairs.Puts.{first_has}
-use Rattle.art_reading.specs.ShortTexts.{texts_from}
+use Rattle.art_ranges.specs.ShortTexts.{texts_from}
 use Rattle.art_keyed.specs.Matches.{matches_left}
 
 -- the first so many bytes are a prefix

@@ -4,7 +4,7 @@ use Rattle.std.specs.FinMap.{get}
 use Rattle.art_model.specs.Prelude.{Nodes, leaf_name, LeafPtr, OpaqueNodePtr, IsCanonicalTree, FindsLast, HasLeaf, first_of, last_of, ForTree, IsCanonicalRoot, pair_of, Tree}
 use Rattle.art_model.proofs.leaves.LeavesFound.{leaf_found}
 use Rattle.art_ranges.specs.FoundTexts.{HasFoundFirst, HasFoundLast}
-use Rattle.art_reading.specs.ShortTexts.{FindsFirst}
+use Rattle.art_ranges.specs.ShortTexts.{FindsFirst}
 
 module _ {K V : Type 0} (bytes : K × V → List ℕ) (P : ℕ) {s : Nodes K V} {root : OpaqueNodePtr} where
   module _ {pairs : List (K × V)} {layout : Tree OpaqueNodePtr (K × V)} (by : IsCanonicalTree bytes P s root pairs layout) where

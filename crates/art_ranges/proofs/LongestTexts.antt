@@ -23,7 +23,7 @@ use Rattle.art_model.proofs.lists.Pairwises.{Pairwise-after}
 use Rattle.art_model.proofs.places.Paths.{pairs_of-plug}
 use Rattle.art_model.proofs.stores.Canonical.{tree_radix}
 use Rattle.art_model.specs.Texts.{AreEnded, IsEndedBy, texts_in_front, text_of}
-use Rattle.art_reading.specs.ShortTexts.{IsSought}
+use Rattle.art_ranges.specs.ShortTexts.{IsSought}
 use Rattle.art_ranges.specs.TextWays.{EndsAt, EndsWalk, IsCovering, leaf_of_end}
 use Rattle.art_reading.specs.declared.lookup.descent.End.{End}
 use Rattle.art_reading.specs.declared.lookup.descent.End.TheVariants.{Last}

@@ -17,7 +17,7 @@ use Rattle.art_model.proofs.keys.Texts.{ended_text, fronts_first, true_front}
 use Rattle.art_model.proofs.lists.Filters.{Each-both, Each-filter, filter_passes}
 use Rattle.art_model.proofs.lists.Lists.{Each-left, Each-weaker, filter_none, front_trans}
 use Rattle.art_model.proofs.lists.Pairwises.{Pairwise-before}
-use Rattle.art_reading.specs.ShortTexts.{FindsFirst, IsSought, texts_from}
+use Rattle.art_ranges.specs.ShortTexts.{FindsFirst, IsSought, texts_from}
 use Rattle.art_ranges.specs.TextWays.{EndsWalk, IsCovering}
 use Rattle.art_reading.specs.declared.lookup.descent.End.TheVariants.{First}
 use Rattle.art_ranges.proofs.LongestTexts.{around, at_leaf}

@@ -36,7 +36,7 @@ use Rattle.art_model.proofs.stores.Views.{inner_name_is}
 use Rattle.art_reading.specs.PartEnds.{StandsBetween}
 use Rattle.art_reading.proofs.Descents.{IsDescent, start, stands_there, shown_radix, front, front_len, child_there, each_under, down}
 use Rattle.art_model.specs.Texts.{AreEnded, IsEndedBy, text_of}
-use Rattle.art_reading.specs.ShortTexts.{IsSought}
+use Rattle.art_ranges.specs.ShortTexts.{IsSought}
 use Rattle.art_ranges.specs.TextWays.{EndsAt, EndsWalk, IsKept, IsLeafOr, IsTextStep}
 use Rattle.art_reading.specs.declared.lookup.descent.End.{End}
 use Rattle.art_reading.specs.declared.lookup.descent.End.TheVariants.{First, Last}

@@ -5,7 +5,7 @@ use Rattle.art_parts.specs.declared.names.LeafPtr.{LeafPtr}
 use Rattle.art_parts.specs.declared.names.OpaqueNodePtr.{OpaqueNodePtr}
 use Rattle.art_model.specs.Lookups.{FindsLast}
 use Rattle.art_model.specs.Pairs.{first_of, last_of}
-use Rattle.art_reading.specs.ShortTexts.{FindsFirst}
+use Rattle.art_ranges.specs.ShortTexts.{FindsFirst}
 use Rattle.art_reading.specs.Found.{HasFoundOne}
 
 module _ {K V : Type 0} (bytes : K × V → List ℕ) (P : ℕ) (s : Nodes K V) (root : OpaqueNodePtr) where

@@ -2,3 +2,4 @@ pub mod Cuts
 pub mod PartReadings
 pub mod TextWays
 pub mod FoundTexts
+pub mod ShortTexts

@@ -11,7 +11,7 @@ use Rattle.art_model.specs.Keys.{IsFront}
 use Rattle.art_model.specs.Lookups.{HasLeaf}
 use Rattle.art_model.specs.Texts.{text_of}
 use Rattle.art_model.specs.Trees.{Tree}
-use Rattle.art_reading.specs.ShortTexts.{IsSought}
+use Rattle.art_ranges.specs.ShortTexts.{IsSought}
 use Rattle.art_reading.specs.declared.lookup.descent.End.{End}
 use Rattle.art_reading.specs.declared.lookup.descent.End.TheVariants.{First, Last}
 use Rattle.art_ranges.specs.declared.texts.TextEnd.{TextEnd}

@@ -9,7 +9,7 @@ ghost use Rattle.art_model.specs.Roots.{ForTree, IsCanonicalRoot};
 ghost use Rattle.art_model.specs.Texts.{AreEnded, texts_in_front};
 ghost use Rattle.art_ranges.specs.FoundTexts.{HasFoundFirst, HasFoundLast};
 ghost use Rattle.art_ranges.specs.PartReadings.{CountsToText};
-ghost use Rattle.art_reading.specs.ShortTexts.{texts_from};
+ghost use Rattle.art_ranges.specs.ShortTexts.{texts_from};
 ghost use Rattle.art_ranges.specs.TextWays.{EndsAt, IsLeafOr, IsTextStep, bytes_along, leaf_of_end};
 ghost use Rattle.art_reading.specs.declared.lookup.descent.End.TheVariants.{First};
 

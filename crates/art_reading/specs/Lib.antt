@@ -12,5 +12,4 @@ pub mod Readings
 pub mod Descents
 pub mod Iterators
 pub mod PartEnds
-pub mod ShortTexts
 pub mod Found

@@ -5,7 +5,7 @@ use Rattle.std.specs.List.{AllByRecursion as Each}
 use Rattle.std.specs.declared.ops.Bound.{Bound}
 use Rattle.art_model.specs.Prelude.{Precedes, are_related, are_same, is_before, is_front, IsMap, add_in_order, first_of, has_key, is_conflict, last_of, of_key, put, put_reply, remove_key, remove_reply, replace_key, with_key, without_first, without_last, below, between, texts_in_front, text_of}
 use Rattle.art_model.proofs.pairs.Puts.{any_is_first, has_is_stored, put-new}
-use Rattle.art_reading.specs.ShortTexts.{texts_from}
+use Rattle.art_ranges.specs.ShortTexts.{texts_from}
 use Rattle.art_map.specs.declared.map.MapInsertError.{MapInsertError}
 use Rattle.art_map.specs.declared.map.MapInsertError.TheVariants.{Conflict, Memory}
 use Rattle.art_map.specs.MapAnswers.{IsRefusalOf, with_value_at}

@@ -4,7 +4,7 @@ ghost use Rattle.std.specs.Option.{option_map};
 ghost use Rattle.art_model.specs.Pairs.{IsMap, first_of, last_of, of_key};
 ghost use Rattle.art_model.specs.Texts.{AreEnded, texts_in_front};
 ghost use Rattle.art_map.specs.MapItems.{deref_pair};
-ghost use Rattle.art_reading.specs.ShortTexts.{texts_from};
+ghost use Rattle.art_ranges.specs.ShortTexts.{texts_from};
 
 use super::{ByteMap, pair_at};
 use art_nodes::node::AsBytes;

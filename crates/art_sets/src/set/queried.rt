@@ -4,7 +4,7 @@ ghost use Rattle.std.specs.Range.Bound.{bound_map};
 ghost use Rattle.art_model.specs.Pairs.{IsMap, first_of, has_key, last_of, remove_key};
 ghost use Rattle.art_model.specs.Parts.{between};
 ghost use Rattle.art_model.specs.Texts.{AreEnded, texts_in_front};
-ghost use Rattle.art_reading.specs.ShortTexts.{texts_from};
+ghost use Rattle.art_ranges.specs.ShortTexts.{texts_from};
 
 use super::{ByteSet, KeyRange, KeyRangeOf};
 use art_nodes::node::AsBytes;

@@ -1,6 +1,6 @@
 use Rattle.std.proofs.Common.{rules, ap, subst, sym, ◌∙◌, option_map}
 use Rattle.art_model.specs.Prelude.{first_of, AreEnded, IsEndedBy}
-use Rattle.art_reading.specs.ShortTexts.{texts_from}
+use Rattle.art_ranges.specs.ShortTexts.{texts_from}
 use Rattle.art_sets.proofs.SetLaws.{keys_each, keys_shortest}
 use Rattle.art_sets.proofs.set.ByteSet.shortest_text.Goals as goal
 

@@ -3,7 +3,7 @@ use Rattle.std.specs.Option.{option_map}
 use Rattle.art_model.specs.Pairs.{IsMap, first_of, of_key}
 use Rattle.art_map.specs.MapItems.{deref_pair}
 use Rattle.art_model.specs.Texts.{AreEnded}
-use Rattle.art_reading.specs.ShortTexts.{texts_from}
+use Rattle.art_ranges.specs.ShortTexts.{texts_from}
 use Rattle.art_keyed.specs.Matches.{matches_left}
 use Rattle.art_keyed.proofs.CutTexts.{first_came, none_first}
 use Rattle.art_keyed.proofs.EndedFronts.{are_ended}
