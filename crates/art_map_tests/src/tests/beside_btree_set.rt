@@ -1,9 +1,9 @@
 //! Drawn calls of sets, compared with the same calls of `BTreeSet`s. The keys have one length, so that none is a prefix
 //! of another.
 use super::set_splits;
-use art_sets::set::ByteSet;
 use art_node_support::expected::same;
 use art_node_support::numbers::Numbers;
+use art_sets::set::ByteSet;
 use std::collections::BTreeSet;
 use std::test::Fail;
 

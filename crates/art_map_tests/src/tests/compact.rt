@@ -1,9 +1,9 @@
 //! Maps whose pairs were moved into the order of their keys.
 use super::calls::Map;
 use art_map::map::ByteMap;
-use art_sets::set::ByteSet;
 use art_node_support::expected::same;
 use art_node_support::memory::{all_memory, begin_refusals, end_refusals};
+use art_sets::set::ByteSet;
 use std::alloc::Global;
 use std::test::Fail;
 

@@ -5,10 +5,10 @@ use super::beside_btree::{
 };
 use super::calls::{Map, Removal};
 use art_map::map::ByteMap;
-use art_sets::set::ByteSet;
 use art_node_support::expected::same;
 use art_node_support::memory::all_memory;
 use art_node_support::numbers::Numbers;
+use art_sets::set::ByteSet;
 use std::alloc::Global;
 use std::collections::BTreeMap;
 use std::test::Fail;

@@ -2,10 +2,10 @@
 //! `BTreeSet`, and while all memory is held.
 use super::beside_btree_set::{Key, Model, Set, agree_on_keys, drawn_key};
 use super::ranges::{Edge, Front};
-use art_sets::set::ByteSet;
 use art_node_support::expected::same;
 use art_node_support::memory::all_memory;
 use art_node_support::numbers::Numbers;
+use art_sets::set::ByteSet;
 use std::alloc::Global;
 use std::test::Fail;
 

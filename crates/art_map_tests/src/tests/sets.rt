@@ -1,7 +1,7 @@
 //! A set of keys that can be told apart although they are equal.
-use art_sets::set::ByteSet;
 use art_node_support::expected::same;
 use art_node_support::tagged::Tagged;
+use art_sets::set::ByteSet;
 use std::alloc::Global;
 use std::test::Fail;
 
