@@ -12,7 +12,7 @@ use Rattle.art_loading.specs.declared.append.AppendReason.{AppendReason}
 use Rattle.art_loading.specs.declared.append.AppendReason.TheVariants.{Before, Conflict, Equal, Memory}
 use Rattle.art_map.specs.MapCalls.{put_all}
 use Rattle.art_model.specs.KeyLaws.{HasSmallerByte}
-use Rattle.art_model.specs.Keys.{IsFront, Precedes, are_related, are_same, is_before}
+use Rattle.art_parts.specs.Keys.{IsFront, Precedes, are_related, are_same, is_before}
 use Rattle.art_model.specs.Pairs.{IsMap, first_of, last_of, of_key, put, replace_key, with_key}
 use Rattle.art_model.proofs.keys.Keys.{front_related, front_same, precedes_apart, precedes_at, related_sym, same_related}
 use Rattle.art_model.proofs.keys.KeyLaws.{order_is_decided, order_is_total, order_is_transitive, relation_is_decided}

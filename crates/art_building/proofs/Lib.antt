@@ -1,7 +1,7 @@
 -- a tree that is being built
 pub mod Built
 -- keys of a type that are added
-pub mod AddedKeys
+pub mod KeysAfter
 -- sorted pairs that are put
 pub mod Unsorted
 pub mod Lasts

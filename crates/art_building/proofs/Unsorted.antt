@@ -15,7 +15,7 @@ use Rattle.art_map.specs.MapItems.{keys_of}
 use Rattle.art_sets.specs.SetKeys.{add_all, as_pairs}
 use Rattle.art_sets.proofs.SetLaws.{keys_put}
 use Rattle.art_model.specs.Changes.{put_pair}
-use Rattle.art_model.specs.Keys.{are_same, is_before}
+use Rattle.art_parts.specs.Keys.{are_same, is_before}
 use Rattle.art_model.specs.Pairs.{IsMap, first_of, of_key, put, stored_for, with_key}
 use Rattle.art_model.proofs.keys.Keys.{before_apart, front_same, not_same, same_equal}
 use Rattle.art_model.proofs.keys.KeyLaws.{order_is_strict, order_is_total}

@@ -1,6 +1,6 @@
 -- Pairs that were sorted by their keys. No public clause cites this module.
 use Rattle.std.specs.Prelude.{◌≡◌, ℕ, Bool, false, List}
-use Rattle.art_model.specs.Keys.{is_before}
+use Rattle.art_parts.specs.Keys.{is_before}
 use Rattle.art_model.specs.Pairs.{Pairwise}
 
 module _ {K V : Type 0} (bytes : K → List ℕ) where

@@ -15,7 +15,7 @@ use Rattle.art_parts.specs.declared.names.InnerPtr.{InnerPtr}
 use Rattle.art_parts.specs.declared.names.LeafPtr.{LeafPtr}
 use Rattle.art_parts.specs.declared.names.OpaqueNodePtr.{OpaqueNodePtr}
 use Rattle.art_model.specs.Faults.{Fault, out_of_memory, Reaches, EndsBadly, IsTrueOf}
-use Rattle.art_model.specs.Keys.{IsFront, is_before}
+use Rattle.art_parts.specs.Keys.{IsFront, is_before}
 use Rattle.art_model.specs.Layouts.{leaf_node, name_of, names_of, leaf_names, AreDistinct, Holds}
 use Rattle.art_model.specs.Radix.{IsRadix}
 use Rattle.art_model.specs.Stores.{header_at, node_at, pair_of}

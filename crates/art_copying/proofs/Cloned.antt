@@ -2,7 +2,7 @@
 use Rattle.std.proofs.Common.{ℕ, List, [], Some, None, Result, IfOk, refl, sym, subst}
 use Rattle.std.proofs.lemmas.Result.{IfOk-weaker}
 use Rattle.art_model.specs.Prelude.{IsPairClone, leaf_name, Nodes, OpaqueNodePtr, KeepsApart, IsCanonical, IsCanonicalTree, AreClones, KeepsOthers, names_of, HasFirstLeaf, HasLastLeaf, of_key, HaveChildren, pairs_of, ForTree, IsCanonicalRoot, IsFullTree, Tree}
-use Rattle.art_model.specs.Clones.{KeepBytes}
+use Rattle.art_parts.specs.Keys.{KeepBytes}
 use Rattle.art_model.proofs.stores.Apart.{tree_apart}
 use Rattle.art_model.proofs.radix.Copies.{copied_tree}
 use Rattle.art_model.proofs.stores.Gains.{came_others}

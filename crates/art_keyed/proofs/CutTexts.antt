@@ -4,7 +4,7 @@ use Rattle.std.specs.List.{AllByRecursion as Each}
 use Rattle.std.proofs.lemmas.Bool.{cases_lt, le-leb, leb-true, lt-leb}
 use Rattle.std.proofs.lemmas.List.{take-append-drop}
 use Rattle.std.proofs.lemmas.List.Elements.{filter-append}
-use Rattle.art_model.specs.Keys.{IsFront, Precedes, is_front}
+use Rattle.art_parts.specs.Keys.{IsFront, Precedes, is_front}
 use Rattle.art_model.specs.Pairs.{IsMap, Pairwise, first_of, last_of, of_key, without_last}
 use Rattle.art_model.proofs.keys.Keys.{front_from}
 use Rattle.art_model.proofs.leaves.Segments.{but_last}

@@ -3,7 +3,7 @@ use Rattle.std.proofs.Common.{◌≡◌, ◌≢◌, ℕ, ◌<◌, List, arith, r
 use Rattle.std.specs.List.{AllByRecursion as Each}
 use Rattle.art_keys.specs.Ended.{HasNoZero, ended}
 use Rattle.art_keys.specs.Prefixes.{IsInside, KeepsFronts}
-use Rattle.art_model.specs.Keys.{is_front}
+use Rattle.art_parts.specs.Keys.{is_front}
 use Rattle.art_model.specs.Pairs.{match_of, of_key, without_last}
 use Rattle.art_model.proofs.lists.Lists.{Each-weaker}
 use Rattle.art_model.specs.Texts.{AreEnded, IsEndedBy, texts_in_front, text_of}

@@ -4,7 +4,7 @@ use Rattle.std.proofs.lemmas.List.{drop-append-le}
 use Rattle.art_keys.specs.Ended.{HasNoZero}
 use Rattle.art_keys.specs.Escapes.{escape, escape_inside}
 use Rattle.art_keys.specs.EscapeLaws.{before_end, escape_is, inside_no_zero}
-use Rattle.art_model.specs.Keys.{common_front}
+use Rattle.art_parts.specs.Keys.{common_front}
 use Rattle.art_reading.specs.Matching.{shared_len}
 
 pub same_inside : (text other : List ℕ) → escape text ≡ escape other → escape_inside text ≡ escape_inside other

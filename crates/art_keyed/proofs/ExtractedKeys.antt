@@ -5,7 +5,7 @@ use Rattle.std.specs.Range.Bound.{bound_map}
 use Rattle.std.specs.declared.cmp.Ordering.{Ordering}
 use Rattle.std.specs.declared.ops.Bound.{Bound}
 use Rattle.art_keys.specs.Prefixes.{BeginsAs, KeepsOrder}
-use Rattle.art_model.specs.Keys.{is_front}
+use Rattle.art_parts.specs.Keys.{is_front}
 use Rattle.art_model.specs.Pairs.{IsMap, first_of, of_key}
 use Rattle.art_model.specs.Parts.{below, between, is_between, without_below}
 use Rattle.art_map.specs.MapExtract.{ExtractsAll, ExtractsFirst}

@@ -9,7 +9,7 @@ use Rattle.std.specs.declared.ops.Bound.{Bound}
 use Rattle.std.specs.declared.ops.Bound.TheVariants.{Included, Excluded, Unbounded}
 use Rattle.art_keys.specs.Joins.{AreKeys, AreKeysOf, joined_bytes}
 use Rattle.art_keys.specs.Prefixes.{BeginsAs, HasNoPrefixes, KeepsOrder}
-use Rattle.art_model.specs.Keys.{IsFront, are_same, is_front}
+use Rattle.art_parts.specs.Keys.{IsFront, are_same, is_front}
 use Rattle.art_model.specs.Pairs.{of_key}
 use Rattle.art_model.specs.Parts.{below, between, is_from, is_up_to, not_below, without_below}
 use Rattle.art_model.proofs.lists.Filters.{Each-filter}

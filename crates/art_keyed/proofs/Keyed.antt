@@ -6,7 +6,7 @@ use Rattle.std.specs.declared.cmp.Ordering.TheVariants.{Less}
 use Rattle.art_keys.specs.Prefixes.{HasNoPrefixes, IsKept, KeepsOrder}
 use Rattle.art_model.specs.Clones.{AreClones}
 use Rattle.art_keyed.specs.KeyedPairs.{HaveKeys, RiseBy, IsNeverInConflict}
-use Rattle.art_model.specs.Keys.{IsFront, Precedes, are_related, are_same}
+use Rattle.art_parts.specs.Keys.{IsFront, Precedes, are_related, are_same}
 use Rattle.art_model.specs.Pairs.{IsMap, first_of, has_key, is_conflict, with_key, of_key, put, stored_for, remove_key, without_first, without_last}
 use Rattle.std.proofs.lemmas.Bool.{true≢false}
 use Rattle.art_map.specs.MapAnswers.{IsRefusalOf, refused_pair, with_value_at}

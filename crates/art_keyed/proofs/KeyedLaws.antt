@@ -3,7 +3,7 @@ use Rattle.std.proofs.Common.{◌≡◌, ◌≢◌, ◌+◌, ℕ, List, [], ◌�
 use Rattle.std.specs.List.{cons_option}
 use Rattle.std.specs.Option.{option_map}
 use Rattle.art_keys.specs.Prefixes.{AreInjective}
-use Rattle.art_model.specs.Keys.{Precedes}
+use Rattle.art_parts.specs.Keys.{Precedes}
 use Rattle.art_model.specs.Pairs.{IsMap, first_of, last_of, of_key, put, put_reply, remove_key, remove_reply, with_key, without_first, without_last}
 use Rattle.art_model.specs.Parts.{below, without_below}
 use Rattle.art_model.proofs.keys.Keys.{front_same, not_same, related_sym, same_related}

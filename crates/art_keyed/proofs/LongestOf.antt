@@ -3,7 +3,7 @@ use Rattle.std.proofs.Common.{◌≡◌, ℕ, List, [], ◌∷◌, Bool, true, f
 use Rattle.std.proofs.lemmas.List.{take_at}
 use Rattle.art_keyed.specs.KeyedPairs.{strings_in_front}
 use Rattle.art_keyed.specs.TextCalls.{longest_key, without_longest}
-use Rattle.art_model.specs.Keys.{IsFront, Precedes, are_same, is_front}
+use Rattle.art_parts.specs.Keys.{IsFront, Precedes, are_same, is_front}
 use Rattle.art_model.specs.Pairs.{IsMap, first_of, last_of, of_key, remove_key, with_key}
 use Rattle.art_model.proofs.keys.Keys.{front_from, front_same, related_sym, same_related}
 use Rattle.art_model.proofs.lists.Filters.{Each-filter, filter_passes, last_each}

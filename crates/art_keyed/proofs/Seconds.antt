@@ -10,7 +10,7 @@ use Rattle.std.specs.declared.cmp.Ordering.TheVariants.{Less, Equal, Greater}
 use Rattle.std.specs.declared.ops.Bound.TheVariants.{Excluded, Included}
 use Rattle.art_keys.specs.Joins.{pair_cmp}
 use Rattle.art_keys.specs.Prefixes.{KeepsOrder}
-use Rattle.art_model.specs.Keys.{are_same, is_before}
+use Rattle.art_parts.specs.Keys.{are_same, is_before}
 use Rattle.art_model.proofs.keys.KeyLaws.{order_is_strict}
 use Rattle.art_model.proofs.keys.Keys.{front_same, not_same}
 use Rattle.art_keyed.specs.KeyedPairs.{HaveKeys, keys_between}

@@ -4,7 +4,7 @@ use Rattle.std.specs.List.{AllByRecursion as Each}
 use Rattle.std.specs.declared.ops.Bound.TheVariants.{Included, Excluded}
 use Rattle.art_keys.specs.Ended.{HasNoZero}
 use Rattle.art_keyed.specs.KeyedPairs.{HaveKeys, strings_below, strings_not_below}
-use Rattle.art_model.specs.Keys.{is_before, is_front}
+use Rattle.art_parts.specs.Keys.{is_before, is_front}
 use Rattle.art_model.specs.Parts.{between}
 use Rattle.art_model.proofs.keys.Texts.{not_front}
 use Rattle.art_model.proofs.lists.Filters.{filter_all}

@@ -2,7 +2,7 @@
 use Rattle.std.specs.Prelude.{◌≡◌, ℕ, ◌&&◌, List, Option}
 use Rattle.std.specs.declared.cmp.Ordering.{Ordering}
 use Rattle.std.specs.declared.ops.Bound.{Bound}
-use Rattle.art_model.specs.Keys.{is_front}
+use Rattle.art_parts.specs.Keys.{is_front}
 use Rattle.art_model.specs.Pairs.{of_key}
 use Rattle.art_map.specs.MapExtract.{ExtractsFirst}
 use Rattle.art_keyed.specs.KeyedPairs.{is_key_from, is_key_up_to}

@@ -6,7 +6,7 @@ use Rattle.std.specs.declared.cmp.Ordering.{Ordering}
 use Rattle.std.specs.declared.cmp.Ordering.TheVariants.{Less}
 use Rattle.std.specs.declared.ops.Bound.{Bound}
 use Rattle.std.specs.declared.ops.Bound.TheVariants.{Included, Excluded, Unbounded}
-use Rattle.art_model.specs.Keys.{are_same, is_front}
+use Rattle.art_parts.specs.Keys.{are_same, is_front}
 use Rattle.art_model.specs.Pairs.{Pairwise, is_conflict, of_key}
 
 module _ {K V : Type 0} where

@@ -2,7 +2,7 @@
 use Rattle.std.specs.Prelude.{ℕ, ◌&&◌, List, filter}
 use Rattle.std.specs.declared.cmp.Ordering.{Ordering}
 use Rattle.std.specs.declared.ops.Bound.{Bound}
-use Rattle.art_model.specs.Keys.{are_same}
+use Rattle.art_parts.specs.Keys.{are_same}
 use Rattle.art_keyed.specs.KeyedPairs.{is_key_from, is_key_up_to}
 
 -- the pairs whose keys are two keys, the first of which has these bytes and the second of which is between two bounds

@@ -5,7 +5,7 @@ use Rattle.std.specs.declared.cmp.Ordering.{Ordering}
 use Rattle.std.specs.declared.cmp.Ordering.TheVariants.{Less}
 use Rattle.art_keys.specs.Prefixes.{KeepsOrder}
 use Rattle.art_keyed.specs.KeyedPairs.{KeysRiseBy}
-use Rattle.art_model.specs.Keys.{Precedes}
+use Rattle.art_parts.specs.Keys.{Precedes}
 use Rattle.art_model.specs.Pairs.{IsMap, has_key, remove_key, replace_key, without_first, without_last}
 use Rattle.art_sets.specs.SetKeys.{add_key}
 use Rattle.art_model.proofs.keys.KeyLaws.{before_less}

@@ -7,7 +7,7 @@ use Rattle.std.specs.Ordering.{nat_cmp}
 use Rattle.art_keys.specs.Decoded.{ComesBack}
 use Rattle.art_keys.specs.Ended.{HasNoZero, IsEnded, ended, ended_length, without_end, zero_at}
 use Rattle.art_keys.specs.Prefixes.{HasNoPrefixes, KeepsOrder}
-use Rattle.art_model.specs.Keys.{is_front}
+use Rattle.art_parts.specs.Keys.{is_front}
 
 pub ended_no_prefixes : HasNoPrefixes HasNoZero ended
 ended_no_prefixes [] [] of_a of_b is = refl

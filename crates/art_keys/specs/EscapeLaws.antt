@@ -10,7 +10,7 @@ use Rattle.art_keys.specs.Ended.{HasNoZero, ended_length}
 use Rattle.art_keys.specs.EndedLaws.{ended_length-is}
 use Rattle.art_keys.specs.Escapes.{IsPlain, escape, escape_inside, unescape}
 use Rattle.art_keys.specs.Prefixes.{HasNoPrefixes, KeepsFronts, KeepsOrder}
-use Rattle.art_model.specs.Keys.{IsFront, is_front}
+use Rattle.art_parts.specs.Keys.{IsFront, is_front}
 
 pub unescape-escape : (text : List ℕ) → unescape (escape text) ≡ text
 unescape-escape [] = refl

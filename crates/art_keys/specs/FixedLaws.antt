@@ -4,7 +4,7 @@ use Rattle.std.specs.Array.{AllZipBelow}
 use Rattle.std.specs.List.{each_same}
 use Rattle.art_keys.specs.Decoded.{ComesBack}
 use Rattle.art_keys.specs.Prefixes.{HasNoPrefixes, IsKept}
-use Rattle.art_model.specs.Clones.{KeepBytes}
+use Rattle.art_parts.specs.Keys.{KeepBytes}
 
 -- none is a prefix of another
 pub fixed_no_prefixes : (n : ℕ) → HasNoPrefixes (λ bytes. length bytes ≡ n) (λ bytes. bytes)

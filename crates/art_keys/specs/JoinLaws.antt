@@ -9,7 +9,7 @@ use Rattle.std.proofs.Math.Seq.{take-append_seam, drop-append_seam}
 use Rattle.art_keys.specs.Decoded.{ComesBack}
 use Rattle.art_keys.specs.Joins.{AreKeys, AreKeysOf, joined_bytes, joined_length, pair_cmp, parted}
 use Rattle.art_keys.specs.Prefixes.{HasNoPrefixes, KeepsOrder}
-use Rattle.art_model.specs.Keys.{IsFront}
+use Rattle.art_parts.specs.Keys.{IsFront}
 
 -- the same byte before a prefix and before the whole
 longer : (z : ℕ) (x y : List ℕ) → IsFront x y → IsFront (z ∷ x) (z ∷ y)

@@ -4,7 +4,7 @@ use Rattle.std.specs.Cmp.Lexicographic.{slice_cmp}
 use Rattle.std.specs.Ordering.{nat_cmp}
 use Rattle.std.specs.declared.cmp.Ordering.{Ordering}
 use Rattle.art_keys.specs.Ended.{HasNoZero}
-use Rattle.art_model.specs.Keys.{IsFront, is_front}
+use Rattle.art_parts.specs.Keys.{IsFront, is_front}
 
 module _ {K : Type 0} (is_key : K → Type 0) (bytes : K → List ℕ) where
   -- a key whose bytes are a prefix of another's has the same bytes

@@ -15,7 +15,7 @@ ghost use Rattle.art_keys.specs.HashLaws.{strings_hash};
 use super::laws::{CloneBytes, DecodeBytes, NoPrefixesBytes, OrderedBytes, StringBytes, compare};
 use super::short_bytes::ShortBytes;
 use super::terminated::{write_text, zero_at};
-use art_nodes::node::AsBytes;
+use art_parts::bytes::AsBytes;
 use std::alloc::{AllocError, Global};
 use std::cmp::Ordering;
 use std::fmt;

@@ -12,7 +12,7 @@ ghost use Rattle.art_keys.specs.HashLaws.{bytes_hash};
 
 use super::laws::{CloneBytes, DecodeBytes, NoPrefixesBytes, OrderedBytes};
 use super::short_bytes::ShortBytes;
-use art_nodes::node::AsBytes;
+use art_parts::bytes::AsBytes;
 use std::alloc::{AllocError, Global};
 use std::cmp::Ordering;
 use std::fmt;

@@ -12,7 +12,7 @@ ghost use Rattle.art_keys.specs.HashLaws.{bytes_hash};
 
 use super::fixed::all_of;
 use super::laws::{CloneBytes, DecodeBytes, FixedBytes, NoPrefixesBytes, OrderedBytes};
-use art_nodes::node::AsBytes;
+use art_parts::bytes::AsBytes;
 use std::alloc::{AllocError, Global};
 use std::cmp::Ordering;
 use std::fmt;

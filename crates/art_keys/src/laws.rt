@@ -2,12 +2,12 @@
 ghost use Rattle.std.specs.Prelude.{◌≡◌, IfOk, IsOk, List, ℕ};
 ghost use Rattle.art_keys.specs.Decoded.{BeginsWithKey, ComesBack, HaveLength, IsOfKey};
 ghost use Rattle.art_keys.specs.Prefixes.{AreInjective, BeginsAs, HasNoPrefixes, IsInside, IsKept, KeepsFronts, KeepsOrder};
-ghost use Rattle.art_model.specs.Clones.{KeepBytes};
+ghost use Rattle.art_parts.specs.Keys.{KeepBytes};
 ghost use Rattle.std.specs.declared.cmp.Ordering.{Ordering};
 
 mod encodings;
 
-use art_nodes::node::AsBytes;
+use art_parts::bytes::AsBytes;
 pub use encodings::{
     escapes_come_back_in_order, joined_keys_keep_order, signed_numbers_come_back_in_order,
     unsigned_numbers_come_back_in_order,

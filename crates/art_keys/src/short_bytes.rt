@@ -7,7 +7,7 @@ ghost use Rattle.std.specs.Cmp.Rules.{comparing};
 ghost use Rattle.std.specs.Hash as fed;
 ghost use Rattle.art_keys.specs.HashLaws.{strings_hash};
 
-use art_nodes::node::AsBytes;
+use art_parts::bytes::AsBytes;
 use std::alloc::{AllocError, AllocFailed, Global};
 use std::cmp::Ordering;
 use std::fmt;

@@ -15,7 +15,7 @@ ghost use Rattle.art_keys.specs.HashLaws.{strings_hash};
 
 use super::laws::{CloneBytes, DecodeBytes, NoPrefixesBytes, OrderedBytes, StringBytes, compare};
 use super::short_bytes::ShortBytes;
-use art_nodes::node::AsBytes;
+use art_parts::bytes::AsBytes;
 use std::alloc::{AllocError, AllocFailed, Global};
 use std::cmp::Ordering;
 use std::fmt;

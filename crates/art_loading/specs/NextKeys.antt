@@ -2,7 +2,7 @@
 use Rattle.std.specs.Prelude.{◌≡◌, ◌≢◌, ℕ, ◌<◌, List, ◌∷◌, ◌++◌, length, true}
 use Rattle.art_loading.specs.declared.append.AppendReason.{AppendReason}
 use Rattle.art_loading.specs.declared.append.AppendReason.TheVariants.{Before, Equal, Conflict, Memory}
-use Rattle.art_model.specs.Keys.{Precedes, are_related}
+use Rattle.art_parts.specs.Keys.{Precedes, are_related}
 
 -- After so many shared bytes the last key has one byte, and the next key a greater one.
 pub record IsNextKey (last key : List ℕ) (shared x y : ℕ) : Type 0 where

@@ -4,7 +4,7 @@ use Rattle.std.specs.FinMap as map
 use Rattle.std.proofs.lemmas.List.Elements.{length_all_zip}
 use Rattle.art_model.specs.Prelude.{Inner, IsPairClone, LeafNode, NodeType, Node4, Node16, Node48, Node256, Leaf, OpaqueNodePtr, Nodes, IsCopy, AreCopies, AreClones, IsIn, names_in, Node, leaf_node, inner_node, name_of, names_of, names_below, leaf_names, leaf_names_below, slots_of, Holds, HoldsBelow, AreDistinct, AreLinked, of_key, pairs_of, IsRootOf, Held, held_leaf, held_inner, content_at, content_in, node_at, links_at, links_of, tree_node, Tree, leaf, inner, Subtrees, child, no_child}
 use Rattle.art_nodes.specs.StoreClones.{AreLeafCopies, IsCopyThere}
-use Rattle.art_model.specs.Clones.{KeepBytes}
+use Rattle.art_parts.specs.Keys.{KeepBytes}
 use Rattle.art_model.proofs.radix.Copies.{copied_pairs, copied_radix}
 use Rattle.art_model.proofs.stores.Canonical.{laid_out, canonical_from}
 use Rattle.art_map.specs.MapChanges.{HoldsClones}

@@ -1,6 +1,5 @@
 -- Pairs that move from one map to the end of another, one after another.
 use Rattle.std.proofs.Common.{◌≡◌, ℕ, List, [], ◌∷◌, ◌++◌, refl, ap, sym, ◌∙◌, subst, append_assoc, append-nil, Option, Some, None, Result, Ok, IfOk, Bool, true, false, not, ◌&&◌, filter}
-use Rattle.std.specs.List.{AllByRecursion as Each}
 use Rattle.std.specs.declared.ops.Bound.TheVariants.{Included, Unbounded}
 use Rattle.art_model.specs.Prelude.{Precedes, is_before, IsMap, first_of, of_key, put, without_first, is_between}
 use Rattle.art_model.proofs.lists.Filters.{Pairwise-filter}

@@ -2,7 +2,7 @@
 use Rattle.std.specs.Prelude.{◌≡◌, ℕ, true, false, if◌then◌else◌, List, map, Option}
 use Rattle.std.specs.Box.{boxed_slice_items}
 use Rattle.std.specs.Option.{option_map}
-use Rattle.art_model.specs.Keys.{are_same}
+use Rattle.art_parts.specs.Keys.{are_same}
 use Rattle.art_model.specs.Pairs.{of_key, first_of, with_key, has_key, is_conflict}
 use Rattle.art_map.specs.declared.map.MapInsertError.{MapInsertError}
 use Rattle.art_map.specs.declared.map.MapInsertError.TheVariants.{Conflict, Memory}

@@ -1,7 +1,7 @@
 -- Pairs that are removed from a map, by the bounds of their keys or one by one, or moved into another map.
 use Rattle.std.specs.Prelude.{◌≡◌, ℕ, not, List, ◌∷◌, ◌++◌, filter, Option, Some, None}
 use Rattle.std.specs.declared.ops.Bound.{Bound}
-use Rattle.art_model.specs.Keys.{is_before}
+use Rattle.art_parts.specs.Keys.{is_before}
 use Rattle.art_model.specs.Pairs.{remove_key}
 use Rattle.art_model.specs.Parts.{is_between}
 use Rattle.art_map.specs.MapAnswers.{IsRefusalOf}

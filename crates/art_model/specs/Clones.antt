@@ -1,12 +1,8 @@
 -- Clones of pairs and of trees.
-use Rattle.std.specs.Prelude.{◌≡◌, ℕ, List, ⊤}
+use Rattle.std.specs.Prelude.{◌≡◌, List, ⊤}
 use Rattle.std.specs.List.{AllZip}
 use Rattle.art_parts.specs.LeafClones.{IsPairClone}
 use Rattle.art_model.specs.Trees.{Tree, leaf, inner, Subtrees, child, no_child}
-
--- a clone of a key has the same bytes
-abbrev pub KeepBytes : {K : Type 0} → (K → List ℕ) → (K → K → Type 0) → Type 0
-KeepBytes {K} bytes is_clone = (x y : K) → is_clone x y → bytes y ≡ bytes x
 
 -- each pair of the second list is a clone of the one at its position in the first
 abbrev pub AreClones : {K V : Type 0} → (K → K → Type 0) → (V → V → Type 0) → List (K × V) → List (K × V) → Type 0

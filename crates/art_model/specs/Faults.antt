@@ -8,7 +8,7 @@ use Rattle.art_parts.specs.Kinds.{kind_least}
 use Rattle.art_nodes.specs.Nodes.{Nodes}
 use Rattle.art_parts.specs.declared.names.NodeType.{NodeType}
 use Rattle.art_parts.specs.declared.names.OpaqueNodePtr.{OpaqueNodePtr}
-use Rattle.art_model.specs.Keys.{IsFront, is_before}
+use Rattle.art_parts.specs.Keys.{IsFront, is_before}
 use Rattle.art_model.specs.Pairs.{first_of, last_of}
 use Rattle.art_model.specs.Trees.{Tree, NodeHeader}
 use Rattle.art_model.specs.Layouts.{leaf_node, inner_node, Links, AreDistinct, leaf_names, IsLayout}

@@ -1,7 +1,7 @@
 -- Laws of keys: what the tests decide, and the order of keys.
 use Rattle.std.specs.Prelude.{◌≡◌, ℕ, ◌<◌, ◌⊎◌, true, false, List, ◌∷◌, ◌++◌}
 use Rattle.std.specs.Bool.{Decides}
-use Rattle.art_model.specs.Keys.{IsFront, is_front, are_related, are_same, is_before, common_front}
+use Rattle.art_parts.specs.Keys.{IsFront, is_front, are_related, are_same, is_before, common_front}
 
 -- the second key continues the first
 abbrev pub IsProperFront : List ℕ → List ℕ → Type 0

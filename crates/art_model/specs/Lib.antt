@@ -1,5 +1,4 @@
 -- keys, maps of pairs, and their changes
-pub mod Keys
 pub mod KeyLaws
 pub mod Pairs
 pub mod Parts

@@ -2,7 +2,7 @@
 use Rattle.std.specs.Prelude.{◌≡◌, ◌≢◌, ℕ, zero, suc, ◌+◌, ◌≤◌, true, false, if◌then◌else◌, not, List, [], ◌∷◌, length, map, Option, Some, None}
 use Rattle.std.specs.Bool.{Decides}
 use Rattle.std.specs.List.{AllByRecursion as Each, cons_option}
-use Rattle.art_model.specs.Keys.{are_related, are_same}
+use Rattle.art_parts.specs.Keys.{are_related, are_same}
 use Rattle.art_model.specs.Pairs.{last_of, without_last, IsMap, with_key, has_key, related_to, is_conflict, match_of, stored_for, put, put_reply, overwrite, overwrite_reply, remove_key, remove_reply, of_key}
 use Rattle.art_model.specs.Changes.{Change, after}
 

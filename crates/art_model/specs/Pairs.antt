@@ -3,7 +3,7 @@ use Rattle.std.specs.Prelude.{ℕ, Bool, if◌then◌else◌, not, ◌&&◌, Lis
 use Rattle.std.specs.List.{list_any}
 use Rattle.std.specs.Option.{option_map}
 pub use Rattle.art_parts.specs.Lists.{Pairwise, first_of}
-use Rattle.art_model.specs.Keys.{is_before, is_front, are_related, are_same, Precedes}
+use Rattle.art_parts.specs.Keys.{is_before, is_front, are_related, are_same, Precedes}
 
 -- the last element, if there is one
 abbrev pub last_of : {X : Type 0} → List X → Option X

@@ -2,7 +2,7 @@
 use Rattle.std.specs.Prelude.{ℕ, zero, suc, Bool, true, not, ◌&&◌, if◌then◌else◌, List, [], ◌∷◌, filter, map}
 use Rattle.std.specs.declared.ops.Bound.{Bound}
 use Rattle.std.specs.declared.ops.Bound.TheVariants.{Included, Excluded, Unbounded}
-use Rattle.art_model.specs.Keys.{is_before, is_front}
+use Rattle.art_parts.specs.Keys.{is_before, is_front}
 use Rattle.art_model.specs.Layouts.{entries_of}
 use Rattle.art_model.specs.Trees.{Tree}
 

@@ -1,7 +1,7 @@
 -- Laws of the places in a radix tree, and of the end nodes of keys.
 use Rattle.std.specs.Prelude.{◌≡◌, ℕ, true, List, [], ◌++◌, length}
 use Rattle.std.specs.List.{AllByRecursion as Each}
-use Rattle.art_model.specs.Keys.{IsFront, is_before}
+use Rattle.art_parts.specs.Keys.{IsFront, is_before}
 use Rattle.art_model.specs.Pairs.{Pairwise}
 use Rattle.art_model.specs.Trees.{Tree, inner, Subtrees, NodeHeader, canonical_header}
 use Rattle.art_model.specs.Radix.{pairs_below, bytes_of, IsRadix}

@@ -2,7 +2,7 @@
 use Rattle.std.specs.Prelude.{◌≡◌, ℕ, ◌+◌, ◌≤◌, List, [], ◌∷◌, ◌++◌, length, take, drop}
 use Rattle.std.specs.List.{AllByRecursion as Each}
 use Rattle.art_parts.specs.declared.names.NodeType.{NodeType}
-use Rattle.art_model.specs.Keys.{IsFront}
+use Rattle.art_parts.specs.Keys.{IsFront}
 use Rattle.art_model.specs.Trees.{Tree, leaf, inner, Subtrees, child, no_child}
 use Rattle.art_model.specs.Paths.{Frame, plug}
 

@@ -27,7 +27,7 @@ pub use Rattle.art_model.specs.Gains.{Gains, without}
 pub use Rattle.art_model.specs.Heights.{height_below, tree_height}
 unfoldable pub use Rattle.art_model.specs.Heights.{height}
 pub use Rattle.art_model.specs.Kept.{ChangesInPlace, Frees, KeepsOthers, SameNodes, names_in}
-pub use Rattle.art_model.specs.Keys.{IsFront, Precedes, are_related, are_same, common_front, is_before, is_front}
+pub use Rattle.art_parts.specs.Keys.{IsFront, Precedes, are_related, are_same, common_front, is_before, is_front}
 pub use Rattle.art_model.specs.Layouts.{AreDistinct, AreLinked, Holds, HoldsBelow, IsLayout, Links, Node, entries_below, entries_of, first_or, inner_names, inner_names_below, inner_node, last_or, leaf_names, leaf_names_below, leaf_node, name_of, names_below, names_of, shape_of, slots_of}
 pub use Rattle.art_model.specs.Lookups.{FindsLast, FindsLeaf, HasFirstLeaf, HasLastLeaf, HasLeaf, nodes_on_way}
 pub use Rattle.art_model.specs.Pairs.{IsMap, Pairwise, add_in_order, first_of, has_key, is_conflict, last_of, match_of, of_key, only_or_count, overwrite, overwrite_reply, put, put_reply, related_to, remove_key, remove_related, remove_reply, replace_key, replace_related, stored_for, with_key, without_first, without_last}

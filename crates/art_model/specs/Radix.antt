@@ -1,6 +1,6 @@
 -- The tree of a map by what holds at each node.
 use Rattle.std.specs.Prelude.{◌≡◌, ℕ, ◌<◌, ◌≤◌, List, [], ◌∷◌, ◌++◌, length, ⊤}
-use Rattle.art_model.specs.Keys.{IsFront}
+use Rattle.art_parts.specs.Keys.{IsFront}
 use Rattle.art_model.specs.Pairs.{Pairwise}
 use Rattle.art_model.specs.Trees.{Tree, leaf, inner, Subtrees, no_child, child, canonical_header}
 

@@ -1,7 +1,7 @@
 -- Keys of which each is a text and an end byte, and the texts that are prefixes of a query.
 use Rattle.std.specs.Prelude.{◌≡◌, ◌<◌, ◌≤◌, ℕ, List, [], ◌∷◌, ◌++◌, length, Some, true}
 use Rattle.std.specs.List.{AllByRecursion as Each}
-use Rattle.art_model.specs.Keys.{IsFront, is_before}
+use Rattle.art_parts.specs.Keys.{IsFront, is_before}
 use Rattle.art_model.specs.Pairs.{Pairwise, first_of, last_of, match_of, without_last}
 
 -- A key is a text and the end byte, which is less than each byte of the text.

@@ -1,7 +1,7 @@
 -- Laws of the tree of a map, whatever its keys.
 use Rattle.std.specs.Prelude.{◌≡◌, ℕ, suc, ◌≤◌, List, [], ◌∷◌, length, drop, Some}
 use Rattle.std.specs.List.{AllByRecursion as Each}
-use Rattle.art_model.specs.Keys.{IsFront}
+use Rattle.art_parts.specs.Keys.{IsFront}
 use Rattle.art_model.specs.Pairs.{IsMap}
 use Rattle.art_model.specs.Trees.{Tree, shared_part, node_of, tree_of}
 use Rattle.art_model.specs.Radix.{pairs_of, HaveChildren, IsRadix}

@@ -2,7 +2,7 @@
 use Rattle.std.specs.Prelude.{ℕ, zero, suc, ◌+◌, if◌then◌else◌, ◌==◌, nat_le, List, [], ◌∷◌, length, take, drop, get_or, Option, Some, None}
 use Rattle.art_parts.specs.declared.names.NodeType.{NodeType}
 use Rattle.art_parts.specs.declared.names.NodeType.TheVariants.{Node4, Node16, Node48, Node256}
-use Rattle.art_model.specs.Keys.{common_front}
+use Rattle.art_parts.specs.Keys.{common_front}
 
 -- an inner node's kind, the length of its prefix, and the bytes that are stored of the prefix
 pub record NodeHeader : Type 0 where

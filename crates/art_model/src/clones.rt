@@ -1,6 +1,6 @@
 //! Clones of keys.
 
-ghost use Rattle.art_model.specs.Clones.{KeepBytes};
+ghost use Rattle.art_parts.specs.Keys.{KeepBytes};
 
 use art_nodes::node::AsBytes;
 use std::boxed::BoxedSlice;

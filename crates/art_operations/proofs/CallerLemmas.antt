@@ -19,7 +19,7 @@ use Rattle.art_keyed.specs.KeyedPairs.{HaveKeys, RiseBy}
 use Rattle.art_keyed.specs.KeyedValues.{KeepsOtherKeys, value_of}
 use Rattle.art_keyed.proofs.Keyed.{never_in_conflict}
 use Rattle.art_model.proofs.keys.Keys.{front_same, same_equal}
-use Rattle.art_model.specs.Keys.{are_same}
+use Rattle.art_parts.specs.Keys.{are_same}
 use Rattle.art_model.specs.Pairs.{first_of, is_conflict, of_key}
 pub use Rattle.art_model.proofs.stores.Canonical.{tree_radix}
 pub use Rattle.art_model.proofs.stores.StoreLaws.{has_children}

@@ -1,5 +1,5 @@
 -- keys, maps of pairs, and their trees
-pub use Rattle.art_model.specs.Keys
+pub use Rattle.art_parts.specs.Keys
 pub use Rattle.art_model.specs.Pairs
 pub use Rattle.art_model.specs.Parts
 pub use Rattle.art_model.specs.Texts

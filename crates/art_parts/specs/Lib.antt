@@ -5,4 +5,5 @@ pub mod Headers
 pub mod Halves
 pub mod HeaderBack
 pub mod Codes
+pub mod Keys
 pub mod LeafClones

@@ -8,7 +8,7 @@ use Rattle.art_nodes.specs.Nodes.{Nodes}
 use Rattle.art_parts.specs.declared.names.LeafPtr.{LeafPtr}
 use Rattle.art_parts.specs.declared.names.OpaqueNodePtr.{OpaqueNodePtr}
 use Rattle.art_model.specs.Canonical.{IsCanonicalTree}
-use Rattle.art_model.specs.Keys.{IsFront, Precedes, common_front, is_front}
+use Rattle.art_parts.specs.Keys.{IsFront, Precedes, common_front, is_front}
 use Rattle.art_model.specs.Lookups.{HasLeaf, FindsLast}
 use Rattle.art_model.specs.Pairs.{IsMap, last_of, without_last}
 use Rattle.art_model.specs.Paths.{pairs_before, pairs_after}

@@ -7,7 +7,7 @@ use Rattle.art_nodes.specs.Nodes.{Nodes}
 use Rattle.art_parts.specs.declared.names.LeafPtr.{LeafPtr}
 use Rattle.art_parts.specs.declared.names.OpaqueNodePtr.{OpaqueNodePtr}
 use Rattle.art_model.specs.Canonical.{IsCanonicalTree}
-use Rattle.art_model.specs.Keys.{IsFront, Precedes, is_front}
+use Rattle.art_parts.specs.Keys.{IsFront, Precedes, is_front}
 use Rattle.art_model.specs.Pairs.{IsMap, first_of, without_last}
 use Rattle.art_model.specs.Paths.{pairs_before, pairs_after}
 use Rattle.art_model.specs.Texts.{AreEnded, IsEndedBy, text_of}

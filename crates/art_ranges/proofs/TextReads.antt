@@ -11,7 +11,7 @@ use Rattle.art_parts.specs.declared.names.InnerPtr.{InnerPtr}
 use Rattle.art_parts.specs.declared.names.LeafPtr.{LeafPtr}
 use Rattle.art_parts.specs.declared.names.OpaqueNodePtr.{OpaqueNodePtr}
 use Rattle.art_model.specs.Canonical.{IsCanonicalTree}
-use Rattle.art_model.specs.Keys.{IsFront}
+use Rattle.art_parts.specs.Keys.{IsFront}
 use Rattle.art_model.specs.Lookups.{nodes_on_way}
 use Rattle.art_model.specs.Roots.{ForTree}
 use Rattle.art_model.specs.Trees.{Tree, leaf}

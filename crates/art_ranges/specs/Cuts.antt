@@ -5,7 +5,7 @@ use Rattle.std.specs.List.{AllByRecursion as Each}
 use Rattle.art_parts.specs.declared.names.OpaqueNodePtr.{OpaqueNodePtr}
 use Rattle.art_parts.specs.Names.{leaf_name}
 use Rattle.art_parts.specs.declared.names.LeafPtr.{LeafPtr}
-use Rattle.art_model.specs.Keys.{Precedes, is_before}
+use Rattle.art_parts.specs.Keys.{Precedes, is_before}
 use Rattle.art_model.specs.Pairs.{first_of, last_of}
 use Rattle.art_model.specs.Parts.{leaves_where}
 use Rattle.art_model.specs.Radix.{pairs_of}

@@ -10,7 +10,7 @@ ghost use Rattle.art_inner.specs.Views.{ref_view};
 ghost use Rattle.art_parts.specs.Names.{inner_name, leaf_name};
 ghost use Rattle.art_parts.specs.declared.names.NodeType.TheVariants.{Leaf};
 ghost use Rattle.art_parts.specs.declared.names.OpaqueNodePtr.{OpaqueNodePtr};
-ghost use Rattle.art_model.specs.Keys.{IsFront, is_front};
+ghost use Rattle.art_parts.specs.Keys.{IsFront, is_front};
 ghost use Rattle.art_model.specs.Lookups.{nodes_on_way};
 ghost use Rattle.art_model.specs.Pairs.{first_of, last_of, of_key};
 ghost use Rattle.art_model.specs.Parts.{is_between, is_from, is_up_to, leaves_where};

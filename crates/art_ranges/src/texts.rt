@@ -3,7 +3,7 @@
 ghost use Rattle.std.specs.Prelude.{◌≡◌, ◌+◌, ◌*◌, ◌<◌, ◌≤◌, ◌↔◌, length, take, IsSome, IsTrue};
 ghost use Rattle.art_inner.specs.Inner.{child_at};
 ghost use Rattle.art_inner.specs.Views.{ref_view};
-ghost use Rattle.art_model.specs.Keys.{IsFront};
+ghost use Rattle.art_parts.specs.Keys.{IsFront};
 ghost use Rattle.art_model.specs.Pairs.{of_key, without_last};
 ghost use Rattle.art_model.specs.Roots.{ForTree, IsCanonicalRoot};
 ghost use Rattle.art_model.specs.Texts.{AreEnded, texts_in_front};

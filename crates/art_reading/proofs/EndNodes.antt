@@ -12,7 +12,7 @@ use Rattle.art_parts.specs.declared.names.LeafPtr.{LeafPtr}
 use Rattle.art_parts.specs.declared.names.InnerPtr.{InnerPtr}
 use Rattle.art_parts.specs.declared.names.OpaqueNodePtr.{OpaqueNodePtr}
 use Rattle.art_parts.specs.declared.leaf.LeafNode.{LeafNode}
-use Rattle.art_model.specs.Keys.{IsFront, are_related, common_front}
+use Rattle.art_parts.specs.Keys.{IsFront, are_related, common_front}
 use Rattle.art_model.specs.Pairs.{is_conflict}
 use Rattle.art_model.specs.Trees.{Tree, leaf, inner, Subtrees, child, no_child, canonical_header}
 use Rattle.art_model.specs.Radix.{IsRadix, AreRadix, bytes_of, pairs_of, pairs_below}

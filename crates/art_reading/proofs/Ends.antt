@@ -2,7 +2,7 @@
 use Rattle.std.proofs.Common.{◌≡◌, ℕ, ◌+◌, ◌≤◌, ◌↔◌, min, List, [], ◌∷◌, ◌++◌, length, drop, refl, subst, ap, sym, ◌∙◌, arith, append_assoc, length-append, Option, Some, None, Bool, true, false, IsTrue}
 use Rattle.std.proofs.lemmas.Bool.{false≢true}
 use Rattle.std.proofs.lemmas.List.{append_cancel_left}
-use Rattle.art_model.specs.Keys.{IsFront, is_front, are_same}
+use Rattle.art_parts.specs.Keys.{IsFront, is_front, are_same}
 use Rattle.art_model.specs.Pairs.{match_of, with_key}
 use Rattle.art_model.specs.Lookups.{nodes_on_way}
 use Rattle.art_model.specs.Roots.{ForTree}

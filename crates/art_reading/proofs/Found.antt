@@ -1,5 +1,5 @@
 -- The leaf that is found in the tree is in the store, with its pair.
-use Rattle.std.proofs.Common.{◌≡◌, ℕ, List, Option}
+use Rattle.std.proofs.Common.{ℕ, List, Option}
 use Rattle.art_model.specs.Prelude.{Nodes, LeafPtr, OpaqueNodePtr, FindsLeaf, ForTree, IsCanonicalRoot}
 use Rattle.art_model.proofs.leaves.LeavesFound.{found_is_there, pair_found}
 use Rattle.art_reading.specs.Found.{HasFound}

@@ -4,7 +4,7 @@ use Rattle.art_parts.specs.Names.{leaf_name}
 use Rattle.art_nodes.specs.Nodes.{Nodes}
 use Rattle.art_parts.specs.declared.names.LeafPtr.{LeafPtr}
 use Rattle.art_parts.specs.declared.names.OpaqueNodePtr.{OpaqueNodePtr}
-use Rattle.art_model.specs.Keys.{IsFront}
+use Rattle.art_parts.specs.Keys.{IsFront}
 use Rattle.art_model.specs.Lookups.{HasLeaf, HasFirstLeaf, HasLastLeaf, nodes_on_way}
 use Rattle.art_model.specs.Pairs.{match_of, with_key}
 use Rattle.art_model.specs.Roots.{ForTree}

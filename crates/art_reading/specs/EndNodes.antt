@@ -5,7 +5,7 @@ use Rattle.art_parts.specs.Names.{leaf_name, inner_name}
 use Rattle.art_parts.specs.declared.names.InnerPtr.{InnerPtr}
 use Rattle.art_parts.specs.declared.names.LeafPtr.{LeafPtr}
 use Rattle.art_parts.specs.declared.names.OpaqueNodePtr.{OpaqueNodePtr}
-use Rattle.art_model.specs.Keys.{IsFront, are_related}
+use Rattle.art_parts.specs.Keys.{IsFront, are_related}
 use Rattle.art_model.specs.Layouts.{name_of, slots_of}
 use Rattle.art_model.specs.Lookups.{HasFirstLeaf}
 use Rattle.art_model.specs.Pairs.{is_conflict}

@@ -4,7 +4,7 @@ use Rattle.art_parts.specs.Headers.{Prefix}
 use Rattle.std.specs.Option.{option_map}
 use Rattle.art_inner.specs.Inner.{Inner, child_at}
 use Rattle.art_parts.specs.declared.names.OpaqueNodePtr.{OpaqueNodePtr}
-use Rattle.art_model.specs.Keys.{IsFront, common_front}
+use Rattle.art_parts.specs.Keys.{IsFront, common_front}
 use Rattle.art_reading.specs.declared.lookup.matching.PrefixMatchBehavior.{PrefixMatchBehavior}
 use Rattle.art_reading.specs.declared.lookup.matching.PrefixMatchBehavior.TheVariants.{Pessimistic, Optimistic}
 use Rattle.art_reading.specs.declared.lookup.matching.Step.{Step}

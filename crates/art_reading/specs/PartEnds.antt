@@ -3,7 +3,7 @@ use Rattle.std.specs.Prelude.{◌≡◌, ℕ, Bool, false, List, [], length, Opt
 use Rattle.std.specs.List.{AllByRecursion as Each}
 use Rattle.art_parts.specs.declared.names.OpaqueNodePtr.{OpaqueNodePtr}
 use Rattle.art_nodes.specs.Nodes.{Nodes}
-use Rattle.art_model.specs.Keys.{is_front}
+use Rattle.art_parts.specs.Keys.{is_front}
 use Rattle.art_model.specs.Layouts.{IsLayout, name_of}
 use Rattle.art_model.specs.Parts.{below}
 use Rattle.art_model.specs.Paths.{Frame, plug, pairs_before, pairs_after}

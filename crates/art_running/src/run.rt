@@ -7,7 +7,7 @@ ghost use Rattle.art_parts.specs.LeafClones.{IsPairClone};
 ghost use Rattle.art_parts.specs.Names.{leaf_name};
 ghost use Rattle.art_parts.specs.declared.names.LeafPtr.{LeafPtr};
 ghost use Rattle.art_model.specs.Canonical.{IsCanonical};
-ghost use Rattle.art_model.specs.Clones.{KeepBytes};
+ghost use Rattle.art_parts.specs.Keys.{KeepBytes};
 ghost use Rattle.art_model.specs.Pairs.{match_of, of_key};
 ghost use Rattle.art_model.specs.Roots.{ForTree, IsCanonicalRoot};
 ghost use Rattle.art_writing.specs.Deleted.{IsDeletePointIn};

@@ -1,7 +1,7 @@
 //! Trees for tests, made by runs of insertions.
 ghost use Rattle.std.specs.Prelude.{◌≢◌, IfOk, IfSome};
 ghost use Rattle.art_parts.specs.declared.names.NodeType.TheVariants.{Leaf};
-ghost use Rattle.art_model.specs.Clones.{KeepBytes};
+ghost use Rattle.art_parts.specs.Keys.{KeepBytes};
 ghost use Rattle.art_model.specs.Pairs.{of_key};
 ghost use Rattle.art_model.specs.Roots.{IsCanonicalRoot};
 

@@ -11,7 +11,7 @@ use Rattle.art_parts.specs.declared.names.InnerPtr.{InnerPtr}
 use Rattle.art_parts.specs.declared.names.NodeType.TheVariants.{Node4}
 use Rattle.art_parts.specs.declared.names.OpaqueNodePtr.{OpaqueNodePtr}
 use Rattle.art_model.specs.Canonical.{IsCanonicalTree}
-use Rattle.art_model.specs.Keys.{IsFront}
+use Rattle.art_parts.specs.Keys.{IsFront}
 use Rattle.art_model.specs.Layouts.{leaf_names, first_or, last_or}
 use Rattle.art_model.specs.Paths.{Frame, leaves_before, leaves_after}
 use Rattle.art_model.specs.Places.{depth_of, least_key}

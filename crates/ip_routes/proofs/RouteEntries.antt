@@ -3,13 +3,12 @@ use Rattle.std.proofs.Common.{◌≡◌, ℕ, ◌+◌, List, [], ◌∷◌, ◌+
 use Rattle.std.specs.List.{All}
 use Rattle.std.proofs.lemmas.List.{get_or-append-add, get_or_append_left, length-append, map-append}
 use Rattle.std.proofs.lemmas.List.Elements.{All-append, All-cons, All-nil}
-use Rattle.prefix_table.specs.declared.network.Network.{Network}
 use Rattle.line_programs.specs.LineTables.{IsFaultIn}
 use Rattle.ip_routes.specs.declared.lines.LineError.{LineError}
 use Rattle.ip_routes.specs.declared.lines.LineError.TheVariants as Why
 use Rattle.ip_routes.specs.Faults.{Adds, IsFaultBeside, IsOutOfMemory, IsRefusal}
-use Rattle.ip_routes.specs.Routes.{AreAnswersOf, Route}
-use Rattle.ip_routes.specs.RouteTables.{AreRoutesOf, IsRoute, IsRouteFault, IsRouteTable, numbered_line}
+use Rattle.ip_routes.specs.Routes.{Route}
+use Rattle.ip_routes.specs.RouteTables.{AreRoutesOf, IsRoute, IsRouteFault, numbered_line}
 
 -- with the route of one more line
 pub one_route_more : (old new : List Route) (line : List ℕ) (number : ℕ) → Adds line number old new →
@@ -67,7 +66,3 @@ refused_entry routes number (Why.Twice earlier) h added has memory =
 refused_entry routes number Why.NoMemory h added has memory = absurd (memory tt)
 refused_entry routes number (Why.Route error) h added has memory = absurd h
 refused_entry routes number Why.TooLong h added has memory = absurd h
-
-pub table_of_entries : (routes : List Route) (answers : List (Network × List ℕ)) → AreAnswersOf routes answers →
-    (added : List (ℕ × List ℕ)) → AreRoutesOf added routes → IsRouteTable added answers
-table_of_entries routes answers is added has = record { routes = routes; entries_are = has; table_is = is }

@@ -2,7 +2,7 @@
 use Rattle.std.proofs.Common.{◌≡◌, ◌≢◌, ℕ, inl, inr, Bool, ◌&&◌, eqb, true, false, List, [], ◌∷◌, ◌++◌, length, length-append, append-nil, map, if◌then◌else◌, ◌+◌, Some, None, refl, ap, ap₂, sym, ◌∙◌, subst, arith}
 use Rattle.std.specs.Int.{bytes_high_first}
 use Rattle.std.proofs.lemmas.Bool.{and_from, and_parts, eq-eqb, eqb-true, false≢true, ne_eqb}
-use Rattle.art_model.specs.Keys.{are_same}
+use Rattle.art_parts.specs.Keys.{are_same}
 use Rattle.art_model.proofs.keys.Keys.{front_same, same_equal}
 use Rattle.art_map.specs.MapAnswers.{value_at}
 use Rattle.art_keys.specs.InjectiveLaws.{joins_injective}

@@ -12,7 +12,7 @@ use Rattle.snapshot_format.specs.Faults.{Finds, IfMalformed}
 use Rattle.snapshot_format.specs.Reading.{IfFault, Reads}
 use Rattle.snapshot_format.proofs.Known.{consumes_more, saturate_more, few_sized}
 use Rattle.snapshot_format.proofs.Faults.{if_err_fault}
-use Rattle.snapshot_format.proofs.PartFaults.{value_entry, number_sized, within_number}
+use Rattle.snapshot_format.proofs.PartFaults.{number_sized, within_number}
 use Rattle.std.proofs.lemmas.Result.{err_from_is_err_and}
 use Rattle.snapshot_format.proofs.Numbers.{fits_within}
 

@@ -1,7 +1,6 @@
 -- Bytes that are read one after another.
-use Rattle.std.proofs.Common.{◌≡◌, ◌≢◌, ℕ, ◌+◌, ◌<◌, ◌^◌, List, [], ◌∷◌, ◌++◌, length, length-append, take, get_or, Option, Some, None, IfSome, refl, ap, sym, ◌∙◌, subst, append_assoc, append-nil, arith}
-use Rattle.std.proofs.lemmas.List.{take_more, length-take, length-take-le, get_or_at, get_or_append_left}
-use Rattle.std.specs.Io.KnownBytes.{Consumes, IsAtEnd}
+use Rattle.std.proofs.Common.{◌≡◌, ◌≢◌, ℕ, ◌+◌, ◌<◌, ◌^◌, List, [], ◌++◌, length, length-append, Option, Some, None, IfSome, refl, ap, sym, ◌∙◌, subst, append_assoc, append-nil, arith}
+use Rattle.std.specs.Io.KnownBytes.{Consumes}
 use Rattle.std.specs.Io.Iter.{u64_saturate}
 use Rattle.snapshot_format.specs.declared.source.Source.{Source}
 use Rattle.snapshot_format.specs.Numbers.{number_bytes}
@@ -43,51 +42,6 @@ module _ {R : Type 0} (left : R → Option (List ℕ)) where
     held = λ m of_m. rw append-nil of_m;
     counted = omega arith;
   }
-
-  -- the first bytes of those that are wanted, and one more
-  pub reads_next : (a b c : Source R) (wanted : List ℕ) (i byte : ℕ) → i < length wanted → byte ≡ get_or wanted i byte →
-      Reads left a b (take i wanted) → Reads left b c (byte ∷ []) → Reads left a c (take (i + 1) wanted)
-  reads_next a b c wanted i byte within is h k =
-      subst (Reads left a c) (sym (take_more wanted i byte within ∙ ap (λ x. take i wanted ++ x ∷ []) (sym is)))
-      (reads_more a b c (take i wanted) (byte ∷ []) h k)
-
--- known bytes end before these are read
-pub ended_early : (a b : Option (List ℕ)) (wanted rest : List ℕ) (i : ℕ) → i < length wanted → Consumes a b (take i wanted) → IsAtEnd b → a ≢ Some (wanted ++ rest)
-ended_early a b wanted rest i within read end e = by (left_of a b (take i wanted) (wanted ++ rest) read e)
-  where
-    by : (r : List ℕ) × (b ≡ Some r) × (wanted ++ rest ≡ take i wanted ++ r) → ⊥
-    by (r, b_is, all) =
-        let none : r ≡ [] = subst IsAtEnd b_is end in
-        let l : length (wanted ++ rest) ≡ length (take i wanted ++ r) = ap length all in
-        let n : length r ≡ 0 = ap length none in
-        omega (arith, length-append wanted rest, length-append (take i wanted) r, length-take i wanted)
-
--- another byte is read than the one that is wanted
-pub other_byte : (a b c : Option (List ℕ)) (wanted rest : List ℕ) (i byte : ℕ) → i < length wanted → Consumes a b (take i wanted) → Consumes b c (byte ∷ []) →
-    byte ≢ get_or wanted i 0 → a ≢ Some (wanted ++ rest)
-other_byte a b c wanted rest i byte within read next other e = by (left_of a b (take i wanted) (wanted ++ rest) read e)
-  where
-    by : (r : List ℕ) × (b ≡ Some r) × (wanted ++ rest ≡ take i wanted ++ r) → ⊥
-    by (r, b_is, all) =
-        let l = left_of b c (byte ∷ []) r next b_is in
-        let first : r ≡ byte ∷ l.0 = l.2 in
-        let len : length (take i wanted) ≡ i = length-take-le i wanted (omega arith) in
-        let x : get_or (take i wanted ++ (byte ∷ l.0)) i 0 ≡ byte = get_or_at (take i wanted) byte l.0 0 i len in
-        let y : get_or (wanted ++ rest) i 0 ≡ get_or wanted i 0 = get_or_append_left wanted rest 0 i within in
-        other (sym x ∙ ap (λ bs. get_or (take i wanted ++ bs) i 0) (sym first) ∙ ap (λ bs. get_or bs i 0) (sym all) ∙ y)
-
--- fewer bytes than are wanted
-pub too_few : (a b : Option (List ℕ)) (bytes : List ℕ) (len : ℕ) → length bytes < len → Consumes a b bytes → IsAtEnd b → IfSome a (λ left. length left < len)
-too_few None b bytes len few read end = tt
-too_few (Some p) None bytes len few read end = absurd read
-too_few (Some p) (Some q) bytes len few read end =
-    let l : length p ≡ length (bytes ++ q) = ap length read in
-    let n : length q ≡ 0 = ap length end in
-    omega (arith, length-append bytes q)
-
--- no such bytes follow their number, since none is there
-pub no_number : (a : Option (List ℕ)) → ((n : ℕ) (rest : List ℕ) → n < 2 ^ 64 → a ≢ Some (number_bytes n ++ rest)) → (bytes rest : List ℕ) → length bytes < 2 ^ 64 → a ≢ Some (sized bytes ++ rest)
-no_number a none bytes rest small e = none (length bytes) (bytes ++ rest) small (e ∙ ap (λ bs. Some bs) (append_assoc (number_bytes (length bytes)) bytes rest))
 
 -- or since fewer bytes follow
 pub few_sized : (a b : Option (List ℕ)) (len : ℕ) → Consumes a b (number_bytes len) → IfSome b (λ left. length left < len) → (bytes rest : List ℕ) → length bytes < 2 ^ 64 → a ≢ Some (sized bytes ++ rest)

@@ -5,7 +5,7 @@ use Rattle.art_keys.specs.EscapeLaws.{escape_order}
 use Rattle.art_keys.specs.Escapes.{escape}
 use Rattle.art_loading.specs.declared.append.AppendReason.{AppendReason}
 use Rattle.art_loading.specs.declared.append.AppendReason.TheVariants.{Before, Equal, Conflict, Memory}
-use Rattle.art_model.specs.Keys.{is_before}
+use Rattle.art_parts.specs.Keys.{is_before}
 use Rattle.art_model.specs.Pairs.{last_of}
 use Rattle.art_model.proofs.keys.Keys.{before_apart, precedes_apart}
 use Rattle.std.specs.Ordering.{is_lt}

@@ -1,7 +1,7 @@
 -- What calls of a builder do.
 use Rattle.std.specs.Prelude.{◌≡◌, ◌≢◌, ℕ, List, [], ◌∷◌, ◌++◌, IsSomeAnd, Option, Some, false}
 use Rattle.std.specs.Option.{option_map}
-use Rattle.art_model.specs.Keys.{is_before}
+use Rattle.art_parts.specs.Keys.{is_before}
 use Rattle.art_model.specs.Pairs.{last_of}
 use Rattle.string_map.specs.Calls.{code_of, done, no_memory}
 

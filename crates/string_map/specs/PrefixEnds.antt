@@ -6,7 +6,7 @@ use Rattle.std.specs.Ordering.{nat_cmp}
 use Rattle.std.specs.declared.ops.Bound.{Bound}
 use Rattle.std.specs.declared.ops.Bound.TheVariants.{Included, Excluded, Unbounded}
 use Rattle.art_keyed.specs.KeyedPairs.{is_key_from, is_key_up_to}
-use Rattle.art_model.specs.Keys.{is_front}
+use Rattle.art_parts.specs.Keys.{is_front}
 
 -- the bound at the front of a buffer, if its length is not zero
 abbrev pub end_in : ℕ → List ℕ → Bound (List ℕ)

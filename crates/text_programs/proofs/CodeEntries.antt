@@ -11,7 +11,7 @@ use Rattle.std.proofs.lemmas.List.Sorted.{IsPermutation-refl, IsPermutation-sym,
 use Rattle.std.specs.Cmp.Lexicographic.{slice_cmp}
 use Rattle.std.specs.Ordering.{is_lt, nat_cmp}
 use Rattle.std.specs.declared.cmp.Ordering.TheVariants.{Less}
-use Rattle.art_model.specs.Keys.{IsFront, are_same, is_before, is_front}
+use Rattle.art_parts.specs.Keys.{IsFront, are_same, is_before, is_front}
 use Rattle.art_model.specs.Pairs.{add_in_order, first_of, has_key, last_of, match_of, of_key, put, remove_key, with_key}
 use Rattle.art_model.specs.Texts.{TextsRise}
 use Rattle.art_model.proofs.pairs.Puts.{has_is_stored, put-new}

@@ -1,5 +1,5 @@
 -- Counts in the order of frequency: their one order, which a sort finds.
-use Rattle.std.proofs.Common.{◌≡◌, ℕ, ◌+◌, ◌<◌, zero, suc, Bool, true, false, cond, List, [], ◌∷◌, ◌++◌, length, get_or, take, map, flat_map, Option, sum_by, inl, inr, ◌⊎◌, refl, sym, ap, ap₂, ◌∙◌, subst, arith, add-one, append_assoc, append-nil}
+use Rattle.std.proofs.Common.{◌≡◌, ℕ, ◌+◌, ◌<◌, zero, suc, Bool, true, false, cond, List, [], ◌∷◌, take, map, flat_map, Option, sum_by, inl, inr, ◌⊎◌, refl, sym, ap, ap₂, ◌∙◌, subst, arith, add-one}
 use Rattle.std.proofs.Common.{Ordering, Less, Equal, Greater, is_lt, is_gt, true≢false, IsPermutation, IsSorted, Result, Ok, Err, OnOk}
 use Rattle.std.specs.Cmp.{IsTotalOrder}
 use Rattle.std.specs.Cmp.Lexicographic.{slice_cmp}
@@ -7,15 +7,12 @@ use Rattle.std.specs.Io.KnownBytes.{Appends}
 use Rattle.std.specs.List.{AllByRecursion as Each}
 use Rattle.std.specs.Ordering.{nat_cmp, ordering_reverse, ordering_then}
 use Rattle.std.proofs.lemmas.Cmp.{alike_right, back_total, by_ranked, nat_cmp_total, nat_list_cmp_total, on_total, ranked, then_total, tied_back, tied_itself, upto}
-use Rattle.std.proofs.lemmas.List.{map-append, take_more}
-use Rattle.std.proofs.lemmas.List.Concat.{flat_map-append}
 use Rattle.std.proofs.lemmas.List.Sums.{sum_by-cons}
 use Rattle.std.proofs.lemmas.List.Sorted.{IsPermutation-map, sum_by-IsPermutation}
 use Rattle.art_model.proofs.keys.KeyLaws.{order_is_total}
 use Rattle.art_model.proofs.lists.Lists.{Each-weaker}
 use Rattle.art_operations.specs.Keys.{is_before}
 use Rattle.art_operations.specs.Pairs.{Pairwise}
-use Rattle.text_lines.proofs.Writing.{appends_more}
 use Rattle.text_programs.specs.WordCounts.{line_of}
 use Rattle.text_programs.specs.Frequency.{by_frequency, frequency_cmp, placed}
 
@@ -168,32 +165,9 @@ module _ {X : Type 0} (count : X → List ℕ × ℕ) where
       one_order (by_frequency (map count xs)) (map count ys) (rises (map count xs)) (from_sorted ys sorted)
       (λ f. sum_rises f (map count xs) ∙ sym (sum_by-IsPermutation f (map count xs) (map count ys) (IsPermutation-map count xs ys same)))
 
--- ---- the rows of counts, collected and written
+-- ---- the rows of counts
 
 module _ {X : Type 0} (count : X → List ℕ × ℕ) where
-  -- a row is pushed for the next count
-  pub row_pushed : (rows next : List X) (row : X) (left rest counts : List (List ℕ × ℕ)) (x : List ℕ × ℕ) → next ≡ rows ++ row ∷ [] → left ≡ x ∷ rest →
-      count row ≡ x → map count rows ++ left ≡ counts → map count next ++ rest ≡ counts
-  row_pushed rows next row left rest counts x n e is h =
-      ap (λ ys. map count ys ++ rest) n ∙ ap (λ ys. ys ++ rest) (map-append count rows (row ∷ []))
-      ∙ append_assoc (map count rows) (count row ∷ []) rest ∙ ap (λ y. map count rows ++ y ∷ rest) is
-      ∙ ap (λ ys. map count rows ++ ys) (sym e) ∙ h
-
-  -- once no count is left
-  pub rows_whole : (rows : List X) (left counts : List (List ℕ × ℕ)) → left ≡ [] → map count rows ++ left ≡ counts → map count rows ≡ counts
-  rows_whole rows left counts e h = sym (append-nil (map count rows)) ∙ ap (λ ys. map count rows ++ ys) (sym e) ∙ h
-
-  -- the line of one more row is written
-  pub row_written : (rows : List X) (i : ℕ) (row : X) (old now next : Option (List ℕ)) → i < length rows → get_or rows i row ≡ row →
-      Appends old now (flat_map line_of (map count (take i rows))) → Appends now next (line_of (count row)) →
-      Appends old next (flat_map line_of (map count (take (i + 1) rows)))
-  row_written rows i row old now next below is h more =
-      subst (Appends old next) (sym (ap (λ ys. flat_map line_of (map count ys)) (take_more rows i row below ∙ ap (λ y. take i rows ++ y ∷ []) is)
-      ∙ ap (flat_map line_of) (map-append count (take i rows) (row ∷ []))
-      ∙ flat_map-append line_of (map count (take i rows)) (count row ∷ [])
-      ∙ ap (λ bs. flat_map line_of (map count (take i rows)) ++ bs) (append-nil (line_of (count row)))))
-      (appends_more old now next _ _ h more)
-
   -- the first rows are the first counts
   pub first_rows : (most : ℕ) (rows : List X) → map count (take most rows) ≡ take most (map count rows)
   first_rows zero rows = refl

@@ -1,9 +1,9 @@
 -- A text of counts that are added line by line.
-use Rattle.std.proofs.Common.{◌≡◌, ◌≢◌, ℕ, ◌+◌, List, [], ◌∷◌, ◌++◌, length, refl, ap, ap₂, sym, ◌∙◌, subst, arith, append_assoc, append-nil}
-use Rattle.std.proofs.lemmas.List.{length-map, map-append}
+use Rattle.std.proofs.Common.{◌≡◌, ℕ, ◌+◌, List, [], ◌∷◌, ◌++◌, length, refl, ap, ap₂, sym, ◌∙◌, subst, arith, append_assoc, append-nil}
+use Rattle.std.proofs.lemmas.List.{map-append}
 use Rattle.art_model.proofs.lists.Lists.{Each-append}
 use Rattle.text_programs.specs.Merged.{AreAdded}
-use Rattle.text_programs.specs.Rows.{IsBadRow, IsCount, row_of}
+use Rattle.text_programs.specs.Rows.{IsCount, row_of}
 use Rattle.text_programs.specs.Sums.{HasSums, OutputsAreRows, RowsAreDetermined}
 use Rattle.text_programs.proofs.CountRows.{rows_determined, written_rows}
 use Rattle.text_programs.proofs.SumLemmas.{counts_are}
@@ -23,18 +23,6 @@ module _ (number : ℕ) (old now : List (List ℕ × ℕ)) (line seen : List ℕ
       Each-append IsCount h.0 (count ∷ []) h.1.1 (is, tt),
     ),
     (λ before k. subst (λ xs. HasSums xs next) (append_assoc before h.0 (count ∷ [])) (more (before ++ h.0) (h.2 before k))),
-  )
-
-  -- at a line that is none of a count
-  pub bad_here : ((count : List ℕ × ℕ) → IsCount count → seen ≢ row_of count) → (before after : List (List ℕ)) →
-      number ≡ length before + 1 → AreAdded old now before → IsBadRow number line (before ++ line ∷ after)
-  bad_here none before after n h = (
-    h.0,
-    after,
-    ap (λ ls. ls ++ line ∷ after) h.1.0,
-    h.1.1,
-    (λ count is e. none count is (same ∙ e)),
-    (let a = ap length h.1.0 in let b = length-map h.0 row_of in omega arith),
   )
 
 pub outputs_are_rows : OutputsAreRows

@@ -2,7 +2,7 @@
 use Rattle.std.proofs.Common.{◌≡◌, ◌≢◌, ℕ, ◌+◌, ◌-◌, ◌^◌, ◌<◌, Bool, true, false, cond, eqb, eqb-true, min, List, [], ◌∷◌, ◌++◌, length, map, filter, flat_map, unwrap_or, refl, ap, sym, ◌∙◌, subst, arith}
 use Rattle.std.specs.List.{AllByRecursion as Each, slice_split}
 use Rattle.std.proofs.lemmas.Bool.{eqb-false, false≢true}
-use Rattle.art_operations.specs.Ended.{HasNoZero, ended}
+use Rattle.art_operations.specs.Ended.{ended}
 use Rattle.art_operations.specs.Keys.{are_same, is_before}
 use Rattle.art_operations.specs.MapAnswers.{value_at}
 use Rattle.art_operations.specs.Pairs.{Pairwise, first_of, of_key, put, stored_for, with_key}
@@ -70,10 +70,6 @@ pub summed : (added : List (List ℕ × ℕ)) (word : List ℕ) (number next : �
     next ≡ min (unwrap_or (value_at ended (ended word) pairs) 0 + number) (2 ^ 64 - 1) → HasSums added pairs →
     HasSums (added ++ (word, number) ∷ []) (put (of_key ended) (word, next) pairs)
 summed added word number next pairs some is kept = record { each = sum_found added word number next pairs some is kept }
-
--- a word has no zero
-pub word_is_plain : (word : List ℕ) → IsWord word → HasNoZero word
-word_is_plain word h = Each-weaker (λ b. is_gap b ≡ false) (λ b. b ≢ 0) (λ b e z. false≢true (sym e ∙ ap is_gap z)) word h.1
 
 -- ---- the counts of a text are counts of words
 

@@ -1,7 +1,7 @@
 -- What is written in reply to numbers.
 use Rattle.std.specs.Prelude.{◌≡◌, ℕ, true, false, List, ◌++◌, codes, Option, Some, None}
 use Rattle.art_model.specs.Footprints.{IsIn}
-use Rattle.art_model.specs.Keys.{IsFront}
+use Rattle.art_parts.specs.Keys.{IsFront}
 use Rattle.art_model.specs.Pairs.{last_of, match_of}
 use Rattle.text_programs.specs.Entries.{code_of, is_code, line_of}
 

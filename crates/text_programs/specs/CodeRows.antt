@@ -2,7 +2,7 @@
 use Rattle.std.specs.Prelude.{◌≡◌, ◌≢◌, ℕ, Bool, true, false, ◌&&◌, ◌==◌, List, ◌∷◌, map, ⊤}
 use Rattle.std.specs.List.{list_any}
 use Rattle.std.specs.List.Sorted.{IsPermutation}
-use Rattle.art_model.specs.Keys.{are_same}
+use Rattle.art_parts.specs.Keys.{are_same}
 use Rattle.text_programs.specs.Entries.{code_of, is_code, line_of}
 use Rattle.text_programs.specs.declared.dial_codes.table.LineError.{LineError}
 use Rattle.text_programs.specs.declared.dial_codes.table.LineError.TheVariants.{NoEntry, Repeated, NoMemory}

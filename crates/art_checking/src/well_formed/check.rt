@@ -9,7 +9,7 @@ ghost use Rattle.art_parts.specs.declared.leaf.LeafNode.{LeafNode};
 ghost use Rattle.art_parts.specs.declared.names.NodeType.TheVariants.{Leaf};
 ghost use Rattle.art_parts.specs.declared.names.OpaqueNodePtr.{OpaqueNodePtr};
 ghost use Rattle.art_model.specs.Faults.{HasSibling, IsTrueOf, Reaches, ReachesLeaf, wrong_children_count};
-ghost use Rattle.art_model.specs.Keys.{is_before};
+ghost use Rattle.art_parts.specs.Keys.{is_before};
 ghost use Rattle.art_model.specs.Layouts.{AreLinked, IsLayout, leaf_names, leaf_node};
 ghost use Rattle.art_model.specs.Pairs.{of_key};
 ghost use Rattle.art_model.specs.Trees.{Tree};

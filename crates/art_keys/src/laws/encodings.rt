@@ -7,7 +7,7 @@ ghost use Rattle.art_keys.specs.Escapes.{escape, unescape};
 ghost use Rattle.art_keys.specs.Joins.{AreKeys, joined_bytes, pair_cmp};
 ghost use Rattle.art_keys.specs.Numbers.{HasBytes, HasSignedBytes, lowered, number_of, signed_bytes};
 ghost use Rattle.art_keys.specs.Prefixes.{KeepsOrder};
-ghost use Rattle.art_model.specs.Keys.{IsFront};
+ghost use Rattle.art_parts.specs.Keys.{IsFront};
 
 use super::OrderedBytes;
 

@@ -1,7 +1,7 @@
 //! Cloning a map.
 ghost use Rattle.std.specs.Prelude.{◌≡◌, ◌+◌, ◌<◌, IfOk, None, Some};
 ghost use Rattle.std.specs.FinMap as map;
-ghost use Rattle.art_model.specs.Clones.{KeepBytes};
+ghost use Rattle.art_parts.specs.Keys.{KeepBytes};
 ghost use Rattle.art_model.specs.Pairs.{of_key};
 ghost use Rattle.art_map.specs.MapChanges.{HoldsClones};
 ghost use Rattle.art_map.specs.MapPairs.{HoldsPairs, pairs_at};
@@ -13,7 +13,8 @@ use art_nodes::store::NodeStore;
 use std::alloc::AllocError;
 
 impl<K: AsBytes + Clone + Drop, V: Clone + Drop, const P: usize> ByteMap<K, V, P> {
-    ghost use Rattle.art_model.specs.Clones.{AreClones, KeepBytes};
+    ghost use Rattle.art_parts.specs.Keys.{KeepBytes};
+    ghost use Rattle.art_model.specs.Clones.{AreClones};
 
     /// Returns a map with clones of all pairs, in a store of its own. It fails only if an allocation fails, such as
     /// that of a node or of the clone of a key or a value.

@@ -3,7 +3,7 @@ ghost use Rattle.std.specs.Prelude.{◌≡◌, ◌<◌, ◌^◌, length, Some, I
 ghost use Rattle.std.specs.Iterator.{UpTo, at_most};
 ghost use Rattle.std.specs.Iterator.SizeHint.{IsWithinCount};
 ghost use Rattle.std.specs.Range.Bound.{bound_map};
-ghost use Rattle.art_model.specs.Keys.{is_front};
+ghost use Rattle.art_parts.specs.Keys.{is_front};
 ghost use Rattle.art_model.specs.Pairs.{of_key};
 ghost use Rattle.art_model.specs.Parts.{is_between};
 ghost use Rattle.art_map.specs.MapExtract.{ExtractsAll, ExtractsBelow, ExtractsBetween};

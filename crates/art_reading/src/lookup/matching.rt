@@ -1,6 +1,6 @@
 //! The comparison of keys and prefixes on a descent.
 ghost use Rattle.std.specs.Prelude.{◌≡◌, ◌+◌, ◌<◌, ◌≤◌, ◌↔◌, ◌==◌, if◌then◌else◌, [], ◌∷◌, ◌++◌, length, take, drop, is_ok, false, IsSome, IsTrue, List, ℕ};
-ghost use Rattle.art_model.specs.Keys.{IsFront};
+ghost use Rattle.art_parts.specs.Keys.{IsFront};
 ghost use Rattle.art_reading.specs.Matching.{shared_len, HasRest, LeadsTo, LeafKeyIsPrefix, MatchesLeafKey, behavior_after, child_below, parts_from, prefix_match, compared_from};
 ghost use Rattle.art_reading.specs.declared.lookup.matching.PrefixMatchBehavior.TheVariants.{Optimistic, Pessimistic};
 ghost use Rattle.art_reading.specs.declared.lookup.matching.Step.TheVariants.{AtEnd, Nowhere};

@@ -1,7 +1,7 @@
 //! Keys to look up: one slice of bytes, a text and its end byte, or bytes that are made as they are read.
 ghost use Rattle.std.specs.Prelude.{◌≡◌, ◌+◌, ◌<◌, ◌≤◌, ◌^◌, ◌↔◌, [], ◌∷◌, ◌++◌, drop, min, length, IsTrue, List, ℕ, slice_get, OnSome};
 ghost use Rattle.std.specs.List.{cons_option};
-ghost use Rattle.art_model.specs.Keys.{IsFront, is_front};
+ghost use Rattle.art_parts.specs.Keys.{IsFront, is_front};
 ghost use Rattle.art_reading.specs.Descents.{IsAskedFor};
 ghost use Rattle.art_reading.specs.Matching.{LeafKeyIsPrefix, MatchesLeafKey, shared_len};
 ghost use Rattle.art_reading.specs.declared.lookup.matching.PrefixMatchBehavior.TheVariants.{Optimistic, Pessimistic};

@@ -1,5 +1,5 @@
-//! Random calls of a map with hints beside the same calls of a `BTreeMap`. Pairs are removed through a `TreeMap` and moved in
-//! memory meanwhile, so that hints are missing and wrong.
+//! Random calls of a map with hints beside the same calls of a `BTreeMap`. Pairs are removed and moved in memory meanwhile,
+//! so that some hints are missing or wrong.
 use art_hinted::map::HintedMap;
 use art_keys::escaped::Escaped;
 use art_keys::terminated::Terminated;

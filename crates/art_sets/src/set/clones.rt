@@ -1,7 +1,7 @@
 //! Cloning a set.
 ghost use Rattle.std.specs.Prelude.{IfOk};
 ghost use Rattle.std.specs.List.{AllZip};
-ghost use Rattle.art_model.specs.Clones.{KeepBytes};
+ghost use Rattle.art_parts.specs.Keys.{KeepBytes};
 
 use super::ByteSet;
 use art_nodes::node::AsBytes;

@@ -2,7 +2,7 @@
 ghost use Rattle.std.specs.Prelude.{◌≡◌, IfErr, IfSome, List, OnErr, OnOk, ℕ};
 ghost use Rattle.std.specs.Option.{option_map};
 ghost use Rattle.art_model.specs.Footprints.{IsIn};
-ghost use Rattle.art_model.specs.Keys.{IsFront};
+ghost use Rattle.art_parts.specs.Keys.{IsFront};
 ghost use Rattle.art_model.specs.Pairs.{last_of, match_of};
 ghost use Rattle.text_programs.specs.Entries.{IsNoLonger, code_of, entries_of, entry_of};
 ghost use Rattle.text_programs.specs.CodeRows.{HasLine, IsFaultBeside, rows_of};

@@ -4,7 +4,7 @@ use Rattle.art_inner.specs.Beside.{IsNextTo}
 use Rattle.art_inner.specs.Inner.{child_at}
 use Rattle.art_inner.specs.Views.{ref_view}
 use Rattle.art_model.proofs.stores.Shown.{inner_met, leaf_named, shown_met}
-use Rattle.art_model.specs.Keys.{IsFront}
+use Rattle.art_parts.specs.Keys.{IsFront}
 use Rattle.art_reading.specs.PathSteps.{path_of}
 use Rattle.art_ranges.proofs.NeighbourDescents.{at_on, beside_end, beside_gap, beside_leaf, beside_off, goes_on, has_child, on_key_start, onto_child}
 use Rattle.art_reading.proofs.Counters.{count_both}

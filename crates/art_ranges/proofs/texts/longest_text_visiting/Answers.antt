@@ -1,5 +1,5 @@
 use Rattle.std.proofs.Common.{◌+◌, None, length, length-take, ap, arith, refl, rules, sym, ◌∙◌}
-use Rattle.art_model.specs.Keys.{common_front}
+use Rattle.art_parts.specs.Keys.{common_front}
 use Rattle.art_model.specs.Pairs.{of_key, without_last}
 use Rattle.art_ranges.proofs.FoundTexts.{has_found_last}
 use Rattle.art_reading.proofs.PartNodes.{leaf_is_there, own_pair}

@@ -1,5 +1,5 @@
 use Rattle.std.proofs.Common.{ap, arith, rules, subst, sym, ◌∙◌}
-use Rattle.art_model.specs.Keys.{IsFront}
+use Rattle.art_parts.specs.Keys.{IsFront}
 use Rattle.art_model.specs.Pairs.{of_key, without_last}
 use Rattle.art_model.specs.Texts.{text_of}
 use Rattle.art_ranges.proofs.FoundTexts.{has_found_first}

@@ -1,7 +1,7 @@
 //! Trees that runs of drawn commands leave, each compared with the tree that is built from the pairs at once.
 ghost use Rattle.std.specs.Prelude.{ℕ, ◌<◌, List};
 ghost use Rattle.art_model.specs.Canonical.{IsCanonical};
-ghost use Rattle.art_model.specs.Clones.{KeepBytes};
+ghost use Rattle.art_parts.specs.Keys.{KeepBytes};
 ghost use Rattle.art_model.specs.Pairs.{of_key};
 
 use super::build::build;

@@ -1,4 +1,4 @@
-use Rattle.art_building.proofs.AddedKeys.{keys_after, never_conflicts}
+use Rattle.art_building.proofs.KeysAfter.{keys_after, never_conflicts}
 use Rattle.art_building.proofs.tree_map.TreeMapBuilder.push.Goals as goal
 
 pub invariant_of-self : goal.invariant_of-self

@@ -1,5 +1,5 @@
 use Rattle.std.proofs.Common.{ap, length, sym, ◌∙◌}
-use Rattle.art_model.specs.Keys.{is_front}
+use Rattle.art_parts.specs.Keys.{is_front}
 use Rattle.art_keys.specs.Escapes.{escape, escape_inside, unescape}
 use Rattle.art_keys.specs.EscapeLaws.{before_end, escape_begins, has_end}
 use Rattle.art_keys.proofs.escaped.EscapedStringBytes.beginning.Goals as goal

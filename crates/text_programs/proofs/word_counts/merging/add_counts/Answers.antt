@@ -1,10 +1,8 @@
-use Rattle.std.proofs.Common.{true, false}
+use Rattle.std.proofs.Common.{true}
 use Rattle.text_lines.proofs.LineParts.{read_as}
-use Rattle.text_lines.proofs.Reading.{begins, ends, goes_on, stops}
+use Rattle.text_lines.proofs.Reading.{begins, goes_on}
 use Rattle.text_programs.specs.Merged.{AreAdded}
-use Rattle.text_programs.specs.Rows.{IsBadRow}
-use Rattle.text_programs.proofs.MergeLemmas.{bad_here, none_added, one_count_more}
-use Rattle.text_programs.proofs.SumLemmas.{word_is_plain}
+use Rattle.text_programs.proofs.MergeLemmas.{none_added, one_count_more}
 use Rattle.text_programs.proofs.word_counts.merging.add_counts.Goals as goal
 
 pub loop-number-init : goal.loop-number-init

@@ -1,4 +1,4 @@
-use Rattle.std.proofs.Common.{◌<◌, sym, ◌∙◌, arith}
+use Rattle.std.proofs.Common.{sym, ◌∙◌, arith}
 use Rattle.text_programs.proofs.CountRows.{no_count, no_number, no_space, word_is}
 use Rattle.text_programs.proofs.word_counts.rows.parse_count.Goals.{else-number-gt0-via-then-number-gt0+else-is_word, else-number-gt0-via-else-number-gt0}
 use Rattle.text_programs.proofs.word_counts.rows.parse_count.Goals as goal

@@ -1,5 +1,4 @@
 use Rattle.std.proofs.Common.{◌++◌, map, ap, ◌∙◌}
-use Rattle.text_programs.proofs.FrequencyLemmas.{rows_whole}
 use Rattle.text_programs.proofs.word_counts.top.rows_of.Goals as goal
 
 pub loop-word-init : goal.loop-word-init

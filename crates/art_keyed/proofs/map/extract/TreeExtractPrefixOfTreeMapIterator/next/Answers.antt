@@ -1,5 +1,5 @@
 use Rattle.std.proofs.Common.{refl}
-use Rattle.art_model.specs.Keys.{is_front}
+use Rattle.art_parts.specs.Keys.{is_front}
 use Rattle.art_model.specs.Pairs.{of_key}
 use Rattle.art_map.proofs.Extracted.{step_goes}
 use Rattle.art_keyed.proofs.map.extract.TreeExtractPrefixOfTreeMapIterator.next.Goals as goal

@@ -34,3 +34,7 @@ abbrev pub common_front : List ℕ → List ℕ → List ℕ
 common_front [] other = []
 common_front (a ∷ «as») [] = []
 common_front (a ∷ «as») (b ∷ bs) = if a == b then a ∷ common_front «as» bs else []
+
+-- a clone of a key has the same bytes
+abbrev pub KeepBytes : {K : Type 0} → (K → List ℕ) → (K → K → Type 0) → Type 0
+KeepBytes {K} bytes is_clone = (x y : K) → is_clone x y → bytes y ≡ bytes x
