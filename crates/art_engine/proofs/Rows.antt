@@ -19,10 +19,9 @@ use Rattle.art_model.specs.Stores.{pair_of}
 use Rattle.art_model.specs.Trees.{Tree}
 use Rattle.art_model.proofs.stores.Canonical.{tree_radix}
 use Rattle.art_model.proofs.radix.TreeLaws.{one_child, have_two_children}
-use Rattle.art_reading.specs.Iterators.{IsIteratorOf, TakesEnd}
-use Rattle.art_map.specs.MapItems.{IsWalk, pairs_left}
+use Rattle.art_reading.specs.Iterators.{IsIteratorOf, IsWalk, TakesEnd, pairs_left}
 use Rattle.text_lines.proofs.Writing.{appends_more, appends_none}
-use Rattle.art_map.proofs.Items.{first_ended, first_step, first_walk, last_ended, last_step, last_walk, whole_len, whole_pairs, whole_walk}
+use Rattle.art_reading.proofs.PairsLeft.{first_ended, first_step, first_walk, last_ended, last_step, last_walk, whole_len, whole_pairs, whole_walk}
 use Rattle.art_engine.specs.KeptKeys.{Key, key_bytes}
 use Rattle.art_engine.specs.declared.pairs.Order.{Order}
 use Rattle.art_engine.specs.declared.pairs.Order.TheVariants.{Rising, Falling}

@@ -5,6 +5,7 @@ use Rattle.std.specs.FinMap.{get}
 use Rattle.std.specs.List.{AllByRecursion as Each}
 use Rattle.art_model.specs.Prelude.{with_value, with_leaf_value, Nodes, leaf_name, LeafNode, LeafPtr, OpaqueNodePtr, Precedes, are_same, AreDistinct, AreLinked, IsMap, first_of, of_key, without_first, links_at, pair_of}
 use Rattle.art_nodes.proofs.StoreChanges.{leaf_changed_at, leaf_changed_elsewhere}
+use Rattle.art_model.specs.Gains.{as_leaf}
 use Rattle.art_model.proofs.leaves.Chains.{links_inner, links_leaf}
 use Rattle.art_model.proofs.keys.Keys.{front_same, same_equal}
 use Rattle.art_model.proofs.leaves.Leaves.{same_leaf}
@@ -13,13 +14,12 @@ use Rattle.art_model.proofs.lists.Pairwises.{Pairwise-after, Pairwise-before}
 use Rattle.art_model.proofs.stores.Views.{leaf_or}
 use Rattle.art_reading.specs.Iterators.{IsIteratorOf}
 use Rattle.art_reading.proofs.Iterators as iterators
+use Rattle.art_reading.proofs.PairsLeft.{first_left, less_first, named_pairs, none_first, one_pair}
 use Rattle.art_map.specs.MapAnswers.{with_value_at}
 use Rattle.art_map.specs.MapCalls.{ChangesBy}
 use Rattle.art_map.specs.MapChanges.{ChangesLeaf, HasChanged}
 use Rattle.art_map.specs.MapItems.{IsRange, keys_of, pairs_between, walk_len}
 use Rattle.art_map.specs.MapPairs.{HoldsPairs, pairs_at}
-use Rattle.art_map.proofs.Enough.{as_leaf}
-use Rattle.art_map.proofs.Items.{first_left, less_first, named_pairs, none_first, one_pair}
 use Rattle.art_map.proofs.LeafOf.{leaf_of_map}
 use Rattle.art_map.proofs.Ranges.{between_are, walk_counted}
 use Rattle.art_map.proofs.ValueLaws.{written_between}

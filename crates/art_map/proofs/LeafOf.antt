@@ -2,13 +2,13 @@
 use Rattle.std.proofs.Common.{◌≡◌, ◌≢◌, ◌⊎◌, ℕ, List, [], ◌∷◌, Option, Some, None, refl, ap, sym, ◌∙◌, subst, inl, inr, option_map}
 use Rattle.std.specs.FinMap.{get}
 use Rattle.art_model.specs.Prelude.{Nodes, leaf_name, LeafNode, LeafPtr, Leaf, OpaqueNodePtr, IsIn, names_in, Holds, HoldsBelow, names_of, names_below, slots_of, HasLeaf, of_key, Frame, plug, join, IsRootOf, content_at, held_leaf, node_at, NodeHeader, Tree, leaf, inner, Subtrees, child, no_child}
+use Rattle.art_model.specs.Gains.{as_leaf}
 use Rattle.art_model.proofs.leaves.Leaves.{same_leaf}
 use Rattle.art_model.proofs.leaves.LeavesFound.{leaf_found}
 use Rattle.art_model.proofs.lists.Lists.{in_either}
 use Rattle.art_model.proofs.stores.Views.{leaf_name_is, leaf_or}
 use Rattle.art_map.specs.MapChanges.{NamesLeafOf}
 use Rattle.art_map.specs.MapPairs.{HoldsPairs}
-use Rattle.art_map.proofs.Enough.{as_leaf}
 
 module _ {N A : Type 0} where
   -- the children before one, that one, and those after it

@@ -6,11 +6,10 @@ use Rattle.art_nodes.proofs.StoreChanges.{leaf_gone_elsewhere}
 use Rattle.art_model.proofs.lists.Lists.{each_in}
 use Rattle.art_model.proofs.stores.Names.{apart_in}
 use Rattle.art_model.proofs.leaves.Segments.{but_last}
-use Rattle.art_reading.specs.Iterators.{IsIteratorOf}
+use Rattle.art_reading.specs.Iterators.{IsIteratorOf, IsWalk, pairs_from, pairs_left}
 use Rattle.art_reading.proofs.Iterators.{goes_on, linked_leaf}
+use Rattle.art_reading.proofs.PairsLeft.{from_there, first_first, first_step, first_walk, last_step, last_walk}
 use Rattle.art_copying.proofs.Freed.{leaf_freed}
-use Rattle.art_map.specs.MapItems.{pairs_from, pairs_left, IsWalk}
-use Rattle.art_map.proofs.Items.{from_there, first_first, first_step, first_walk, last_step, last_walk}
 
 -- the first of distinct names is not one of the others, and neither is the last
 off_first : {N : Type 0} (names : List N) (k : N) → AreDistinct names → Some k ≡ first_of names → IsIn k (without_first names) → ⊥

@@ -4,16 +4,16 @@ use Rattle.std.specs.List.{AllByRecursion as Each}
 use Rattle.std.specs.FinMap as map
 use Rattle.std.proofs.lemmas.Bool.{ne_eqb}
 use Rattle.art_model.specs.Prelude.{Nodes, leaf_name, LeafNode, LeafPtr, OpaqueNodePtr, IsCanonicalTree, AreDistinct, AreLinked, Holds, HoldsBelow, entries_of, entries_below, first_of, last_of, without_first, without_last, leaves_where, links_at, node_at, pair_of, Tree, leaf, inner, Subtrees, child, no_child}
+use Rattle.art_model.specs.Gains.{as_leaf}
 use Rattle.art_model.proofs.stores.Canonical.{tree_radix}
 use Rattle.art_model.proofs.lists.Lists.{Each-append, each_in}
 use Rattle.art_model.proofs.places.Paths.{pairs_of-leaves}
 use Rattle.art_model.proofs.leaves.Segments.{empty_segment, last_of_in}
 use Rattle.art_model.proofs.stores.Views.{leaf_there}
-use Rattle.art_reading.specs.Iterators.{IsIteratorOf}
+use Rattle.art_reading.specs.Iterators.{IsIteratorOf, IsWalk, pairs_left}
 use Rattle.art_reading.proofs.Iterators.{linked_leaf}
-use Rattle.art_map.specs.MapItems.{leaves_to, pairs_between, pairs_left, walk_len, deref_pair, CountsDown, IsRange, IsWalk, TakesFirst, TakesLast}
-use Rattle.art_map.proofs.Enough.{leaf_used, as_leaf}
-use Rattle.art_map.proofs.Items.{named_pairs, one_pair, left_are, left_len, first_left, last_left, less_first, less_last, none_first, none_last}
+use Rattle.art_reading.proofs.PairsLeft.{leaf_used, named_pairs, one_pair, left_are, left_len, first_left, last_left, less_first, less_last, none_first, none_last}
+use Rattle.art_map.specs.MapItems.{leaves_to, pairs_between, walk_len, deref_pair, CountsDown, IsRange, TakesFirst, TakesLast}
 
 module _ {K V : Type 0} (s : Nodes K V) (last : LeafPtr) where
   to_last : (p : LeafPtr) (n : ℕ) → eqb p.slot last.slot ≡ true → leaves_to s last (suc n) (Some p) ≡ 1

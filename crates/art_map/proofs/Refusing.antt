@@ -9,6 +9,7 @@ use Rattle.art_nodes.specs.LeafCalls.{CallsOnLeaf}
 use Rattle.art_nodes.proofs.StoreChanges.{leaf_changed_at}
 use Rattle.art_model.proofs.stores.StoreLaws.{has_one_map}
 use Rattle.art_reading.specs.Iterators.{IsIteratorOf}
+use Rattle.art_reading.proofs.PairsLeft.{named_pairs}
 use Rattle.art_writing.specs.Deleted.{IsDeletePoint, IsDeletePointIn, LeadsTo}
 use Rattle.art_writing.specs.declared.delete.DeletePoint.{DeletePoint}
 use Rattle.art_writing.proofs.KeysFound.{point_some}
@@ -16,7 +17,6 @@ use Rattle.art_map.specs.MapChanges.{HasChanged, HasTaken}
 use Rattle.art_map.specs.MapPairs.{HoldsPairs, pairs_at}
 use Rattle.art_map.specs.MapRetain.{CallsUpTo, FindsRefused, HasTakenRefused, TakesRefused, after_pair, is_after, pairs_after}
 use Rattle.art_map.proofs.Changed.{Changing, first_after, held_after, keys_after, others_after, those_after}
-use Rattle.art_map.proofs.Items.{named_pairs}
 use Rattle.art_map.proofs.Retained.{passed, stored_once}
 use Rattle.art_map.proofs.MapPuts.{at_root}
 use Rattle.art_map.proofs.ViewsOfPairs.{holds, map_held, view_of}

@@ -1,32 +1,12 @@
 -- The pairs that an iterator has left.
 use Rattle.std.specs.Prelude.{◌≡◌, ◌≤◌, ◌==◌, if◌then◌else◌, ℕ, zero, suc, List, [], ◌∷◌, ◌++◌, length, MatchOption, Option, Some, None}
-use Rattle.std.specs.Option.{option_map}
 use Rattle.std.specs.FinMap as nodes
 use Rattle.art_nodes.specs.Nodes.{Nodes}
 use Rattle.art_parts.specs.declared.names.LeafPtr.{LeafPtr}
 use Rattle.art_parts.specs.declared.names.OpaqueNodePtr.{OpaqueNodePtr}
-use Rattle.art_model.specs.Stores.{pair_of}
-use Rattle.art_reading.specs.Iterators.{IsIteratorOf}
+use Rattle.art_reading.specs.Iterators.{IsIteratorOf, pairs_left}
 use denote.Ref.{Bor}
 pub use Rattle.std.specs.Map.{keys_of, values_of}
-
-module _ {K V : Type 0} where
-  -- the pairs of so many leaves from this one on
-  unfoldable pub pairs_from : Nodes K V → ℕ → Option LeafPtr → List (K × V)
-  pairs_from s zero leaf = []
-  pairs_from s (suc n) None = []
-  pairs_from s (suc n) (Some p) =
-      elim (nodes.get s.leaves p) [ None ↦ [] | Some leaf ↦ pair_of leaf ∷ pairs_from s n leaf.next ]
-
-  -- the pairs that an iterator over so many leaves has left
-  abbrev pub pairs_left : Nodes K V → Option (LeafPtr × LeafPtr) → ℕ → List (K × V)
-  pairs_left s walk n = pairs_from s n (option_map (λ ends. ends.0) walk)
-
--- The iterator is one over so many leaves of the store.
-pub record IsWalk {K V : Type 0} (s : Nodes K V) (walk : Option (LeafPtr × LeafPtr)) (len : ℕ) : Type 0 where
-  pub names : List OpaqueNodePtr
-  pub is : IsIteratorOf s walk names
-  pub len_is : len ≡ length names
 
 module _ {K V : Type 0} where
   -- how many leaves there are from this one to the last one, at most so many

@@ -1,6 +1,7 @@
 pub mod Blocks
 pub mod Counters
 pub mod Iterators
+pub mod PairsLeft
 pub mod Rests
 pub mod Outcomes
 pub mod LookupWays

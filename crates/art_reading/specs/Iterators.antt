@@ -1,5 +1,6 @@
--- The leaves that are left of an iterator.
-use Rattle.std.specs.Prelude.{◌≡◌, ℕ, List, [], Option, Some, None}
+-- The leaves that are left of an iterator, and their pairs.
+use Rattle.std.specs.Prelude.{◌≡◌, ℕ, zero, suc, List, [], ◌∷◌, length, Option, Some, None}
+use Rattle.std.specs.FinMap as nodes
 use Rattle.std.specs.Option.{option_map}
 use Rattle.art_parts.specs.Names.{leaf_name}
 use Rattle.art_nodes.specs.Nodes.{Nodes}
@@ -11,7 +12,7 @@ use Rattle.art_model.specs.Layouts.{leaf_names}
 use Rattle.art_model.specs.Lookups.{HasFirstLeaf, HasLastLeaf}
 use Rattle.art_model.specs.Pairs.{first_of, last_of, without_first, without_last}
 use Rattle.art_model.specs.Segments.{IsSegment}
-use Rattle.art_model.specs.Stores.{links_at}
+use Rattle.art_model.specs.Stores.{links_at, pair_of}
 use Rattle.art_model.specs.Trees.{Tree}
 use Rattle.art_reading.specs.declared.lookup.descent.End.{End}
 use Rattle.art_reading.specs.declared.lookup.descent.End.TheVariants.{First, Last}
@@ -31,6 +32,24 @@ pub record IsIteratorOf {K V : Type 0} (s : Nodes K V) (iterator : Option (LeafP
 abbrev pub TakesEnd : {K V : Type 0} → End → Nodes K V → List OpaqueNodePtr → Option LeafPtr → Option (LeafPtr × LeafPtr) → Type 0
 TakesEnd First s names leaf left = (option_map leaf_name leaf ≡ first_of names) × IsIteratorOf s left (without_first names)
 TakesEnd Last s names leaf left = (option_map leaf_name leaf ≡ last_of names) × IsIteratorOf s left (without_last names)
+
+module _ {K V : Type 0} where
+  -- the pairs of so many leaves from this one on
+  unfoldable pub pairs_from : Nodes K V → ℕ → Option LeafPtr → List (K × V)
+  pairs_from s zero leaf = []
+  pairs_from s (suc n) None = []
+  pairs_from s (suc n) (Some p) =
+      elim (nodes.get s.leaves p) [ None ↦ [] | Some leaf ↦ pair_of leaf ∷ pairs_from s n leaf.next ]
+
+  -- the pairs that an iterator over so many leaves has left
+  abbrev pub pairs_left : Nodes K V → Option (LeafPtr × LeafPtr) → ℕ → List (K × V)
+  pairs_left s walk n = pairs_from s n (option_map (λ ends. ends.0) walk)
+
+-- The iterator is one over so many leaves of the store.
+pub record IsWalk {K V : Type 0} (s : Nodes K V) (walk : Option (LeafPtr × LeafPtr)) (len : ℕ) : Type 0 where
+  pub names : List OpaqueNodePtr
+  pub is : IsIteratorOf s walk names
+  pub len_is : len ≡ length names
 
 -- ---- laws
 

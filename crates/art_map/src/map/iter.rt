@@ -2,7 +2,8 @@
 ghost use Rattle.std.specs.Prelude.{◌≡◌, ◌<◌, ◌^◌, length, IfSome, Some, ⊤};
 ghost use Rattle.std.specs.Iterator.{UpTo, at_most};
 ghost use Rattle.std.specs.Iterator.SizeHint.{IsWithinCount};
-ghost use Rattle.art_map.specs.MapItems.{CountsDown, IsRange, IsWalk, TakesFirst, TakesLast, pairs_between};
+ghost use Rattle.art_reading.specs.Iterators.{IsWalk};
+ghost use Rattle.art_map.specs.MapItems.{CountsDown, IsRange, TakesFirst, TakesLast, pairs_between};
 ghost use Rattle.art_nodes.specs.Nodes.{Nodes};
 
 use art_nodes::node::AsBytes;
@@ -72,7 +73,8 @@ impl<'a, K, V, S: Leaves<K, V>> Model for MapIterOf<'a, K, V, S> {
 
     ghost coded = { coded_list (coded× K.code V.code) };
 
-    ghost use Rattle.art_map.specs.MapItems.{IsWalk, pairs_between};
+    ghost use Rattle.art_reading.specs.Iterators.{IsWalk};
+    ghost use Rattle.art_map.specs.MapItems.{pairs_between};
 
     ghost view = { λ m. pairs_between (S.seen m.store.now) m.walk m.len };
 

@@ -3,7 +3,8 @@ ghost use Rattle.std.specs.Prelude.{◌≡◌, length, IfSome, Some};
 ghost use Rattle.std.specs.Iterator.{UpTo, YieldsFirst, YieldsLast, at_most, item_count};
 ghost use Rattle.std.specs.Iterator.SizeHint.{IsWithinCount};
 ghost use Rattle.art_model.specs.Pairs.{of_key};
-ghost use Rattle.art_map.specs.MapItems.{IsWalk, keys_of, pairs_left, values_of};
+ghost use Rattle.art_reading.specs.Iterators.{IsWalk, pairs_left};
+ghost use Rattle.art_map.specs.MapItems.{keys_of, values_of};
 ghost use Rattle.art_map.specs.MapPairs.{HoldsPairs, pairs_at};
 
 use super::ByteMap;
@@ -31,7 +32,7 @@ impl<K, V, const P: usize> Model for IntoIter<K, V, P> {
 
     ghost coded = { coded_list (coded× K.code V.code) };
 
-    ghost use Rattle.art_map.specs.MapItems.{IsWalk, pairs_left};
+    ghost use Rattle.art_reading.specs.Iterators.{IsWalk, pairs_left};
 
     ghost view = { λ m. pairs_left m.store m.walk m.len };
 

@@ -1,4 +1,4 @@
-use Rattle.art_map.proofs.Items.{first_ended}
+use Rattle.art_reading.proofs.PairsLeft.{first_ended}
 use Rattle.art_map.proofs.Owned.{first_out, first_out_walk}
 use Rattle.art_map.proofs.map.owned.take_next.Goals as goal
 

@@ -1,4 +1,4 @@
-use Rattle.art_map.proofs.Items.{last_ended}
+use Rattle.art_reading.proofs.PairsLeft.{last_ended}
 use Rattle.art_map.proofs.Owned.{last_out, last_out_walk}
 use Rattle.art_map.proofs.map.owned.take_next_back.Goals as goal
 

@@ -1,10 +1,10 @@
 use Rattle.std.proofs.Common.{rules, ap, sym, ◌∙◌, subst, length, None}
 use Rattle.art_model.specs.Prelude.{leaf_names, of_key}
 use Rattle.art_model.proofs.stores.StoreLaws.{has_children}
-use Rattle.art_reading.specs.Iterators.{IsIteratorOf}
-use Rattle.art_map.specs.MapItems.{pairs_left}
-use Rattle.art_map.proofs.Items.{none_left, no_pairs, whole_len, whole_pairs}
-use Rattle.art_map.proofs.Items as items
+use Rattle.art_reading.specs.Iterators.{IsIteratorOf, pairs_left}
+use Rattle.art_reading.proofs.PairsLeft.{none_left, whole_len, whole_pairs}
+use Rattle.art_reading.proofs.PairsLeft as items
+use Rattle.art_map.proofs.Items.{no_pairs}
 use Rattle.art_map.proofs.MapPuts.{at_some}
 use Rattle.art_map.proofs.map.owned.whole_walk.Goals as goal
 

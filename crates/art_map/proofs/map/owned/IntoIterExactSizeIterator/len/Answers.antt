@@ -1,5 +1,5 @@
 use Rattle.std.proofs.Common.{◌≡◌, length, sym, subst}
-use Rattle.art_map.proofs.Items.{left_len}
+use Rattle.art_reading.proofs.PairsLeft.{left_len}
 use Rattle.art_map.proofs.map.owned.IntoIterExactSizeIterator.len.Goals as goal
 
 pub returns-clause-value : goal.returns-clause-value

@@ -1,5 +1,5 @@
 use Rattle.std.proofs.Common.{◌≡◌, length, subst, arith, ap, sym, Some}
-use Rattle.art_map.proofs.Items.{left_len}
+use Rattle.art_reading.proofs.PairsLeft.{left_len}
 use Rattle.art_map.proofs.map.owned.IntoIterIterator.size_hint.Goals as goal
 
 pub returns-clause-lower : goal.returns-clause-lower
