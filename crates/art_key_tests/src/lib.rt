@@ -1,4 +1,4 @@
-//! Tests of keys that never conflict, and of maps of them, by public calls. There is nothing here but tests.
+//! Tests of keys that never conflict, by public calls. There are only tests here.
 #![tactic(auto)]
 
 #[cfg(test)]

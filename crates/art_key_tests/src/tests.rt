@@ -1,13 +1,4 @@
 mod arrays;
-mod collected;
-mod drawn;
-mod entries;
-mod extracts;
 mod joined;
 mod keys;
-mod longest;
-mod map;
 mod memory;
-mod parts;
-mod text_ranges;
-mod visits;

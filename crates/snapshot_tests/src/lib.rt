@@ -1,4 +1,4 @@
-//! Tests of snapshots, by public calls. There are only tests here.
+//! Tests of snapshots of maps and sets, by public calls. There are only tests here.
 #![tactic(auto)]
 
 #[cfg(test)]

@@ -4,10 +4,10 @@ use art_keys::joined::Joined;
 use art_keys::signed::I8Key;
 use art_keys::terminated::Terminated;
 use art_keys::unsigned::{U16Key, U64Key};
-use art_node_support::expected::same;
-use art_node_support::memory::all_memory;
 use std::alloc::Global;
 use std::test::Fail;
+use test_helpers::expected::same;
+use test_helpers::memory::all_memory;
 
 type Inner = Joined<Terminated, [u8; 2]>;
 

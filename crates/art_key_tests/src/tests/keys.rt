@@ -3,12 +3,12 @@ use art_keys::escaped::Escaped;
 use art_keys::signed::{I8Key, I16Key, I32Key, I64Key, I128Key};
 use art_keys::terminated::{EndError, Terminated};
 use art_keys::unsigned::{U8Key, U16Key, U32Key, U64Key, U128Key};
-use art_node_support::expected::same;
-use art_node_support::short::{COUNT, Short};
-use art_nodes::node::AsBytes;
+use art_parts::bytes::AsBytes;
 use std::alloc::Global;
 use std::fmt::{Debug, Display};
 use std::test::Fail;
+use test_helpers::expected::same;
+use test_helpers::short::{COUNT, Short};
 
 // Whether a key is formatted so by `Display` and then by `Debug`.
 fn is_shown<K: Display + Debug + Drop>(alloc: Global, key: K, wanted: &str) -> Option<bool> {

@@ -1,11 +1,11 @@
 //! Random maps, written, and read in pieces of few bytes.
-use super::in_memory::Pieces;
 use art_keyed::map::TreeMap;
 use art_keys::escaped::Escaped;
 use art_snapshots::{read_map, write_map};
 use snapshot_format::ReadError;
 use std::alloc::Global;
 use std::test::*;
+use test_helpers::streams::Pieces;
 
 type Map = TreeMap<Escaped, Vec<u8>, 10>;
 

@@ -3,10 +3,10 @@ use art_keyed::map::TreeMap;
 use art_keys::laws::NoPrefixesBytes;
 use art_keys::signed::I32Key;
 use art_keys::terminated::Terminated;
-use art_node_support::expected::same;
 use std::alloc::Global;
 use std::ops::Bound;
 use std::test::Fail;
+use test_helpers::expected::same;
 
 type Days = TreeMap<I32Key, u32, 8>;
 

@@ -1,9 +1,9 @@
 //! Iterators that remove the pairs whose strings have a prefix.
 use art_keyed::map::TreeMap;
 use art_keys::terminated::Terminated;
-use art_node_support::expected::same;
 use std::alloc::Global;
 use std::test::Fail;
+use test_helpers::expected::same;
 
 type Words = TreeMap<Terminated, u32, 4>;
 

@@ -1,7 +1,7 @@
 //! Values that are written, or made if their keys are new.
 use art_keyed::map::TreeMap;
-use art_node_support::expected::same;
 use std::test::Fail;
+use test_helpers::expected::same;
 
 type Map = TreeMap<[u8; 2], u32, 8>;
 

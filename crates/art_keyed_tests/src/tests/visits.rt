@@ -3,11 +3,11 @@ use art_keyed::map::TreeMap;
 use art_keys::joined::Joined;
 use art_keys::signed::I16Key;
 use art_keys::unsigned::U8Key;
-use art_node_support::expected::same;
-use art_node_support::numbers::Numbers;
 use std::alloc::Global;
 use std::collections::BTreeMap;
 use std::test::Fail;
+use test_helpers::expected::same;
+use test_helpers::numbers::Numbers;
 
 type Key = Joined<U8Key, I16Key>;
 

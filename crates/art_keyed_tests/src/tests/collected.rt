@@ -1,9 +1,9 @@
 //! Maps by the traits of std: collected, extended and cloned.
 use art_keyed::map::TreeMap;
 use art_keys::signed::I16Key;
-use art_node_support::expected::same;
 use std::alloc::{AllocError, Global};
 use std::test::Fail;
+use test_helpers::expected::same;
 
 type Days = TreeMap<I16Key, u32, 4>;
 

@@ -3,13 +3,13 @@
 use art_keyed::map::TreeMap;
 use art_keys::escaped::Escaped;
 use art_keys::terminated::Terminated;
-use art_node_support::expected::same;
-use art_node_support::numbers::Numbers;
-use art_node_support::short::{COUNT, Short};
 use std::alloc::Global;
 use std::collections::BTreeMap;
 use std::ops::Bound;
 use std::test::Fail;
+use test_helpers::expected::same;
+use test_helpers::numbers::Numbers;
+use test_helpers::short::{COUNT, Short};
 
 type Ended = TreeMap<Terminated, usize, 2>;
 

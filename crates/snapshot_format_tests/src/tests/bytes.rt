@@ -1,9 +1,9 @@
 //! The bytes of snapshots, which a script worked out, and reading them in pieces of any size.
-use super::in_memory::{Failing, Pieces};
 use super::lists::{Row, entries_of, reads, snapshot_of};
 use snapshot_format::write_snapshot;
 use std::alloc::Global;
 use std::test::*;
+use test_helpers::streams::{Failing, Pieces};
 
 pub static THREE: [(&[u8], &[u8]); 3] = [(b"ab", b"x"), (b"abc", b""), (b"b", b"yz")];
 

@@ -4,11 +4,11 @@ ghost use Rattle.std.specs.Prelude.{◌<◌};
 use art_keyed::map::{TextRefused, TreeMap};
 use art_keys::escaped::Escaped;
 use art_keys::terminated::Terminated;
-use art_node_support::expected::same;
-use art_node_support::numbers::Numbers;
-use art_node_support::short::{COUNT, Short};
 use std::alloc::Global;
 use std::test::Fail;
+use test_helpers::expected::same;
+use test_helpers::numbers::Numbers;
+use test_helpers::short::{COUNT, Short};
 
 type Texts<const P: usize> = TreeMap<Terminated, u32, P>;
 

@@ -2,11 +2,11 @@
 //! map, at random, beside a `BTreeMap`.
 use art_keyed::map::TreeMap;
 use art_keys::unsigned::U16Key;
-use art_node_support::expected::same;
-use art_node_support::numbers::Numbers;
 use std::collections::BTreeMap;
 use std::ops::Bound;
 use std::test::Fail;
+use test_helpers::expected::same;
+use test_helpers::numbers::Numbers;
 
 type Map = TreeMap<U16Key, u32, 1>;
 

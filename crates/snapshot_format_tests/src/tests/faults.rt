@@ -1,10 +1,10 @@
 //! What is wrong with bytes that are no snapshot, and where.
 use super::bytes::{THREE, THREE_BYTES};
-use super::in_memory::Pieces;
 use super::lists::{error_of, reads};
 use snapshot_format::{Fault, Malformed, ReadError};
 use std::alloc::Global;
 use std::test::*;
+use test_helpers::streams::Pieces;
 
 // Returns whether this is the fault, found after so many bytes.
 fn is_fault(error: Option<ReadError>, at: u64, fault: Fault) -> bool {

@@ -2,12 +2,12 @@
 //! value leaves of `COUNT` is the number of its string, so that values tell pairs apart.
 use art_keyed::map::TreeMap;
 use art_keys::escaped::Escaped;
-use art_node_support::expected::same;
-use art_node_support::numbers::Numbers;
-use art_node_support::short::{COUNT, Short};
 use std::alloc::Global;
 use std::collections::BTreeMap;
 use std::test::Fail;
+use test_helpers::expected::same;
+use test_helpers::numbers::Numbers;
+use test_helpers::short::{COUNT, Short};
 
 type Map = TreeMap<Escaped, usize, 2>;
 

@@ -1,0 +1,11 @@
+mod arrays;
+mod collected;
+mod drawn;
+mod entries;
+mod extracts;
+mod longest;
+mod map;
+mod memory;
+mod parts;
+mod text_ranges;
+mod visits;
