@@ -62,7 +62,7 @@ module _ {K V : Type 0} (bytes : K → List ℕ) where
     other_keys_kept key before after of_key' others other of_other off = others (bytes other) (λ same. off (law other key of_other of_key' same))
 
     -- What contracts state of a pair that was removed.
-    pub record TellsRemoved (removed : Option (K × V)) (before after : List (K × V)) : Type 0 where
+    record TellsRemoved (removed : Option (K × V)) (before after : List (K × V)) : Type 0 where
       pub key : IfSome removed (λ pair. is_key pair.0)
       pub stored : IfSome removed (λ pair. value_of bytes pair.0 before ≡ Some pair.1)
       pub gone : IfSome removed (λ pair. value_of bytes pair.0 after ≡ None)

@@ -120,11 +120,11 @@ module _ {K V : Type 0} (bytes : K → List ℕ) (key : List ℕ) (w : V) where
 module _ {K V F : Type 0} (bytes : K → List ℕ) (P : ℕ) (calls : F → K × V → F → V → Type 0) (root : Option OpaqueNodePtr) (len : ℕ)
     (began : F) (first before : List (K × V)) where
   -- f was called on some of the pairs that pass a test, and the others of them are left
-  pub record ChangedThose (test : List ℕ → Bool) (f : F) (left now : List (K × V)) : Type 0 where
+  record ChangedThose (test : List ℕ → Bool) (f : F) (left now : List (K × V)) : Type 0 where
     pub seen : List (K × V)
     pub done : List (K × V)
     pub first_is : first ≡ seen ++ left
-    pub now_is : filter (λ x. test (bytes x.0)) now ≡ done ++ left
+    now_is : filter (λ x. test (bytes x.0)) now ≡ done ++ left
     pub others : filter (λ x. not (test (bytes x.0))) now ≡ filter (λ x. not (test (bytes x.0))) before
     pub changed : ChangesBy calls began seen done f
 

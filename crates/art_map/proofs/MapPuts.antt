@@ -183,7 +183,7 @@ some_back None node e = absurd cc
 some_back (Some x) node e = let same : unlinked_leaf x ≡ node = cc in ap (λ l. Some (pair_of l)) same
 
 -- How many pairs a new one replaced, and how many there are with it.
-pub record CountsOver {K V : Type 0} (bytes : K → List ℕ) (new : K × V) (pairs : List (K × V)) (gone len : ℕ) : Type 0 where
+record CountsOver {K V : Type 0} (bytes : K → List ℕ) (new : K × V) (pairs : List (K × V)) (gone len : ℕ) : Type 0 where
   pub gone_is : gone ≡ length (related_to (of_key bytes) (bytes new.0) pairs)
   pub fits : gone ≤ len
   pub counted : length (overwrite (of_key bytes) new pairs) ≡ len - gone + 1

@@ -12,7 +12,7 @@ use Rattle.art_map.proofs.ViewsOfPairs.{holds, view_of, view_sorted}
 
 module _ {K V : Type 0} (bytes : K → List ℕ) where
   -- What a caller knows after a pair is put.
-  pub record TellsPut (key : K) (value : V) (before after : List (K × V)) (result : Result (Option (K × V)) (MapInsertError K V)) : Type 0 where
+  record TellsPut (key : K) (value : V) (before after : List (K × V)) (result : Result (Option (K × V)) (MapInsertError K V)) : Type 0 where
     pub pairs : OnOk result (after ≡ put (of_key bytes) (key, value) before)
     pub replaced : IfOk result (λ replaced. replaced ≡ put_reply (of_key bytes) (key, value) before)
     pub found : OnOk result (value_at bytes (bytes key) after ≡ Some value)
@@ -23,7 +23,7 @@ module _ {K V : Type 0} (bytes : K → List ℕ) where
     pub kept : OnErr result (after ≡ before)
 
   -- What a caller knows after a pair replaces those with related keys.
-  pub record TellsOver (key : K) (value : V) (before after : List (K × V)) (result : Result ℕ (PairRefused K V)) : Type 0 where
+  record TellsOver (key : K) (value : V) (before after : List (K × V)) (result : Result ℕ (PairRefused K V)) : Type 0 where
     pub pairs : OnOk result (after ≡ overwrite (of_key bytes) (key, value) before)
     pub gone : IfOk result (λ gone. gone ≡ length (related_to (of_key bytes) (bytes key) before))
     pub handed_back : IfErr result (λ refused. (refused.key ≡ key) × (refused.value ≡ value))
@@ -31,7 +31,7 @@ module _ {K V : Type 0} (bytes : K → List ℕ) where
     pub refused : OnErr result (length (related_to (of_key bytes) (bytes key) before) ≢ 1)
 
   -- What a caller knows after a pair replaces the one with an equal key.
-  pub record TellsReplaced (key : K) (value : V) (before after : List (K × V)) (result : Result (Option (K × V)) (MapInsertError K V)) : Type 0 where
+  record TellsReplaced (key : K) (value : V) (before after : List (K × V)) (result : Result (Option (K × V)) (MapInsertError K V)) : Type 0 where
     pub pairs : OnOk result (after ≡ replace_key (of_key bytes) (key, value) before)
     pub replaced : IfOk result (λ replaced. replaced ≡ first_of (with_key (of_key bytes) (bytes key) before))
     pub accepted : OnOk result (is_conflict (of_key bytes) (bytes key) before ≡ false)

@@ -23,7 +23,7 @@ module _ {K V : Type 0} where
   keys_first [] = refl
   keys_first (x ∷ xs) = refl
 
-  pub keys_last : (pairs : List (K × V)) → last_of (keys_of pairs) ≡ option_map (λ x. x.0) (last_of pairs)
+  keys_last : (pairs : List (K × V)) → last_of (keys_of pairs) ≡ option_map (λ x. x.0) (last_of pairs)
   keys_last [] = refl
   keys_last (x ∷ []) = refl
   keys_last (x ∷ y ∷ xs) = keys_last (y ∷ xs)
@@ -38,10 +38,10 @@ module _ {K V : Type 0} where
   keys_without_last (x ∷ y ∷ xs) = ap (λ ks. x.0 ∷ ks) (keys_without_last (y ∷ xs))
 
 module _ {K V : Type 0} (pairs : List (K × V)) where
-  pub without_last_keys : without_last (keys_of pairs) ≡ keys_of (without_last pairs)
+  without_last_keys : without_last (keys_of pairs) ≡ keys_of (without_last pairs)
   without_last_keys = sym (keys_without_last pairs)
 
-  pub without_first_keys : without_first (keys_of pairs) ≡ keys_of (without_first pairs)
+  without_first_keys : without_first (keys_of pairs) ≡ keys_of (without_first pairs)
   without_first_keys = sym (keys_without_first pairs)
 
 -- a filter of pairs by their keys is one of the keys
@@ -78,7 +78,7 @@ flipped b true e = rw e refl
 flipped b false e = rw e refl
 
 -- the pairs of a set are its keys with no value
-pub no_values : {K : Type 0} (pairs : List (K × Unit {0})) → as_pairs (keys_of pairs) ≡ pairs
+no_values : {K : Type 0} (pairs : List (K × Unit {0})) → as_pairs (keys_of pairs) ≡ pairs
 no_values [] = refl
 no_values (x ∷ xs) = ap (λ ys. x ∷ ys) (no_values xs)
 
@@ -100,11 +100,11 @@ module _ {K V : Type 0} (bytes : K → List ℕ) where
       go [] g = tt
       go (y ∷ ys) g = (g.0, go ys g.1)
 
-  pub keys_have : (key : List ℕ) (pairs : List (K × V)) → has_key bytes key (keys_of pairs) ≡ has_key (of_key bytes) key pairs
+  keys_have : (key : List ℕ) (pairs : List (K × V)) → has_key bytes key (keys_of pairs) ≡ has_key (of_key bytes) key pairs
   keys_have key [] = refl
   keys_have key (x ∷ xs) = ap (λ b. are_same key (bytes x.0) || b) (keys_have key xs)
 
-  pub keys_conflict : (key : List ℕ) (pairs : List (K × V)) → is_conflict bytes key (keys_of pairs) ≡ is_conflict (of_key bytes) key pairs
+  keys_conflict : (key : List ℕ) (pairs : List (K × V)) → is_conflict bytes key (keys_of pairs) ≡ is_conflict (of_key bytes) key pairs
   keys_conflict key [] = refl
   keys_conflict key (x ∷ xs) = ap (λ b. (are_related key (bytes x.0) && not (are_same key (bytes x.0))) || b) (keys_conflict key xs)
 
@@ -144,13 +144,13 @@ module _ {K V : Type 0} (bytes : K → List ℕ) where
       go ih true e = rw e (ap (λ ks. x.0 ∷ ks) ih)
       go ih false e = rw e (ap (λ ks. x.0 ∷ ks) ih)
 
-  pub keys_below : (prefix : List ℕ) (pairs : List (K × V)) → below bytes prefix (keys_of pairs) ≡ keys_of (below (of_key bytes) prefix pairs)
+  keys_below : (prefix : List ℕ) (pairs : List (K × V)) → below bytes prefix (keys_of pairs) ≡ keys_of (below (of_key bytes) prefix pairs)
   keys_below prefix pairs = keys_where _ pairs
 
   pub keys_between : (from to : Bound (List ℕ)) (pairs : List (K × V)) → between bytes from to (keys_of pairs) ≡ keys_of (between (of_key bytes) from to pairs)
   keys_between from to pairs = keys_where _ pairs
 
-  pub keys_with : (key : List ℕ) (pairs : List (K × V)) → with_key bytes key (keys_of pairs) ≡ keys_of (with_key (of_key bytes) key pairs)
+  keys_with : (key : List ℕ) (pairs : List (K × V)) → with_key bytes key (keys_of pairs) ≡ keys_of (with_key (of_key bytes) key pairs)
   keys_with key pairs = keys_where _ pairs
 
   -- a removal returns a pair exactly where the key is stored

@@ -8,7 +8,7 @@ use Rattle.snapshot_format.specs.Snapshots.{sized}
 use Rattle.snapshot_format.specs.Reading.{Reads}
 use Rattle.snapshot_format.proofs.Numbers.{one_form}
 
-pub consumes_none : (a : Option (List ℕ)) → Consumes a a []
+consumes_none : (a : Option (List ℕ)) → Consumes a a []
 consumes_none None = tt
 consumes_none (Some p) = refl
 

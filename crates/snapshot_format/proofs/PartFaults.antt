@@ -81,7 +81,7 @@ below_all n h = omega arith
 pub cut_none : (more : ℕ) → IsCutWithin more []
 cut_none more = record { number = 1; some = omega arith; fits = below_one more; is = within_small more 1 (omega arith) }
 
-pub cut_byte : (more byte : ℕ) (read : List ℕ) → 128 ≤ byte → byte < 256 → IsCutWithin more read → IsCutWithin (suc more) (byte ∷ read)
+cut_byte : (more byte : ℕ) (read : List ℕ) → 128 ≤ byte → byte < 256 → IsCutWithin more read → IsCutWithin (suc more) (byte ∷ read)
 cut_byte more byte read large small h =
     let e : (h.number * 128 + (byte - 128)) / 128 ≡ h.number = omega arith in
     let b : 128 + (byte - 128) ≡ byte = omega arith in
@@ -99,7 +99,7 @@ IsNone more read = (others : List ℕ) (n : ℕ) (rest : List ℕ) → FitsWithi
 pub last_none : (more byte : ℕ) → more ≡ 0 → 128 ≤ byte → IsNone more (byte ∷ [])
 last_none more byte none large others n rest fits small e = is_last (Some (byte ∷ others)) (Some others) more byte none large refl n rest fits small (ap (λ bs. Some bs) e)
 
-pub high_none : (more byte : ℕ) (read : List ℕ) → 128 ≤ byte → IsNone more read → IsNone (suc more) (byte ∷ read)
+high_none : (more byte : ℕ) (read : List ℕ) → 128 ≤ byte → IsNone more read → IsNone (suc more) (byte ∷ read)
 high_none more byte read large none others n rest fits small e =
     none_high (Some (byte ∷ (read ++ others))) (Some (read ++ others)) more byte large refl
     (λ m left fits_m small_m f. none others m left fits_m small_m (some_same f)) n rest fits small (ap (λ bs. Some bs) e)

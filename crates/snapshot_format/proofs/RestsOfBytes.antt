@@ -29,20 +29,20 @@ pub not_at_end : (a : Option (List ℕ)) (x : ℕ) (tail : List ℕ) → IsAtEnd
 not_at_end None x tail end e = cc
 not_at_end (Some xs) x tail end e = let f : xs ≡ x ∷ tail = cc in let g : x ∷ tail ≡ [] = sym f ∙ end in cc
 
-pub after_number : (a b : Option (List ℕ)) (m n : ℕ) (tail : List ℕ) → Consumes a b (number_bytes m) → a ≡ Some (number_bytes n ++ tail) → (n ≡ m) × (b ≡ Some tail)
+after_number : (a b : Option (List ℕ)) (m n : ℕ) (tail : List ℕ) → Consumes a b (number_bytes m) → a ≡ Some (number_bytes n ++ tail) → (n ≡ m) × (b ≡ Some tail)
 after_number a b m n tail read e =
     let l = left_of a b (number_bytes m) (number_bytes n ++ tail) read e in
     let s = one_form 9 n m tail l.0 l.2 in
     (s.0, some_is b l.0 tail l.1 (sym s.1))
 
-pub sized_split : (bytes other x y : List ℕ) → sized bytes ++ x ≡ sized other ++ y → (bytes ≡ other) × (x ≡ y)
+sized_split : (bytes other x y : List ℕ) → sized bytes ++ x ≡ sized other ++ y → (bytes ≡ other) × (x ≡ y)
 sized_split bytes other x y e =
     let all : number_bytes (length bytes) ++ (bytes ++ x) ≡ number_bytes (length other) ++ (other ++ y) =
     sym (append_assoc (number_bytes (length bytes)) bytes x) ∙ e ∙ append_assoc (number_bytes (length other)) other y in
     let s = one_form 9 (length bytes) (length other) (bytes ++ x) (other ++ y) all in
     same_split bytes other x y s.0 s.1
 
-pub after_sized : (a b : Option (List ℕ)) (bytes other tail : List ℕ) → Consumes a b (sized bytes) → a ≡ Some (sized other ++ tail) → (other ≡ bytes) × (b ≡ Some tail)
+after_sized : (a b : Option (List ℕ)) (bytes other tail : List ℕ) → Consumes a b (sized bytes) → a ≡ Some (sized other ++ tail) → (other ≡ bytes) × (b ≡ Some tail)
 after_sized a b bytes other tail read e =
     let l = left_of a b (sized bytes) (sized other ++ tail) read e in
     let s = sized_split other bytes tail l.0 l.2 in
@@ -50,7 +50,7 @@ after_sized a b bytes other tail read e =
 
 -- ---- a key
 
-pub key_then : (before key tail : List ℕ) → key_bytes before key ++ tail ≡ number_bytes (shared_len before key) ++ (sized (drop (shared_len before key) key) ++ tail)
+key_then : (before key tail : List ℕ) → key_bytes before key ++ tail ≡ number_bytes (shared_len before key) ++ (sized (drop (shared_len before key) key) ++ tail)
 key_then before key tail = append_assoc (number_bytes (shared_len before key)) (sized (drop (shared_len before key) key)) tail
 
 -- it has no number of bytes that it shares
@@ -112,7 +112,7 @@ key_is false before bytes shared within none above =
 
 -- ---- an entry
 
-pub entry_then : (before : List ℕ) (next : Entry) (tail : List ℕ) → entry_bytes before next ++ tail ≡ key_bytes before next.key ++ (sized next.value ++ tail)
+entry_then : (before : List ℕ) (next : Entry) (tail : List ℕ) → entry_bytes before next ++ tail ≡ key_bytes before next.key ++ (sized next.value ++ tail)
 entry_then before next tail = append_assoc (key_bytes before next.key) (sized next.value) tail
 
 -- no key is there
@@ -122,7 +122,7 @@ pub no_key : (a : Option (List ℕ)) (before : List ℕ) (is_first : Bool) →
 no_key a before is_first none next tail fits after e = none next.key (sized next.value ++ tail) fits.key after (some_is a _ _ e (entry_then before next tail))
 
 -- no key starts another one
-pub key_split : (before key other x y : List ℕ) → key_bytes before key ++ x ≡ key_bytes before other ++ y → (key ≡ other) × (x ≡ y)
+key_split : (before key other x y : List ℕ) → key_bytes before key ++ x ≡ key_bytes before other ++ y → (key ≡ other) × (x ≡ y)
 key_split before key other x y e =
     let all : number_bytes (shared_len before key) ++ (sized (drop (shared_len before key) key) ++ x) ≡ number_bytes (shared_len before other) ++ (sized (drop (shared_len before other) other) ++ y) =
     sym (key_then before key x) ∙ e ∙ key_then before other y in
@@ -131,14 +131,14 @@ key_split before key other x y e =
     (sym (shared_rest before key) ∙ ap₂ (λ n bytes. take n before ++ bytes) s.0 r.0 ∙ shared_rest before other, r.1)
 
 -- what is left after a key
-pub after_key : (a b : Option (List ℕ)) (before key other tail : List ℕ) → Consumes a b (key_bytes before key) → a ≡ Some (key_bytes before other ++ tail) → (other ≡ key) × (b ≡ Some tail)
+after_key : (a b : Option (List ℕ)) (before key other tail : List ℕ) → Consumes a b (key_bytes before key) → a ≡ Some (key_bytes before other ++ tail) → (other ≡ key) × (b ≡ Some tail)
 after_key a b before key other tail read e =
     let l = left_of a b (key_bytes before key) (key_bytes before other ++ tail) read e in
     let s = key_split before other key tail l.0 l.2 in
     (s.0, some_is b l.0 tail l.1 (sym s.1))
 
 -- no entry starts another one
-pub entry_split : (before : List ℕ) (one other : Entry) (x y : List ℕ) → entry_bytes before one ++ x ≡ entry_bytes before other ++ y → (one ≡ other) × (x ≡ y)
+entry_split : (before : List ℕ) (one other : Entry) (x y : List ℕ) → entry_bytes before one ++ x ≡ entry_bytes before other ++ y → (one ≡ other) × (x ≡ y)
 entry_split before one other x y e =
     let s = key_split before one.key other.key (sized one.value ++ x) (sized other.value ++ y) (sym (entry_then before one x) ∙ e ∙ entry_then before other y) in
     let r = sized_split one.value other.value x y s.1 in

@@ -53,7 +53,7 @@ second_ends key other s e = rw (drop_all s other e, none_shared (drop s key)) (o
 -- ---- what a writer has written
 
 module _ {W : Type 0} (contents : W → Option (List ℕ)) where
-  pub writes_more : (a b c : W) (x y z : Sha256) (xs ys : List ℕ) → Writes contents a b x y xs → Writes contents b c y z ys → Writes contents a c x z (xs ++ ys)
+  writes_more : (a b c : W) (x y z : Sha256) (xs ys : List ℕ) → Writes contents a b x y xs → Writes contents b c y z ys → Writes contents a c x z (xs ++ ys)
   writes_more a b c x y z xs ys h k = record {
     appended = appends_more (contents a) (contents b) (contents c) xs ys h.appended k.appended;
     held = λ m of_m. rw (← append_assoc m xs ys) (k.held (m ++ xs) (h.held m of_m));
