@@ -3,10 +3,10 @@ use Rattle.std.proofs.Common.{◌≡◌, ℕ, ◌+◌, ◌<◌, List, [], ◌∷
 use Rattle.std.specs.FinMap as map
 use Rattle.art_building.specs.Built.{HasAppended, HoldsEdge, IsEdgeOf, root_of}
 use Rattle.art_building.specs.Pushes.{IsPushError, IsReasonAfter}
-use Rattle.art_map.specs.MapPairs.{HoldsPairs, pairs_at}
-use Rattle.art_map.proofs.Enough.{enough}
-use Rattle.art_map.proofs.MapPuts.{at_root, left_holds, planted, stays}
-use Rattle.art_map.proofs.ViewsOfPairs.{view_of}
+use Rattle.art_changing.specs.MapPairs.{HoldsPairs, pairs_at}
+use Rattle.art_changing.proofs.Enough.{enough}
+use Rattle.art_changing.proofs.MapPuts.{at_root, left_holds, planted, stays}
+use Rattle.art_changing.proofs.ViewsOfPairs.{view_of}
 use Rattle.art_loading.specs.Edges.{IsEdge}
 use Rattle.art_loading.specs.declared.append.Edge.{Edge}
 use Rattle.art_loading.specs.declared.append.AppendError.{AppendError}

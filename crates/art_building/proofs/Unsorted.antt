@@ -11,7 +11,7 @@ use Rattle.art_keys.specs.Prefixes.{HasNoPrefixes}
 use Rattle.art_keyed.specs.KeyedPairs.{HaveKeys}
 use Rattle.art_keyed.proofs.Keyed.{never_in_conflict, put_keeps}
 use Rattle.art_map.specs.MapCalls.{put_all}
-use Rattle.art_map.specs.MapItems.{keys_of}
+use Rattle.art_iterating.specs.MapItems.{keys_of}
 use Rattle.art_sets.specs.SetKeys.{add_all, as_pairs}
 use Rattle.art_sets.proofs.SetLaws.{keys_put}
 use Rattle.art_model.specs.Changes.{put_pair}

@@ -6,7 +6,7 @@ use Rattle.art_building.specs.Pushes.{IsPushError}
 use Rattle.art_loading.specs.Edges.{IsEdge}
 use Rattle.art_loading.specs.declared.append.AppendError.{AppendError}
 use Rattle.art_loading.specs.declared.append.Edge.{Edge}
-use Rattle.art_map.specs.MapPairs.{HoldsPairs}
+use Rattle.art_changing.specs.MapPairs.{HoldsPairs}
 use Rattle.art_model.specs.Pairs.{of_key}
 use Rattle.art_nodes.specs.Nodes.{Nodes}
 use Rattle.art_parts.specs.declared.names.OpaqueNodePtr.{OpaqueNodePtr}

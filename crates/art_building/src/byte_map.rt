@@ -4,7 +4,7 @@ ghost use Rattle.std.specs.FinMap as map;
 ghost use Rattle.std.specs.Iterator.{IsFinite};
 ghost use Rattle.art_building.specs.Built.{HasAppended, HoldsEdge, edge_in, root_of};
 ghost use Rattle.art_building.specs.Pushes.{BuildsAll, BuildsUntil, IsPushError};
-ghost use Rattle.art_map.specs.MapPairs.{pairs_at};
+ghost use Rattle.art_changing.specs.MapPairs.{pairs_at};
 ghost use Rattle.art_model.specs.Pairs.{IsMap, of_key};
 
 use art_loading::append::{Edge, append, begin};
@@ -36,7 +36,7 @@ impl<K: AsBytes, V, const P: usize> Model for MapBuilder<K, V, P> {
 
     ghost use Rattle.art_model.specs.Pairs.{of_key};
     ghost use Rattle.art_building.specs.Built.{HoldsEdge, edge_in, root_of};
-    ghost use Rattle.art_map.specs.MapPairs.{pairs_at};
+    ghost use Rattle.art_changing.specs.MapPairs.{pairs_at};
 
     ghost view = { λ m. pairs_at m.store (root_of (edge_in m.edge)) };
 

@@ -8,7 +8,7 @@ ghost use Rattle.art_building.specs.Sorted.{AreSorted, comes_before};
 ghost use Rattle.art_keyed.specs.KeyedPairs.{HaveKeys};
 ghost use Rattle.art_loading.specs.declared.append.AppendReason.TheVariants.{Conflict};
 ghost use Rattle.art_map.specs.MapCalls.{put_all};
-ghost use Rattle.art_map.specs.MapItems.{keys_of};
+ghost use Rattle.art_iterating.specs.MapItems.{keys_of};
 ghost use Rattle.art_sets.specs.SetKeys.{add_all};
 ghost use Rattle.art_model.specs.Pairs.{IsMap, of_key, put};
 

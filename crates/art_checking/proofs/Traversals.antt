@@ -13,7 +13,7 @@ use Rattle.art_checking.proofs.Walked.{met_walked, none_after, reach_root, walke
 
 module _ {K V : Type 0} (bytes : K × V → List ℕ) (P : ℕ) (s : Nodes K V) where
   -- An inner node was met for the first time, at a place that ends at this depth.
-  record IsNode (before old : Seen) (place : List ℕ) (name : InnerPtr) (depth : ℕ) (node : Inner) : Type 0 where
+  pub record IsNode (before old : Seen) (place : List ℕ) (name : InnerPtr) (depth : ℕ) (node : Inner) : Type 0 where
     pub first : IsFirstMet before old (inner_name name) place
     pub proper : name.kind ≢ Leaf
     pub there : map.get s.inners name ≡ Some node
@@ -22,7 +22,7 @@ module _ {K V : Type 0} (bytes : K × V → List ℕ) (P : ℕ) (s : Nodes K V) 
     pub deep : depth ≡ length place
 
   -- A child of this node, which was met after the nodes above it, is next.
-  record IsAboveChild (Outer : Seen → List ℕ → OpaqueNodePtr → Type 0) (f : Above) (now : Seen) (pushed : List ℕ) (child : OpaqueNodePtr) : Type 0 where
+  pub record IsAboveChild (Outer : Seen → List ℕ → OpaqueNodePtr → Type 0) (f : Above) (now : Seen) (pushed : List ℕ) (child : OpaqueNodePtr) : Type 0 where
     pub before : Seen
     pub old : Seen
     pub place : List ℕ

@@ -17,10 +17,10 @@ use Rattle.art_copying.proofs.FreedTrees.{all_can, all_go, inner_is_there, leaf_
 
 module _ {K V : Type 0} (IsClone : K × V → K × V → Type 0) (s : Nodes K V) where
   -- A child of this node is being copied, the tree of the name, from this store on.
-  record IsAboveCopy (Outer : Nodes K V → Tree OpaqueNodePtr (K × V) → Type 0) (f : Above) (now : Nodes K V)
+  pub record IsAboveCopy (Outer : Nodes K V → Tree OpaqueNodePtr (K × V) → Type 0) (f : Above) (now : Nodes K V)
       (tree : Tree OpaqueNodePtr (K × V)) : Type 0 where
     pub old : Nodes K V
-    outer_tree : Tree OpaqueNodePtr (K × V)
+    pub outer_tree : Tree OpaqueNodePtr (K × V)
     pub name : OpaqueNodePtr
     pub outer : Outer old outer_tree
     pub cloning : IsCloning IsClone s outer_tree old now f.copy ((f.byte, name) ∷ f.children) (first_leaf f.ends) (last_leaf f.ends)

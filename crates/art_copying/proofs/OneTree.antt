@@ -103,7 +103,7 @@ module _ {K V : Type 0} (s : Nodes K V) (too : Bool) where
     pub holds : Holds (shape_at s) t
     pub leaves : too ≡ true → Each (IsUsed s) (leaf_names t)
 
-  record AreSeen (cs : Shapes) : Type 0 where
+  pub record AreSeen (cs : Shapes) : Type 0 where
     pub holds : HoldsBelow (shape_at s) cs
     pub leaves : too ≡ true → Each (IsUsed s) (leaf_names_below cs)
 
@@ -479,7 +479,7 @@ pub record AreMoved {K V : Type 0} (s t : Nodes K V) (too : Bool) (upper lower :
   pub names : length (names_of upper) + length (names_of lower) ≡ length (names_of above) + length (names_of below)
 
 -- and the lower one has fewer
-record IsMove {K V : Type 0} (s t : Nodes K V) (too : Bool) (upper lower : Shape) (left child : OpaqueNodePtr) : Type 0 where
+pub record IsMove {K V : Type 0} (s t : Nodes K V) (too : Bool) (upper lower : Shape) (left child : OpaqueNodePtr) : Type 0 where
   pub moved : AreMoved s t too upper lower left child
   pub fewer : length (names_of moved.below) < length (names_of lower)
 

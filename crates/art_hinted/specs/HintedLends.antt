@@ -2,7 +2,7 @@
 use Rattle.std.specs.Prelude.{ℕ, List, Option, Result}
 use Rattle.std.specs.Borrow.{LendsIf, LendsIfOk, Fml, RattleType, MutBor}
 use Rattle.art_model.specs.Pairs.{of_key, put}
-use Rattle.art_map.specs.MapAnswers.{with_value_at}
+use Rattle.art_changing.specs.MapAnswers.{with_value_at}
 use Rattle.art_keyed.specs.KeyedLends.{KeyMembers}
 use Rattle.art_hinted.specs.contracts.map.HintedMap.{the_row}
 

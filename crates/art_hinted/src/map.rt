@@ -2,8 +2,8 @@
 ghost use Rattle.std.specs.Prelude.{◌≡◌, ◌≢◌, ◌↔◌, ℕ, List, [], length, false, IfErr, IfOk, IsTrue, None, OnErr, OnOk, Some, option_copied};
 ghost use Rattle.std.specs.Borrow.{sem};
 ghost use Rattle.std.specs.Option.{option_copied_mut, option_map, unwrap_or};
-ghost use Rattle.art_map.specs.MapAnswers.{value_at};
-ghost use Rattle.art_map.specs.MapItems.{deref_pair};
+ghost use Rattle.art_changing.specs.MapAnswers.{value_at};
+ghost use Rattle.art_iterating.specs.MapItems.{deref_pair};
 ghost use Rattle.art_model.specs.Pairs.{IsMap, first_of, has_key, of_key, put, put_reply, remove_key, remove_reply, with_key};
 ghost use Rattle.art_keyed.specs.KeyedPairs.{HaveKeys};
 ghost use Rattle.art_keyed.specs.KeyedValues.{CountsPut, CountsRemoved, KeepsOtherKeys};

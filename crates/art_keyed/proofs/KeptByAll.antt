@@ -3,7 +3,7 @@ use Rattle.std.proofs.Common.{◌≡◌, List, [], ◌∷◌, Bool, true, false,
 use Rattle.std.specs.Borrow.{MutBor}
 use Rattle.std.specs.Fn.{Mut}
 use Rattle.std.specs.List.{AllByRecursion as Each}
-use Rattle.art_map.specs.MapItems.{keys_of}
+use Rattle.art_iterating.specs.MapItems.{keys_of}
 use Rattle.art_map.specs.MapRetain.{Retains, RetainsPairs}
 
 module _ {F A : Type 0} (asks : F → A → Bool → F → Type 0) (Known : A → Type 0) where

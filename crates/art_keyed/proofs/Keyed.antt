@@ -9,9 +9,9 @@ use Rattle.art_keyed.specs.KeyedPairs.{HaveKeys, RiseBy, IsNeverInConflict}
 use Rattle.art_parts.specs.Keys.{IsFront, Precedes, are_related, are_same}
 use Rattle.art_model.specs.Pairs.{IsMap, first_of, has_key, is_conflict, with_key, of_key, put, stored_for, remove_key, without_first, without_last}
 use Rattle.std.proofs.lemmas.Bool.{true≢false}
-use Rattle.art_map.specs.MapAnswers.{IsRefusalOf, refused_pair, with_value_at}
-use Rattle.art_map.specs.declared.map.MapInsertError.{MapInsertError}
-use Rattle.art_map.specs.declared.map.MapInsertError.TheVariants.{Conflict, Memory}
+use Rattle.art_changing.specs.MapAnswers.{IsRefusalOf, refused_pair, with_value_at}
+use Rattle.art_changing.specs.declared.insert.MapInsertError.{MapInsertError}
+use Rattle.art_changing.specs.declared.insert.MapInsertError.TheVariants.{Conflict, Memory}
 use Rattle.art_map.specs.MadeKeys.{IsSourceRefusal, refused_value}
 use Rattle.art_map.specs.declared.map.to_key.MapSourceError.{MapSourceError}
 use Rattle.art_map.specs.declared.map.to_key.MapSourceError.TheVariants.{Insert, Memory as NoMemory, NoKey}

@@ -10,12 +10,12 @@ use Rattle.art_model.proofs.keys.Keys.{front_same, not_same, related_sym, same_r
 use Rattle.art_model.proofs.lists.Filters.{Each-filter, last_each}
 use Rattle.art_model.proofs.pairs.MapLaws.{last_is_removed_by_key, removal_counts, removal_tells}
 use Rattle.art_model.proofs.pairs.Puts.{first_has}
-use Rattle.art_map.specs.MapAnswers.{value_at, with_value_at}
+use Rattle.art_changing.specs.MapAnswers.{value_at, with_value_at}
 use Rattle.art_map.proofs.CallerLaws.{value_elsewhere, value_left, value_unwritten}
-use Rattle.art_map.proofs.PartsOut.{first_below, nothing_out}
-use Rattle.art_map.proofs.MapPuts.{as_many, one_more}
+use Rattle.art_changing.proofs.PartsOut.{first_below, nothing_out}
+use Rattle.art_changing.proofs.MapPuts.{as_many, one_more}
 use Rattle.art_map.proofs.Results.{none_found, rest_found}
-use Rattle.art_map.proofs.Takings.{first_goes}
+use Rattle.art_changing.proofs.Takings.{first_goes}
 use Rattle.art_keyed.specs.KeyedPairs.{HaveKeys}
 use Rattle.art_keyed.specs.KeyedValues.{CountsPut, CountsRemoved, KeepsOtherKeys, value_of}
 
@@ -62,7 +62,7 @@ module _ {K V : Type 0} (bytes : K → List ℕ) where
     other_keys_kept key before after of_key' others other of_other off = others (bytes other) (λ same. off (law other key of_other of_key' same))
 
     -- What contracts state of a pair that was removed.
-    record TellsRemoved (removed : Option (K × V)) (before after : List (K × V)) : Type 0 where
+    pub record TellsRemoved (removed : Option (K × V)) (before after : List (K × V)) : Type 0 where
       pub key : IfSome removed (λ pair. is_key pair.0)
       pub stored : IfSome removed (λ pair. value_of bytes pair.0 before ≡ Some pair.1)
       pub gone : IfSome removed (λ pair. value_of bytes pair.0 after ≡ None)

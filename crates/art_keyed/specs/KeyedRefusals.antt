@@ -2,7 +2,7 @@
 use Rattle.std.specs.Prelude.{◌≡◌, ◌⊎◌, ℕ, false, List, Option, Some}
 use Rattle.std.specs.Iterator.{YieldsThen}
 use Rattle.art_model.specs.Pairs.{has_key, of_key}
-use Rattle.art_map.specs.MapAnswers.{refused_pair}
+use Rattle.art_changing.specs.MapAnswers.{refused_pair}
 use Rattle.art_map.specs.MapCalls.{put_all}
 use Rattle.art_map.specs.declared.map.both.BothInsertError.{BothInsertError}
 use Rattle.art_map.specs.declared.map.both.BothInsertError.TheVariants.{First, Second}

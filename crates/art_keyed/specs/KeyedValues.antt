@@ -1,6 +1,6 @@
 -- The values of a map's keys after a change.
 use Rattle.std.specs.Prelude.{◌≡◌, ◌≢◌, ◌+◌, ℕ, List, length, Option, Some, None}
-use Rattle.art_map.specs.MapAnswers.{value_at}
+use Rattle.art_changing.specs.MapAnswers.{value_at}
 
 module _ {K V : Type 0} where
   -- the value of a key

@@ -2,7 +2,7 @@
 use Rattle.std.specs.Prelude.{◌≡◌, ℕ, List, [], Some, None}
 use Rattle.art_keys.specs.Ended.{HasNoZero}
 use Rattle.art_model.specs.Pairs.{last_of, of_key, remove_key}
-use Rattle.art_map.specs.MapAnswers.{refused_pair}
+use Rattle.art_changing.specs.MapAnswers.{refused_pair}
 use Rattle.art_map.specs.declared.map.to_key.MapSourceError.{MapSourceError}
 use Rattle.art_map.specs.declared.map.to_key.MapSourceError.TheVariants as sources
 use Rattle.art_keyed.specs.KeyedPairs.{strings_in_front}

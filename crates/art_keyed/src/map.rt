@@ -3,8 +3,8 @@ ghost use Rattle.std.specs.Prelude.{◌≡◌, ◌≢◌, ◌↔◌, ◌<◌, �
 ghost use Rattle.std.specs.Borrow.{Bor, sem};
 ghost use Rattle.std.specs.Fn.{FnOnceReturnsAt};
 ghost use Rattle.std.specs.Option.{UnwrapsOrElse, option_copied_mut, option_map, unwrap_or};
-ghost use Rattle.art_map.specs.MapAnswers.{value_at};
-ghost use Rattle.art_map.specs.MapItems.{deref_pair, keys_of, values_of};
+ghost use Rattle.art_changing.specs.MapAnswers.{value_at};
+ghost use Rattle.art_iterating.specs.MapItems.{deref_pair, keys_of, values_of};
 ghost use Rattle.art_model.specs.Pairs.{IsMap, first_of, has_key, last_of, of_key, put, put_reply, remove_key, remove_reply, with_key, without_first, without_last};
 ghost use Rattle.art_keyed.specs.KeyedPairs.{HaveKeys};
 ghost use Rattle.art_keyed.specs.KeyedLends.{lends_put, lends_value};

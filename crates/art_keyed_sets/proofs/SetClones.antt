@@ -3,7 +3,7 @@ use Rattle.std.proofs.Common.{◌≡◌, ℕ, List, [], ◌∷◌, ◌++◌, Bor
 use Rattle.std.specs.List.{AllZip, AllByRecursion as Each}
 use Rattle.std.specs.Iterator.{Drains}
 use Rattle.art_keys.specs.Prefixes.{IsKept}
-use Rattle.art_map.specs.MapItems.{ShowsFirst}
+use Rattle.art_iterating.specs.MapItems.{ShowsFirst}
 use Rattle.art_sets.specs.SetKeys.{add_key}
 use Rattle.art_sets.proofs.AddedKeys.{add_last}
 use Rattle.art_keyed_sets.specs.SetClones.{AreAddedClones}

@@ -62,7 +62,7 @@ module _ {K V : Type 0} {bytes : K × V → List ℕ} {P : ℕ} {s : Nodes K V} 
   pub leaf_met : IsSome (map.get s.leaves last)
   leaf_met = let (own, there, same) = edge_leaf in rw there refl
 
-  edge_pairs : pairs ≡ pairs_before e.frames ++ e.pair ∷ []
+  pub edge_pairs : pairs ≡ pairs_before e.frames ++ e.pair ∷ []
   edge_pairs = sym (tree_radix e.by).1 ∙ ap pairs_of (sym e.whole) ∙ pairs_with_last e.frames (leaf_name last) e.pair e.rightmost
 
   pub edge_last : last_of pairs ≡ Some e.pair
@@ -79,7 +79,7 @@ module _ {K V : Type 0} {bytes : K × V → List ℕ} {P : ℕ} {s : Nodes K V} 
       (after.0, tt))
 
   -- no step is within reach only where there is none
-  edge_bare : (shared : ℕ) → Each (λ step. shared < step.depth) steps → e.frames ≡ []
+  pub edge_bare : (shared : ℕ) → Each (λ step. shared < step.depth) steps → e.frames ≡ []
   edge_bare shared deep = go e.frames (subst (Each (λ (step : Step). shared < step.depth)) e.steps_are deep)
     where
       go : (fs : List (Frame OpaqueNodePtr (K × V))) → Each (λ step. shared < step.depth) (steps_of fs) → fs ≡ []
@@ -93,7 +93,7 @@ module _ {K V : Type 0} {bytes : K × V → List ℕ} {P : ℕ} {s : Nodes K V} 
   edge_cut {shared} {above} {step} reach = cut_at shared e.frames above reach.rest step (sym e.steps_are ∙ reach.whole) reach.beyond
 
   -- the point at the leaf
-  leaf_edge : {key : List ℕ} {shared x y : ℕ} (point : InsertPoint) (above : List Step) (depth : ℕ) → IsNextKey (bytes e.pair) key shared x y →
+  pub leaf_edge : {key : List ℕ} {shared x y : ℕ} (point : InsertPoint) (above : List Step) (depth : ℕ) → IsNextKey (bytes e.pair) key shared x y →
       point ≡ record { path = path_of e.frames; insert_kind = SplitLeaf last shared; key_bytes_used = depth; root = root } →
       above ≡ steps_of e.frames → depth ≡ depth_of e.frames → depth ≤ shared → IsEdgePoint bytes P e.layout last key point above depth
   leaf_edge {key} {shared} point above depth next is above_is depth_is short =
@@ -128,7 +128,7 @@ module _ {K V : Type 0} {bytes : K × V → List ℕ} {P : ℕ} {s : Nodes K V} 
     abbrev here : Tree OpaqueNodePtr (K × V)
     here = fill c.frame (plug c.inner (leaf (leaf_name last) e.pair))
 
-    cut_whole : plug (c.inner ++ c.frame ∷ c.outer) (leaf (leaf_name last) e.pair) ≡ e.layout
+    pub cut_whole : plug (c.inner ++ c.frame ∷ c.outer) (leaf (leaf_name last) e.pair) ≡ e.layout
     cut_whole = ap (λ fs. plug fs (leaf (leaf_name last) e.pair)) (sym c.whole) ∙ e.whole
 
     here_whole : plug c.outer (fill c.frame (plug c.inner (leaf (leaf_name last) e.pair))) ≡ e.layout
@@ -138,7 +138,7 @@ module _ {K V : Type 0} {bytes : K × V → List ℕ} {P : ℕ} {s : Nodes K V} 
     here_holds = subst (Holds (node_at s)) (sym here_whole) e.by.stands.0.holds
 
     -- the step's node is in the store
-    cut_node : (step.node.kind ≢ Leaf) × (node : Inner) × (map.get s.inners step.node ≡ Some node) × (node.prefix.len ≡ c.frame.header.length_of)
+    pub cut_node : (step.node.kind ≢ Leaf) × (node : Inner) × (map.get s.inners step.node ≡ Some node) × (node.prefix.len ≡ c.frame.header.length_of)
     cut_node =
         let (off, node, got, head, kids) = inner_at s c.frame.mark c.frame.header
         (slots_of (join c.frame.left (child c.frame.byte (plug c.inner (leaf (leaf_name last) e.pair)) c.frame.right)))

@@ -59,7 +59,7 @@ module _ {K V : Type 0} {bytes : K × V → List ℕ} {P : ℕ} {s : Nodes K V} 
   -- an inner node above it
   module _ (gs : List (Frame OpaqueNodePtr (K × V))) (f : Frame OpaqueNodePtr (K × V)) (fs : List (Frame OpaqueNodePtr (K × V)))
       (whole : plug (gs ++ f ∷ fs) (leaf (leaf_name n) pair) ≡ layout) where
-    record IsSpot : Type 0 where
+    pub record IsSpot : Type 0 where
       pub outer : List ℕ
       pub path : IsPath bytes P outer fs
       pub radix : IsRadix bytes P outer (fill f (plug gs (leaf (leaf_name n) pair)))
@@ -69,7 +69,7 @@ module _ {K V : Type 0} {bytes : K × V → List ℕ} {P : ℕ} {s : Nodes K V} 
       pub prefix : prefix_of bytes (depth_of fs) (fill f (plug gs (leaf (leaf_name n) pair))) ≡ radix.0
       pub len : f.header.length_of ≡ length radix.0
 
-    spot : IsSpot
+    pub spot : IsSpot
     spot =
         let (outer, path, radix) = radix_plug bytes P fs (fill f (plug gs (leaf (leaf_name n) pair))) (subst (IsRadix bytes P []) (sym (sym (plug_twice gs (f ∷ fs) (leaf (leaf_name n) pair)) ∙ whole)) (tree_radix by).0) in
         let deep = depth_is bytes P fs outer path in
@@ -111,7 +111,7 @@ module _ {K V : Type 0} {bytes : K × V → List ℕ} {P : ℕ} {s : Nodes K V} 
       -- the key continues after the whole prefix
       module _ (right : f.right ≡ no_child) (end : shared ≡ depth_of fs + f.header.length_of) where
         record IsInto (at : IsSpot) : Type 0 where
-          mid_is : at.radix.0 ≡ (short_at at).mid
+          pub mid_is : at.radix.0 ≡ (short_at at).mid
           pub byte_is : x ≡ f.byte
 
         into : (at : IsSpot) → IsInto at

@@ -11,7 +11,7 @@ use Rattle.art_reading.specs.declared.path.TreePath.{TreePath}
 use Rattle.art_reading.specs.declared.path.TreePath.TheVariants.{Root, ChildOfRoot, Normal}
 
 -- the path after one more step
-path_by-push : (path : TreePath) (steps : List Step) (step : Step) → path_by path (steps ++ step ∷ []) ≡ step_down (path_by path steps) step.node step.byte
+pub path_by-push : (path : TreePath) (steps : List Step) (step : Step) → path_by path (steps ++ step ∷ []) ≡ step_down (path_by path steps) step.node step.byte
 path_by-push path [] step = refl
 path_by-push path (other ∷ steps) step = path_by-push (step_down path other.node other.byte) steps step
 

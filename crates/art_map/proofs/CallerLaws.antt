@@ -5,7 +5,7 @@ use Rattle.art_model.specs.Prelude.{are_same, first_of, of_key, put, remove_key,
 use Rattle.art_model.proofs.keys.Keys.{front_same, same_equal}
 use Rattle.art_model.proofs.pairs.MapLaws.{put_is_found, removed_is_gone}
 use Rattle.art_model.proofs.pairs.Puts.{stored_value}
-use Rattle.art_map.specs.MapAnswers.{value_at, with_value_at}
+use Rattle.art_changing.specs.MapAnswers.{value_at, with_value_at}
 
 module _ {K V : Type 0} (bytes : K → List ℕ) where
   -- after a put its value is found under its key

@@ -15,15 +15,15 @@ use Rattle.art_model.proofs.stores.Views.{leaf_or}
 use Rattle.art_reading.specs.Iterators.{IsIteratorOf}
 use Rattle.art_reading.proofs.Iterators as iterators
 use Rattle.art_reading.proofs.PairsLeft.{first_left, less_first, named_pairs, none_first, one_pair}
-use Rattle.art_map.specs.MapAnswers.{with_value_at}
+use Rattle.art_changing.specs.MapAnswers.{with_value_at}
 use Rattle.art_map.specs.MapCalls.{ChangesBy}
 use Rattle.art_map.specs.MapChanges.{ChangesLeaf, HasChanged}
-use Rattle.art_map.specs.MapItems.{IsRange, keys_of, pairs_between, walk_len}
-use Rattle.art_map.specs.MapPairs.{HoldsPairs, pairs_at}
+use Rattle.art_iterating.specs.MapItems.{IsRange, keys_of, pairs_between, walk_len}
+use Rattle.art_changing.specs.MapPairs.{HoldsPairs, pairs_at}
 use Rattle.art_map.proofs.LeafOf.{leaf_of_map}
-use Rattle.art_map.proofs.Ranges.{between_are, walk_counted}
+use Rattle.art_iterating.proofs.Ranges.{between_are, walk_counted}
 use Rattle.art_map.proofs.ValueLaws.{written_between}
-use Rattle.art_map.proofs.ViewsOfPairs.{holds, map_held, view_of}
+use Rattle.art_changing.proofs.ViewsOfPairs.{holds, map_held, view_of}
 use Rattle.art_map.proofs.WrittenValues.{value_written}
 
 module _ {K V F : Type 0} (calls : F → K × V → F → V → Type 0) where
@@ -120,7 +120,7 @@ module _ {K V : Type 0} (bytes : K → List ℕ) (key : List ℕ) (w : V) where
 module _ {K V F : Type 0} (bytes : K → List ℕ) (P : ℕ) (calls : F → K × V → F → V → Type 0) (root : Option OpaqueNodePtr) (len : ℕ)
     (began : F) (first before : List (K × V)) where
   -- f was called on some of the pairs that pass a test, and the others of them are left
-  record ChangedThose (test : List ℕ → Bool) (f : F) (left now : List (K × V)) : Type 0 where
+  pub record ChangedThose (test : List ℕ → Bool) (f : F) (left now : List (K × V)) : Type 0 where
     pub seen : List (K × V)
     pub done : List (K × V)
     pub first_is : first ≡ seen ++ left

@@ -6,8 +6,8 @@ use Rattle.art_nodes.specs.Renamed.{AreRenamed, IsRow}
 use Rattle.art_model.proofs.stores.StoreLaws.{has_children}
 use Rattle.art_model.proofs.leaves.OtherNames.{renamed}
 use Rattle.art_model.proofs.leaves.Renamed.{HasRow, canonical_renamed, first_named, inner_stays, none_beside, row_of}
-use Rattle.art_map.specs.MapPairs.{HoldsPairs}
-use Rattle.art_map.proofs.MapPuts.{HasTreeAt, at_some}
+use Rattle.art_changing.specs.MapPairs.{HoldsPairs}
+use Rattle.art_changing.proofs.MapPuts.{HasTreeAt, at_some}
 
 module _ {K V : Type 0} {bytes : K × V → List ℕ} {P : ℕ} {s : Nodes K V} {root : OpaqueNodePtr} {len : ℕ} {pairs : List (K × V)}
     (has : HasTreeAt bytes P s root len pairs) where

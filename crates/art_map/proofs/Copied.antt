@@ -8,8 +8,8 @@ use Rattle.art_parts.specs.Keys.{KeepBytes}
 use Rattle.art_model.proofs.radix.Copies.{copied_pairs, copied_radix}
 use Rattle.art_model.proofs.stores.Canonical.{laid_out, canonical_from}
 use Rattle.art_map.specs.MapChanges.{HoldsClones}
-use Rattle.art_map.specs.MapPairs.{HoldsPairs, pairs_at}
-use Rattle.art_map.proofs.ViewsOfPairs.{holds, view_of}
+use Rattle.art_changing.specs.MapPairs.{HoldsPairs, pairs_at}
+use Rattle.art_changing.proofs.ViewsOfPairs.{holds, view_of}
 
 module _ {N A : Type 0} (IsClone : A → A → Type 0) where
   -- a leaf with a clone of the pair, or the same

@@ -11,18 +11,18 @@ use Rattle.art_writing.specs.declared.insert.InsertResult.{InsertResult}
 use Rattle.art_writing.proofs.KeysFound.{conflict_new}
 use Rattle.art_writing.proofs.ReplacedValues.{own_leaf}
 use Rattle.art_writing.proofs.Unstored.{unstored}
-use Rattle.art_map.specs.MapAnswers.{IsRefusalOf, value_at}
+use Rattle.art_changing.specs.MapAnswers.{IsRefusalOf, value_at}
 use Rattle.art_map.specs.MapChanges.{HasEntered, HasEnteredFrom, HasMade, HasTried, IsPositionOf, NamesLeafOf, put_new}
-use Rattle.art_map.specs.MapPairs.{HoldsPairs, pairs_at}
-use Rattle.art_map.specs.declared.map.MapInsertError.{MapInsertError}
-use Rattle.art_map.specs.declared.map.MapInsertError.TheVariants as errors
+use Rattle.art_changing.specs.MapPairs.{HoldsPairs, pairs_at}
+use Rattle.art_changing.specs.declared.insert.MapInsertError.{MapInsertError}
+use Rattle.art_changing.specs.declared.insert.MapInsertError.TheVariants as errors
 use Rattle.art_map.specs.declared.map.MapMakeError.{MapMakeError}
 use Rattle.art_map.specs.declared.map.to_key.MapSourceError.{MapSourceError}
 use Rattle.art_map.specs.declared.map.position.Position.{Position}
 use Rattle.art_map.specs.declared.map.position.Position.TheVariants as positions
-use Rattle.art_map.proofs.Items.{no_pairs}
-use Rattle.art_map.proofs.MapPuts.{is_some-map}
-use Rattle.art_map.proofs.ViewsOfPairs.{holds, map_held, view_is}
+use Rattle.art_changing.proofs.Items.{no_pairs}
+use Rattle.art_changing.proofs.MapPuts.{is_some-map}
+use Rattle.art_changing.proofs.ViewsOfPairs.{holds, map_held, view_is}
 
 module _ {K V : Type 0} (bytes : K → List ℕ) (P : ℕ) {s : Nodes K V} {key : List ℕ} {point : InsertPoint} where
   -- where a point names the leaf of the key, the tree has it

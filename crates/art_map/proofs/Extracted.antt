@@ -12,7 +12,7 @@ use Rattle.art_model.proofs.pairs.Puts.{first_none}
 use Rattle.art_map.specs.MapExtract.{ExtractsAll, ExtractsBelow, ExtractsBetween, ExtractsFirst}
 use Rattle.art_map.specs.MapParts.{without}
 use Rattle.art_map.proofs.FirstOut.{first_out, passing}
-use Rattle.art_map.proofs.PartsOut.{first_below, nothing_out}
+use Rattle.art_changing.proofs.PartsOut.{first_below, nothing_out}
 use Rattle.art_map.specs.declared.map.extract.ExtractPrefixOf.{ExtractPrefixOf}
 use Rattle.art_map.specs.declared.map.extract.ExtractRangeOf.{ExtractRangeOf}
 use denote.Ref.{Bor}

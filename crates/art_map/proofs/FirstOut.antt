@@ -28,7 +28,7 @@ module _ {A : Type 0} (bytes : A → List ℕ) (test : List ℕ → Bool) where
       go true e = absurd (true≢false (sym is ∙ ap test (sym (same_equal (bytes x) (bytes y) e)) ∙ off))
 
   -- The pair is found by its key. The removal of its key removes it alone.
-  record IsFirstOut (pairs : List A) (x : A) : Type 0 where
+  pub record IsFirstOut (pairs : List A) (x : A) : Type 0 where
     pub reply : remove_reply bytes (bytes x) pairs ≡ Some x
     pub passes : passing pairs ≡ x ∷ passing (remove_key bytes (bytes x) pairs)
     pub fails : failing (remove_key bytes (bytes x) pairs) ≡ failing pairs

@@ -8,7 +8,7 @@ use Rattle.art_model.proofs.leaves.LeavesFound.{leaf_found}
 use Rattle.art_model.proofs.lists.Lists.{in_either}
 use Rattle.art_model.proofs.stores.Views.{leaf_name_is, leaf_or}
 use Rattle.art_map.specs.MapChanges.{NamesLeafOf}
-use Rattle.art_map.specs.MapPairs.{HoldsPairs}
+use Rattle.art_changing.specs.MapPairs.{HoldsPairs}
 
 module _ {N A : Type 0} where
   -- the children before one, that one, and those after it

@@ -1,11 +1,5 @@
-pub mod ViewsOfPairs
-pub mod Enough
-pub mod MapPuts
+pub mod NamedPairs
 pub mod Results
-pub mod Takings
-pub mod Items
-pub mod Ranges
-pub mod PartsOut
 pub mod Owned
 pub mod CallerLaws
 pub mod ValueLaws

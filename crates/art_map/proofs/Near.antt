@@ -4,11 +4,11 @@ use Rattle.std.specs.FinMap.{get}
 use Rattle.art_model.specs.Prelude.{LeafNode, LeafPtr, OpaqueNodePtr, with_value, with_leaf_value, Nodes, change, are_same, FindsLeaf, first_of, has_key, of_key, put, put_reply, with_key, ForTree, pair_of}
 use Rattle.art_model.proofs.pairs.Puts.{any_is_first}
 use Rattle.art_map.specs.MapChanges.{HasKeyAt, IsLeafOfKey, NamesLeafOf}
-use Rattle.art_map.specs.MapPairs.{HoldsPairs, pairs_at}
+use Rattle.art_changing.specs.MapPairs.{HoldsPairs, pairs_at}
 use Rattle.art_map.proofs.LeafOf.{leaf_of_map}
-use Rattle.art_map.proofs.MapPuts.{at_some, stays}
+use Rattle.art_changing.proofs.MapPuts.{at_some, stays}
 use Rattle.art_map.proofs.ValueLaws.{new_written}
-use Rattle.art_map.proofs.ViewsOfPairs.{map_held}
+use Rattle.art_changing.proofs.ViewsOfPairs.{map_held}
 use Rattle.art_map.proofs.WrittenValues.{is_stored, leaf_named, pair_swapped, value_written}
 
 module _ {K V : Type 0} (bytes : K → List ℕ) (P : ℕ) {s : Nodes K V} where

@@ -13,13 +13,14 @@ use Rattle.art_reading.proofs.PairsLeft.{named_pairs}
 use Rattle.art_writing.specs.Deleted.{IsDeletePoint, IsDeletePointIn, LeadsTo}
 use Rattle.art_writing.specs.declared.delete.DeletePoint.{DeletePoint}
 use Rattle.art_writing.proofs.KeysFound.{point_some}
-use Rattle.art_map.specs.MapChanges.{HasChanged, HasTaken}
-use Rattle.art_map.specs.MapPairs.{HoldsPairs, pairs_at}
+use Rattle.art_changing.specs.PairChanges.{HasTaken}
+use Rattle.art_map.specs.MapChanges.{HasChanged}
+use Rattle.art_changing.specs.MapPairs.{HoldsPairs, pairs_at}
 use Rattle.art_map.specs.MapRetain.{CallsUpTo, FindsRefused, HasTakenRefused, TakesRefused, after_pair, is_after, pairs_after}
 use Rattle.art_map.proofs.Changed.{Changing, first_after, held_after, keys_after, others_after, those_after}
 use Rattle.art_map.proofs.Retained.{passed, stored_once}
-use Rattle.art_map.proofs.MapPuts.{at_root}
-use Rattle.art_map.proofs.ViewsOfPairs.{holds, map_held, view_of}
+use Rattle.art_changing.proofs.MapPuts.{at_root}
+use Rattle.art_changing.proofs.ViewsOfPairs.{holds, map_held, view_of}
 use denote.Ref.{Bor}
 
 pub same_some : {A : Type 0} {x y : A} → Some x ≡ Some y → x ≡ y

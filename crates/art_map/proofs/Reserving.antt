@@ -8,10 +8,10 @@ use Rattle.art_writing.specs.Points.{IsRefusedFor}
 use Rattle.art_writing.specs.declared.insert.InsertSearchError.{InsertSearchError}
 use Rattle.art_writing.specs.declared.insert.InsertSearchError.TheVariants.{Memory, Prefix}
 use Rattle.art_writing.proofs.KeysFound.{conflict_new}
-use Rattle.art_map.specs.MapPairs.{HoldsPairs, pairs_at}
+use Rattle.art_changing.specs.MapPairs.{HoldsPairs, pairs_at}
 use Rattle.art_map.specs.Reserved.{IsUnreserved}
-use Rattle.art_map.proofs.MapPuts.{stays}
-use Rattle.art_map.proofs.ViewsOfPairs.{holds, view_of}
+use Rattle.art_changing.proofs.MapPuts.{stays}
+use Rattle.art_changing.proofs.ViewsOfPairs.{holds, view_of}
 
 -- equal inner nodes need the same placements
 pub placed_same : {K V : Type 0} (s t : Nodes K V) → t.inners ≡ s.inners → (kind : InsertKind) → placed_for t kind ≡ placed_for s kind

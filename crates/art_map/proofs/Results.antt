@@ -3,16 +3,17 @@ use Rattle.std.proofs.Common.{◌≡◌, ◌≢◌, ℕ, List, length, Option, S
 use Rattle.art_model.specs.Prelude.{Nodes, OpaqueNodePtr, IsMap, first_of, is_conflict, of_key, overwrite, put, put_reply, related_to, remove_key, replace_key, with_key, below, not_below}
 use Rattle.art_model.proofs.keys.Keys.{not_same}
 use Rattle.art_writing.specs.declared.insert.PairRefused.{PairRefused}
-use Rattle.art_map.specs.MapAnswers.{IsRefusalOf, value_at}
-use Rattle.art_map.specs.MapChanges.{HasPut, HasPutOver, HasReplaced, HasTaken, HasTakenBelow}
-use Rattle.art_map.specs.MapPairs.{HoldsPairs, pairs_at}
-use Rattle.art_map.specs.declared.map.MapInsertError.{MapInsertError}
+use Rattle.art_changing.specs.MapAnswers.{IsRefusalOf, value_at}
+use Rattle.art_changing.specs.PairChanges.{HasPut, HasPutOver, HasTaken, HasTakenBelow}
+use Rattle.art_map.specs.MapChanges.{HasReplaced}
+use Rattle.art_changing.specs.MapPairs.{HoldsPairs, pairs_at}
+use Rattle.art_changing.specs.declared.insert.MapInsertError.{MapInsertError}
 use Rattle.art_map.proofs.CallerLaws.{value_elsewhere, value_gone, value_here, value_left}
-use Rattle.art_map.proofs.ViewsOfPairs.{holds, view_of, view_sorted}
+use Rattle.art_changing.proofs.ViewsOfPairs.{holds, view_of, view_sorted}
 
 module _ {K V : Type 0} (bytes : K → List ℕ) where
   -- What a caller knows after a pair is put.
-  record TellsPut (key : K) (value : V) (before after : List (K × V)) (result : Result (Option (K × V)) (MapInsertError K V)) : Type 0 where
+  pub record TellsPut (key : K) (value : V) (before after : List (K × V)) (result : Result (Option (K × V)) (MapInsertError K V)) : Type 0 where
     pub pairs : OnOk result (after ≡ put (of_key bytes) (key, value) before)
     pub replaced : IfOk result (λ replaced. replaced ≡ put_reply (of_key bytes) (key, value) before)
     pub found : OnOk result (value_at bytes (bytes key) after ≡ Some value)
@@ -23,7 +24,7 @@ module _ {K V : Type 0} (bytes : K → List ℕ) where
     pub kept : OnErr result (after ≡ before)
 
   -- What a caller knows after a pair replaces those with related keys.
-  record TellsOver (key : K) (value : V) (before after : List (K × V)) (result : Result ℕ (PairRefused K V)) : Type 0 where
+  pub record TellsOver (key : K) (value : V) (before after : List (K × V)) (result : Result ℕ (PairRefused K V)) : Type 0 where
     pub pairs : OnOk result (after ≡ overwrite (of_key bytes) (key, value) before)
     pub gone : IfOk result (λ gone. gone ≡ length (related_to (of_key bytes) (bytes key) before))
     pub handed_back : IfErr result (λ refused. (refused.key ≡ key) × (refused.value ≡ value))
@@ -31,7 +32,7 @@ module _ {K V : Type 0} (bytes : K → List ℕ) where
     pub refused : OnErr result (length (related_to (of_key bytes) (bytes key) before) ≢ 1)
 
   -- What a caller knows after a pair replaces the one with an equal key.
-  record TellsReplaced (key : K) (value : V) (before after : List (K × V)) (result : Result (Option (K × V)) (MapInsertError K V)) : Type 0 where
+  pub record TellsReplaced (key : K) (value : V) (before after : List (K × V)) (result : Result (Option (K × V)) (MapInsertError K V)) : Type 0 where
     pub pairs : OnOk result (after ≡ replace_key (of_key bytes) (key, value) before)
     pub replaced : IfOk result (λ replaced. replaced ≡ first_of (with_key (of_key bytes) (bytes key) before))
     pub accepted : OnOk result (is_conflict (of_key bytes) (bytes key) before ≡ false)

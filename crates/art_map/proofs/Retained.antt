@@ -8,7 +8,7 @@ use Rattle.art_model.specs.Prelude.{CalledOnPair, Precedes, are_same, IsMap, fir
 use Rattle.art_model.proofs.keys.Keys.{front_same, precedes_apart, related_sym, same_related}
 use Rattle.art_model.proofs.lists.Filters.{filter_all}
 use Rattle.art_model.proofs.pairs.MapLaws.{first_is_removed_by_key}
-use Rattle.art_map.specs.MapItems.{keys_of}
+use Rattle.art_iterating.specs.MapItems.{keys_of}
 use Rattle.art_map.specs.MapRetain.{AreAlikeUpTo, KeepsEach, Retains, RetainsPairs, StopsAt, TakesRefused, is_after, pairs_after, pairs_up_to}
 
 module _ {A : Type 0} where

@@ -8,7 +8,7 @@ use Rattle.art_model.proofs.pairs.Between.{IsLocal, add_in_order_first}
 use Rattle.art_model.proofs.lists.Filters.{Each-filter, filter_passes}
 use Rattle.art_model.proofs.keys.Keys.{front_same, precedes_apart, related_sym, same_equal, same_related}
 use Rattle.art_model.proofs.pairs.Puts.{has_is_stored, put-new, put-old}
-use Rattle.art_map.specs.MapAnswers.{value_at, with_value_at}
+use Rattle.art_changing.specs.MapAnswers.{value_at, with_value_at}
 use Rattle.art_map.specs.MapChanges.{put_new}
 use Rattle.art_map.proofs.CallerLaws.{value_here}
 

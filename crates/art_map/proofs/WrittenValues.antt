@@ -13,13 +13,13 @@ use Rattle.art_model.proofs.keys.Keys.{front_same, same_equal}
 use Rattle.art_model.proofs.leaves.LeavesFound.{leaf_found}
 use Rattle.art_model.proofs.places.Paths.{IsHole, hole_of, pairs_of-plug}
 use Rattle.art_model.proofs.pairs.Puts.{any_is_first}
-use Rattle.art_map.specs.MapAnswers.{value_at, with_value_at}
+use Rattle.art_changing.specs.MapAnswers.{value_at, with_value_at}
 use Rattle.art_map.specs.MapChanges.{NamesLeafOf}
-use Rattle.art_map.specs.MapPairs.{HoldsPairs, pairs_at}
-use Rattle.art_map.proofs.MapPuts.{at_some}
-use Rattle.art_map.proofs.Takings.{for_tree}
+use Rattle.art_changing.specs.MapPairs.{HoldsPairs, pairs_at}
+use Rattle.art_changing.proofs.MapPuts.{at_some}
+use Rattle.art_changing.proofs.Takings.{for_tree}
 use Rattle.art_map.proofs.ValueLaws.{has_the_key, written_between}
-use Rattle.art_map.proofs.ViewsOfPairs.{none_other, view_is}
+use Rattle.art_changing.proofs.ViewsOfPairs.{none_other, view_is}
 
 -- a list with one item replaced is as long
 same_length : {A : Type 0} (before after : List A) (x y : A) → length (before ++ (x ∷ []) ++ after) ≡ length (before ++ (y ∷ []) ++ after)

@@ -1,8 +1,5 @@
-pub mod MapPairs
-pub mod MapAnswers
 pub mod MadeKeys
 pub mod MapChanges
-pub mod MapItems
 pub mod MapLends
 pub mod MapCalls
 pub mod MapBoth

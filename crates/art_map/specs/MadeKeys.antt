@@ -1,7 +1,7 @@
 -- Keys that are made from a source of their bytes, where they are new.
 use Rattle.std.specs.Prelude.{◌≡◌, ℕ, false, List}
 use Rattle.art_model.specs.Pairs.{has_key, of_key}
-use Rattle.art_map.specs.MapAnswers.{IsRefusalOf, refused_pair}
+use Rattle.art_changing.specs.MapAnswers.{IsRefusalOf, refused_pair}
 use Rattle.art_map.specs.declared.map.to_key.MapSourceError.{MapSourceError}
 use Rattle.art_map.specs.declared.map.to_key.MapSourceError.TheVariants.{Insert, Memory, NoKey}
 

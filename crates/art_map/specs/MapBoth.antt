@@ -1,6 +1,6 @@
 -- Two pairs that were inserted into two maps, or neither.
 use Rattle.std.specs.Prelude.{◌≡◌, ℕ, List}
-use Rattle.art_map.specs.MapAnswers.{IsRefusalOf}
+use Rattle.art_changing.specs.MapAnswers.{IsRefusalOf}
 use Rattle.art_map.specs.declared.map.both.BothInsertError.{BothInsertError}
 use Rattle.art_map.specs.declared.map.both.BothInsertError.TheVariants.{First, Second}
 

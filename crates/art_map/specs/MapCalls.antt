@@ -5,10 +5,10 @@ use Rattle.std.specs.Fn.{CalledAtMut, FnOnceReturnsAtMut, Mut, Once}
 use Rattle.std.specs.Iterator.{YieldsThen}
 use Rattle.art_nodes.specs.LeafCalls.{CalledOnPair}
 use Rattle.art_model.specs.Pairs.{has_key, of_key, put}
-use Rattle.art_map.specs.declared.map.MapInsertError.{MapInsertError}
+use Rattle.art_changing.specs.declared.insert.MapInsertError.{MapInsertError}
 use Rattle.art_map.specs.declared.map.MapMakeError.{MapMakeError}
 use Rattle.art_map.specs.declared.map.MapMakeError.TheVariants.{Insert, Make}
-use Rattle.art_map.specs.MapAnswers.{IsRefusalOf, value_at, with_value_at}
+use Rattle.art_changing.specs.MapAnswers.{IsRefusalOf, value_at, with_value_at}
 use denote.Ref.{Bor}
 
 -- the pairs are unchanged if the key is not stored; else a call of f on its value left another, which the key now has

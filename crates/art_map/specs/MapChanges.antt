@@ -1,5 +1,5 @@
 -- What a change leaves of a store, a root and a length that stand for pairs. No public clause cites this module.
-use Rattle.std.specs.Prelude.{◌≡◌, ◌≢◌, ℕ, Bool, true, false, not, filter, if◌then◌else◌, List, [], ◌∷◌, length, Option, Some, None, Result, Ok, Err}
+use Rattle.std.specs.Prelude.{◌≡◌, ◌≢◌, ℕ, Bool, true, false, not, filter, if◌then◌else◌, List, [], length, Option, Some, None, Result, Ok, Err}
 use Rattle.std.specs.FinMap as nodes
 use Rattle.art_nodes.specs.Lends.{with_leaf_value}
 use Rattle.art_nodes.specs.Nodes.{Nodes}
@@ -10,28 +10,21 @@ use Rattle.art_parts.specs.declared.names.LeafPtr.{LeafPtr}
 use Rattle.art_model.specs.Canonical.{IsCanonicalTree}
 use Rattle.art_model.specs.Clones.{AreClones}
 use Rattle.art_model.specs.Lookups.{HasLeaf}
-use Rattle.art_model.specs.Pairs.{first_of, has_key, is_conflict, of_key, overwrite, put, put_reply, related_to, replace_key, with_key}
-use Rattle.art_model.specs.Parts.{below, not_below}
+use Rattle.art_model.specs.Pairs.{first_of, has_key, is_conflict, of_key, put, replace_key, with_key}
 use Rattle.art_model.specs.Trees.{Tree}
 use Rattle.art_writing.specs.Inserted.{IsPointIn}
 use Rattle.art_writing.specs.Points.{IsRefusedFor}
 use Rattle.art_reading.specs.declared.end_node.InsertKind.TheVariants.{Exact}
-use Rattle.art_writing.specs.declared.insert.PrefixInsertResult.{PrefixInsertResult}
-use Rattle.art_writing.specs.declared.insert.PairRefused.{PairRefused}
 use Rattle.art_map.specs.MadeKeys.{IsSourceRefusal}
-use Rattle.art_map.specs.MapAnswers.{IsRefusalOf}
-use Rattle.art_map.specs.MapItems.{keys_of}
-use Rattle.art_map.specs.MapPairs.{HoldsPairs, pairs_at}
-use Rattle.art_map.specs.declared.map.MapInsertError.{MapInsertError}
+use Rattle.art_changing.specs.MapAnswers.{IsRefusalOf}
+use Rattle.art_iterating.specs.MapItems.{keys_of}
+use Rattle.art_changing.specs.MapPairs.{HoldsPairs, pairs_at}
+use Rattle.art_changing.specs.declared.insert.MapInsertError.{MapInsertError}
 use Rattle.art_map.specs.MapCalls.{ChangesBy, IsMakeRefusal}
 use Rattle.art_map.specs.declared.map.MapMakeError.{MapMakeError}
 use Rattle.art_map.specs.declared.map.to_key.MapSourceError.{MapSourceError}
 use Rattle.art_map.specs.declared.map.position.Position.{Position}
 use Rattle.art_map.specs.declared.map.position.Position.TheVariants as positions
-
--- how many pairs were replaced: the one that was returned, or those that were freed
-abbrev pub gone_count : {K V : Type 0} → PrefixInsertResult K V → ℕ
-gone_count done = elim done.insert_result.existing_leaf [ None ↦ done.leafs_removed | Some leaf ↦ 1 ]
 
 -- there is a pair, and the tree has its leaf under this name
 abbrev pub NamesPair : {A : Type 0} → Tree OpaqueNodePtr A → Option A → LeafPtr → Type 0
@@ -78,23 +71,7 @@ IsPositionOf bytes P s root key (positions.Refused error) =
 abbrev pub put_new : {K V : Type 0} → (K → List ℕ) → K × V → List (K × V) → List (K × V)
 put_new bytes new pairs = if has_key (of_key bytes) (bytes new.0) pairs then pairs else put (of_key bytes) new pairs
 
-module _ {K V : Type 0} (bytes : K → List ℕ) (P : ℕ) where
-  -- the pair is the only one, or it is returned and there is none
-  abbrev pub HasPlanted : K → V → Result (Unit {0}) (PairRefused K V) → Nodes K V → Option OpaqueNodePtr → ℕ → Type 0
-  HasPlanted key value (Ok done) t root len = HoldsPairs (of_key bytes) P t root len ((key, value) ∷ [])
-  HasPlanted key value (Err refused) t root len =
-      HoldsPairs (of_key bytes) P t root len [] × (refused.key ≡ key) × (refused.value ≡ value)
-
 module _ {K V : Type 0} (bytes : K → List ℕ) (P : ℕ) (pairs : List (K × V)) where
-  -- the pair was put, or it is returned and the pairs are unchanged
-  abbrev pub HasPut : K → V → Result (Option (K × V)) (MapInsertError K V) → Nodes K V →
-      Option OpaqueNodePtr → ℕ → Type 0
-  HasPut key value (Ok replaced) t root len =
-      HoldsPairs (of_key bytes) P t root len (put (of_key bytes) (key, value) pairs) ×
-      (replaced ≡ put_reply (of_key bytes) (key, value) pairs) × (is_conflict (of_key bytes) (bytes key) pairs ≡ false)
-  HasPut key value (Err error) t root len =
-      HoldsPairs (of_key bytes) P t root len pairs × IsRefusalOf bytes key value pairs error
-
   -- the pair was inserted in place of the one with an equal key, or it is returned and the pairs are unchanged
   abbrev pub HasReplaced : K → V → Result (Option (K × V)) (MapInsertError K V) → Nodes K V → Option OpaqueNodePtr → ℕ → Type 0
   HasReplaced key value (Ok replaced) t root len =
@@ -129,21 +106,6 @@ module _ {K V : Type 0} (bytes : K → List ℕ) (P : ℕ) (pairs : List (K × V
   HasEnteredFrom key IsKey AllocatesNothing value (Err error) t root len =
       HoldsPairs (of_key bytes) P t root len pairs × IsSourceRefusal bytes key IsKey AllocatesNothing value pairs error
 
-  -- the pair replaced those with related keys; or it is returned, the pairs are unchanged, and not just one is related
-  abbrev pub HasPutOver : K → V → Result ℕ (PairRefused K V) → Nodes K V → Option OpaqueNodePtr → ℕ → Type 0
-  HasPutOver key value (Ok gone) t root len =
-      HoldsPairs (of_key bytes) P t root len (overwrite (of_key bytes) (key, value) pairs) ×
-      (gone ≡ length (related_to (of_key bytes) (bytes key) pairs))
-  HasPutOver key value (Err refused) t root len =
-      HoldsPairs (of_key bytes) P t root len pairs × (refused.key ≡ key) × (refused.value ≡ value) ×
-      (length (related_to (of_key bytes) (bytes key) pairs) ≢ 1)
-
-  -- the pairs whose keys start with a prefix were removed, and this is their number
-  abbrev pub HasTakenBelow : List ℕ → ℕ → Nodes K V → Option OpaqueNodePtr → ℕ → Type 0
-  HasTakenBelow prefix removed t root len =
-      HoldsPairs (of_key bytes) P t root len (not_below (of_key bytes) prefix pairs) ×
-      (removed ≡ length (below (of_key bytes) prefix pairs))
-
   -- a store, a root and a length stand for clones of the pairs
   abbrev pub HoldsClones : (K → K → Type 0) → (V → V → Type 0) → Nodes K V → Option OpaqueNodePtr → ℕ → Type 0
   HoldsClones is_key_clone is_value_clone t root len =
@@ -159,8 +121,3 @@ pub record HasChanged {K V F : Type 0} (bytes : K → List ℕ) (P : ℕ) (calls
   pub those : (test : List ℕ → Bool) → began ≡ filter (λ x. test (bytes x.0)) before →
       ChangesBy calls f (filter (λ x. test (bytes x.0)) before) (filter (λ x. test (bytes x.0)) (pairs_at t root)) left ×
       (filter (λ x. not (test (bytes x.0))) (pairs_at t root) ≡ filter (λ x. not (test (bytes x.0))) before)
-
--- this pair was removed, if there is one, and these are left
-abbrev pub HasTaken : {K V : Type 0} → (K → List ℕ) → ℕ → Option (K × V) → List (K × V) → Option (K × V) → Nodes K V →
-    Option OpaqueNodePtr → ℕ → Type 0
-HasTaken bytes P pair left taken t root len = HoldsPairs (of_key bytes) P t root len left × (taken ≡ pair)

@@ -3,7 +3,7 @@ use Rattle.std.specs.Prelude.{ℕ, List, Option, Result}
 use Rattle.std.specs.Borrow.{LendsIf, LendsIfOk, Fml, RattleType, MutBor}
 use Rattle.art_parts.specs.declared.bytes.AsBytes as as_bytes
 use Rattle.art_model.specs.Pairs.{of_key, put}
-use Rattle.art_map.specs.MapAnswers.{with_value_at}
+use Rattle.art_changing.specs.MapAnswers.{with_value_at}
 use Rattle.art_map.specs.contracts.map.ByteMap.{the_row}
 
 module _ (K V P : RattleType) (g : as_bytes.Ghosts K.Denot) (s : MutBor (List (K.Denot × V.Denot))) where

@@ -4,9 +4,9 @@ use Rattle.std.specs.declared.ops.Bound.{Bound}
 use Rattle.art_parts.specs.Keys.{is_before}
 use Rattle.art_model.specs.Pairs.{remove_key}
 use Rattle.art_model.specs.Parts.{is_between}
-use Rattle.art_map.specs.MapAnswers.{IsRefusalOf}
+use Rattle.art_changing.specs.MapAnswers.{IsRefusalOf}
 use Rattle.art_map.specs.MapCalls.{put_all}
-use Rattle.art_map.specs.declared.map.MapInsertError.{MapInsertError}
+use Rattle.art_changing.specs.declared.insert.MapInsertError.{MapInsertError}
 
 module _ {A : Type 0} (bytes : A → List ℕ) where
   -- the pairs whose keys are not between two bounds

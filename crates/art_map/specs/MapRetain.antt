@@ -13,8 +13,8 @@ use Rattle.art_parts.specs.declared.names.OpaqueNodePtr.{OpaqueNodePtr}
 use Rattle.art_writing.specs.Deleted.{LeadsTo, IsDeletePointIn}
 use Rattle.art_writing.specs.declared.delete.DeletePoint.{DeletePoint}
 use Rattle.art_map.specs.MapCalls.{ChangesBy}
-use Rattle.art_map.specs.MapItems.{keys_of}
-use Rattle.art_map.specs.MapPairs.{HoldsPairs, pairs_at}
+use Rattle.art_iterating.specs.MapItems.{keys_of}
+use Rattle.art_changing.specs.MapPairs.{HoldsPairs, pairs_at}
 use denote.Ref.{Bor}
 
 module _ {F A : Type 0} (asks : F → A → Bool → F → Type 0) where

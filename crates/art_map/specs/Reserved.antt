@@ -9,9 +9,9 @@ use Rattle.art_writing.specs.Inserted.{IsPointIn, placed_for}
 use Rattle.art_writing.specs.declared.insert.InsertPoint.{InsertPoint}
 use Rattle.art_writing.specs.declared.insert.InsertSearchError.{InsertSearchError}
 use Rattle.art_writing.specs.declared.insert.InsertSearchError.TheVariants as searches
-use Rattle.art_map.specs.MapPairs.{pairs_at}
-use Rattle.art_map.specs.declared.map.MapInsertError.{MapInsertError}
-use Rattle.art_map.specs.declared.map.MapInsertError.TheVariants as errors
+use Rattle.art_changing.specs.MapPairs.{pairs_at}
+use Rattle.art_changing.specs.declared.insert.MapInsertError.{MapInsertError}
+use Rattle.art_changing.specs.declared.insert.MapInsertError.TheVariants as errors
 
 -- no stored key conflicts with this one, its place is known, and the nodes that its pair needs there are promised
 abbrev pub IsReserved : {K V : Type 0} → (K → List ℕ) → ℕ → Nodes K V → Option OpaqueNodePtr → List ℕ → Option InsertPoint → Type 0

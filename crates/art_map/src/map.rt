@@ -9,16 +9,17 @@ ghost use Rattle.art_model.specs.Pairs.{IsMap, first_of, has_key, is_conflict, l
 ghost use Rattle.art_model.specs.Parts.{below, between, not_below, without_below};
 ghost use Rattle.art_model.specs.Stores.{pair_of};
 ghost use Rattle.art_reading.specs.Descents.{asked_of};
-ghost use Rattle.art_map.specs.MapItems.{deref_pair, keys_of, values_of};
-ghost use Rattle.art_map.specs.MapPairs.{HoldsPairs, pairs_at};
+ghost use Rattle.art_iterating.specs.MapItems.{deref_pair, keys_of, values_of};
+ghost use Rattle.art_changing.specs.MapPairs.{HoldsPairs, pairs_at};
 
+use art_changing::insert::{put_in, put_over};
+use art_changing::remove::{take_all, take_below, take_first, take_last};
 use art_nodes::node::{AsBytes, LeafNode, LeafPtr, OpaqueNodePtr};
 use art_nodes::store::NodeStore;
 use art_ranges::range::{first_from_unchecked, last_up_to_unchecked};
 use art_reading::iterator::RawIterator;
 use art_reading::lookup::{Asked, KeyBytes, KeyQuery, find_unchecked, search_unchecked};
 use art_reading::minmax::{maximum_unchecked, minimum_unchecked};
-use art_writing::insert::InsertPrefixError;
 use std::alloc::Global;
 use std::fmt;
 use std::marker::Model;
@@ -33,16 +34,11 @@ mod each;
 mod entry;
 mod extend;
 mod extract;
-mod insert;
-mod iter;
 mod lend;
 mod near;
 mod owned;
-mod parts;
 mod position;
 mod queried;
-mod range;
-mod remove;
 mod replace;
 mod retain;
 mod split;
@@ -50,52 +46,18 @@ mod texts;
 mod to_key;
 mod tree;
 
+pub use art_changing::insert::MapInsertError;
+pub use art_iterating::iter::{Leaves, MapIter, MapIterOf};
+pub use art_iterating::parts::{Keys, KeysOf, Values, ValuesOf};
+pub use art_iterating::range::{Range, RangeOf};
 pub use art_writing::insert::PairRefused;
 pub use both::BothInsertError;
 pub use entry::{Entry, EntryOf};
 pub use extract::{ExtractPrefix, ExtractPrefixOf, ExtractRange, ExtractRangeOf};
-use insert::{put_in, put_over};
-pub use iter::{Leaves, MapIter, MapIterOf};
 use owned::whole_walk;
 pub use owned::{IntoIter, IntoKeys, IntoValues};
-pub use parts::{Keys, KeysOf, Values, ValuesOf};
-pub use range::{Range, RangeOf};
-use remove::{take_all, take_below, take_first, take_last};
 pub use split::SplitRefused;
 pub use to_key::{MapSourceError, ToKey};
-
-/// A pair that was not inserted.
-#[derive(Debug, Drop, Error)]
-pub enum MapInsertError<K, V> {
-    /// A stored key conflicts with the key: they are unequal, and one of the two is a prefix of the other.
-    #[error("{error}")]
-    Conflict {
-        key: K,
-        value: V,
-        error: InsertPrefixError,
-    },
-    /// An allocation failed, and no equal key is stored. A conflicting one may be: a `Conflict` needs memory for the
-    /// bytes of the key.
-    #[error("memory allocation failed")]
-    Memory {
-        key: K,
-        value: V,
-    },
-}
-
-impl<K, V> MapInsertError<K, V> {
-    ghost use Rattle.art_map.specs.MapAnswers.{refused_pair};
-
-    /// Returns the pair of either error.
-    pub fn into_pair(self) -> PairRefused<K, V>
-        ensures { (result.key, result.value) ≡ refused_pair self }
-    {
-        match self {
-            MapInsertError::Conflict { key, value, .. } => PairRefused { key, value },
-            MapInsertError::Memory { key, value } => PairRefused { key, value },
-        }
-    }
-}
 
 /// A value that was not made for an entry, or whose pair was not inserted.
 #[derive(Debug, Drop, Error)]
@@ -130,7 +92,7 @@ impl<K: AsBytes, V, const P: usize> Model for ByteMap<K, V, P> {
     ghost coded = { coded_list (coded× K.code V.code) };
 
     ghost use Rattle.art_model.specs.Pairs.{of_key};
-    ghost use Rattle.art_map.specs.MapPairs.{HoldsPairs, pairs_at};
+    ghost use Rattle.art_changing.specs.MapPairs.{HoldsPairs, pairs_at};
 
     ghost view = { λ m. pairs_at m.store m.root };
 
@@ -139,7 +101,7 @@ impl<K: AsBytes, V, const P: usize> Model for ByteMap<K, V, P> {
 }
 
 impl<K: AsBytes + Drop, V: Drop, const P: usize> ByteMap<K, V, P> {
-    ghost use Rattle.art_map.specs.MapAnswers.{IsRefusalOf, value_at};
+    ghost use Rattle.art_changing.specs.MapAnswers.{IsRefusalOf, value_at};
     ghost use Rattle.art_map.specs.MapLends.{lends_put, lends_value};
 
     /// Returns an empty map, without an allocation.
@@ -498,7 +460,7 @@ impl<'a, K: AsBytes + Drop, V: Drop, const P: usize> IntoIterator for &'a ByteMa
 impl<'b, K: AsBytes + Drop, V: Drop, const P: usize> Index<&'b [u8]> for ByteMap<K, V, P> {
     type Output = V;
 
-    ghost use Rattle.art_map.specs.MapAnswers.{value_at};
+    ghost use Rattle.art_changing.specs.MapAnswers.{value_at};
 
     ghost can_index = { λ map key. IsSome (value_at K.bytes key.now map) };
 

@@ -3,6 +3,7 @@ mod beside_btree_set;
 mod calls;
 mod compact;
 mod entries;
+mod errors;
 mod memory;
 mod owned;
 mod ranges;

@@ -11,7 +11,7 @@ use Rattle.std.specs.Ordering.{nat_cmp}
 use Rattle.std.specs.declared.cmp.Ordering.{Ordering}
 use Rattle.std.specs.declared.cmp.Ordering.TheVariants.{Less, Greater}
 use Rattle.art_parts.proofs.NameLemmas.{same_or_not}
-use Rattle.art_map.specs.MapItems.{TakesFirst, deref_pair}
+use Rattle.art_iterating.specs.MapItems.{TakesFirst, deref_pair}
 use Rattle.art_keys.specs.FixedLaws.{fixed_no_prefixes}
 use Rattle.art_keys.specs.Joins.{pair_cmp}
 use Rattle.art_keys.specs.Prefixes.{AreInjective}

@@ -45,9 +45,9 @@ pub use Rattle.art_checking.specs.Folds
 pub use Rattle.art_model.specs.Faults
 pub use Rattle.art_checking.specs.Checks
 -- the map
-pub use Rattle.art_map.specs.MapPairs
-pub use Rattle.art_map.specs.MapAnswers
-pub use Rattle.art_map.specs.MapItems
+pub use Rattle.art_changing.specs.MapPairs
+pub use Rattle.art_changing.specs.MapAnswers
+pub use Rattle.art_iterating.specs.MapItems
 pub use Rattle.art_map.specs.MapLends
 pub use Rattle.art_nodes.specs.LeafCalls
 pub use Rattle.art_map.specs.MapCalls

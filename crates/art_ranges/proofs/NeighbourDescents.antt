@@ -22,7 +22,7 @@ slots_long no_child = refl
 slots_long (child b t cs) = ap suc (slots_long cs)
 
 -- A node of the tree at a place that is a prefix of the key.
-record IsOnKey {A : Type 0} (bytes : A → List ℕ) (P : ℕ) (key : List ℕ) (tree : Tree OpaqueNodePtr A) (name : OpaqueNodePtr) (depth : ℕ) : Type 0 where
+pub record IsOnKey {A : Type 0} (bytes : A → List ℕ) (P : ℕ) (key : List ℕ) (tree : Tree OpaqueNodePtr A) (name : OpaqueNodePtr) (depth : ℕ) : Type 0 where
   pub descent : IsDescent bytes P (λ x. Precedes (bytes x) key) (λ x. Precedes key (bytes x)) tree name depth
   pub leads : IsPath bytes P descent.place descent.at.path
   pub on_way : IsFront descent.place key

@@ -41,7 +41,7 @@ read_begins key by = record { descent = start by; at_least = omega arith }
 module _ {A : Type 0} {bytes : A → List ℕ} {P : ℕ} {key : List ℕ} {tree : Tree OpaqueNodePtr A} {name : OpaqueNodePtr} {depth number : ℕ}
     (r : IsReadTo bytes P key tree name depth number) where
   -- one reading more, and all are counted
-  abbrev IsAllBut : Type 0
+  abbrev pub IsAllBut : Type 0
   IsAllBut = length (nodes_on_way bytes key tree) ≤ number + 1
 
   pub read_leaf : (n : OpaqueNodePtr) (x : A) → r.descent.at.node ≡ leaf n x → IsAllBut
@@ -49,12 +49,12 @@ module _ {A : Type 0} {bytes : A → List ℕ} {P : ℕ} {key : List ℕ} {tree 
 
   module _ {p : InnerPtr} {shown : Inner} (at : IsShown r.descent.at.node p shown) where
     -- the key ends with the node's prefix, or before
-    read_end : length key ≤ depth + shown.prefix.len → IsAllBut
+    pub read_end : length key ≤ depth + shown.prefix.len → IsAllBut
     read_end short = let one = end_left r.descent key at short in let seen = r.at_least in omega arith
 
     module _ (b : ℕ) (same : depth + shown.prefix.len < length key → b ≡ get_or key (depth + shown.prefix.len) 0) where
       -- there is no child under the byte
-      read_gap : child_at shown.children b ≡ None → IsAllBut
+      pub read_gap : child_at shown.children b ≡ None → IsAllBut
       read_gap none = go (cases_lt (depth + shown.prefix.len) (length key))
         where
           go : (depth + shown.prefix.len < length key) ⊎ (length key ≤ depth + shown.prefix.len) → IsAllBut
@@ -63,7 +63,7 @@ module _ {A : Type 0} {bytes : A → List ℕ} {P : ℕ} {key : List ℕ} {tree 
           go (inr short) = read_end short
 
       -- the descent continues to this child
-      read_child : {to : OpaqueNodePtr} → child_at shown.children b ≡ Some to →
+      pub read_child : {to : OpaqueNodePtr} → child_at shown.children b ≡ Some to →
           IsReadTo bytes P key tree to (depth + shown.prefix.len + 1) (number + 1)
       read_child {to} there = record {
         descent = down r.descent at b there (λ c i less x f. tt) (λ c i more x f. tt);

@@ -53,7 +53,7 @@ same_parts {A = A} {B = B} {a = a} {b = b} e =
     let both : ◌≡◌ {A = A × B} (a, b) _ = ap (λ o. unwrap_or o (a, b)) e in
     (ap (λ (both : A × B). both.0) both, ap (λ (both : A × B). both.1) both)
 
-kept_same : (kept : End) (f t : List ℕ) → f ≡ t → IsKept kept f t
+pub kept_same : (kept : End) (f t : List ℕ) → f ≡ t → IsKept kept f t
 kept_same First f t same = ([], sym same ∙ sym (append-nil f))
 kept_same Last f t same = ([], same ∙ sym (append-nil t))
 
@@ -73,7 +73,7 @@ IsOnTrack (Some f) query = IsFront f query
 
 module _ {A : Type 0} (bytes : A → List ℕ) (end : ℕ) (query : List ℕ) (at_least : ℕ) (kept : End) where
   -- if the text of the pair is searched for, one was found that is kept of both
-  abbrev IsCovered : Option (List ℕ) → A → Type 0
+  abbrev pub IsCovered : Option (List ℕ) → A → Type 0
   IsCovered found x = (t : List ℕ) → bytes x ≡ t ++ end ∷ [] → IsFront t query → at_least ≤ length t → Covered kept found t
 
   -- if the query is a prefix of the key of the pair, what was found is a prefix of the query
@@ -81,13 +81,13 @@ module _ {A : Type 0} (bytes : A → List ℕ) (end : ℕ) (query : List ℕ) (a
   IsAlong found x = IsFront query (bytes x) → IsOnTrack found query
 
   -- A pair outside the path.
-  record IsAside (found : Option (List ℕ)) (x : A) : Type 0 where
+  pub record IsAside (found : Option (List ℕ)) (x : A) : Type 0 where
     pub covered : IsCovered found x
     pub off : IsFront query (bytes x) → ⊥
 
   module _ (tree : Tree OpaqueNodePtr A) (place : List ℕ) where
     -- The leaf of the text that was found, which leads to the place.
-    record IsBest (best : LeafPtr) (f : List ℕ) : Type 0 where
+    pub record IsBest (best : LeafPtr) (f : List ℕ) : Type 0 where
       pub x : A
       pub has : HasLeaf tree (leaf_name best) x
       pub ended : bytes x ≡ f ++ end ∷ []
@@ -165,7 +165,7 @@ pub record IsNestedWay {A : Type 0} (bytes : A → List ℕ) (P end : ℕ) (quer
   pub fresh : kept ≡ First → best ≡ None
 
 -- What was found at a node with this whole prefix, and children under these bytes.
-record IsBetter {A : Type 0} (bytes : A → List ℕ) (end : ℕ) (query : List ℕ) (at_least : ℕ) (kept : End)
+pub record IsBetter {A : Type 0} (bytes : A → List ℕ) (end : ℕ) (query : List ℕ) (at_least : ℕ) (kept : End)
     (tree : Tree OpaqueNodePtr A) (w cs : List ℕ) (before : Option (List ℕ)) (after : Option LeafPtr) : Type 0 where
   pub found : Option (List ℕ)
   pub is_found : IsFound bytes end query at_least kept tree w after found
@@ -173,7 +173,7 @@ record IsBetter {A : Type 0} (bytes : A → List ℕ) (end : ℕ) (query : List 
   pub here : (c : ℕ) → IsIn c cs → c ≡ end → at_least ≤ length w → Covered kept found w
   pub first : (n : LeafPtr) → kept ≡ First → after ≡ Some n → (t : List ℕ) → IsFront w t → Covered kept found t
 
-each_top : {A : Type 0} (xs : List A) → Each (λ x. ⊤) xs
+pub each_top : {A : Type 0} (xs : List A) → Each (λ x. ⊤) xs
 each_top [] = tt
 each_top (x ∷ xs) = (tt, each_top xs)
 
@@ -194,7 +194,7 @@ module _ {A : Type 0} (bytes : A → List ℕ) (P : ℕ) (w : List ℕ) (end : �
       omega (arith, simp length-append at long)
 
 -- the leaf of a child that is under the mark
-record IsMarked {A : Type 0} (bytes : A → List ℕ) (end : ℕ) (tree : Tree OpaqueNodePtr A) (w : List ℕ) (best : LeafPtr) : Type 0 where
+pub record IsMarked {A : Type 0} (bytes : A → List ℕ) (end : ℕ) (tree : Tree OpaqueNodePtr A) (w : List ℕ) (best : LeafPtr) : Type 0 where
   pub x : A
   pub has : HasLeaf tree (leaf_name best) x
   pub ended : bytes x ≡ w ++ end ∷ []
@@ -237,7 +237,7 @@ module _ {K V : Type 0} {s : Nodes K V} {bytes : K × V → List ℕ} {P : ℕ} 
             above = subst (Each (λ byte. end < byte)) same e.above;
           }
 
-      not_inner : (to.kind ≢ Leaf) → ⊥
+      pub not_inner : (to.kind ≢ Leaf) → ⊥
       not_inner proper = go at.node (stands_there by at).named (stands_there by at).holds radix (ended_at at)
         where
           go : (t : Tree OpaqueNodePtr (K × V)) → name_of t ≡ to → Holds (node_at s) t → IsRadix bytes P (w ++ end ∷ []) t → AreEnded bytes end (pairs_of t) → ⊥

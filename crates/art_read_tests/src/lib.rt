@@ -1,4 +1,4 @@
-//! Tests of lookups, of iterations, of clones and of runs, by public calls. There are only tests here.
+//! Tests of lookups, of iterations and of examples, by public calls. There are only tests here.
 #![tactic(auto)]
 
 #[cfg(test)]

@@ -35,7 +35,7 @@ front_within (a ∷ prefix) [] r h = absurd (omega arith)
 front_within (a ∷ prefix) (b ∷ front) r h = rw (front_within prefix front r (omega arith)) refl
 
 -- A descent to a node of a tree between pairs that do not start with the prefix, by a path.
-record IsWayBelow {A : Type 0} (bytes : A → List ℕ) (P : ℕ) (prefix : List ℕ) (tree : Tree OpaqueNodePtr A) (path : TreePath)
+pub record IsWayBelow {A : Type 0} (bytes : A → List ℕ) (P : ℕ) (prefix : List ℕ) (tree : Tree OpaqueNodePtr A) (path : TreePath)
     (name : OpaqueNodePtr) (depth : ℕ) : Type 0 where
   pub descent : IsDescent bytes P (IsNotBelow bytes prefix) (IsNotBelow bytes prefix) tree name depth
   pub path_is : path ≡ path_of descent.at.path

@@ -12,7 +12,7 @@ use Rattle.art_running.specs.declared.run.Side.TheVariants.{First, Second}
 use Rattle.art_running.proofs.Moves.{Layout, in_store, nothing, own_pairs}
 
 -- What a successful clone leaves: the clone in the other store, and no tree in its source.
-record HasGone {K V : Type 0} (bytes : K → List ℕ) (P : ℕ) (is_key_clone : K → K → Type 0) (is_value_clone : V → V → Type 0) (s t z w : Nodes K V)
+pub record HasGone {K V : Type 0} (bytes : K → List ℕ) (P : ℕ) (is_key_clone : K → K → Type 0) (is_value_clone : V → V → Type 0) (s t z w : Nodes K V)
     (layout : Layout K V) (after : OpaqueNodePtr) : Type 0 where
   pub canonical : (copies : List (K × V)) × AreClones is_key_clone is_value_clone (pairs_of layout) copies × IsCanonical (of_key bytes) P w (Some after) copies
   pub gained : ForTree (of_key bytes) P w after (λ _ copy. KeepsOthers z w [] (names_of copy))

@@ -174,7 +174,7 @@ module _ {K V : Type 0} (bytes : K → List ℕ) (P : ℕ) {s : Nodes K V} {root
   touches_prefix k v (points.OverwritePoint point) (related, at) t h = touches_overwritten bytes P by k v point at t h
 
 -- What an applied prefix point leaves of a tree.
-record HasAppliedPrefix {K V : Type 0} (bytes : K → List ℕ) (P : ℕ) (s t : Nodes K V) (layout : Layout K V) (pair : K × V)
+pub record HasAppliedPrefix {K V : Type 0} (bytes : K → List ℕ) (P : ℕ) (s t : Nodes K V) (layout : Layout K V) (pair : K × V)
     (point : PrefixInsertPoint) (after : OpaqueNodePtr) (existing : Option (LeafNode K V)) (count : ℕ) : Type 0 where
   pub canonical : IsCanonical (of_key bytes) P t (Some after) (overwrite (of_key bytes) pair (pairs_of layout))
   pub replaced : existing ≡ option_map unlinked_leaf (overwrite_reply (of_key bytes) pair (pairs_of layout)).0

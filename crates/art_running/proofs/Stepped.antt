@@ -55,7 +55,7 @@ pub at_root : {K V : Type 0} (bytes : K → List ℕ) (P : ℕ) {s : Nodes K V} 
 at_root bytes P {s} {root} {name} {layout} by is = subst (λ n. IsCanonicalTree (of_key bytes) P s n (pairs_of layout) layout) (sym (is ∙ by.stands.0.named)) by
 
 -- What an applied insert point leaves of a tree.
-record HasApplied {K V : Type 0} (bytes : K → List ℕ) (P : ℕ) (s t : Nodes K V) (layout : Layout K V) (pair : K × V) (point : InsertPoint)
+pub record HasApplied {K V : Type 0} (bytes : K → List ℕ) (P : ℕ) (s t : Nodes K V) (layout : Layout K V) (pair : K × V) (point : InsertPoint)
     (after : OpaqueNodePtr) (existing : Option (LeafNode K V)) : Type 0 where
   pub canonical : IsCanonical (of_key bytes) P t (Some after) (put (of_key bytes) pair (pairs_of layout))
   pub replaced : existing ≡ option_map unlinked_leaf (put_reply (of_key bytes) pair (pairs_of layout))
@@ -65,7 +65,7 @@ record HasApplied {K V : Type 0} (bytes : K → List ℕ) (P : ℕ) (s t : Nodes
   pub promise : t.promise ≡ promise_after (placed_for s point.insert_kind) s.promise
 
 -- What an applied delete point leaves of a tree.
-record HasDeleted {K V : Type 0} (bytes : K → List ℕ) (P : ℕ) (s t : Nodes K V) (layout : Layout K V) (x : K × V) (point : DeletePoint)
+pub record HasDeleted {K V : Type 0} (bytes : K → List ℕ) (P : ℕ) (s t : Nodes K V) (layout : Layout K V) (x : K × V) (point : DeletePoint)
     (after : Option OpaqueNodePtr) : Type 0 where
   pub canonical : IsCanonical (of_key bytes) P t after (remove_key (of_key bytes) (bytes x.0) (pairs_of layout))
   pub kept : ForRoot (of_key bytes) P t after (λ pairs new. ChangesInPlace (of_key bytes) s t (Some layout) new)

@@ -6,11 +6,11 @@ use Rattle.std.specs.declared.ops.Bound.{Bound}
 use Rattle.art_model.specs.Prelude.{Precedes, are_related, are_same, is_before, is_front, IsMap, add_in_order, first_of, has_key, is_conflict, last_of, of_key, put, put_reply, remove_key, remove_reply, replace_key, with_key, without_first, without_last, below, between, texts_in_front, text_of}
 use Rattle.art_model.proofs.pairs.Puts.{any_is_first, has_is_stored, put-new}
 use Rattle.art_ranges.specs.ShortTexts.{texts_from}
-use Rattle.art_map.specs.declared.map.MapInsertError.{MapInsertError}
-use Rattle.art_map.specs.declared.map.MapInsertError.TheVariants.{Conflict, Memory}
-use Rattle.art_map.specs.MapAnswers.{IsRefusalOf, with_value_at}
+use Rattle.art_changing.specs.declared.insert.MapInsertError.{MapInsertError}
+use Rattle.art_changing.specs.declared.insert.MapInsertError.TheVariants.{Conflict, Memory}
+use Rattle.art_changing.specs.MapAnswers.{IsRefusalOf, with_value_at}
 use Rattle.art_map.specs.MapChanges.{put_new}
-use Rattle.art_map.specs.MapItems.{keys_of}
+use Rattle.art_iterating.specs.MapItems.{keys_of}
 use Rattle.art_sets.specs.SetKeys.{IsKeyRefusal, add_key, as_pairs, key_error}
 use Rattle.art_map.proofs.ValueLaws.{new_written}
 
@@ -23,7 +23,7 @@ module _ {K V : Type 0} where
   keys_first [] = refl
   keys_first (x ∷ xs) = refl
 
-  keys_last : (pairs : List (K × V)) → last_of (keys_of pairs) ≡ option_map (λ x. x.0) (last_of pairs)
+  pub keys_last : (pairs : List (K × V)) → last_of (keys_of pairs) ≡ option_map (λ x. x.0) (last_of pairs)
   keys_last [] = refl
   keys_last (x ∷ []) = refl
   keys_last (x ∷ y ∷ xs) = keys_last (y ∷ xs)
@@ -38,10 +38,10 @@ module _ {K V : Type 0} where
   keys_without_last (x ∷ y ∷ xs) = ap (λ ks. x.0 ∷ ks) (keys_without_last (y ∷ xs))
 
 module _ {K V : Type 0} (pairs : List (K × V)) where
-  without_last_keys : without_last (keys_of pairs) ≡ keys_of (without_last pairs)
+  pub without_last_keys : without_last (keys_of pairs) ≡ keys_of (without_last pairs)
   without_last_keys = sym (keys_without_last pairs)
 
-  without_first_keys : without_first (keys_of pairs) ≡ keys_of (without_first pairs)
+  pub without_first_keys : without_first (keys_of pairs) ≡ keys_of (without_first pairs)
   without_first_keys = sym (keys_without_first pairs)
 
 -- a filter of pairs by their keys is one of the keys
@@ -78,7 +78,7 @@ flipped b true e = rw e refl
 flipped b false e = rw e refl
 
 -- the pairs of a set are its keys with no value
-no_values : {K : Type 0} (pairs : List (K × Unit {0})) → as_pairs (keys_of pairs) ≡ pairs
+pub no_values : {K : Type 0} (pairs : List (K × Unit {0})) → as_pairs (keys_of pairs) ≡ pairs
 no_values [] = refl
 no_values (x ∷ xs) = ap (λ ys. x ∷ ys) (no_values xs)
 
@@ -100,11 +100,11 @@ module _ {K V : Type 0} (bytes : K → List ℕ) where
       go [] g = tt
       go (y ∷ ys) g = (g.0, go ys g.1)
 
-  keys_have : (key : List ℕ) (pairs : List (K × V)) → has_key bytes key (keys_of pairs) ≡ has_key (of_key bytes) key pairs
+  pub keys_have : (key : List ℕ) (pairs : List (K × V)) → has_key bytes key (keys_of pairs) ≡ has_key (of_key bytes) key pairs
   keys_have key [] = refl
   keys_have key (x ∷ xs) = ap (λ b. are_same key (bytes x.0) || b) (keys_have key xs)
 
-  keys_conflict : (key : List ℕ) (pairs : List (K × V)) → is_conflict bytes key (keys_of pairs) ≡ is_conflict (of_key bytes) key pairs
+  pub keys_conflict : (key : List ℕ) (pairs : List (K × V)) → is_conflict bytes key (keys_of pairs) ≡ is_conflict (of_key bytes) key pairs
   keys_conflict key [] = refl
   keys_conflict key (x ∷ xs) = ap (λ b. (are_related key (bytes x.0) && not (are_same key (bytes x.0))) || b) (keys_conflict key xs)
 
@@ -144,13 +144,13 @@ module _ {K V : Type 0} (bytes : K → List ℕ) where
       go ih true e = rw e (ap (λ ks. x.0 ∷ ks) ih)
       go ih false e = rw e (ap (λ ks. x.0 ∷ ks) ih)
 
-  keys_below : (prefix : List ℕ) (pairs : List (K × V)) → below bytes prefix (keys_of pairs) ≡ keys_of (below (of_key bytes) prefix pairs)
+  pub keys_below : (prefix : List ℕ) (pairs : List (K × V)) → below bytes prefix (keys_of pairs) ≡ keys_of (below (of_key bytes) prefix pairs)
   keys_below prefix pairs = keys_where _ pairs
 
   pub keys_between : (from to : Bound (List ℕ)) (pairs : List (K × V)) → between bytes from to (keys_of pairs) ≡ keys_of (between (of_key bytes) from to pairs)
   keys_between from to pairs = keys_where _ pairs
 
-  keys_with : (key : List ℕ) (pairs : List (K × V)) → with_key bytes key (keys_of pairs) ≡ keys_of (with_key (of_key bytes) key pairs)
+  pub keys_with : (key : List ℕ) (pairs : List (K × V)) → with_key bytes key (keys_of pairs) ≡ keys_of (with_key (of_key bytes) key pairs)
   keys_with key pairs = keys_where _ pairs
 
   -- a removal returns a pair exactly where the key is stored

@@ -2,7 +2,7 @@
 use Rattle.std.proofs.Common.{◌≡◌, ℕ, List, [], ◌∷◌, ◌++◌, not, ap, sym, refl, ◌∙◌}
 use Rattle.std.specs.declared.ops.Bound.{Bound}
 use Rattle.art_model.specs.Prelude.{is_before, of_key, is_between}
-use Rattle.art_map.specs.MapItems.{keys_of}
+use Rattle.art_iterating.specs.MapItems.{keys_of}
 use Rattle.art_map.specs.MapParts.{keys_before, keys_from, not_between}
 use Rattle.art_sets.proofs.SetLaws.{keys_between, keys_first, keys_len, keys_where, removed_keys}
 
@@ -11,10 +11,10 @@ module _ {K V : Type 0} (bytes : K → List ℕ) where
       not_between bytes from to (keys_of pairs) ≡ keys_of (not_between (of_key bytes) from to pairs)
   keys_not_between from to pairs = keys_where (λ k. not (is_between from to (bytes k))) pairs
 
-  before_keys : (key : List ℕ) (pairs : List (K × V)) → keys_before bytes key (keys_of pairs) ≡ keys_of (keys_before (of_key bytes) key pairs)
+  pub before_keys : (key : List ℕ) (pairs : List (K × V)) → keys_before bytes key (keys_of pairs) ≡ keys_of (keys_before (of_key bytes) key pairs)
   before_keys key pairs = keys_where (λ k. is_before (bytes k) key) pairs
 
-  from_keys : (key : List ℕ) (pairs : List (K × V)) → keys_from bytes key (keys_of pairs) ≡ keys_of (keys_from (of_key bytes) key pairs)
+  pub from_keys : (key : List ℕ) (pairs : List (K × V)) → keys_from bytes key (keys_of pairs) ≡ keys_of (keys_from (of_key bytes) key pairs)
   from_keys key pairs = keys_where (λ k. not (is_before (bytes k) key)) pairs
 
 keys_join : {K V : Type 0} (xs ys : List (K × V)) → keys_of (xs ++ ys) ≡ keys_of xs ++ keys_of ys

@@ -4,7 +4,7 @@ use Rattle.std.specs.Iterator.{UpTo, at_most}
 use Rattle.std.specs.List.{list_all, list_any}
 use Rattle.std.specs.Ordering.{match_ordering}
 use Rattle.std.specs.Set.{merge_step, sorted_merge}
-use Rattle.art_map.specs.MapItems.{ShowsFirst}
+use Rattle.art_iterating.specs.MapItems.{ShowsFirst}
 use Rattle.art_sets.specs.SetAlgebra.{IsSum}
 
 -- a bound for the length of a list is one for its items

@@ -3,8 +3,8 @@ use Rattle.std.specs.Prelude.{◌≡◌, ℕ, true, false, if◌then◌else◌, 
 use Rattle.std.specs.Box.{boxed_slice_items}
 use Rattle.std.specs.Iterator.{YieldsThen}
 use Rattle.art_model.specs.Pairs.{add_in_order, has_key, is_conflict}
-use Rattle.art_map.specs.declared.map.MapInsertError.{MapInsertError}
-use Rattle.art_map.specs.declared.map.MapInsertError.TheVariants as of_map
+use Rattle.art_changing.specs.declared.insert.MapInsertError.{MapInsertError}
+use Rattle.art_changing.specs.declared.insert.MapInsertError.TheVariants as of_map
 use Rattle.art_sets.specs.declared.set.SetInsertError.{SetInsertError}
 use Rattle.art_sets.specs.declared.set.SetInsertError.TheVariants.{Conflict, Memory}
 

@@ -55,7 +55,7 @@ impl<K: AsBytes, const P: usize> Model for ByteSet<K, P> {
 
     ghost coded = { coded_list K.code };
 
-    ghost use Rattle.art_map.specs.MapItems.{keys_of};
+    ghost use Rattle.art_iterating.specs.MapItems.{keys_of};
 
     ghost view = { λ s. keys_of s.map };
 }

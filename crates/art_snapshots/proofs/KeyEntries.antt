@@ -5,7 +5,7 @@ use Rattle.std.specs.Bool.{⊤}
 use Rattle.std.specs.List.{AllByRecursion as Each}
 use Rattle.art_keys.specs.Prefixes.{AreInjective}
 use Rattle.art_keyed.specs.KeyedPairs.{HaveKeys}
-use Rattle.art_map.specs.MapItems.{keys_of}
+use Rattle.art_iterating.specs.MapItems.{keys_of}
 use Rattle.snapshot_format.specs.Snapshots.{Entry, entry}
 use Rattle.art_snapshots.specs.MapEntries.{entries_of, key_entries}
 

@@ -10,7 +10,7 @@ use Rattle.art_model.proofs.stores.Stores.{path_holds}
 use Rattle.art_model.proofs.stores.Views as views
 
 -- the node is in the hole of the path, at a place that is as long as the path is deep
-record IsPlacedEnd {A : Type 0} (bytes : A → List ℕ) (P : ℕ) (path : List (Frame OpaqueNodePtr A)) (node : Tree OpaqueNodePtr A)
+pub record IsPlacedEnd {A : Type 0} (bytes : A → List ℕ) (P : ℕ) (path : List (Frame OpaqueNodePtr A)) (node : Tree OpaqueNodePtr A)
     (key : List ℕ) : Type 0 where
   pub place : List ℕ
   pub hole : IsHole bytes P path place node key

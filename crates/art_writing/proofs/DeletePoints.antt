@@ -21,7 +21,7 @@ pub point_there : {A : Type 0} {tree : Tree OpaqueNodePtr A} {pair : Option A} {
 point_there {A} {tree} {pair} {x} {point} is leads = subst (λ o. IsDeletePoint tree o (Some point)) (sym is) leads
 
 -- the leaf that a point names has the pair that the point leads to
-pair_named : {K V : Type 0} (bytes : K × V → List ℕ) (P : ℕ) {s : Nodes K V} {root : OpaqueNodePtr} {pairs : List (K × V)}
+pub pair_named : {K V : Type 0} (bytes : K × V → List ℕ) (P : ℕ) {s : Nodes K V} {root : OpaqueNodePtr} {pairs : List (K × V)}
     {layout : Tree OpaqueNodePtr (K × V)} {x : K × V} {point : DeletePoint} →
     IsCanonicalTree bytes P s root pairs layout → LeadsTo layout x point → pair_at s (Some point) ≡ Some x
 pair_named bytes P by leads =

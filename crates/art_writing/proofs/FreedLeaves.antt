@@ -10,7 +10,7 @@ use Rattle.art_reading.proofs.Iterators.{goes_on}
 use Rattle.art_copying.proofs.Freed.{leaf_freed}
 
 module _ {K V : Type 0} where
-  frees_none : (s : Nodes K V) → Frees [] s s
+  pub frees_none : (s : Nodes K V) → Frees [] s s
   frees_none s = record { beside = λ k off none. refl; gone = λ k i none. absurd i; taken = λ k i none. absurd i }
 
   -- some names, and then others

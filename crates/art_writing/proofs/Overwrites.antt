@@ -37,7 +37,7 @@ use Rattle.art_writing.proofs.Ways.{last_step-path_of, root_with-path_of}
 -- ---- the end node is a leaf
 
 -- the leaf of a related key, at the end of a path of the layout
-record IsRelatedLeaf {K V : Type 0} (bytes : K × V → List ℕ) (P : ℕ) (s : Nodes K V) (p : LeafPtr) (layout : Tree OpaqueNodePtr (K × V))
+pub record IsRelatedLeaf {K V : Type 0} (bytes : K × V → List ℕ) (P : ℕ) (s : Nodes K V) (p : LeafPtr) (layout : Tree OpaqueNodePtr (K × V))
     (key : List ℕ) : Type 0 where
   pub at : IsEndLeaf bytes P s p layout key
   pub related : are_related key (bytes (pair_of at.shown)) ≡ true
@@ -103,7 +103,7 @@ module _ {K V : Type 0} {bytes : K × V → List ℕ} {P : ℕ} {s : Nodes K V} 
 -- ---- the end node is an inner node
 
 -- The key is a proper prefix of all keys below the node, which are two or more.
-record IsSubtreeAt {K V : Type 0} (bytes : K × V → List ℕ) (P : ℕ) (s : Nodes K V) (point : OverwritePoint)
+pub record IsSubtreeAt {K V : Type 0} (bytes : K × V → List ℕ) (P : ℕ) (s : Nodes K V) (point : OverwritePoint)
     (layout : Tree OpaqueNodePtr (K × V)) (key : List ℕ) : Type 0 where
   pub path : List (Frame OpaqueNodePtr (K × V))
   pub place : List ℕ
@@ -219,7 +219,7 @@ for_inner Node48 off h = h
 for_inner Node256 off h = h
 
 -- A leaf is placed, and the parent at the end of the path has it.
-record IsPutAt {K V : Type 0} (s u : Nodes K V) (point : OverwritePoint) (n : LeafPtr) (x : LeafNode K V) : Type 0 where
+pub record IsPutAt {K V : Type 0} (s u : Nodes K V) (point : OverwritePoint) (n : LeafPtr) (x : LeafNode K V) : Type 0 where
   pub fresh : map.get s.leaves n ≡ None
   pub leaves : u.leaves ≡ with_leaf s.leaves n x
   pub inners : u.inners ≡ with_child_at (last_step point.path) (leaf_name n) s.inners

@@ -43,7 +43,7 @@ use Rattle.art_reading.specs.declared.path.TreePath.TheVariants.{Root}
 -- ---- a leaf that is the root
 
 -- The point's leaf is the whole tree.
-record IsAlone {K V : Type 0} (bytes : K × V → List ℕ) (P : ℕ) (s : Nodes K V) (root : OpaqueNodePtr) (pairs : List (K × V))
+pub record IsAlone {K V : Type 0} (bytes : K × V → List ℕ) (P : ℕ) (s : Nodes K V) (root : OpaqueNodePtr) (pairs : List (K × V))
     (layout : Tree OpaqueNodePtr (K × V)) (x : K × V) (point : DeletePoint) : Type 0 where
   pub node : LeafNode K V
   pub here : get s.leaves point.leaf_node_ptr ≡ Some node
@@ -152,7 +152,7 @@ module _ {K V : Type 0} {bytes : K × V → List ℕ} {P : ℕ} {s : Nodes K V} 
     left_prefix = prefix_at bytes P ((two.place ++ two.hole.radix.0) ++ two.c ∷ []) two.v left_radix
 
     -- the inner nodes when the node is removed and the child has its prefix
-    lengthened_inners : Inners
+    pub lengthened_inners : Inners
     lengthened_inners =
         prefix_written P (two.hole.radix.0 ++ two.c ∷ prefix_at bytes P ((two.place ++ two.hole.radix.0) ++ two.c ∷ []) two.v left_radix)
         two.v (remove s.inners (as_inner at.frame.mark))

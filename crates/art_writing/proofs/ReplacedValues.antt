@@ -16,7 +16,7 @@ use Rattle.art_writing.proofs.Answered.{IsEndLeaf, end_leaf}
 use Rattle.art_writing.proofs.Standing.{answers_to}
 
 -- the leaf of a key, at the end of a path of the layout
-record IsOwnLeaf {K V : Type 0} (bytes : K × V → List ℕ) (P : ℕ) (s : Nodes K V) (p : LeafPtr) (layout : Tree OpaqueNodePtr (K × V))
+pub record IsOwnLeaf {K V : Type 0} (bytes : K × V → List ℕ) (P : ℕ) (s : Nodes K V) (p : LeafPtr) (layout : Tree OpaqueNodePtr (K × V))
     (key : List ℕ) : Type 0 where
   pub at : IsEndLeaf bytes P s p layout key
   pub same : bytes (pair_of at.shown) ≡ key

@@ -246,7 +246,7 @@ module _ {K V : Type 0} {bytes : K × V → List ℕ} {P : ℕ} {s : Nodes K V} 
 -- ---- the first leaf below it
 
 -- The first leaf below the node is below another one, the parent.
-record HasFirstBelow {K V : Type 0} (s : Nodes K V) (node : Tree OpaqueNodePtr (K × V)) (n : LeafPtr) (parent : InnerPtr) (byte : ℕ) : Type 0 where
+pub record HasFirstBelow {K V : Type 0} (s : Nodes K V) (node : Tree OpaqueNodePtr (K × V)) (n : LeafPtr) (parent : InnerPtr) (byte : ℕ) : Type 0 where
   pub frame : Frame OpaqueNodePtr (K × V)
   pub above : List (Frame OpaqueNodePtr (K × V))
   pub y : LeafNode K V
@@ -332,7 +332,7 @@ module _ {K V : Type 0} {bytes : K × V → List ℕ} {P : ℕ} {s : Nodes K V} 
     pub old : IsLaidOut bytes P (node_at s) (links_at s) root pairs (plug at.path own_node)
     old = subst (λ z. IsLaidOut bytes P (node_at s) (links_at s) root pairs (plug at.path z)) (sym first.whole) (laid by at)
 
-    among_all : HasLeafBelow bytes P s root pairs first.frame (first.above ++ at.path) n first.y
+    pub among_all : HasLeafBelow bytes P s root pairs first.frame (first.above ++ at.path) n first.y
     among_all = record {
       laid = subst (IsLaidOut bytes P (node_at s) (links_at s) root pairs)
           (sym (collapses.plug-append first.above at.path (with_leaf_in first.frame n first.y))) old;

@@ -37,7 +37,7 @@ module _ (byte : ℕ) where
 -- ---- the bytes of addresses and of numbers
 
 -- a byte that is no digit, no dot and no colon
-record IsOther (byte : ℕ) : Type 0 where
+pub record IsOther (byte : ℕ) : Type 0 where
   no_digit : ¬ (digit_value byte < 16)
   no_dot : 46 ≢ byte
   no_colon : 58 ≢ byte

@@ -8,7 +8,7 @@ use Rattle.prefix_table.specs.Arranging.{AreArranged, AreCounted, AreIndexes}
 use Rattle.prefix_table.proofs.OrderLemmas.{equal_or_not}
 
 -- each of the first numbers is small, and the second function leads back from it
-abbrev LeadsBack : ℕ → (ℕ → ℕ) → (ℕ → ℕ) → Type 0
+abbrev pub LeadsBack : ℕ → (ℕ → ℕ) → (ℕ → ℕ) → Type 0
 LeadsBack n f g = (i : ℕ) → i < n → (f i < n) × (g (f i) ≡ i)
 
 -- the second function is the first with two of its values exchanged

@@ -30,7 +30,7 @@ module _ {V : Type 0} where
       elim (cases_lt 0 (length rows)) [ inl some ↦ absurd (let fits = table.places 0 some in omega arith) | inr none ↦ omega arith ]
   length-entries rows (v ∷ vs) table = length-map rows (entry_of (v ∷ vs) v)
 
-  at_entries : (rows : List Row) (values : List V) → IsTable rows values → (k : ℕ) (d : Network × V) → k < length rows →
+  pub at_entries : (rows : List Row) (values : List V) → IsTable rows values → (k : ℕ) (d : Network × V) → k < length rows →
       slice_index_or (entries_of rows values) k d ≡ (network_of (row_at rows k), slice_index_or values (row_at rows k).place d.1)
   at_entries rows [] table k d h = absurd (let fits = table.places k h in omega arith)
   at_entries rows (v ∷ vs) table k d h =

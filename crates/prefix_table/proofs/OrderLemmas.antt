@@ -266,7 +266,7 @@ module _ (networks : List Network) (rows : List Row) (same : IsPermutation (numb
         ];
   }
 
-  are_in_order : All IsNetwork networks → AreSorted rows → IsFirstPairOf rows (length rows) None → AreInOrder rows
+  pub are_in_order : All IsNetwork networks → AreSorted rows → IsFirstPairOf rows (length rows) None → AreInOrder rows
   are_in_order are sorted none = record {
     networks = λ k h. let own = at_own_place k h in subst IsNetwork (sym own.1) (are (row_at rows k).place _ own.0);
     sorted = far_before rows (λ k h. before_another (row_at rows k) (row_at rows (k + 1)) (sorted k h) (none k h));

@@ -9,19 +9,19 @@ use Rattle.std.proofs.lemmas.List.{get_or_read}
 abbrev pub rest_with : ℕ → ℕ → Rest
 rest_with length around = record { around = around; length = length }
 
-length-rests : (lengths arounds : List ℕ) → length lengths ≡ length arounds → length (rests_of lengths arounds) ≡ length lengths
+pub length-rests : (lengths arounds : List ℕ) → length lengths ≡ length arounds → length (rests_of lengths arounds) ≡ length lengths
 length-rests [] arounds e = refl
 length-rests (l ∷ ls) [] e = absurd (omega (arith, e))
 length-rests (l ∷ ls) (a ∷ as') e = let ih = length-rests ls as' (omega (arith, e)) in omega arith
 
-at_rests : (lengths arounds : List ℕ) (k : ℕ) → length lengths ≡ length arounds → k < length lengths →
+pub at_rests : (lengths arounds : List ℕ) (k : ℕ) → length lengths ≡ length arounds → k < length lengths →
     rest_at (rests_of lengths arounds) k ≡ rest_with (slice_index lengths k) (slice_index arounds k)
 at_rests [] arounds k e h = absurd (omega arith)
 at_rests (l ∷ ls) [] k e h = absurd (omega (arith, e))
 at_rests (l ∷ ls) (a ∷ as') zero e h = refl
 at_rests (l ∷ ls) (a ∷ as') (suc k) e h = at_rests ls as' k (omega (arith, e)) (omega arith)
 
-rests-push : (lengths arounds : List ℕ) (l a : ℕ) → length lengths ≡ length arounds →
+pub rests-push : (lengths arounds : List ℕ) (l a : ℕ) → length lengths ≡ length arounds →
     rests_of (lengths ++ l ∷ []) (arounds ++ a ∷ []) ≡ rests_of lengths arounds ++ rest_with l a ∷ []
 rests-push [] [] l a e = refl
 rests-push [] (x ∷ xs) l a e = absurd (omega (arith, e))

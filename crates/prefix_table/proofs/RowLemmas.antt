@@ -82,7 +82,7 @@ at_rows_from place (s ∷ ss) (r ∷ rs) (suc k) e h =
     let same : place + 1 + k ≡ place + suc k = omega arith in
     at_rows_from (place + 1) ss rs k (omega (arith, e)) (omega arith) ∙ ap (λ p. row_from p (start_at ss k) (rest_at rs k)) same
 
-at_rows : (starts : List Address) (rests : List Rest) (k : ℕ) → length starts ≡ length rests → k < length rests →
+pub at_rows : (starts : List Address) (rests : List Rest) (k : ℕ) → length starts ≡ length rests → k < length rests →
     row_at (rows_of starts rests) k ≡ row_from k (start_at starts k) (rest_at rests k)
 at_rows starts rests k e h =
     let same : 0 + k ≡ k = omega arith in

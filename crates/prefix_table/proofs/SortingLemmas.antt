@@ -19,7 +19,7 @@ use Rattle.prefix_table.proofs.RowLemmas.{no_row}
 abbrev pub key_of : Row → ℕ × ℕ × ℕ × ℕ
 key_of row = (row.version, row.number, row.length, row.place)
 
-abbrev key_cmp : ℕ × ℕ × ℕ × ℕ → ℕ × ℕ × ℕ × ℕ → Ordering
+abbrev pub key_cmp : ℕ × ℕ × ℕ × ℕ → ℕ × ℕ × ℕ × ℕ → Ordering
 key_cmp x y = ordering_then (ordering_then (ordering_then (nat_cmp x.0 y.0) (nat_cmp x.1 y.1)) (nat_cmp x.2 y.2)) (nat_cmp x.3 y.3)
 
 -- where the first part of an order says equal, the second one decides

@@ -34,7 +34,7 @@ module _ {X : Type 0} (p : X → Bool) where
 
   module _ (R : X → X → Type 0) where
     -- The element is in the list and passes, and each other one that passes is before it.
-    record IsLastPassing (xs : List X) (x : X) : Type 0 where
+    pub record IsLastPassing (xs : List X) (x : X) : Type 0 where
       pub there : Contains xs x
       pub passes : p x ≡ true
       pub before : All (λ y. p y ≡ true → (y ≡ x) ⊎ R y x) xs

@@ -2,7 +2,7 @@
 use Rattle.std.proofs.Common.{◌≡◌, ℕ, List, Option, Some, None, Result, Ok, Err, IfErr, IfOk, OnErr, OnOk, refl, subst, sym}
 use Rattle.std.specs.Option.{option_map}
 use Rattle.art_model.specs.Pairs.{first_of, of_key, put, put_reply, with_key}
-use Rattle.art_map.specs.MapAnswers.{value_at}
+use Rattle.art_changing.specs.MapAnswers.{value_at}
 use Rattle.art_keyed.specs.KeyedPairs.{HaveKeys}
 use Rattle.art_keyed.proofs.Keyed.{put_keeps}
 

@@ -4,7 +4,7 @@ use Rattle.std.specs.Int.{bytes_high_first}
 use Rattle.std.proofs.lemmas.Bool.{and_from, and_parts, eq-eqb, eqb-true, false≢true, ne_eqb}
 use Rattle.art_parts.specs.Keys.{are_same}
 use Rattle.art_model.proofs.keys.Keys.{front_same, same_equal}
-use Rattle.art_map.specs.MapAnswers.{value_at}
+use Rattle.art_changing.specs.MapAnswers.{value_at}
 use Rattle.art_keys.specs.InjectiveLaws.{joins_injective}
 use Rattle.art_keys.specs.Joins.{AreKeys, AreKeysOf, joined_bytes}
 use Rattle.art_keys.specs.NumberLaws.{length-bytes, numbers_come_back}

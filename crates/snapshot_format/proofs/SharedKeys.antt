@@ -59,7 +59,7 @@ after_is_above (a ∷ before) (b ∷ key) h = by (cases_eq a b) (after_is_above 
         rw (ne_eqb a b n) t
 
 -- and is after it with such bytes, and shares no others
-record Rises (before key rest : List ℕ) (shared : ℕ) : Type 0 where
+pub record Rises (before key rest : List ℕ) (shared : ℕ) : Type 0 where
   pub after : is_lt (slice_cmp nat_cmp before key) ≡ true
   pub shares : shared_len before key ≡ shared
   pub rest_is : drop shared key ≡ rest

@@ -2,7 +2,7 @@
 use Rattle.std.specs.Prelude.{◌≡◌, ◌≢◌, ◌<◌, ◌≤◌, ℕ, List, MatchOption, Option, Some, None}
 use Rattle.std.specs.Option.{option_map}
 use Rattle.art_keys.specs.Escapes.{escape}
-use Rattle.art_map.specs.MapAnswers.{value_at}
+use Rattle.art_changing.specs.MapAnswers.{value_at}
 use Rattle.art_model.specs.Pairs.{of_key, put}
 
 -- the codes

@@ -6,7 +6,7 @@ ghost use Rattle.art_keyed.specs.KeyedPairs.{strings_below, strings_in_front};
 ghost use Rattle.art_keys.specs.Escapes.{escape};
 ghost use Rattle.art_model.specs.Pairs.{first_of, last_of, of_key, put, remove_key};
 ghost use Rattle.string_map.specs.Calls.{Answers, Changes, Inserts, Replaces, code_of, has_replaced, no_memory, value_of};
-ghost use Rattle.art_map.specs.MapItems.{deref_pair};
+ghost use Rattle.art_iterating.specs.MapItems.{deref_pair};
 ghost use Rattle.string_map.specs.Shown.{Shows, ShowsPair, pair_of};
 
 use super::StringMap;

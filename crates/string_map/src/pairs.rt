@@ -1,7 +1,7 @@
 //! Many pairs at a time: a caller iterates over a range by one call for as many pairs as it has space for.
 ghost use Rattle.std.specs.Prelude.{◌≡◌, ◌+◌, ◌≤◌, ◌<◌, ◌++◌, length, take};
 ghost use Rattle.std.specs.Range.Bound.{bound_map};
-ghost use Rattle.art_map.specs.MapItems.{TakesFirst};
+ghost use Rattle.art_iterating.specs.MapItems.{TakesFirst};
 ghost use Rattle.string_map.specs.Given.{Gives, GivesPairs, bound_at, in_direction, wanted_of};
 
 use super::StringMap;

@@ -4,8 +4,8 @@ ghost use Rattle.std.specs.Borrow.{sem};
 ghost use Rattle.std.specs.Option.{option_copied_mut, option_map, unwrap_or};
 ghost use Rattle.art_keys.specs.Ended.{ended};
 ghost use Rattle.art_model.specs.Pairs.{first_of, has_key, of_key, remove_key, remove_reply, with_key};
-ghost use Rattle.art_map.specs.MapAnswers.{value_at};
-ghost use Rattle.art_map.specs.MapItems.{deref_pair};
+ghost use Rattle.art_changing.specs.MapAnswers.{value_at};
+ghost use Rattle.art_iterating.specs.MapItems.{deref_pair};
 ghost use Rattle.art_keyed.specs.TextCalls.{IsTextRefusal};
 ghost use Rattle.art_hinted.specs.HintedTexts.{lends_text, lends_text_put};
 

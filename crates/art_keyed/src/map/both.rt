@@ -1,7 +1,7 @@
 //! Insertion of a pair into each of two maps, or into neither.
 ghost use Rattle.std.specs.Prelude.{◌≡◌, Some, IfErr, IfOk, OnErr, OnOk};
 ghost use Rattle.art_model.specs.Pairs.{of_key, put, put_reply};
-ghost use Rattle.art_map.specs.MapAnswers.{refused_pair};
+ghost use Rattle.art_changing.specs.MapAnswers.{refused_pair};
 ghost use Rattle.art_keyed.specs.KeyedRefusals.{AreHandedBack, IsOneNew};
 ghost use Rattle.art_keyed.specs.KeyedValues.{KeepsOtherKeys, value_of};
 

@@ -2,7 +2,7 @@
 ghost use Rattle.std.specs.Prelude.{◌≡◌};
 ghost use Rattle.std.specs.Range.Bound.{bound_map};
 ghost use Rattle.art_map.specs.MapCalls.{ChangesAll, ChangesEach, ChangesPairs, ChangesValues};
-ghost use Rattle.art_map.specs.MapItems.{keys_of};
+ghost use Rattle.art_iterating.specs.MapItems.{keys_of};
 ghost use Rattle.art_keyed.specs.KeyedPairs.{keys_between, strings_below, strings_not_below};
 ghost use Rattle.art_keyed.specs.KeyedParts.{keys_not_between};
 

@@ -4,7 +4,7 @@ ghost use Rattle.std.specs.Borrow.{Bor, MutBor, sem};
 ghost use Rattle.std.specs.Fn.{FnOnceReturnsAt};
 ghost use Rattle.std.specs.Option.{UnwrapsOrElse, unwrap_or};
 ghost use Rattle.art_model.specs.Pairs.{has_key, of_key, remove_key, remove_reply};
-ghost use Rattle.art_map.specs.MapAnswers.{value_at};
+ghost use Rattle.art_changing.specs.MapAnswers.{value_at};
 ghost use Rattle.art_map.specs.MapCalls.{Modifies};
 ghost use Rattle.art_keyed.specs.KeyedLends.{lends_put};
 

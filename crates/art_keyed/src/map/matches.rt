@@ -4,7 +4,7 @@ ghost use Rattle.std.specs.Iterator.{UpTo, at_most};
 ghost use Rattle.std.specs.Iterator.SizeHint.{IsWithinCount};
 ghost use Rattle.std.specs.Option.{option_map};
 ghost use Rattle.art_model.specs.Pairs.{first_of};
-ghost use Rattle.art_map.specs.MapItems.{TakesFirst, TakesLast, deref_pair};
+ghost use Rattle.art_iterating.specs.MapItems.{TakesFirst, TakesLast, deref_pair};
 ghost use Rattle.art_keyed.specs.KeyedPairs.{strings_in_front};
 ghost use Rattle.art_keyed.specs.Matches.{matches_left};
 

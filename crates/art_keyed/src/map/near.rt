@@ -3,7 +3,7 @@ ghost use Rattle.std.specs.Prelude.{◌≡◌, ◌≢◌, List, IfErr, IfOk, OnE
 ghost use Rattle.std.specs.Borrow.{sem};
 ghost use Rattle.std.specs.Option.{option_copied_mut, unwrap_or};
 ghost use Rattle.art_model.specs.Pairs.{IsMap, has_key, of_key, put, put_reply};
-ghost use Rattle.art_map.specs.MapAnswers.{value_at};
+ghost use Rattle.art_changing.specs.MapAnswers.{value_at};
 ghost use Rattle.art_keyed.specs.KeyedLends.{lends_put, lends_value};
 ghost use Rattle.art_keyed.specs.KeyedValues.{CountsPut, KeepsOtherKeys};
 

@@ -4,7 +4,7 @@ ghost use Rattle.std.specs.Option.{option_map};
 ghost use Rattle.std.specs.Range.Bound.{bound_map};
 ghost use Rattle.std.specs.declared.ops.Bound.TheVariants.{Unbounded};
 ghost use Rattle.art_model.specs.Pairs.{IsMap, first_of, last_of, of_key};
-ghost use Rattle.art_map.specs.MapItems.{deref_pair};
+ghost use Rattle.art_iterating.specs.MapItems.{deref_pair};
 ghost use Rattle.art_keyed.specs.KeyedPairs.{HaveKeys, RiseBy, keys_between};
 
 use super::TreeMap;

@@ -1,6 +1,6 @@
 //! A set of the keys of a map without values.
 ghost use Rattle.std.specs.Prelude.{◌≡◌};
-ghost use Rattle.art_map.specs.MapItems.{keys_of};
+ghost use Rattle.art_iterating.specs.MapItems.{keys_of};
 
 use super::TreeSet;
 use art_keyed::map::TreeMap;

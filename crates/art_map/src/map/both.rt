@@ -3,15 +3,15 @@ ghost use Rattle.std.specs.Prelude.{◌≡◌, ◌≢◌, ℕ, false, Ok, Some, 
 ghost use Rattle.art_model.specs.Pairs.{is_conflict, of_key, put, put_reply};
 ghost use Rattle.art_model.specs.Promises.{is_covered};
 ghost use Rattle.art_map.specs.MapBoth.{IsRefusalOfBoth};
-ghost use Rattle.art_map.specs.MapChanges.{HasPut};
-ghost use Rattle.art_map.specs.MapPairs.{HoldsPairs, pairs_at};
+ghost use Rattle.art_changing.specs.PairChanges.{HasPut};
+ghost use Rattle.art_changing.specs.MapPairs.{HoldsPairs, pairs_at};
 ghost use Rattle.art_map.specs.Reserved.{IsReserved, IsUnreserved, IsWithPair};
 ghost use Rattle.art_parts.specs.declared.names.NodeType.TheVariants.{Leaf};
 ghost use Rattle.art_reading.specs.declared.end_node.InsertKind.TheVariants as kinds;
 ghost use Rattle.art_writing.specs.Inserted.{placed_for};
 
-use super::insert::one_more;
 use super::{ByteMap, MapInsertError};
+use art_changing::insert::one_more;
 use art_nodes::node::{AsBytes, InnerPtr, NodeType, OpaqueNodePtr};
 use art_nodes::store::NodeStore;
 use art_writing::insert::{

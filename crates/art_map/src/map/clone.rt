@@ -4,7 +4,7 @@ ghost use Rattle.std.specs.FinMap as map;
 ghost use Rattle.art_parts.specs.Keys.{KeepBytes};
 ghost use Rattle.art_model.specs.Pairs.{of_key};
 ghost use Rattle.art_map.specs.MapChanges.{HoldsClones};
-ghost use Rattle.art_map.specs.MapPairs.{HoldsPairs, pairs_at};
+ghost use Rattle.art_changing.specs.MapPairs.{HoldsPairs, pairs_at};
 
 use super::ByteMap;
 use art_copying::clone::clone_unchecked;

@@ -7,8 +7,7 @@ ghost use Rattle.std.specs.Cmp.Lexicographic.{lists_agrees, lists_equiv, lists_p
 ghost use Rattle.std.specs.Cmp.{and_equiv, and_per, both_tied, on_equiv, on_per, on_po, on_total, then_agrees, then_po, then_total};
 ghost use Rattle.std.specs.Hash.{and-Alike, items_Alike, on_Alike};
 
-use super::ByteMap;
-use super::iter::{Leaves, MapIterOf};
+use super::{ByteMap, Leaves, MapIterOf};
 use art_nodes::node::AsBytes;
 use std::cmp::Ordering;
 use std::hash::{Hash, Hasher};

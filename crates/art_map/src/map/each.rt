@@ -7,8 +7,8 @@ ghost use Rattle.art_model.specs.Pairs.{of_key};
 ghost use Rattle.art_model.specs.Parts.{below, between, not_below};
 ghost use Rattle.art_map.specs.MapCalls.{ChangesAll, ChangesEach, ChangesPairs, ChangesValues};
 ghost use Rattle.art_map.specs.MapChanges.{HasChanged};
-ghost use Rattle.art_map.specs.MapItems.{IsRange, keys_of, pairs_between};
-ghost use Rattle.art_map.specs.MapPairs.{HoldsPairs, pairs_at};
+ghost use Rattle.art_iterating.specs.MapItems.{IsRange, keys_of, pairs_between};
+ghost use Rattle.art_changing.specs.MapPairs.{HoldsPairs, pairs_at};
 ghost use Rattle.art_map.specs.MapParts.{not_between};
 
 use super::ByteMap;

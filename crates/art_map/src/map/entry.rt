@@ -4,7 +4,7 @@ ghost use Rattle.std.specs.Borrow.{Bor, MutBor, sem};
 ghost use Rattle.std.specs.Fn.{FnOnceReturnsAt};
 ghost use Rattle.std.specs.Option.{UnwrapsOrElse, unwrap_or};
 ghost use Rattle.art_model.specs.Pairs.{has_key, is_conflict, of_key, remove_key, remove_reply};
-ghost use Rattle.art_map.specs.MapAnswers.{IsRefusalOf, IsRefusalOfMade, value_at};
+ghost use Rattle.art_changing.specs.MapAnswers.{IsRefusalOf, IsRefusalOfMade, value_at};
 ghost use Rattle.art_map.specs.MapCalls.{IsMakeRefusal, Modifies};
 ghost use Rattle.art_map.specs.MapLends.{lends_put};
 

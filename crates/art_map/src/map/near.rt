@@ -5,15 +5,15 @@ ghost use Rattle.std.specs.Prelude.{◌≡◌, ◌≢◌, is_some, List, OnErr, 
 ghost use Rattle.std.specs.Borrow.{sem};
 ghost use Rattle.std.specs.Option.{option_copied_mut, option_map};
 ghost use Rattle.art_model.specs.Pairs.{IsMap, first_of, has_key, is_conflict, of_key, put, put_reply, with_key};
-ghost use Rattle.art_map.specs.MapAnswers.{IsRefusalOf, value_at};
-ghost use Rattle.art_map.specs.MapChanges.{HasPut};
-ghost use Rattle.art_map.specs.MapItems.{deref_pair};
+ghost use Rattle.art_changing.specs.MapAnswers.{IsRefusalOf, value_at};
+ghost use Rattle.art_changing.specs.PairChanges.{HasPut};
+ghost use Rattle.art_iterating.specs.MapItems.{deref_pair};
 ghost use Rattle.art_map.specs.MapLends.{lends_value};
-ghost use Rattle.art_map.specs.MapPairs.{HoldsPairs, pairs_at};
+ghost use Rattle.art_changing.specs.MapPairs.{HoldsPairs, pairs_at};
 
-use super::insert::put_in;
 use super::position::{has_key_at, leaf_near};
 use super::{ByteMap, MapInsertError, pair_at};
+use art_changing::insert::put_in;
 use art_nodes::node::{AsBytes, LeafPtr, OpaqueNodePtr};
 use art_nodes::store::NodeStore;
 use art_reading::lookup::KeyQuery;

@@ -4,8 +4,8 @@ ghost use Rattle.std.specs.Iterator.{UpTo, YieldsFirst, YieldsLast, at_most, ite
 ghost use Rattle.std.specs.Iterator.SizeHint.{IsWithinCount};
 ghost use Rattle.art_model.specs.Pairs.{of_key};
 ghost use Rattle.art_reading.specs.Iterators.{IsWalk, pairs_left};
-ghost use Rattle.art_map.specs.MapItems.{keys_of, values_of};
-ghost use Rattle.art_map.specs.MapPairs.{HoldsPairs, pairs_at};
+ghost use Rattle.art_iterating.specs.MapItems.{keys_of, values_of};
+ghost use Rattle.art_changing.specs.MapPairs.{HoldsPairs, pairs_at};
 
 use super::ByteMap;
 use art_nodes::node::{AsBytes, OpaqueNodePtr};
@@ -104,7 +104,7 @@ impl<K, V, const P: usize> Model for IntoKeys<K, V, P> {
 
     ghost coded = { coded_list K.code };
 
-    ghost use Rattle.art_map.specs.MapItems.{keys_of};
+    ghost use Rattle.art_iterating.specs.MapItems.{keys_of};
 
     ghost view = { λ m. keys_of m.pairs };
 }
@@ -167,7 +167,7 @@ impl<K, V, const P: usize> Model for IntoValues<K, V, P> {
 
     ghost coded = { coded_list V.code };
 
-    ghost use Rattle.art_map.specs.MapItems.{values_of};
+    ghost use Rattle.art_iterating.specs.MapItems.{values_of};
 
     ghost view = { λ m. values_of m.pairs };
 }

@@ -4,10 +4,10 @@ ghost use Rattle.std.specs.Borrow.{Bor};
 ghost use Rattle.std.specs.Fn.{FnOnceReturnsAt};
 ghost use Rattle.art_model.specs.Pairs.{has_key, is_conflict, of_key};
 ghost use Rattle.art_map.specs.MapChanges.{HasEntered, HasEnteredFrom, HasKeyAt, HasMade, HasTried, IsLeafOfKey, IsPositionOf, NamesLeafOf};
-ghost use Rattle.art_map.specs.MapPairs.{HoldsPairs, pairs_at};
+ghost use Rattle.art_changing.specs.MapPairs.{HoldsPairs, pairs_at};
 
-use super::insert::{one_more, without_memory};
 use super::{MapInsertError, MapMakeError, MapSourceError, ToKey};
+use art_changing::insert::{one_more, without_memory};
 use art_nodes::node::{AsBytes, LeafPtr, OpaqueNodePtr, OptionalLeafPtr};
 use art_nodes::store::NodeStore;
 use art_reading::lookup::{Asked, KeyBytes, KeyQuery, PrefixMatchBehavior, search_for};

@@ -5,13 +5,13 @@ ghost use Rattle.std.specs.Option.{option_copied_mut, option_map};
 ghost use Rattle.std.specs.Range.Bound.{bound_map};
 ghost use Rattle.art_model.specs.Pairs.{IsMap, first_of, has_key, of_key, remove_key, remove_reply, with_key};
 ghost use Rattle.art_model.specs.Parts.{below, between, not_below};
-ghost use Rattle.art_map.specs.MapAnswers.{value_at};
-ghost use Rattle.art_map.specs.MapItems.{deref_pair};
+ghost use Rattle.art_changing.specs.MapAnswers.{value_at};
+ghost use Rattle.art_iterating.specs.MapItems.{deref_pair};
 ghost use Rattle.art_map.specs.MapLends.{lends_value};
 
 use super::position::leaf_by;
-use super::remove::{take_all_below, take_bytes, take_key};
 use super::{ByteMap, Range, RangeOf, pair_at};
+use art_changing::remove::{take_all_below, take_bytes, take_key};
 use art_nodes::node::AsBytes;
 use art_ranges::range::{prefix_unchecked, range_unchecked};
 use art_reading::iterator::RawIterator;

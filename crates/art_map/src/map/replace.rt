@@ -1,9 +1,9 @@
 //! Replacing the pair with an equal key.
 ghost use Rattle.std.specs.Prelude.{◌≡◌, false, IfErr, IfOk, OnErr, OnOk};
 ghost use Rattle.art_model.specs.Pairs.{first_of, is_conflict, of_key, replace_key, with_key};
-ghost use Rattle.art_map.specs.MapAnswers.{IsRefusalOf};
+ghost use Rattle.art_changing.specs.MapAnswers.{IsRefusalOf};
 ghost use Rattle.art_map.specs.MapChanges.{HasReplaced};
-ghost use Rattle.art_map.specs.MapPairs.{HoldsPairs, pairs_at};
+ghost use Rattle.art_changing.specs.MapPairs.{HoldsPairs, pairs_at};
 
 use super::position::{Position, enter, position_of};
 use super::{ByteMap, MapInsertError};

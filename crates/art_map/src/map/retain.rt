@@ -3,11 +3,11 @@ ghost use Rattle.std.specs.Prelude.{◌≡◌, Some};
 ghost use Rattle.std.specs.Range.Bound.{bound_map};
 ghost use Rattle.art_nodes.specs.LeafCalls.{CalledOnPair};
 ghost use Rattle.art_model.specs.Pairs.{of_key};
-ghost use Rattle.art_map.specs.MapPairs.{HoldsPairs, pairs_at};
+ghost use Rattle.art_changing.specs.MapPairs.{HoldsPairs, pairs_at};
 ghost use Rattle.art_map.specs.MapRetain.{FindsRefused, HasTakenRefused, RetainsAllPairs, RetainsPairs, TakesRefused, after_pair};
 
-use super::remove::take_pair;
 use super::{ByteMap, pair_at};
+use art_changing::remove::take_pair;
 use art_nodes::node::{AsBytes, OpaqueNodePtr};
 use art_nodes::store::NodeStore;
 use art_ranges::range::range_unchecked;

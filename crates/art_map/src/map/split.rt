@@ -5,12 +5,12 @@ ghost use Rattle.std.specs.declared.ops.Bound.TheVariants.{Included, Unbounded};
 ghost use Rattle.art_model.specs.Pairs.{IsMap, first_of, of_key};
 ghost use Rattle.art_model.specs.Parts.{between};
 ghost use Rattle.art_map.specs.MapCalls.{put_all};
-ghost use Rattle.art_map.specs.MapChanges.{HasTaken};
-ghost use Rattle.art_map.specs.MapPairs.{HoldsPairs, pairs_at};
+ghost use Rattle.art_changing.specs.PairChanges.{HasTaken};
+ghost use Rattle.art_changing.specs.MapPairs.{HoldsPairs, pairs_at};
 ghost use Rattle.art_map.specs.MapParts.{PutsSome, keys_before, keys_from, not_between, without};
 
-use super::remove::take_pair;
 use super::{ByteMap, MapInsertError, bound_of, pair_at};
+use art_changing::remove::take_pair;
 use art_nodes::node::{AsBytes, OpaqueNodePtr};
 use art_nodes::store::NodeStore;
 use art_ranges::range::range_unchecked;

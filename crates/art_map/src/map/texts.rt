@@ -3,7 +3,7 @@ ghost use Rattle.std.specs.Prelude.{◌≡◌};
 ghost use Rattle.std.specs.Option.{option_map};
 ghost use Rattle.art_model.specs.Pairs.{IsMap, first_of, last_of, of_key};
 ghost use Rattle.art_model.specs.Texts.{AreEnded, texts_in_front};
-ghost use Rattle.art_map.specs.MapItems.{deref_pair};
+ghost use Rattle.art_iterating.specs.MapItems.{deref_pair};
 ghost use Rattle.art_ranges.specs.ShortTexts.{texts_from};
 
 use super::{ByteMap, pair_at};

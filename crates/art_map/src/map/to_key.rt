@@ -4,7 +4,7 @@ ghost use Rattle.std.specs.Borrow.{sem};
 ghost use Rattle.std.specs.Option.{unwrap_or};
 ghost use Rattle.art_model.specs.Pairs.{has_key, is_conflict, of_key};
 ghost use Rattle.art_map.specs.MadeKeys.{HasSameBytes, IsSourceRefusal};
-ghost use Rattle.art_map.specs.MapAnswers.{value_at};
+ghost use Rattle.art_changing.specs.MapAnswers.{value_at};
 ghost use Rattle.art_map.specs.MapLends.{lends_put};
 
 use super::position::leaf_from;

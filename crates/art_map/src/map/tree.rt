@@ -1,6 +1,6 @@
 //! A map of a tree that was made elsewhere.
 ghost use Rattle.std.specs.Prelude.{◌≡◌};
-ghost use Rattle.art_map.specs.MapPairs.{HoldsPairs, pairs_at};
+ghost use Rattle.art_changing.specs.MapPairs.{HoldsPairs, pairs_at};
 ghost use Rattle.art_model.specs.Pairs.{of_key};
 
 use super::ByteMap;

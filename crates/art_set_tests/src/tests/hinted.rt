@@ -4,6 +4,7 @@ use art_hinted::map::HintedMap;
 use art_keys::escaped::Escaped;
 use art_keys::terminated::Terminated;
 use art_node_support::expected::same;
+use art_node_support::memory::all_memory;
 use art_node_support::numbers::Numbers;
 use art_node_support::short::{COUNT, Short};
 use std::alloc::Global;
@@ -238,4 +239,25 @@ fn words_of_any_bytes_are_counted_with_hints(rt: HostRuntime) -> Result<(), Fail
             [2, 2, 2, 2, 4, 2],
         ]),
     )
+}
+
+// What a map answers while every allocation fails: a stored word is changed, another one counted, one removed; a new one is
+// refused.
+fn answers_without_memory(alloc: Global, state: RandomState) -> Option<[bool; 4]> {
+    let mut map = counted_twice(alloc, state)?;
+    let held = all_memory(alloc).ok()?;
+    let is_set = set(&mut map, b"ab", 7);
+    let is_counted = matches!(map.get_text_or_insert(alloc, WORDS[5], 0), Ok(2));
+    let is_taken = takes_two(&mut map, b"a\0");
+    let new = b"a word that is new and longer than those";
+    let is_refused = map.get_text_or_insert(alloc, new, 0).is_err();
+    drop(held);
+    Some([is_set, is_counted, is_taken, is_refused])
+}
+
+#[test]
+fn without_memory_hints_find_words(rt: HostRuntime) -> Result<(), Fail> {
+    let state = RandomState::new(&rt)?;
+    let seen = answers_without_memory(rt.alloc(), state);
+    same(seen, Some([true; 4]))
 }

@@ -4,7 +4,7 @@ ghost use Rattle.std.specs.Iterator.{UpTo, at_most};
 ghost use Rattle.std.specs.Iterator.SizeHint.{IsWithinCount};
 ghost use Rattle.std.specs.Set.{sorted_merge};
 ghost use Rattle.art_model.specs.Pairs.{has_key};
-ghost use Rattle.art_map.specs.MapItems.{ShowsFirst};
+ghost use Rattle.art_iterating.specs.MapItems.{ShowsFirst};
 ghost use Rattle.art_sets.specs.SetAlgebra.{IsSum, byte_order, difference, intersection, is_disjoint, is_subset, selected, symmetric_difference, union};
 
 use super::ByteSet;

@@ -6,7 +6,7 @@ ghost use Rattle.std.specs.Range.Bound.{bound_map};
 ghost use Rattle.std.specs.declared.ops.Bound.TheVariants.{Unbounded};
 ghost use Rattle.art_model.specs.Pairs.{IsMap, first_of, last_of};
 ghost use Rattle.art_model.specs.Parts.{below, between};
-ghost use Rattle.art_map.specs.MapItems.{ShowsFirst, ShowsLast, keys_of};
+ghost use Rattle.art_iterating.specs.MapItems.{ShowsFirst, ShowsLast, keys_of};
 
 use super::ByteSet;
 use art_map::map::{Leaves, RangeOf};
@@ -35,7 +35,7 @@ impl<'a, K, S: Leaves<K, ()>> Model for KeyRangeOf<'a, K, S> {
 
     ghost coded = { coded_list K.code };
 
-    ghost use Rattle.art_map.specs.MapItems.{keys_of};
+    ghost use Rattle.art_iterating.specs.MapItems.{keys_of};
 
     ghost view = { λ m. keys_of m.pairs };
 }

@@ -1,6 +1,6 @@
 use Rattle.std.proofs.Common.{ap, length, refl, ◌∙◌}
 use Rattle.std.proofs.lemmas.Iterator.Consumers.{YieldsList-from_first, count_from_yields_List}
-use Rattle.art_map.specs.MapItems.{deref_pair}
+use Rattle.art_iterating.specs.MapItems.{deref_pair}
 use Rattle.string_map.proofs.calls.count_below.Goals as goal
 
 pub returns : goal.returns

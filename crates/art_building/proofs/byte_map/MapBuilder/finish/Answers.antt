@@ -1,5 +1,5 @@
 use Rattle.std.proofs.Common.{ap, rules, ◌∙◌}
-use Rattle.art_map.specs.MapPairs.{pairs_at}
+use Rattle.art_changing.specs.MapPairs.{pairs_at}
 use Rattle.art_building.proofs.byte_map.MapBuilder.finish.Goals as goal
 
 pub from_tree-requires : goal.from_tree-requires

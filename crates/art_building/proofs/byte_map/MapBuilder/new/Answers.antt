@@ -1,5 +1,5 @@
 use Rattle.art_building.proofs.Built.{seen_holds}
-use Rattle.art_map.proofs.ViewsOfPairs.{new_holds, view_of}
+use Rattle.art_changing.proofs.ViewsOfPairs.{new_holds, view_of}
 use Rattle.art_model.specs.Pairs.{of_key}
 use Rattle.art_building.proofs.byte_map.MapBuilder.new.Goals as goal
 

@@ -2,7 +2,7 @@ use Rattle.std.proofs.Common.{◌≡◌, ap, false, inr, subst, sym}
 use Rattle.std.specs.Fn.{FnOnceReturnsAt}
 use Rattle.std.specs.Option.{UnwrapsOrElse}
 use Rattle.art_model.specs.Pairs.{has_key, of_key, put}
-use Rattle.art_map.specs.MapAnswers.{value_at}
+use Rattle.art_changing.specs.MapAnswers.{value_at}
 use Rattle.art_map.proofs.WrittenValues.{lends_same}
 use Rattle.art_keyed.proofs.Keyed.{put_keeps, refusal_told}
 use Rattle.art_keyed.proofs.map.TreeMap.get_or_insert_with.Goals as goal

@@ -1,5 +1,5 @@
 use Rattle.std.proofs.Common.{ap, ◌∙◌}
-use Rattle.art_map.specs.MapAnswers.{value_at}
+use Rattle.art_changing.specs.MapAnswers.{value_at}
 use Rattle.art_map.proofs.CallerLaws.{value_here}
 use Rattle.art_keyed.proofs.Keyed.{one_is_new, put_keeps}
 use Rattle.art_keyed.proofs.KeyedLaws.{others_by_put}

@@ -1,7 +1,7 @@
 use Rattle.std.proofs.Common.{List, [], ◌∷◌, ap, subst, sym, ◌∙◌}
 use Rattle.std.specs.List.{AllByRecursion as Each}
 use Rattle.art_keyed.specs.KeyedPairs.{HaveKeys}
-use Rattle.art_map.specs.MapItems.{keys_of}
+use Rattle.art_iterating.specs.MapItems.{keys_of}
 use Rattle.art_keyed_sets.proofs.set.TreeSet.from_map.Goals as goal
 
 -- the keys of pairs with keys of the type are such keys

@@ -1,7 +1,7 @@
 use Rattle.std.proofs.Common.{ap, sym, ◌∙◌, subst, arith, [], ◌∷◌, ◌++◌, append_assoc, append-nil, length}
 use Rattle.art_model.specs.Prelude.{of_key, put, without_first}
 use Rattle.art_model.proofs.pairs.Puts.{first_none}
-use Rattle.art_map.specs.MapAnswers.{IsRefusalOf}
+use Rattle.art_changing.specs.MapAnswers.{IsRefusalOf}
 use Rattle.art_map.specs.MapCalls.{put_all}
 use Rattle.art_map.proofs.Extended.{put_last}
 use Rattle.art_map.proofs.Moved.{first_and_others, removed_first}

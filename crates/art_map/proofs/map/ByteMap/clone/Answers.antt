@@ -1,6 +1,6 @@
 use Rattle.std.proofs.Common.{subst}
 use Rattle.art_model.specs.Prelude.{AreClones}
-use Rattle.art_map.specs.MapPairs.{pairs_at}
+use Rattle.art_changing.specs.MapPairs.{pairs_at}
 use Rattle.art_map.proofs.Copied.{copies_read}
 use Rattle.art_map.proofs.map.ByteMap.clone.Goals as goal
 

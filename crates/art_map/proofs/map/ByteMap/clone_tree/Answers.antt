@@ -1,8 +1,8 @@
 use Rattle.std.proofs.Common.{ap, sym, ◌∙◌, subst, [], Some, None}
 use Rattle.art_model.specs.Prelude.{AreClones, of_key}
-use Rattle.art_map.specs.MapPairs.{pairs_at}
-use Rattle.art_map.proofs.Items.{no_pairs}
-use Rattle.art_map.proofs.ViewsOfPairs.{holds, new_holds, view_of}
+use Rattle.art_changing.specs.MapPairs.{pairs_at}
+use Rattle.art_changing.proofs.Items.{no_pairs}
+use Rattle.art_changing.proofs.ViewsOfPairs.{holds, new_holds, view_of}
 use Rattle.art_map.proofs.map.ByteMap.clone_tree.Goals as goal
 
 pub invariant_of-result : goal.invariant_of-result

@@ -2,8 +2,8 @@ use Rattle.std.proofs.Common.{rules, ◌∙◌}
 use Rattle.art_model.specs.Prelude.{of_key}
 use Rattle.art_model.proofs.stores.StoreLaws.{has_children}
 use Rattle.art_map.proofs.Compacted.{can_sort, still_holds}
-use Rattle.art_map.proofs.MapPuts.{at_some}
-use Rattle.art_map.proofs.ViewsOfPairs.{holds, view_of}
+use Rattle.art_changing.proofs.MapPuts.{at_some}
+use Rattle.art_changing.proofs.ViewsOfPairs.{holds, view_of}
 use Rattle.art_map.proofs.map.ByteMap.compact.Goals as goal
 
 pub minimum_unchecked-first-requires : goal.minimum_unchecked-first-requires

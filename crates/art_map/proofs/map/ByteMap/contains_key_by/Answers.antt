@@ -1,5 +1,5 @@
 use Rattle.std.proofs.Common.{ap, ◌∙◌, is_some}
-use Rattle.art_map.proofs.Takings.{value_stored, copied_some}
+use Rattle.art_map.proofs.NamedPairs.{value_stored, copied_some}
 use Rattle.art_map.proofs.map.ByteMap.contains_key_by.Goals as goal
 
 pub returns : goal.returns

@@ -1,7 +1,7 @@
 use Rattle.std.proofs.Common.{ap, sym, subst, ◌∙◌}
 use Rattle.std.proofs.iter.Next as it
 use Rattle.art_model.specs.Prelude.{of_key, put}
-use Rattle.art_map.specs.MapAnswers.{IsRefusalOf}
+use Rattle.art_changing.specs.MapAnswers.{IsRefusalOf}
 use Rattle.art_map.proofs.Extended.{put_last}
 use Rattle.art_map.proofs.map.ByteMap.extend.Goals as goal
 

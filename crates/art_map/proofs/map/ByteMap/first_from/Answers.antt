@@ -2,10 +2,10 @@ use Rattle.std.proofs.Common.{filter, ap, ◌∙◌, option_map}
 use Rattle.std.specs.Range.Bound.{bound_map}
 use Rattle.std.specs.declared.ops.Bound.TheVariants.{Unbounded}
 use Rattle.art_model.specs.Prelude.{first_of, of_key, between, is_from}
-use Rattle.art_map.specs.MapItems.{deref_pair}
-use Rattle.art_map.specs.MapPairs.{pairs_at}
-use Rattle.art_map.proofs.MapPuts.{at_some}
-use Rattle.art_map.proofs.Ranges.{also_true, first_pair, no_first_pair}
+use Rattle.art_iterating.specs.MapItems.{deref_pair}
+use Rattle.art_changing.specs.MapPairs.{pairs_at}
+use Rattle.art_changing.proofs.MapPuts.{at_some}
+use Rattle.art_iterating.proofs.Ranges.{also_true, first_pair, no_first_pair}
 use Rattle.art_map.proofs.map.ByteMap.first_from.Goals as goal
 
 pub returns-in_err-leaf-clause-pair : goal.returns-in_err-leaf-clause-pair

@@ -1,8 +1,8 @@
 use Rattle.std.proofs.Common.{rules}
 use Rattle.art_model.specs.Prelude.{first_of}
 use Rattle.art_model.proofs.stores.StoreLaws.{has_children}
-use Rattle.art_map.proofs.MapPuts.{at_some}
-use Rattle.art_map.proofs.Takings.{first_named, named_there, named_pair}
+use Rattle.art_changing.proofs.MapPuts.{at_some}
+use Rattle.art_map.proofs.NamedPairs.{first_named, named_there, named_pair}
 use Rattle.art_map.proofs.map.ByteMap.first_key_value.Goals as goal
 
 pub minimum_unchecked-leaf-requires : goal.minimum_unchecked-leaf-requires

@@ -1,8 +1,8 @@
 use Rattle.std.proofs.Common.{subst, ◌∙◌}
 use Rattle.art_map.specs.MapCalls.{ChangesPairs}
-use Rattle.art_map.specs.MapPairs.{pairs_at}
+use Rattle.art_changing.specs.MapPairs.{pairs_at}
 use Rattle.art_map.proofs.Changed.{all_changed}
-use Rattle.art_map.proofs.Ranges.{walk_pairs}
+use Rattle.art_iterating.proofs.Ranges.{walk_pairs}
 use Rattle.art_map.proofs.map.ByteMap.for_each_mut_by_ref.Goals as goal
 
 pub returns-clause-pairs : goal.returns-clause-pairs

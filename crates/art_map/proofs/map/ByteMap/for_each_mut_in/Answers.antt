@@ -2,11 +2,11 @@ use Rattle.std.proofs.Common.{ap, refl, rules, subst, sym, ◌∙◌}
 use Rattle.std.specs.Range.Bound.{bound_map}
 use Rattle.art_model.specs.Prelude.{of_key, between, is_between}
 use Rattle.art_map.specs.MapCalls.{ChangesPairs}
-use Rattle.art_map.specs.MapPairs.{pairs_at}
+use Rattle.art_changing.specs.MapPairs.{pairs_at}
 use Rattle.art_map.specs.MapParts.{not_between}
-use Rattle.art_map.proofs.Items.{no_pairs}
-use Rattle.art_map.proofs.MapPuts.{at_some}
-use Rattle.art_map.proofs.Ranges.{range_pairs, range_there}
+use Rattle.art_changing.proofs.Items.{no_pairs}
+use Rattle.art_changing.proofs.MapPuts.{at_some}
+use Rattle.art_iterating.proofs.Ranges.{range_pairs, range_there}
 use Rattle.art_map.proofs.map.ByteMap.for_each_mut_in.Goals as goal
 
 pub returns-in_default-clause-pairs : goal.returns-in_default-clause-pairs

@@ -1,7 +1,7 @@
 use Rattle.std.proofs.Common.{[], ◌≡◌, ap, sym, ◌∙◌, subst, rules}
 use Rattle.art_model.specs.Prelude.{first_of, of_key, with_key}
 use Rattle.art_map.specs.MapChanges.{NamesLeafOf}
-use Rattle.art_map.specs.MapPairs.{pairs_at}
+use Rattle.art_changing.specs.MapPairs.{pairs_at}
 use Rattle.art_map.proofs.WrittenValues.{is_there, pair_read}
 use Rattle.art_map.proofs.map.ByteMap.get_key_value_by_bytes.Goals as goal
 

@@ -1,8 +1,8 @@
 use Rattle.std.proofs.Common.{ap, sym, ◌∙◌, rules, is_some}
 use Rattle.art_model.specs.Prelude.{of_key}
-use Rattle.art_map.specs.MapAnswers.{with_value_at}
-use Rattle.art_map.proofs.MapPuts.{canonical_root, is_some-map}
-use Rattle.art_map.proofs.ViewsOfPairs.{holds, view_of}
+use Rattle.art_changing.specs.MapAnswers.{with_value_at}
+use Rattle.art_changing.proofs.MapPuts.{canonical_root, is_some-map}
+use Rattle.art_changing.proofs.ViewsOfPairs.{holds, view_of}
 use Rattle.art_map.proofs.WrittenValues.{leaf_named, lends_same, some_of, value_read, value_written}
 use Rattle.art_map.proofs.map.ByteMap.get_mut.Goals as goal
 

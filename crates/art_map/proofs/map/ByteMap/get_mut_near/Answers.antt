@@ -1,10 +1,10 @@
 use Rattle.std.proofs.Common.{[], ◌≡◌, ap, inr, sym, ◌∙◌, subst, rules, is_some, option_map}
 use Rattle.art_model.specs.Prelude.{first_of, of_key, with_key}
-use Rattle.art_map.specs.MapAnswers.{value_at, with_value_at}
+use Rattle.art_changing.specs.MapAnswers.{value_at, with_value_at}
 use Rattle.art_map.specs.MapChanges.{NamesLeafOf}
-use Rattle.art_map.specs.MapPairs.{pairs_at}
-use Rattle.art_map.proofs.MapPuts.{held_there, is_some-map}
-use Rattle.art_map.proofs.ViewsOfPairs.{holds, view_of}
+use Rattle.art_changing.specs.MapPairs.{pairs_at}
+use Rattle.art_changing.proofs.MapPuts.{held_there, is_some-map}
+use Rattle.art_changing.proofs.ViewsOfPairs.{holds, view_of}
 use Rattle.art_map.proofs.WrittenValues.{is_there, lends_same, some_of, value_read, value_written}
 use Rattle.art_map.proofs.map.ByteMap.get_mut_near.Goals as goal
 

@@ -1,6 +1,6 @@
 use Rattle.art_model.specs.Prelude.{of_key}
 use Rattle.art_map.proofs.Results.{put_holds, tells_put}
-use Rattle.art_map.proofs.ViewsOfPairs.{view_sorted}
+use Rattle.art_changing.proofs.ViewsOfPairs.{view_sorted}
 use Rattle.art_map.proofs.map.ByteMap.insert.Goals as goal
 
 pub invariant_of-self : goal.invariant_of-self

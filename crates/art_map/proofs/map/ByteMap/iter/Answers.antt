@@ -1,5 +1,5 @@
 use Rattle.std.proofs.Common.{◌∙◌}
-use Rattle.art_map.proofs.Ranges.{walk_pairs}
+use Rattle.art_iterating.proofs.Ranges.{walk_pairs}
 use Rattle.art_map.proofs.map.ByteMap.iter.Goals as goal
 
 pub returns-clause-pairs : goal.returns-clause-pairs

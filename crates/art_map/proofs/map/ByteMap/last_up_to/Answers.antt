@@ -2,9 +2,9 @@ use Rattle.std.proofs.Common.{ap, ◌∙◌, option_map}
 use Rattle.std.specs.Range.Bound.{bound_map}
 use Rattle.std.specs.declared.ops.Bound.TheVariants.{Unbounded}
 use Rattle.art_model.specs.Prelude.{last_of, of_key, between, is_up_to}
-use Rattle.art_map.specs.MapItems.{deref_pair}
-use Rattle.art_map.proofs.MapPuts.{at_some}
-use Rattle.art_map.proofs.Ranges.{last_pair, no_last_pair}
+use Rattle.art_iterating.specs.MapItems.{deref_pair}
+use Rattle.art_changing.proofs.MapPuts.{at_some}
+use Rattle.art_iterating.proofs.Ranges.{last_pair, no_last_pair}
 use Rattle.art_map.proofs.map.ByteMap.last_up_to.Goals as goal
 
 pub returns-in_err-leaf : goal.returns-in_err-leaf

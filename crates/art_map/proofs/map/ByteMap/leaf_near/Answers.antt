@@ -1,6 +1,6 @@
 use Rattle.std.proofs.Common.{ap, sym, ◌∙◌}
 use Rattle.art_model.specs.Prelude.{has_key, of_key}
-use Rattle.art_map.specs.MapPairs.{pairs_at}
+use Rattle.art_changing.specs.MapPairs.{pairs_at}
 use Rattle.art_map.proofs.Near.{leaf_tells}
 use Rattle.art_map.proofs.map.ByteMap.leaf_near.Goals as goal
 

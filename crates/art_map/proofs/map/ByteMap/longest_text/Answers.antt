@@ -1,8 +1,8 @@
 use Rattle.std.proofs.Common.{rules, ap, ◌∙◌, option_map}
 use Rattle.art_model.specs.Prelude.{last_of, of_key, AreEnded, texts_in_front}
-use Rattle.art_map.specs.MapItems.{deref_pair}
-use Rattle.art_map.proofs.MapPuts.{canonical_root}
-use Rattle.art_map.proofs.Takings.{found_in, named_pair, tree_has}
+use Rattle.art_iterating.specs.MapItems.{deref_pair}
+use Rattle.art_changing.proofs.MapPuts.{canonical_root}
+use Rattle.art_map.proofs.NamedPairs.{found_in, named_pair, tree_has}
 use Rattle.art_map.proofs.map.ByteMap.longest_text.Goals as goal
 
 pub longest_text_unchecked-requires : goal.longest_text_unchecked-requires

@@ -1,7 +1,7 @@
 use Rattle.std.proofs.Common.{ap, sym, ◌∙◌, refl}
 use Rattle.art_model.specs.Prelude.{of_key}
-use Rattle.art_map.specs.MapAnswers.{with_value_at}
-use Rattle.art_map.proofs.ViewsOfPairs.{holds, view_of}
+use Rattle.art_changing.specs.MapAnswers.{with_value_at}
+use Rattle.art_changing.proofs.ViewsOfPairs.{holds, view_of}
 use Rattle.art_map.proofs.WrittenValues.{leaf_named, value_read, value_written}
 use Rattle.art_map.proofs.map.ByteMap.modify.Goals as goal
 

@@ -2,7 +2,7 @@ use Rattle.std.proofs.Common.{◌≡◌, sym, subst, true, rules}
 use Rattle.art_model.specs.Prelude.{has_key, of_key}
 use Rattle.art_model.proofs.stores.StoreLaws.{has_children}
 use Rattle.art_map.proofs.Near.{key_stored}
-use Rattle.art_map.proofs.MapPuts.{at_some}
+use Rattle.art_changing.proofs.MapPuts.{at_some}
 use Rattle.art_map.proofs.map.ByteMap.named_after.Goals as goal
 
 pub minimum_unchecked-name-requires : goal.minimum_unchecked-name-requires

@@ -1,5 +1,5 @@
 use Rattle.art_model.specs.Prelude.{of_key}
-use Rattle.art_map.proofs.ViewsOfPairs.{holds, view_of, new_holds}
+use Rattle.art_changing.proofs.ViewsOfPairs.{holds, view_of, new_holds}
 use Rattle.art_map.proofs.map.ByteMap.new.Goals as goal
 
 pub invariant_of-result : goal.invariant_of-result

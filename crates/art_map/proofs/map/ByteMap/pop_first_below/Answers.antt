@@ -1,6 +1,6 @@
 use Rattle.art_model.specs.Prelude.{first_of, of_key, below, without_below}
 use Rattle.art_map.proofs.Results.{taken_holds, tells_taken}
-use Rattle.art_map.proofs.ViewsOfPairs.{view_sorted}
+use Rattle.art_changing.proofs.ViewsOfPairs.{view_sorted}
 use Rattle.art_map.proofs.map.ByteMap.pop_first_below.Goals as goal
 
 pub invariant_of-self : goal.invariant_of-self

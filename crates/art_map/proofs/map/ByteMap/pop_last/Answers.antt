@@ -1,7 +1,7 @@
 use Rattle.std.proofs.Common.{refl}
 use Rattle.art_model.specs.Prelude.{last_of, of_key, without_last}
 use Rattle.art_map.proofs.Results.{taken_holds, tells_taken}
-use Rattle.art_map.proofs.ViewsOfPairs.{view_sorted}
+use Rattle.art_changing.proofs.ViewsOfPairs.{view_sorted}
 use Rattle.art_map.proofs.map.ByteMap.pop_last.Goals as goal
 
 pub invariant_of-self : goal.invariant_of-self

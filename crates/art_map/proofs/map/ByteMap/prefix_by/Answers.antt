@@ -1,9 +1,9 @@
 use Rattle.std.proofs.Common.{ap, sym, ◌∙◌}
 use Rattle.art_model.specs.Prelude.{is_front, of_key, below}
-use Rattle.art_map.specs.MapItems.{pairs_between}
-use Rattle.art_map.proofs.Items.{no_pairs}
-use Rattle.art_map.proofs.MapPuts.{at_some}
-use Rattle.art_map.proofs.Ranges.{no_range, range_pairs, range_there}
+use Rattle.art_iterating.specs.MapItems.{pairs_between}
+use Rattle.art_changing.proofs.Items.{no_pairs}
+use Rattle.art_changing.proofs.MapPuts.{at_some}
+use Rattle.art_iterating.proofs.Ranges.{no_range, range_pairs, range_there}
 use Rattle.art_map.proofs.map.ByteMap.prefix_by.Goals as goal
 
 pub returns-in_default-clause-pairs : goal.returns-in_default-clause-pairs

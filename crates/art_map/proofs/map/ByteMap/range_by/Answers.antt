@@ -1,10 +1,10 @@
 use Rattle.std.proofs.Common.{ap, sym, ◌∙◌}
 use Rattle.std.specs.Range.Bound.{bound_map}
 use Rattle.art_model.specs.Prelude.{of_key, between, is_between}
-use Rattle.art_map.specs.MapItems.{pairs_between}
-use Rattle.art_map.proofs.Items.{no_pairs}
-use Rattle.art_map.proofs.MapPuts.{at_some}
-use Rattle.art_map.proofs.Ranges.{no_range, range_pairs, range_there}
+use Rattle.art_iterating.specs.MapItems.{pairs_between}
+use Rattle.art_changing.proofs.Items.{no_pairs}
+use Rattle.art_changing.proofs.MapPuts.{at_some}
+use Rattle.art_iterating.proofs.Ranges.{no_range, range_pairs, range_there}
 use Rattle.art_map.proofs.map.ByteMap.range_by.Goals as goal
 
 pub returns-in_default-clause-pairs : goal.returns-in_default-clause-pairs

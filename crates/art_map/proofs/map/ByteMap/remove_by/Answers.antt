@@ -1,6 +1,6 @@
 use Rattle.art_model.specs.Prelude.{of_key, remove_key, remove_reply}
 use Rattle.art_map.proofs.Results.{taken_holds, tells_taken}
-use Rattle.art_map.proofs.ViewsOfPairs.{view_sorted}
+use Rattle.art_changing.proofs.ViewsOfPairs.{view_sorted}
 use Rattle.art_map.proofs.map.ByteMap.remove_by.Goals as goal
 
 pub invariant_of-self : goal.invariant_of-self

@@ -1,9 +1,9 @@
 use Rattle.std.proofs.Common.{rules, ap, ◌∙◌, option_map}
 use Rattle.art_model.specs.Prelude.{first_of, of_key, AreEnded}
 use Rattle.art_ranges.specs.ShortTexts.{texts_from}
-use Rattle.art_map.specs.MapItems.{deref_pair}
-use Rattle.art_map.proofs.MapPuts.{canonical_root}
-use Rattle.art_map.proofs.Takings.{found_in, named_pair, tree_has}
+use Rattle.art_iterating.specs.MapItems.{deref_pair}
+use Rattle.art_changing.proofs.MapPuts.{canonical_root}
+use Rattle.art_map.proofs.NamedPairs.{found_in, named_pair, tree_has}
 use Rattle.art_map.proofs.map.ByteMap.shortest_text.Goals as goal
 
 pub shortest_text_unchecked-requires : goal.shortest_text_unchecked-requires

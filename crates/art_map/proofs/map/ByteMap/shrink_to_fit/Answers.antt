@@ -1,7 +1,7 @@
 use Rattle.std.proofs.Common.{◌∙◌}
 use Rattle.art_model.specs.Prelude.{of_key}
-use Rattle.art_map.proofs.MapPuts.{stays}
-use Rattle.art_map.proofs.ViewsOfPairs.{holds, view_of}
+use Rattle.art_changing.proofs.MapPuts.{stays}
+use Rattle.art_changing.proofs.ViewsOfPairs.{holds, view_of}
 use Rattle.art_map.proofs.map.ByteMap.shrink_to_fit.Goals as goal
 
 pub invariant_of-self : goal.invariant_of-self

@@ -3,7 +3,7 @@ use Rattle.std.specs.Range.Bound.{bound_map}
 use Rattle.art_model.specs.Prelude.{first_of, of_key, between}
 use Rattle.art_map.specs.MapParts.{without}
 use Rattle.art_map.proofs.Results.{taken_holds, tells_taken}
-use Rattle.art_map.proofs.ViewsOfPairs.{view_sorted}
+use Rattle.art_changing.proofs.ViewsOfPairs.{view_sorted}
 use Rattle.art_map.proofs.map.ByteMap.take_first_in.Goals as goal
 
 pub invariant_of-self : goal.invariant_of-self

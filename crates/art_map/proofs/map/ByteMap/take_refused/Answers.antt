@@ -1,4 +1,4 @@
-use Rattle.art_map.specs.MapPairs.{pairs_at}
+use Rattle.art_changing.specs.MapPairs.{pairs_at}
 use Rattle.art_map.proofs.Refusing.{refused_holds, refused_told}
 use Rattle.art_map.proofs.map.ByteMap.take_refused.Goals as goal
 

@@ -1,11 +1,11 @@
 use Rattle.std.proofs.Common.{Some, ap, subst, sym, ◌∙◌, is_some, inr, unwrap_or}
 use Rattle.std.specs.Fn.{FnOnceReturnsAt}
 use Rattle.art_model.specs.Prelude.{of_key, put}
-use Rattle.art_map.specs.MapAnswers.{IsRefusalOf, value_at, with_value_at}
+use Rattle.art_changing.specs.MapAnswers.{IsRefusalOf, value_at, with_value_at}
 use Rattle.art_map.proofs.EnteredLeaves.{made_holds, none_refused, none_stored, unwraps}
-use Rattle.art_map.proofs.MapPuts.{is_some-map}
+use Rattle.art_changing.proofs.MapPuts.{is_some-map}
 use Rattle.art_map.proofs.ValueLaws.{new_value, new_written}
-use Rattle.art_map.proofs.ViewsOfPairs.{holds, map_held, view_of}
+use Rattle.art_changing.proofs.ViewsOfPairs.{holds, map_held, view_of}
 use Rattle.art_map.proofs.WrittenValues.{is_there, lends_same, one_value, value_read, value_written}
 use Rattle.art_map.proofs.map.ByteMap.value_or_make.Goals as goal
 

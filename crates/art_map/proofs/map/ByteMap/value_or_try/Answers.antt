@@ -1,11 +1,11 @@
 use Rattle.std.proofs.Common.{Ok, Some, ap, subst, sym, ◌∙◌, is_some, inr, unwrap_or}
 use Rattle.art_model.specs.Prelude.{of_key, put}
-use Rattle.art_map.specs.MapAnswers.{value_at, with_value_at}
+use Rattle.art_changing.specs.MapAnswers.{value_at, with_value_at}
 use Rattle.art_map.specs.MapCalls.{IsMakeRefusal}
 use Rattle.art_map.proofs.EnteredLeaves.{tried_holds, none_stored, unwraps}
-use Rattle.art_map.proofs.MapPuts.{is_some-map}
+use Rattle.art_changing.proofs.MapPuts.{is_some-map}
 use Rattle.art_map.proofs.ValueLaws.{new_value, new_written}
-use Rattle.art_map.proofs.ViewsOfPairs.{holds, map_held, view_of}
+use Rattle.art_changing.proofs.ViewsOfPairs.{holds, map_held, view_of}
 use Rattle.art_map.proofs.WrittenValues.{is_there, lends_same, one_value, value_read, value_written}
 use Rattle.art_map.proofs.map.ByteMap.value_or_try.Goals as goal
 

@@ -1,8 +1,8 @@
 use Rattle.std.proofs.Common.{◌≡◌, rules, refl, sym, ◌∙◌, arith, None}
 use Rattle.art_model.specs.Prelude.{of_key}
-use Rattle.art_map.proofs.Enough.{enough}
-use Rattle.art_map.proofs.Items.{no_pairs}
-use Rattle.art_map.proofs.MapPuts.{at_some, left_holds, pair_more, planted, same_many}
+use Rattle.art_changing.proofs.Enough.{enough}
+use Rattle.art_changing.proofs.Items.{no_pairs}
+use Rattle.art_changing.proofs.MapPuts.{at_some, left_holds, pair_more, planted, same_many}
 use Rattle.art_map.proofs.map.both.put_reserved.Goals as goal
 
 pub returns-in_default : goal.returns-in_default

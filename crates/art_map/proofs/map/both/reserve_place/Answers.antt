@@ -4,10 +4,10 @@ use Rattle.art_model.specs.Prelude.{IsCanonicalTree, is_conflict, of_key, is_cov
 use Rattle.art_writing.proofs.KeysFound.{not_false}
 use Rattle.art_writing.proofs.Standing.{tree_stays}
 use Rattle.art_writing.proofs.Unstored.{refused_new}
-use Rattle.art_map.specs.MapPairs.{pairs_at}
-use Rattle.art_map.proofs.MapPuts.{at_some, stays}
+use Rattle.art_changing.specs.MapPairs.{pairs_at}
+use Rattle.art_changing.proofs.MapPuts.{at_some, stays}
 use Rattle.art_map.proofs.Reserving.{placed_same, unreserved}
-use Rattle.art_map.proofs.ViewsOfPairs.{view_of}
+use Rattle.art_changing.proofs.ViewsOfPairs.{view_of}
 use Rattle.art_map.proofs.map.both.reserve_place.Goals as goal
 
 pub returns-in-Err-search_for_insert_point-clause-refused : goal.returns-in-Err-search_for_insert_point-clause-refused

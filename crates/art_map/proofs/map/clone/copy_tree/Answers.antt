@@ -2,8 +2,8 @@ use Rattle.std.proofs.Common.{ap, ◌∙◌, Some}
 use Rattle.std.proofs.lemmas.List.Elements.{length_all_zip}
 use Rattle.art_parts.specs.LeafClones.{IsPairClone}
 use Rattle.art_model.specs.Pairs.{of_key}
-use Rattle.art_map.proofs.MapPuts.{at_root}
-use Rattle.art_map.proofs.ViewsOfPairs.{none_held, none_other}
+use Rattle.art_changing.proofs.MapPuts.{at_root}
+use Rattle.art_changing.proofs.ViewsOfPairs.{none_held, none_other}
 use Rattle.art_map.proofs.map.clone.copy_tree.Goals as goal
 
 pub returns : goal.returns

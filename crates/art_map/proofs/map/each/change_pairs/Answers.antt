@@ -1,7 +1,7 @@
 use Rattle.std.proofs.Common.{refl}
 use Rattle.art_model.specs.Prelude.{CalledOnPair}
-use Rattle.art_map.specs.MapItems.{pairs_between}
-use Rattle.art_map.specs.MapPairs.{pairs_at}
+use Rattle.art_iterating.specs.MapItems.{pairs_between}
+use Rattle.art_changing.specs.MapPairs.{pairs_at}
 use Rattle.art_map.proofs.Changed.{begins, ends, fewer, goes_on}
 use Rattle.art_map.proofs.map.each.change_pairs.Goals as goal
 

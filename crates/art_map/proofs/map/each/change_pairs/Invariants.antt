@@ -1,6 +1,6 @@
 use Rattle.art_model.specs.Prelude.{CalledOnPair}
-use Rattle.art_map.specs.MapItems.{pairs_between, walk_len}
-use Rattle.art_map.specs.MapPairs.{pairs_at}
+use Rattle.art_iterating.specs.MapItems.{pairs_between, walk_len}
+use Rattle.art_changing.specs.MapPairs.{pairs_at}
 use Rattle.art_map.proofs.Changed.{Changing}
 use Rattle.art_map.proofs.map.each.change_pairs.Given as goal
 

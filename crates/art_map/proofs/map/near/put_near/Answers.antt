@@ -2,9 +2,9 @@ use Rattle.std.proofs.Common.{subst}
 use Rattle.art_model.specs.Prelude.{of_key}
 use Rattle.art_writing.proofs.KeysFound.{stored_free}
 use Rattle.art_map.specs.MapChanges.{HasKeyAt}
-use Rattle.art_map.specs.MapPairs.{pairs_at}
+use Rattle.art_changing.specs.MapPairs.{pairs_at}
 use Rattle.art_map.proofs.Near.{near_named, value_put, value_replaced}
-use Rattle.art_map.proofs.ViewsOfPairs.{map_held}
+use Rattle.art_changing.proofs.ViewsOfPairs.{map_held}
 use Rattle.art_map.proofs.WrittenValues.{is_stored}
 use Rattle.art_map.proofs.map.near.put_near.Goals as goal
 

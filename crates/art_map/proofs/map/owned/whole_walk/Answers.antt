@@ -4,8 +4,8 @@ use Rattle.art_model.proofs.stores.StoreLaws.{has_children}
 use Rattle.art_reading.specs.Iterators.{IsIteratorOf, pairs_left}
 use Rattle.art_reading.proofs.PairsLeft.{none_left, whole_len, whole_pairs}
 use Rattle.art_reading.proofs.PairsLeft as items
-use Rattle.art_map.proofs.Items.{no_pairs}
-use Rattle.art_map.proofs.MapPuts.{at_some}
+use Rattle.art_changing.proofs.Items.{no_pairs}
+use Rattle.art_changing.proofs.MapPuts.{at_some}
 use Rattle.art_map.proofs.map.owned.whole_walk.Goals as goal
 
 pub returns-in_default-clause-pairs : goal.returns-in_default-clause-pairs

@@ -2,12 +2,12 @@ use Rattle.std.proofs.Common.{◌≡◌, ◌+◌, [], ◌∷◌, rules, refl, ap
 use Rattle.art_model.specs.Prelude.{leaf_name, of_key, leaf}
 use Rattle.art_writing.proofs.KeysFound.{conflict_new, stored_free}
 use Rattle.art_writing.proofs.OneLeaf as one_leaf
-use Rattle.art_map.specs.MapPairs.{pairs_at}
-use Rattle.art_map.proofs.Enough.{enough}
+use Rattle.art_changing.specs.MapPairs.{pairs_at}
+use Rattle.art_changing.proofs.Enough.{enough}
 use Rattle.art_map.proofs.EnteredLeaves.{leaf_of_result, new_is_put, none_back, point_new}
-use Rattle.art_map.proofs.Items.{no_pairs}
-use Rattle.art_map.proofs.MapPuts.{at_some, left_holds, one_more, planted, stays}
-use Rattle.art_map.proofs.ViewsOfPairs.{map_held}
+use Rattle.art_changing.proofs.Items.{no_pairs}
+use Rattle.art_changing.proofs.MapPuts.{at_some, left_holds, one_more, planted, stays}
+use Rattle.art_changing.proofs.ViewsOfPairs.{map_held}
 use Rattle.art_map.proofs.WrittenValues.{is_stored}
 use Rattle.art_map.proofs.map.position.enter.Goals as goal
 

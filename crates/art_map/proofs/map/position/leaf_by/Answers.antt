@@ -2,8 +2,8 @@ use Rattle.std.proofs.Common.{Some, refl}
 use Rattle.art_model.specs.Prelude.{of_key, remove_reply, with_key}
 use Rattle.art_model.proofs.pairs.Puts.{first_none}
 use Rattle.art_writing.proofs.KeysFound.{point_none, point_some, removed_key}
-use Rattle.art_map.specs.MapPairs.{pairs_at}
-use Rattle.art_map.proofs.MapPuts.{at_some}
+use Rattle.art_changing.specs.MapPairs.{pairs_at}
+use Rattle.art_changing.proofs.MapPuts.{at_some}
 use Rattle.art_map.proofs.map.position.leaf_by.Goals as goal
 
 pub returns-in_err-point-clause-leaf : goal.returns-in_err-point-clause-leaf

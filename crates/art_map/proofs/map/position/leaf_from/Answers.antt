@@ -3,9 +3,9 @@ use Rattle.std.proofs.lemmas.Bool.{false≢true}
 use Rattle.art_model.specs.Prelude.{has_key, of_key}
 use Rattle.art_writing.proofs.KeysFound.{stored_free}
 use Rattle.art_map.specs.MapChanges.{HasEntered, HasKeyAt, NamesLeafOf}
-use Rattle.art_map.specs.MapPairs.{pairs_at}
+use Rattle.art_changing.specs.MapPairs.{pairs_at}
 use Rattle.art_map.proofs.Near.{near_named}
-use Rattle.art_map.proofs.ViewsOfPairs.{map_held}
+use Rattle.art_changing.proofs.ViewsOfPairs.{map_held}
 use Rattle.art_map.proofs.WrittenValues.{is_stored}
 use Rattle.art_map.proofs.map.position.leaf_from.Goals as goal
 

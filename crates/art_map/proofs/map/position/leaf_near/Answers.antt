@@ -1,6 +1,6 @@
 use Rattle.std.proofs.Common.{refl, rules}
 use Rattle.art_map.proofs.Near.{found_named, near_named}
-use Rattle.art_map.proofs.MapPuts.{canonical_root}
+use Rattle.art_changing.proofs.MapPuts.{canonical_root}
 use Rattle.art_map.proofs.map.position.leaf_near.Goals as goal
 
 pub returns-then-has_key_at : goal.returns-then-has_key_at

@@ -1,10 +1,10 @@
 use Rattle.std.proofs.Common.{◌≡◌, ap, refl, rules, sym, ◌∙◌, Some, true}
 use Rattle.art_model.specs.Prelude.{is_conflict, of_key}
 use Rattle.art_writing.proofs.KeysFound.{conflict_new}
-use Rattle.art_map.specs.MapPairs.{pairs_at}
+use Rattle.art_changing.specs.MapPairs.{pairs_at}
 use Rattle.art_map.proofs.EnteredLeaves.{leaf_of_point, point_new}
-use Rattle.art_map.proofs.MapPuts.{at_some}
-use Rattle.art_map.proofs.ViewsOfPairs.{map_held}
+use Rattle.art_changing.proofs.MapPuts.{at_some}
+use Rattle.art_changing.proofs.ViewsOfPairs.{map_held}
 use Rattle.art_map.proofs.map.position.position_by.Goals as goal
 
 pub returns-in_default-search_for_insert_point_by-clause-new : goal.returns-in_default-search_for_insert_point_by-clause-new

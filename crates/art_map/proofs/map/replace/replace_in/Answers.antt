@@ -1,9 +1,9 @@
 use Rattle.std.proofs.Common.{refl, rules, sym, subst}
 use Rattle.art_model.specs.Prelude.{of_key}
 use Rattle.art_writing.proofs.KeysFound.{stored_free}
-use Rattle.art_map.specs.MapPairs.{HoldsPairs, pairs_at}
+use Rattle.art_changing.specs.MapPairs.{HoldsPairs, pairs_at}
 use Rattle.art_map.proofs.EnteredLeaves.{new_replaces, position_new}
-use Rattle.art_map.proofs.ViewsOfPairs.{map_held}
+use Rattle.art_changing.proofs.ViewsOfPairs.{map_held}
 use Rattle.art_map.proofs.WrittenValues.{is_stored, is_there, pair_swapped, pair_written}
 use Rattle.art_map.proofs.map.replace.replace_in.Goals as goal
 

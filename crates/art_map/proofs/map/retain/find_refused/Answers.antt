@@ -4,11 +4,11 @@ use Rattle.std.specs.declared.ops.Bound.TheVariants.{Unbounded}
 use Rattle.art_model.specs.Prelude.{CalledOnPair, of_key, remove_reply, between, is_between, ForTree, pair_of}
 use Rattle.art_nodes.specs.LeafCalls.{CallsOnLeaf}
 use Rattle.art_writing.specs.Deleted.{IsDeletePoint}
-use Rattle.art_map.specs.MapItems.{deref_pair, pairs_between}
-use Rattle.art_map.specs.MapPairs.{pairs_at}
+use Rattle.art_iterating.specs.MapItems.{deref_pair, pairs_between}
+use Rattle.art_changing.specs.MapPairs.{pairs_at}
 use Rattle.art_map.proofs.Changed.{begins, ends, fewer, goes_on}
-use Rattle.art_map.proofs.MapPuts.{at_root}
-use Rattle.art_map.proofs.Ranges.{range_pairs, range_there}
+use Rattle.art_changing.proofs.MapPuts.{at_root}
+use Rattle.art_iterating.proofs.Ranges.{range_pairs, range_there}
 use Rattle.art_map.proofs.Refusing.{all_kept, finds, refused_at, same_some}
 use Rattle.art_map.proofs.map.retain.find_refused.Goals as goal
 

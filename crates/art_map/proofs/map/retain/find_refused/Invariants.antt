@@ -1,7 +1,7 @@
 use Rattle.std.proofs.Common.{Some, true}
 use Rattle.art_model.specs.Prelude.{CalledOnPair}
-use Rattle.art_map.specs.MapItems.{pairs_between, walk_len}
-use Rattle.art_map.specs.MapPairs.{pairs_at}
+use Rattle.art_iterating.specs.MapItems.{pairs_between, walk_len}
+use Rattle.art_changing.specs.MapPairs.{pairs_at}
 use Rattle.art_map.proofs.Changed.{Changing}
 use Rattle.art_map.proofs.map.retain.find_refused.Given as goal
 

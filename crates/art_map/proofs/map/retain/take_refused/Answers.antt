@@ -1,9 +1,9 @@
 use Rattle.std.proofs.Common.{ap, sym, subst, Some, None}
 use Rattle.art_model.specs.Prelude.{of_key}
-use Rattle.art_map.specs.MapPairs.{HoldsPairs, pairs_at}
+use Rattle.art_changing.specs.MapPairs.{HoldsPairs, pairs_at}
 use Rattle.art_map.specs.MapRetain.{CallsUpTo}
-use Rattle.art_map.proofs.Items.{no_pairs}
-use Rattle.art_map.proofs.MapPuts.{at_root}
+use Rattle.art_changing.proofs.Items.{no_pairs}
+use Rattle.art_changing.proofs.MapPuts.{at_root}
 use Rattle.art_map.proofs.Refusing.{none_refused, refused_taken}
 use Rattle.art_map.proofs.map.retain.take_refused.Goals as goal
 

@@ -3,13 +3,13 @@ use Rattle.std.specs.Range.Bound.{bound_map}
 use Rattle.art_model.specs.Prelude.{of_key, remove_reply, is_between}
 use Rattle.art_reading.proofs.PartNodes.{some_there}
 use Rattle.art_writing.proofs.KeysFound.{point_none, point_some}
-use Rattle.art_map.specs.MapChanges.{HasTaken}
-use Rattle.art_map.specs.MapItems.{deref_pair}
-use Rattle.art_map.specs.MapPairs.{pairs_at}
+use Rattle.art_changing.specs.PairChanges.{HasTaken}
+use Rattle.art_iterating.specs.MapItems.{deref_pair}
+use Rattle.art_changing.specs.MapPairs.{pairs_at}
 use Rattle.art_map.specs.MapParts.{without}
 use Rattle.art_map.proofs.FirstOut.{point_is_first, point_not_none}
-use Rattle.art_map.proofs.MapPuts.{at_some, canonical_root}
-use Rattle.art_map.proofs.Ranges.{first_pair, no_first_pair}
+use Rattle.art_changing.proofs.MapPuts.{at_some, canonical_root}
+use Rattle.art_iterating.proofs.Ranges.{first_pair, no_first_pair}
 use Rattle.art_map.proofs.map.split.take_between.Goals as goal
 
 pub next-requires : goal.next-requires

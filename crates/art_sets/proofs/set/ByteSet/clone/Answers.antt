@@ -1,6 +1,6 @@
 use Rattle.std.proofs.Common.{subst}
 use Rattle.std.specs.List.{AllZip}
-use Rattle.art_map.specs.MapItems.{keys_of}
+use Rattle.art_iterating.specs.MapItems.{keys_of}
 use Rattle.art_sets.proofs.ClonedKeys.{cloned_keys}
 use Rattle.art_sets.proofs.set.ByteSet.clone.Goals as goal
 

@@ -1,6 +1,6 @@
 use Rattle.std.proofs.Common.{ap, ◌∙◌, is_some, not, subst, sym}
 use Rattle.art_model.specs.Prelude.{has_key}
-use Rattle.art_map.specs.MapItems.{keys_of}
+use Rattle.art_iterating.specs.MapItems.{keys_of}
 use Rattle.art_sets.specs.SetKeys.{IsKeyRefusal, add_key}
 use Rattle.art_sets.proofs.SetLaws.{flipped, key_refused, keys_put, reply_has}
 use Rattle.art_sets.proofs.set.ByteSet.insert.Goals as goal

@@ -1,5 +1,5 @@
 use Rattle.std.proofs.Common.{subst}
-use Rattle.art_map.specs.MapItems.{ShowsFirst}
+use Rattle.art_iterating.specs.MapItems.{ShowsFirst}
 use Rattle.art_sets.specs.SetAlgebra.{has_equal}
 use Rattle.art_sets.proofs.SetSides.{none_passes}
 use Rattle.art_sets.proofs.set.ByteSet.is_disjoint.Goals as goal

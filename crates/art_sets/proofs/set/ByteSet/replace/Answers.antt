@@ -1,6 +1,6 @@
 use Rattle.std.proofs.Common.{ap, ◌∙◌}
 use Rattle.art_model.specs.Prelude.{replace_key}
-use Rattle.art_map.specs.MapItems.{keys_of}
+use Rattle.art_iterating.specs.MapItems.{keys_of}
 use Rattle.art_sets.proofs.SetLaws.{keys_replaced}
 use Rattle.art_sets.proofs.set.ByteSet.replace.Goals as goal
 use Rattle.art_sets.proofs.set.ByteSet.replace.Goals.{in-Err, in-Ok-None, in-Ok-Some}

@@ -1,6 +1,6 @@
 use Rattle.std.proofs.Common.{◌≡◌, refl, of_calls, rules, subst, sym}
 use Rattle.std.specs.Fn.{CalledAt, always_mut}
-use Rattle.art_map.specs.MapItems.{keys_of}
+use Rattle.art_iterating.specs.MapItems.{keys_of}
 use Rattle.art_map.specs.MapRetain.{Retains}
 use Rattle.art_map.proofs.Retained.{keys_retained, retains_hold}
 use Rattle.art_sets.proofs.set.ByteSet.retain_by_ref.Goals as goal

@@ -1,5 +1,5 @@
 use Rattle.std.proofs.Common.{◌≡◌, ◌++◌, ◌∷◌, subst}
-use Rattle.art_map.specs.MapItems.{keys_of}
+use Rattle.art_iterating.specs.MapItems.{keys_of}
 use Rattle.art_map.specs.MapParts.{keys_from}
 use Rattle.art_sets.proofs.SetParts.{keys_parted}
 use Rattle.art_sets.proofs.set.ByteSet.split_off.Goals as goal

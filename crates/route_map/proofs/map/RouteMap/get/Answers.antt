@@ -1,5 +1,5 @@
 use Rattle.std.proofs.Common.{inl, inr, ap, sym, ◌∙◌}
-use Rattle.art_map.specs.MapAnswers.{value_at}
+use Rattle.art_changing.specs.MapAnswers.{value_at}
 use Rattle.route_map.specs.Routes.{value_of}
 use Rattle.route_map.proofs.ValueLemmas.{bytes_of, value_in_four, value_in_six}
 use Rattle.route_map.proofs.map.RouteMap.get.Goals as goal

@@ -1,7 +1,7 @@
 use Rattle.std.proofs.Common.{◌≡◌, ap, inl, inr, refl, subst, sym, ◌∙◌}
 use Rattle.std.specs.Option.{option_map}
 use Rattle.art_keyed.specs.KeyedValues.{KeepsOtherKeys}
-use Rattle.art_map.specs.MapAnswers.{value_at}
+use Rattle.art_changing.specs.MapAnswers.{value_at}
 use Rattle.art_model.specs.Pairs.{of_key, put_reply}
 use Rattle.route_map.specs.Routes.{KeepsOthers, entries_of, value_of}
 use Rattle.route_map.proofs.TreeReplies.{after_insertion, if_err, if_ok, on_err, on_ok, replaced_value}

@@ -3,7 +3,7 @@ use Rattle.std.specs.Option.{option_map}
 use Rattle.art_keyed.specs.KeyedPairs.{HaveKeys}
 use Rattle.art_keyed.specs.KeyedValues.{KeepsOtherKeys}
 use Rattle.art_keyed.proofs.Keyed.{remove_keeps}
-use Rattle.art_map.specs.MapAnswers.{value_at}
+use Rattle.art_changing.specs.MapAnswers.{value_at}
 use Rattle.route_map.specs.Routes.{KeepsOthers, entries_of, value_of}
 use Rattle.route_map.proofs.ValueLemmas.{IsKeyOf, IsStored, bytes_of, four_keeps_others, six_keeps_others, value_in_four, value_in_six}
 use Rattle.route_map.proofs.map.RouteMap.remove.Goals as goal

@@ -2,7 +2,7 @@ use Rattle.std.proofs.Common.{ap, ◌∙◌}
 use Rattle.std.specs.Option.{unwrap_or}
 use Rattle.art_keys.specs.Ended.{ended}
 use Rattle.art_model.specs.Pairs.{of_key, put}
-use Rattle.art_map.specs.MapAnswers.{value_at}
+use Rattle.art_changing.specs.MapAnswers.{value_at}
 use Rattle.art_map.proofs.WrittenValues.{lends_same}
 use Rattle.art_hinted.proofs.map.texts.HintedMap+Terminated+V+P.get_text_or_insert.Goals as goal
 

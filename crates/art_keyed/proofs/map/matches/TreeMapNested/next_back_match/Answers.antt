@@ -1,7 +1,7 @@
 use Rattle.std.proofs.Common.{rules, ◌≡◌, ◌-◌, length, take, ap, arith, subst, sym, ◌∙◌, None, Some}
 use Rattle.std.specs.Option.{option_map}
 use Rattle.art_model.specs.Pairs.{IsMap, last_of, of_key}
-use Rattle.art_map.specs.MapItems.{deref_pair}
+use Rattle.art_iterating.specs.MapItems.{deref_pair}
 use Rattle.art_model.specs.Texts.{AreEnded, texts_in_front}
 use Rattle.art_keyed.specs.Matches.{matches_left}
 use Rattle.art_keyed.proofs.CutTexts.{key_short, last_came, none_last, too_short}

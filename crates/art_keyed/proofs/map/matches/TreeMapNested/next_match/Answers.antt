@@ -1,7 +1,7 @@
 use Rattle.std.proofs.Common.{rules, ◌≡◌, ◌∷◌, length, ap, subst, sym, ◌∙◌, None, Some}
 use Rattle.std.specs.Option.{option_map}
 use Rattle.art_model.specs.Pairs.{IsMap, first_of, of_key}
-use Rattle.art_map.specs.MapItems.{deref_pair}
+use Rattle.art_iterating.specs.MapItems.{deref_pair}
 use Rattle.art_model.specs.Texts.{AreEnded}
 use Rattle.art_ranges.specs.ShortTexts.{texts_from}
 use Rattle.art_keyed.specs.Matches.{matches_left}

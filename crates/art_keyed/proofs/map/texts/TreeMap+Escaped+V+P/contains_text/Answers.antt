@@ -2,8 +2,8 @@ use Rattle.std.proofs.Common.{ap, is_some, sym, ◌∙◌}
 use Rattle.art_keys.specs.Escapes.{escape}
 use Rattle.art_parts.specs.Keys.{are_same}
 use Rattle.art_model.proofs.pairs.Puts.{any_is_first}
-use Rattle.art_map.specs.MapItems.{deref_pair}
-use Rattle.art_map.proofs.MapPuts.{is_some-map}
+use Rattle.art_iterating.specs.MapItems.{deref_pair}
+use Rattle.art_changing.proofs.MapPuts.{is_some-map}
 use Rattle.art_keyed.proofs.map.texts.TreeMap+Escaped+V+P.contains_text.Goals as goal
 
 pub returns : goal.returns

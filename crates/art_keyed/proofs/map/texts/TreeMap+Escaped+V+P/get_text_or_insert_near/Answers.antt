@@ -5,7 +5,7 @@ use Rattle.std.specs.Option.{unwrap_or}
 use Rattle.art_keys.specs.EscapeLaws.{escape_no_prefixes}
 use Rattle.art_keys.specs.Escapes.{escape}
 use Rattle.art_model.specs.Pairs.{of_key, put}
-use Rattle.art_map.specs.MapAnswers.{value_at}
+use Rattle.art_changing.specs.MapAnswers.{value_at}
 use Rattle.art_map.proofs.WrittenValues.{lends_same}
 use Rattle.art_keyed.proofs.Keyed.{put_keeps, source_refused}
 use Rattle.art_keyed.proofs.map.texts.TreeMap+Escaped+V+P.get_text_or_insert_near.Goals as goal

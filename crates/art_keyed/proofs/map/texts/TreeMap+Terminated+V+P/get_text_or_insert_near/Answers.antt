@@ -4,7 +4,7 @@ use Rattle.std.specs.Option.{unwrap_or}
 use Rattle.art_keys.specs.Ended.{HasNoZero, ended}
 use Rattle.art_keys.specs.EndedLaws.{ended_no_prefixes}
 use Rattle.art_model.specs.Pairs.{of_key, put}
-use Rattle.art_map.specs.MapAnswers.{value_at}
+use Rattle.art_changing.specs.MapAnswers.{value_at}
 use Rattle.art_map.specs.MadeKeys.{IsSourceRefusal}
 use Rattle.art_map.specs.declared.map.to_key.MapSourceError.{MapSourceError}
 use Rattle.art_map.specs.declared.map.to_key.MapSourceError.TheVariants.{Insert, Memory, NoKey}

@@ -1,8 +1,8 @@
 use Rattle.std.proofs.Common.{ap, is_some, length, sym, ◌∙◌}
 use Rattle.std.specs.Option.{option_map}
 use Rattle.art_keys.specs.Ended.{ended}
-use Rattle.art_map.specs.MapAnswers.{value_at, with_value_at}
-use Rattle.art_map.proofs.MapPuts.{is_some-map}
+use Rattle.art_changing.specs.MapAnswers.{value_at, with_value_at}
+use Rattle.art_changing.proofs.MapPuts.{is_some-map}
 use Rattle.art_map.proofs.WrittenValues.{lends_same}
 use Rattle.art_keyed.proofs.LongestOf.{longest_cut, longest_key_is, longest_own}
 use Rattle.art_keyed.proofs.map.texts.TreeMap+Terminated+V+P.longest_match_mut.Goals as goal

@@ -1,0 +1,26 @@
+use Rattle.std.proofs.Common.{ap}
+use Rattle.art_model.specs.Pairs.{of_key, remove_key, remove_reply}
+use Rattle.art_writing.proofs.KeysFound.{removed_key, removes_none}
+use Rattle.art_changing.specs.MapPairs.{pairs_at}
+use Rattle.art_changing.proofs.MapPuts.{at_some}
+use Rattle.art_changing.proofs.Takings.{nothing_taken, point_taken}
+use Rattle.art_changing.proofs.remove.take_bytes.Goals as goal
+
+pub returns-in_default-search_for_delete_point_by-clause-taken : goal.returns-in_default-search_for_delete_point_by-clause-taken
+returns-in_default-search_for_delete_point_by-clause-taken g c =
+    let B = of_key g.K.AsBytes.bytes in
+    let key = g.B.KeyBytes.key c.args.bytes.now in
+    let pairs = pairs_at c.args.store.now c.args.root.now in
+    let has = at_some c.in-Some.is c.requires in
+    nothing_taken g.K.AsBytes.bytes g.row.P (remove_reply B key pairs)
+    (c.in_default-search_for_delete_point_by.ensures.point.point pairs has.layout has.by) (removes_none B key pairs) c.requires
+
+pub returns-clause-taken : goal.returns-clause-taken
+returns-clause-taken g c =
+    let B = of_key g.K.AsBytes.bytes in
+    let key = g.B.KeyBytes.key c.args.bytes.now in
+    let pairs = pairs_at c.args.store.now c.args.root.now in
+    let has = at_some c.in-Some.is c.requires in
+    point_taken g.K.AsBytes.bytes g.row.P (remove_reply B key pairs)
+    (c.in-Some-search_for_delete_point_by.ensures.point.point pairs has.layout has.by)
+    (λ x e. ap (λ k. remove_key B k pairs) (removed_key B key pairs x e)) (c.take_pair.ensures pairs has.layout has.by)

@@ -1,0 +1,3 @@
+pub mod MapPairs
+pub mod MapAnswers
+pub mod PairChanges

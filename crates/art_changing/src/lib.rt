@@ -1,0 +1,5 @@
+//! Puts and removals of pairs that a store, a root and a length stand for.
+#![tactic(auto)]
+
+pub mod insert;
+pub mod remove;

@@ -1,6 +1,0 @@
-use Rattle.std.proofs.Common.{arith}
-use Rattle.art_map.proofs.Ranges.{walk_full}
-use Rattle.art_map.proofs.map.iter.MapIterOf.new.Goals as goal
-
-pub returns-clause-fits : goal.returns-clause-fits
-returns-clause-fits g c = let full = walk_full c.requires in omega arith

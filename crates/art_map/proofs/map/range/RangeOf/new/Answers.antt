@@ -1,6 +1,0 @@
-use Rattle.std.proofs.Common.{arith}
-use Rattle.art_map.proofs.Ranges.{between_few}
-use Rattle.art_map.proofs.map.range.RangeOf.new.Goals as goal
-
-pub returns-clause-fits : goal.returns-clause-fits
-returns-clause-fits g c = let few = between_few _ _ _ c.requires in omega arith

@@ -1,6 +1,0 @@
-use Rattle.art_model.specs.Pairs.{of_key}
-use Rattle.art_map.proofs.ViewsOfPairs.{new_holds}
-use Rattle.art_map.proofs.map.remove.take_all.Goals as goal
-
-pub returns : goal.returns
-returns g c = new_holds c.clear.new.self c.clear.ensures.leaves c.clear.ensures.inners (of_key g.K.AsBytes.bytes) g.row.P

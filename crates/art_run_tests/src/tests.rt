@@ -1,0 +1,4 @@
+mod clones;
+mod kept_keys;
+mod minmax;
+mod run;
