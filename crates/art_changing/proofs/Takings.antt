@@ -80,19 +80,21 @@ module _ {A : Type 0} (bytes : A → List ℕ) where
   first_goes (y ∷ rest) x rising e =
       let same : y ≡ x = cc in subst (λ q. remove_key bytes (bytes q) (y ∷ rest) ≡ rest) same (first_is_removed_by_key bytes y rest rising)
 
-module _ {K V : Type 0} (bytes : K → List ℕ) (P : ℕ) {s t : Nodes K V} {name : OpaqueNodePtr} {root : Option OpaqueNodePtr} {len : ℕ}
-    {pairs left : List (K × V)} {layout : Tree OpaqueNodePtr (K × V)} where
+module _ {K V : Type 0} (bytes : K → List ℕ) (P : ℕ) (layout : Tree OpaqueNodePtr (K × V)) where
   -- a point takes the pair that is wanted, and leaves what is left without its key
-  pub point_taken : {point : DeletePoint} (wanted : Option (K × V)) {got : K × V} → IsDeletePoint layout wanted (Some point) →
+  pub point_taken : (pairs : List (K × V)) {left : List (K × V)} {t : Nodes K V} {root : Option OpaqueNodePtr} {len : ℕ} {got : K × V}
+      (point : DeletePoint) (wanted : Option (K × V)) → IsDeletePoint layout wanted (Some point) →
       ((x : K × V) → wanted ≡ Some x → remove_key (of_key bytes) (bytes x.0) pairs ≡ left) →
       ((x : K × V) → LeadsTo layout x point → HasTaken bytes P (Some x) (remove_key (of_key bytes) (bytes x.0) pairs) (Some got) t root len) →
       HasTaken bytes P wanted left (Some got) t root len
-  point_taken None leads same taken = absurd leads
-  point_taken (Some x) {got} leads same taken =
+  point_taken pairs point None leads same taken = absurd leads
+  point_taken pairs {t = t} {root = root} {len = len} {got = got} point (Some x) leads same taken =
       subst (λ rest. HasTaken bytes P (Some x) rest (Some got) t root len) (same x refl) (taken x leads)
 
   -- without a point no pair is wanted, and all are left
-  pub nothing_taken : (wanted : Option (K × V)) → IsDeletePoint layout wanted None → (wanted ≡ None → left ≡ pairs) →
-      HoldsPairs (of_key bytes) P s root len pairs → HasTaken bytes P wanted left None s root len
-  nothing_taken None none same holds = (subst (HoldsPairs (of_key bytes) P s root len) (sym (same refl)) holds, refl)
+  pub nothing_taken : {pairs left : List (K × V)} {s : Nodes K V} {root : Option OpaqueNodePtr} {len : ℕ} (wanted : Option (K × V)) →
+      IsDeletePoint layout wanted None → (wanted ≡ None → left ≡ pairs) → HoldsPairs (of_key bytes) P s root len pairs →
+      HasTaken bytes P wanted left None s root len
+  nothing_taken {s = s} {root = root} {len = len} None none same holds =
+      (subst (HoldsPairs (of_key bytes) P s root len) (sym (same refl)) holds, refl)
   nothing_taken (Some x) none same holds = absurd none

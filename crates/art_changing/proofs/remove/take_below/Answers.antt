@@ -12,7 +12,7 @@ returns-in_default-search_for_first_delete_point_below g c =
     let B = of_key g.K.AsBytes.bytes in
     let pairs = pairs_at c.args.store.now c.args.root.now in
     let has = at_some c.in-Some.is c.requires in
-    nothing_taken g.K.AsBytes.bytes g.row.P (first_of (below B c.args.prefix.now pairs))
+    nothing_taken g.K.AsBytes.bytes g.row.P has.layout (first_of (below B c.args.prefix.now pairs))
     (c.in_default-search_for_first_delete_point_below.ensures.point pairs has.layout has.by)
     (λ none. nothing_out B c.args.prefix.now pairs (sym none)) c.requires
 
@@ -21,6 +21,6 @@ returns g c =
     let B = of_key g.K.AsBytes.bytes in
     let pairs = pairs_at c.args.store.now c.args.root.now in
     let has = at_some c.in-Some.is c.requires in
-    point_taken g.K.AsBytes.bytes g.row.P (first_of (below B c.args.prefix.now pairs))
+    point_taken g.K.AsBytes.bytes g.row.P has.layout pairs c.in-Some-search_for_first_delete_point_below.point (first_of (below B c.args.prefix.now pairs))
     (c.in-Some-search_for_first_delete_point_below.ensures.point pairs has.layout has.by)
     (λ x e. (first_below B c.args.prefix.now pairs x has.by.is_map e).1) (c.take_pair.ensures pairs has.layout has.by)

@@ -12,7 +12,7 @@ returns-in_default-search_for_delete_point_by-clause-taken g c =
     let key = g.B.KeyBytes.key c.args.bytes.now in
     let pairs = pairs_at c.args.store.now c.args.root.now in
     let has = at_some c.in-Some.is c.requires in
-    nothing_taken g.K.AsBytes.bytes g.row.P (remove_reply B key pairs)
+    nothing_taken g.K.AsBytes.bytes g.row.P has.layout (remove_reply B key pairs)
     (c.in_default-search_for_delete_point_by.ensures.point.point pairs has.layout has.by) (removes_none B key pairs) c.requires
 
 pub returns-clause-taken : goal.returns-clause-taken
@@ -21,6 +21,6 @@ returns-clause-taken g c =
     let key = g.B.KeyBytes.key c.args.bytes.now in
     let pairs = pairs_at c.args.store.now c.args.root.now in
     let has = at_some c.in-Some.is c.requires in
-    point_taken g.K.AsBytes.bytes g.row.P (remove_reply B key pairs)
+    point_taken g.K.AsBytes.bytes g.row.P has.layout pairs c.in-Some-search_for_delete_point_by.point (remove_reply B key pairs)
     (c.in-Some-search_for_delete_point_by.ensures.point.point pairs has.layout has.by)
     (λ x e. ap (λ k. remove_key B k pairs) (removed_key B key pairs x e)) (c.take_pair.ensures pairs has.layout has.by)

@@ -12,5 +12,5 @@ pub returns : goal.returns
 returns g c =
     let pairs = pairs_at c.args.store.now c.args.root.now in
     let has = at_some c.in-Some.is c.requires in
-    point_taken g.K.AsBytes.bytes g.row.P (first_of pairs) (c.find_minimum_to_delete-point.ensures.point pairs has.layout has.by)
+    point_taken g.K.AsBytes.bytes g.row.P has.layout pairs c.find_minimum_to_delete-point.result (first_of pairs) (c.find_minimum_to_delete-point.ensures.point pairs has.layout has.by)
     (λ x e. first_goes (of_key g.K.AsBytes.bytes) pairs x has.by.is_map e) (c.take_pair.ensures pairs has.layout has.by)
