@@ -50,7 +50,7 @@ ordered_some Falling xs h = λ e. h (sym (reverse-reverse xs) ∙ ap reverse e)
 pub record IsRow (s : Nodes Key ℕ) (order : Order) (walk : Option (LeafPtr × LeafPtr)) (pairs : List (Key × ℕ)) (written : ℕ)
     (old new : Option (List ℕ)) : Type 0 where
   pub len : ℕ
-  walk_is : IsWalk s walk len
+  pub walk_is : IsWalk s walk len
   pub done : List (Key × ℕ)
   pub are : in_order order pairs ≡ done ++ in_order order (pairs_left s walk len)
   pub count : written ≡ length done

@@ -124,7 +124,7 @@ module _ {K V F : Type 0} (bytes : K → List ℕ) (P : ℕ) (calls : F → K ×
     pub seen : List (K × V)
     pub done : List (K × V)
     pub first_is : first ≡ seen ++ left
-    now_is : filter (λ x. test (bytes x.0)) now ≡ done ++ left
+    pub now_is : filter (λ x. test (bytes x.0)) now ≡ done ++ left
     pub others : filter (λ x. not (test (bytes x.0))) now ≡ filter (λ x. not (test (bytes x.0))) before
     pub changed : ChangesBy calls began seen done f
 

@@ -41,7 +41,7 @@ pub use Rattle.art_keys.specs.NumberLaws.{number_back, numbers_come_back, signed
 pub use Rattle.art_keyed.proofs.KeyedLaws.{other_keys_kept, others_by_put, others_by_removal, others_by_write, put_counted, removal_counted}
 
 -- keys whose bytes have one length never conflict
-same_length_free : {K V : Type 0} (bytes : K → List ℕ) (n : ℕ) (key : K) (pairs : List (K × V)) → length (bytes key) ≡ n →
+pub same_length_free : {K V : Type 0} (bytes : K → List ℕ) (n : ℕ) (key : K) (pairs : List (K × V)) → length (bytes key) ≡ n →
     Each (λ x. length (bytes x.0) ≡ n) pairs →
     is_conflict (of_key bytes) (bytes key) pairs ≡ false
 same_length_free {K} {V} bytes n =

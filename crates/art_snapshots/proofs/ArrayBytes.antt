@@ -11,7 +11,7 @@ own_bytes (suc count) [] all = absurd (omega (arith, all))
 own_bytes (suc count) (byte ∷ bytes) all = ap (λ rest. byte ∷ rest) (own_bytes count bytes (omega (arith, all)))
 
 -- they are so many
-count_bytes : (count : ℕ) (bytes : List ℕ) → length (array_bytes count bytes) ≡ count
+pub count_bytes : (count : ℕ) (bytes : List ℕ) → length (array_bytes count bytes) ≡ count
 unfolding array_bytes
 count_bytes zero bytes = refl
 count_bytes (suc count) [] = ap suc (count_bytes count [])

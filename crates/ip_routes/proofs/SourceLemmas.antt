@@ -59,13 +59,13 @@ module _ (text line : List ℕ) where
     abbrev new_route : Route
     new_route = record { network = source.network; line = line; number = source.number }
 
-    routes_more : routes_of (text ++ line) (sources ++ source ∷ []) ≡ routes_of text sources ++ new_route ∷ []
+    pub routes_more : routes_of (text ++ line) (sources ++ source ∷ []) ≡ routes_of text sources ++ new_route ∷ []
     routes_more =
         map-append (route_of (text ++ line)) sources (source ∷ [])
         ∙ ap₂ (λ rs l. rs ++ record { network = source.network; line = l; number = source.number } ∷ [])
         (routes_stay sources are.places) (ap (line_at (text ++ line)) place_is ∙ new_line)
 
-    are_more : IsNetwork source.network → length text + length line < 2 ^ 32 → length sources + 1 < 2 ^ 32 →
+    pub are_more : IsNetwork source.network → length text + length line < 2 ^ 32 → length sources + 1 < 2 ^ 32 →
         AreSources (text ++ line) (sources ++ source ∷ [])
     are_more network bytes lines = record {
       networks =

@@ -38,9 +38,9 @@ module _ (byte : ℕ) where
 
 -- a byte that is no digit, no dot and no colon
 pub record IsOther (byte : ℕ) : Type 0 where
-  no_digit : ¬ (digit_value byte < 16)
-  no_dot : 46 ≢ byte
-  no_colon : 58 ≢ byte
+  pub no_digit : ¬ (digit_value byte < 16)
+  pub no_dot : 46 ≢ byte
+  pub no_colon : 58 ≢ byte
 
 space_is_other : IsOther 32
 space_is_other = record { no_digit = λ h. omega (arith, h); no_dot = λ e. omega (arith, e); no_colon = λ e. omega (arith, e) }

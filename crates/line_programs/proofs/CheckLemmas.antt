@@ -77,7 +77,7 @@ module _ {Fault : Type 0} (IsFault : List (ℕ × List ℕ) → List ℕ → Fau
     told = λ text texts. appends_none old;
   }
 
-  checked_more : (Has Then : List (ℕ × List ℕ) → Type 0) (es others : List (ℕ × List ℕ)) (whole fine all : Bool) (old now new : Option (List ℕ)) →
+  pub checked_more : (Has Then : List (ℕ × List ℕ) → Type 0) (es others : List (ℕ × List ℕ)) (whole fine all : Bool) (old now new : Option (List ℕ)) →
       AreChecked IsFault output place Has [] es whole old now →
       ((before : List (ℕ × List ℕ)) → Has before → AreChecked IsFault output place Then before others fine now new) → all ≡ (whole && fine) →
       AreChecked IsFault output place Then [] (es ++ others) all old new

@@ -6,7 +6,7 @@ use Rattle.std.specs.List.{slice_get}
 use Rattle.line_programs.specs.Entries.{entries, trimmed, trimmed_entry, unless_comment, with_entry}
 
 -- what is left of a line without white space
-trimmed_is : (line rest : List ℕ) → IsTrimAscii line rest → rest ≡ trimmed line
+pub trimmed_is : (line rest : List ℕ) → IsTrimAscii line rest → rest ≡ trimmed line
 trimmed_is line rest h = trim_ascii_is line rest _ refl h
 
 -- entries of lines, and then those of more

@@ -36,7 +36,7 @@ where_is a b i =
 -- both directions stay inverse if one is swapped at two indexes, and the other at what it has there
 module _ (n : ℕ) (f g f' g' : ℕ → ℕ) (a b : ℕ) (a_fits : a < n) (b_fits : b < n) (back : LeadsBack n f g)
     (there : Swapped f f' a b) (here : Swapped g g' (f a) (f b)) where
-  still_back : LeadsBack n f' g'
+  pub still_back : LeadsBack n f' g'
   still_back i fits = go (where_is a b i)
     where
       go : Where a b i → (f' i < n) × (g' (f' i) ≡ i)
@@ -55,7 +55,7 @@ module _ (n : ℕ) (f g f' g' : ℕ → ℕ) (a b : ℕ) (a_fits : a < n) (b_fit
 -- values follow where they come from
 module _ {V : Type 0} (n : ℕ) (old vs vs' : ℕ → V) (f f' : ℕ → ℕ) (a b : ℕ) (a_fits : a < n) (b_fits : b < n)
     (are : (i : ℕ) → i < n → vs i ≡ old (f i)) (moved : Swapped vs vs' a b) (there : Swapped f f' a b) where
-  still_are : (i : ℕ) → i < n → vs' i ≡ old (f' i)
+  pub still_are : (i : ℕ) → i < n → vs' i ≡ old (f' i)
   still_are i fits = go (where_is a b i)
     where
       go : Where a b i → vs' i ≡ old (f' i)
@@ -70,7 +70,7 @@ pub record IsArrangedTo {V : Type 0} (places : List ℕ) (old now : List V) (ori
   pub many_indexes : length indexes ≡ length places
   pub back : LeadsBack (length places) (λ k. slice_index origins k) (λ k. slice_index indexes k)
   pub forth : LeadsBack (length places) (λ k. slice_index indexes k) (λ k. slice_index origins k)
-  values_are : (d : V) (k : ℕ) → k < length places → slice_index_or now k d ≡ slice_index_or old (slice_index origins k) d
+  pub values_are : (d : V) (k : ℕ) → k < length places → slice_index_or now k d ≡ slice_index_or old (slice_index origins k) d
   pub done : (k : ℕ) → k < at → slice_index origins k ≡ slice_index places k
 
 module _ {V : Type 0} (places : List ℕ) (old : List V) where

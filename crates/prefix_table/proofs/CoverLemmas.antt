@@ -78,7 +78,7 @@ later_is_longer m n a before h k =
     ]
 
 -- the last address of a network is one of its version
-last_fits : (n : Network) → IsNetwork n → n.number + (2 ^ host_bits n - 1) < 2 ^ width n.version
+pub last_fits : (n : Network) → IsNetwork n → n.number + (2 ^ host_bits n - 1) < 2 ^ width n.version
 last_fits n is =
     let all : width n.version ≡ n.length + host_bits n = let fits = is.length_fits in omega arith in
     let prefix : n.number / 2 ^ host_bits n < 2 ^ n.length =

@@ -88,7 +88,7 @@ before_another a b up other = record {
       ];
 }
 
-precedes_further : (a b c : Network) → Precedes a b → Precedes b c → Precedes a c
+pub precedes_further : (a b c : Network) → Precedes a b → Precedes b c → Precedes a c
 precedes_further a b c h k =
     let v = h.version in
     let w = k.version in

@@ -23,7 +23,7 @@ use Rattle.prefix_table.proofs.NetworkTables.{length-entries}
 
 module _ {V : Type 0} where
   -- the network of an entry, whatever the default
-  network_in_is : (entries : List (Network × V)) (k : ℕ) (d : Network × V) → k < length entries →
+  pub network_in_is : (entries : List (Network × V)) (k : ℕ) (d : Network × V) → k < length entries →
       (slice_index_or entries k d).0 ≡ network_in entries k
   network_in_is entries k d h = sym (get_or-map (λ entry. entry.0) entries k d no_network h)
 

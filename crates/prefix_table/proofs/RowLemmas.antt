@@ -98,14 +98,14 @@ rows_from-push place (x ∷ ss) (y ∷ rs) s r e =
     ap (λ rows. row_from place x y ∷ rows)
     (rows_from-push (place + 1) ss rs s r (omega (arith, e)) ∙ ap (λ p. rows_from (place + 1) ss rs ++ row_from p s r ∷ []) same)
 
-rows-push : (starts : List Address) (rests : List Rest) (s : Address) (r : Rest) → length starts ≡ length rests →
+pub rows-push : (starts : List Address) (rests : List Rest) (s : Address) (r : Rest) → length starts ≡ length rests →
     rows_of (starts ++ s ∷ []) (rests ++ r ∷ []) ≡ rows_of starts rests ++ row_from (length rests) s r ∷ []
 rows-push starts rests s r e =
     let same : 0 + length rests ≡ length rests = omega arith in
     rows_from-push 0 starts rests s r e ∙ ap (λ p. rows_of starts rests ++ row_from p s r ∷ []) same
 
 module _ (starts : List Address) (rests : List Rest) (rows : AreRows starts rests) where
-  network_at_rows : (k : ℕ) → k < length rests → network_of (row_at (rows_of starts rests) k) ≡ network_at starts rests k
+  pub network_at_rows : (k : ℕ) → k < length rests → network_of (row_at (rows_of starts rests) k) ≡ network_at starts rests k
   network_at_rows k h = ap network_of (at_rows starts rests k rows.lengths h)
 
   start_at_rows : (k : ℕ) → k < length rests → start_of (network_of (row_at (rows_of starts rests) k)) ≡ start_at starts k
@@ -174,7 +174,7 @@ module _ (starts : List Address) (rests : List Rest) (rows : AreRows starts rest
     where_is k h =
         elim (cases_lt k (length rests)) [ inl below ↦ inl below | inr late ↦ let many = many_more in inr (omega arith) ]
 
-    one_row_more : IsNetwork (network_from s r) → ((k : ℕ) → k < length rests → Precedes (network_at starts rests k) (network_from s r)) →
+    pub one_row_more : IsNetwork (network_from s r) → ((k : ℕ) → k < length rests → Precedes (network_at starts rests k) (network_from s r)) →
         IsLastOf starts rests s (length rests) r.around → length rests + 1 < 2 ^ 32 → AreRows Starts Rests
     one_row_more network order around few = record {
       lengths = let many = many_more in let other = length-append starts (s ∷ []) in omega (arith, rows.lengths);
@@ -237,7 +237,7 @@ module _ (starts : List Address) (rests : List Rest) (rows : AreRows starts rest
 
   -- ---- the first rows of a list
   module _ (all : List Row) (i : ℕ) (fits : i < length all) (made : rows_of starts rests ≡ take i all) where
-    so_many : length rests ≡ i
+    pub so_many : length rests ≡ i
     so_many =
         sym (length-rows starts rests rows.lengths) ∙ ap length made ∙ length-take-le i all (omega arith)
 

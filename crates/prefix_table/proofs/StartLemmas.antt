@@ -13,18 +13,18 @@ module _ (four six : List ℕ) where
   abbrev Starts : List Address
   Starts = starts_of four six
 
-  length-starts : length Starts ≡ length four + length six
+  pub length-starts : length Starts ≡ length four + length six
   length-starts =
       length-append (of_version 4 four) (of_version 6 six)
       ∙ ap₂ (λ m n. m + n) (length-map four (λ n. record { number = n; version = 4 })) (length-map six (λ n. record { number = n; version = 6 }))
 
-  at_four : (k d : ℕ) → k < length four → start_at Starts k ≡ record { number = get_or four k d; version = 4 }
+  pub at_four : (k d : ℕ) → k < length four → start_at Starts k ≡ record { number = get_or four k d; version = 4 }
   at_four k d h =
       get_or-append (of_version 4 four) (of_version 6 six) (record { number = 0; version = 0 }) k
       (subst (λ n. k < n) (sym (length-map four (λ n. record { number = n; version = 4 }))) h)
       ∙ get_or-map (λ n. record { number = n; version = 4 }) four k d (record { number = 0; version = 0 }) h
 
-  at_six : (k d : ℕ) → k < length six → start_at Starts (length four + k) ≡ record { number = get_or six k d; version = 6 }
+  pub at_six : (k d : ℕ) → k < length six → start_at Starts (length four + k) ≡ record { number = get_or six k d; version = 6 }
   at_six k d h =
       ap (λ n. start_at Starts (n + k)) (sym (length-map four (λ n. record { number = n; version = 4 })))
       ∙ get_or-append-add (of_version 4 four) (of_version 6 six) k (record { number = 0; version = 0 })

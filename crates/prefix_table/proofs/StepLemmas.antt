@@ -26,7 +26,7 @@ differ_later k a b same =
     omega arith
 
 -- a number of few bits begins with zeros
-begins_with_zeros : (k n : ℕ) → k ≤ 128 → n < 2 ^ k → 128 - k ≤ leading_zeros w128 n
+pub begins_with_zeros : (k n : ℕ) → k ≤ 128 → n < 2 ^ k → 128 - k ≤ leading_zeros w128 n
 begins_with_zeros k n fits small =
     let more = pow-le-pow_right {n = 2} (omega arith) {i = k} {j = 128} fits in
     let (m, all, below, above) = leading_length 128 n (omega arith) in
@@ -47,7 +47,7 @@ shares width length a b wide fits same =
 module _ (last : Network) (address : Address) (length : ℕ) (up : IsUpToNetwork last (cut address length)) (fits : length ≤ width address.version)
     (network : Network) (covers : covers_at network address ≡ true) (short : network.length ≤ length) (before : IsUpToNetwork network last) where
   -- a network that covers the address covers where the last one starts
-  covers_last : covers_at network (start_of last) ≡ true
+  pub covers_last : covers_at network (start_of last) ≡ true
   covers_last =
       let less = div-mul-le_self address.number (2 ^ (width address.version - length)) in
       covers_between network (start_of last) address

@@ -5,7 +5,7 @@ use Rattle.std.proofs.Math.Seq.{take-length, take-suc}
 use Rattle.std.proofs.lemmas.Slice.Zip.{AllZip-long, all_zipped_more}
 
 module _ {A B : Type 0} (Is : A → B → Type 0) (all : List A) where
-  none_yet : (items : List B) → items ≡ [] → AllZip Is (take 0 all) items
+  pub none_yet : (items : List B) → items ≡ [] → AllZip Is (take 0 all) items
   none_yet items none = subst (AllZip Is []) (sym none) tt
 
   pub one_more : (index : ℕ) (default : A) (items next : List B) (item : B) → index < length all → AllZip Is (take index all) items →

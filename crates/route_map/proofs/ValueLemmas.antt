@@ -39,7 +39,7 @@ pub is_key_of : (version : ℕ) (network : Network) → network.version ≡ vers
 is_key_of version network v is = subst IsNetwork (its_own version network v) is
 
 -- what is of another version is passed over
-skips_others : {V : Type 0} (network : Network) (other : ℕ) (pairs : List ((ℕ × ℕ) × V)) (rest : List (Network × V)) →
+pub skips_others : {V : Type 0} (network : Network) (other : ℕ) (pairs : List ((ℕ × ℕ) × V)) (rest : List (Network × V)) →
     network.version ≢ other → value_of network (map (entry_of other) pairs ++ rest) ≡ value_of network rest
 skips_others network other [] rest off = refl
 skips_others network other (pair ∷ pairs) rest off = rw (ne_eqb network.version other off) (skips_others network other pairs rest off)
@@ -77,7 +77,7 @@ module _ {V : Type 0} (version : ℕ) (bytes : ℕ × ℕ → List ℕ) (law : A
       go false h = rw (same_bytes version bytes law network v is pair.0 known ∙ h, h) same
 
   -- the value of the network is that of its key
-  value_of_key : (pairs : List ((ℕ × ℕ) × V)) (rest : List (Network × V)) → HaveKeys (IsKeyOf version) pairs → value_of network rest ≡ None →
+  pub value_of_key : (pairs : List ((ℕ × ℕ) × V)) (rest : List (Network × V)) → HaveKeys (IsKeyOf version) pairs → value_of network rest ≡ None →
       value_of network (map (entry_of version) pairs ++ rest) ≡ value_at bytes (bytes (key_of network)) pairs
   value_of_key [] rest keys none = none
   value_of_key (pair ∷ pairs) rest keys none = value_step pair pairs rest keys.0 (value_of_key pairs rest keys.1 none)
@@ -101,20 +101,20 @@ four_fits key is = let number = is.number_fits in let long = is.length_fits in (
 six_fits : (key : ℕ × ℕ) → IsKeyOf 6 key → AreKeys (HasBytes 16) (HasBytes 1) key
 six_fits key is = let number = is.number_fits in let long = is.length_fits in (omega arith, omega arith)
 
-four_law : AreInjective (IsKeyOf 4) (bytes_of 4)
+pub four_law : AreInjective (IsKeyOf 4) (bytes_of 4)
 four_law a b of_a of_b same = joined_law 4 a b (four_fits a of_a) (four_fits b of_b) same
 
-six_law : AreInjective (IsKeyOf 6) (bytes_of 16)
+pub six_law : AreInjective (IsKeyOf 6) (bytes_of 16)
 six_law a b of_a of_b same = joined_law 16 a b (six_fits a of_a) (six_fits b of_b) same
 
 many_bytes : (count : ℕ) (key : ℕ × ℕ) → length (bytes_of count key) ≡ count + 1
 many_bytes count key =
     length-append (bytes_high_first count key.0) (bytes_high_first 1 key.1) ∙ ap₂ (λ m n. m + n) (length-bytes count key.0) (length-bytes 1 key.1)
 
-four_stored : (key : ℕ × ℕ) → IsKeyOf 4 key → IsStored 4 5 key
+pub four_stored : (key : ℕ × ℕ) → IsKeyOf 4 key → IsStored 4 5 key
 four_stored key is = (four_fits key is, many_bytes 4 key)
 
-six_stored : (key : ℕ × ℕ) → IsKeyOf 6 key → IsStored 16 17 key
+pub six_stored : (key : ℕ × ℕ) → IsKeyOf 6 key → IsStored 16 17 key
 six_stored key is = (six_fits key is, many_bytes 16 key)
 
 module _ {V : Type 0} (network : Network) (is : IsNetwork network) where

@@ -47,7 +47,7 @@ module _ (parts : List ℕ → List (List ℕ)) where
       }
 
   -- where there is no further part
-  parts_end : (Holds All : List (List ℕ) → Type 0) (text left next : Option (List ℕ)) (number : ℕ) (part : List ℕ) →
+  pub parts_end : (Holds All : List (List ℕ) → Type 0) (text left next : Option (List ℕ)) (number : ℕ) (part : List ℕ) →
       IfSome text (λ bs. ArePartsReadTo Holds bs left number) →
       IfSome left (λ bs. IsPartRead parts false bs part next) → ((ls : List (List ℕ)) → Holds ls → All ls) → IfSome text (λ bs. All (parts bs))
   parts_end Holds All None left next number part h read all = tt

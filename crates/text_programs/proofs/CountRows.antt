@@ -47,12 +47,12 @@ all_gapless : (bytes : List ℕ) → Each (λ byte. is_gap byte ≡ false) bytes
 all_gapless [] h = refl
 all_gapless (b ∷ bytes) h = rw h.0 (all_gapless bytes h.1)
 
-is_a_word : (bytes : List ℕ) → IsWord bytes → is_word bytes ≡ true
+pub is_a_word : (bytes : List ℕ) → IsWord bytes → is_word bytes ≡ true
 is_a_word [] h = absurd (false≢true h.0)
 is_a_word (b ∷ bytes) h = and_from _ _ (ap not (ne_eqb (length (b ∷ bytes)) 0 (λ z. omega arith))) (all_gapless (b ∷ bytes) h.1)
 
 -- the number and the word of a line are those before and after its first space
-row_parts : (digits word : List ℕ) (count : List ℕ × ℕ) → HasNoSpace digits → IsCount count → digits ++ 32 ∷ word ≡ row_of count →
+pub row_parts : (digits word : List ℕ) (count : List ℕ × ℕ) → HasNoSpace digits → IsCount count → digits ++ 32 ∷ word ≡ row_of count →
     (digits ≡ decimal count.1) × (word ≡ count.0)
 row_parts digits word count plain is e = same_words digits word (decimal count.1) count.0 plain (digits_spaceless count.1 is.2) e
 
@@ -72,7 +72,7 @@ module _ (line digits word : List ℕ) (is : line ≡ digits ++ 32 ∷ word) (pl
       false≢true (sym (none (omega (arith, n, c.1))) ∙ is_a_word word (subst IsWord (sym both.1) c.0))
 
 -- so a line is that of one count
-row_injective : (a b : List ℕ × ℕ) → IsCount a → IsCount b → row_of a ≡ row_of b → a ≡ b
+pub row_injective : (a b : List ℕ × ℕ) → IsCount a → IsCount b → row_of a ≡ row_of b → a ≡ b
 row_injective a b h k e =
     let parts = row_parts (decimal a.1) a.0 b (digits_spaceless a.1 h.2) k e in
     ap₂ (λ w n. (w, n)) parts.1 (decimal_injective a.1 b.1 h.2 k.2 parts.0)

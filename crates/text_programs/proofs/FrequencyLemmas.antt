@@ -169,7 +169,7 @@ module _ {X : Type 0} (count : X → List ℕ × ℕ) where
 
 module _ {X : Type 0} (count : X → List ℕ × ℕ) where
   -- the first rows are the first counts
-  first_rows : (most : ℕ) (rows : List X) → map count (take most rows) ≡ take most (map count rows)
+  pub first_rows : (most : ℕ) (rows : List X) → map count (take most rows) ≡ take most (map count rows)
   first_rows zero rows = refl
   first_rows (suc most) [] = refl
   first_rows (suc most) (x ∷ xs) = ap (λ ys. count x ∷ ys) (first_rows most xs)

@@ -17,7 +17,7 @@ zip_routes (route ∷ routes) = ap (λ others. route ∷ others) (zip_routes rou
 abbrev AreUpTo : IpAddr → ℕ → List (Network × ℕ) → Type 0
 AreUpTo address most routes = All (λ route. covers route.0 address ≡ true → route.0.length ≤ most) routes
 
-none_is_longer : (address : IpAddr) (most : ℕ) (routes : List (Network × ℕ)) → IsLongestMatch routes address None →
+pub none_is_longer : (address : IpAddr) (most : ℕ) (routes : List (Network × ℕ)) → IsLongestMatch routes address None →
     AreUpTo address most routes
 none_is_longer address most routes none =
     All-weaker (λ route. covers route.0 address ≡ false) (λ route. covers route.0 address ≡ true → route.0.length ≤ most)
