@@ -96,7 +96,7 @@ module _ {A : Type 0} {bytes : A → List ℕ} {P : ℕ} {key : List ℕ} {tree 
           go (inr short) = read_end short
           go (inl less) =
               let within = front_short key query along in
-              pub read_gap (get_or query (depth + shown.prefix.len) 0) next_byte
+              read_gap (get_or query (depth + shown.prefix.len) 0) next_byte
               (unmapped _ (child_at shown.children (get_or query (depth + shown.prefix.len) 0)) (sym (step.below (omega arith)) ∙ none))
 
       -- the first text is found
