@@ -48,8 +48,10 @@ impl<K, V> MapInsertError<K, V> {
 }
 
 /// Inserts a pair. An equal stored key stays and gets the value, and the key that was passed is returned with the old
-/// value. If a pair was inserted where there were others, or a value was, `near` is then the name of the key's leaf. An
-/// error returns the pair, and no pair changes. It is one descent along the bytes of the key.
+/// value. An error returns the pair, and no pair changes. It is one descent along the bytes of the key.
+///
+/// `near` is set to the name of the key's leaf where the tree had a pair before: a hint of where to begin next time, of
+/// which no clause speaks.
 pub fn put_in<K: AsBytes + Drop, V: Drop, const P: usize>(
     store: &mut NodeStore<K, V, P>,
     root: &mut Option<OpaqueNodePtr>,
@@ -101,7 +103,8 @@ pub fn without_memory<K, V>(refused: PairRefused<K, V>) -> MapInsertError<K, V>
 }
 
 /// Inserts a pair in place of all pairs with related keys: its own, those in front of it and those that start with it.
-/// Returns how many there were. An error returns the pair, and no pair changes. It descends once, and frees what gave way.
+/// Returns how many there were. An error returns the pair, and no pair changes. It descends once, and frees what it
+/// replaces.
 pub fn put_over<K: AsBytes + Drop, V: Drop, const P: usize>(
     store: &mut NodeStore<K, V, P>,
     root: &mut Option<OpaqueNodePtr>,

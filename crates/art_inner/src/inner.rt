@@ -1,8 +1,6 @@
 //! Inner nodes of each kind.
 ghost use Rattle.std.specs.Prelude.{◌≡◌, ◌-◌, ◌<◌, ◌≤◌, min, length, slice_get, Some, All, IsTrue, ◌↔◌, ⊤};
 ghost use Rattle.art_inner.specs.InnerChanges.{with_child, without_child, with_header};
-ghost use Rattle.art_inner.specs.InnerRenamed.{inner_renamed};
-ghost use Rattle.art_inner.specs.NewNames.{new_name};
 ghost use Rattle.art_inner.specs.Inner.{HasPlace, Inner, IsRising, child_at, childless, children_between};
 ghost use Rattle.art_parts.specs.Headers.{Prefix};
 ghost use Rattle.art_inner.specs.Views.{any_kind, any_view};
@@ -57,10 +55,6 @@ pub trait InnerNode<const P: usize>: FromHeader<Header<P>> {
     fn remove_child(&mut self, byte: u8) -> Option<OpaqueNodePtr>
         ensures removed { result ≡ child_at (view_of self.old).children byte }
         ensures rest { view_of self.new ≡ without_child byte (view_of self.old) };
-
-    /// Renames the children that are leaves by a table of slots. It costs a step for each place of the node.
-    fn rename_leaves(&mut self, table: &[u32])
-        ensures { view_of self.new ≡ inner_renamed (new_name table.now) (view_of self.old) };
 
     fn into_any(self) -> AnyInner<P>
         ensures kind { any_kind result ≡ TYPE }
@@ -266,10 +260,6 @@ impl<T: KindTable, const P: usize> InnerNode<P> for InnerNodeOf<Header<P>, T> {
     #[inline(always)]
     fn remove_child(&mut self, byte: u8) -> Option<OpaqueNodePtr> {
         self.table.remove(byte)
-    }
-
-    fn rename_leaves(&mut self, table: &[u32]) {
-        self.table.rename_leaves(table)
     }
 
     fn into_any(self) -> AnyInner<P> {

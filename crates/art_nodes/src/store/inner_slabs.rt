@@ -161,7 +161,7 @@ impl<const P: usize> InnerSlabs<P> {
         ensures fresh { map.get (inners_of self.old) result ≡ None }
         ensures rooms { HasInnerRoom self.new None }
     {
-        insert_in(&mut self.node4, node)
+        insert_in(&mut self.node4, NodeType::Node4, node)
     }
 
     #[inline(always)]
@@ -174,10 +174,10 @@ impl<const P: usize> InnerSlabs<P> {
         ensures rooms { HasInnerRoom self.new None }
     {
         match node {
-            AnyInner::Node4(node) => insert_in(&mut self.node4, node),
-            AnyInner::Node16(node) => insert_in(&mut self.node16, node),
-            AnyInner::Node48(node) => insert_in(&mut self.node48, node),
-            AnyInner::Node256(node) => insert_in(&mut self.node256, node),
+            AnyInner::Node4(node) => insert_in(&mut self.node4, NodeType::Node4, node),
+            AnyInner::Node16(node) => insert_in(&mut self.node16, NodeType::Node16, node),
+            AnyInner::Node48(node) => insert_in(&mut self.node48, NodeType::Node48, node),
+            AnyInner::Node256(node) => insert_in(&mut self.node256, NodeType::Node256, node),
         }
     }
 

@@ -13,8 +13,9 @@ ghost use Rattle.art_parts.specs.declared.names.NodeType.{NodeType};
 ghost use Rattle.art_parts.specs.declared.names.NodeType.TheVariants.{Node4, Node16, Node48, Node256};
 ghost use Rattle.art_nodes.specs.Nodes.{take_inner};
 
+use super::room::insert_in;
 use super::{InnerSlabs, NodeStore, is_promised};
-use crate::node::{AsBytes, Header, InnerNode, InnerPtr, InnerRef, NodeType, OpaqueNodePtr};
+use crate::node::{AsBytes, Header, InnerPtr, InnerRef, NodeType, OpaqueNodePtr};
 use art_inner::resized::{Grows, Shrinks};
 use slab::Slab;
 
@@ -80,7 +81,7 @@ impl<const P: usize> InnerSlabs<P> {
 // Removes a node from its slot, and inserts the grown one, with a further child, into another slab. A call fills the
 // room for its locals with zeros, so that each kind has a call of its own.
 #[inline(never)]
-fn grow<N: Grows<P>, const P: usize>(
+fn grow<N: Grows>(
     from: &mut Slab<N>,
     to: &mut Slab<N::Larger>,
     slot: u32,
@@ -88,49 +89,41 @@ fn grow<N: Grows<P>, const P: usize>(
     child: OpaqueNodePtr,
 ) -> InnerPtr
     requires node { IsSomeAnd (slab.get from.old slot) (λ node.
-        HasPlace (kind_capacity N.Larger.TYPE) (N.view_of node).children byte) }
+        HasPlace (kind_capacity N.LARGER) (N.view_of node).children byte) }
     requires room { HasRoomFor to.old 1 }
     requires few { to.old.capacity ≤ 2 ^ 32 }
     ensures gone { Updates from.old from.new slot None }
-    ensures put { IsSomeAnd (slab.get from.old slot) (λ node. IsMadeOf N.Larger.view_of
+    ensures put { IsSomeAnd (slab.get from.old slot) (λ node. IsMadeOf N.view_of_larger
         to.old to.new result.slot (with_child byte child (N.view_of node))) }
-    ensures kind { result.kind ≡ N.Larger.TYPE }
+    ensures kind { result.kind ≡ N.LARGER }
     ensures fewer { IsOneFewer from.old from.new }
     ensures more { IsOneMore to.old to.new }
 {
-    let mut node = from.remove(slot as usize).grown();
-    node.write_child(byte, child);
-    InnerPtr {
-        kind: N::Larger::TYPE,
-        slot: to.insert_reserved(node) as u32,
-    }
+    let node = from.remove(slot as usize).grown_with(byte, child);
+    insert_in(to, N::LARGER, node)
 }
 
 // Removes a node from its slot, and inserts the shrunk one, without the child under a byte, into another slab.
 #[inline(never)]
-fn shrink<N: Shrinks<P>, const P: usize>(
+fn shrink<N: Shrinks>(
     from: &mut Slab<N>,
     to: &mut Slab<N::Smaller>,
     slot: u32,
     byte: u8,
 ) -> InnerPtr
     requires fit { IsSomeAnd (slab.get from.old slot) (λ node.
-        length (without_child byte (N.view_of node)).children ≤ kind_capacity N.Smaller.TYPE) }
+        length (without_child byte (N.view_of node)).children ≤ kind_capacity N.SMALLER) }
     requires room { HasRoomFor to.old 1 }
     requires few { to.old.capacity ≤ 2 ^ 32 }
     ensures gone { Updates from.old from.new slot None }
-    ensures put { IsSomeAnd (slab.get from.old slot) (λ node. IsMadeOf N.Smaller.view_of
+    ensures put { IsSomeAnd (slab.get from.old slot) (λ node. IsMadeOf N.view_of_smaller
         to.old to.new result.slot (without_child byte (N.view_of node))) }
-    ensures kind { result.kind ≡ N.Smaller.TYPE }
+    ensures kind { result.kind ≡ N.SMALLER }
     ensures fewer { IsOneFewer from.old from.new }
     ensures more { IsOneMore to.old to.new }
 {
-    let mut node = from.remove(slot as usize);
-    node.remove_child(byte);
-    InnerPtr {
-        kind: N::Smaller::TYPE,
-        slot: to.insert_reserved(node.shrunk()) as u32,
-    }
+    let node = from.remove(slot as usize).shrunk_without(byte);
+    insert_in(to, N::SMALLER, node)
 }
 
 // Removes a value from its slot, and drops it.

@@ -3,7 +3,7 @@ ghost use Rattle.std.specs.Prelude.{◌≡◌, ◌+◌, ◌<◌, ◌≤◌, ◌^
 ghost use Rattle.slab.specs.Slab.{HasRoomFor, Updates, get, slab_len};
 ghost use Rattle.art_nodes.specs.Replacing.{AreSame, IsOneMore, IsWider};
 
-use crate::node::{InnerNode, InnerPtr};
+use crate::node::{InnerPtr, NodeType};
 use slab::Slab;
 use std::alloc::AllocError;
 
@@ -11,16 +11,16 @@ use std::alloc::AllocError;
 pub(super) const MOST_SLOTS: usize = 4_294_967_296;
 
 // Inserts a node into the slab of its kind.
-pub(super) fn insert_in<N: InnerNode<P>, const P: usize>(slab: &mut Slab<N>, node: N) -> InnerPtr
+pub(super) fn insert_in<N: Drop>(slab: &mut Slab<N>, kind: NodeType, node: N) -> InnerPtr
     requires room { HasRoomFor slab.old 1 }
     requires few { slab.old.capacity ≤ 2 ^ 32 }
-    ensures kind { result.kind ≡ N.TYPE }
+    ensures kind { result.kind ≡ kind }
     ensures vacant { get slab.old result.slot ≡ None }
     ensures put { Updates slab.old slab.new result.slot (Some node) }
     ensures more { IsOneMore slab.old slab.new }
 {
     InnerPtr {
-        kind: N::TYPE,
+        kind,
         slot: slab.insert_reserved(node) as u32,
     }
 }

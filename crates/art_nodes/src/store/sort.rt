@@ -17,8 +17,8 @@ ghost use Rattle.art_parts.specs.declared.names.NodeType.{NodeType};
 
 use super::room::MOST_SLOTS;
 use super::{InnerSlabs, NodeStore};
-use crate::node::{AsBytes, InnerNode, LeafNode, LeafPtr};
-use art_inner::renaming::new_name;
+use crate::node::{AsBytes, LeafNode, LeafPtr};
+use art_inner::renaming::{NamesLeaves, new_name};
 use slab::Slab;
 use std::alloc::{AllocError, Global};
 
@@ -125,7 +125,7 @@ fn rename_beside<K, V>(leaf: &mut LeafNode<K, V>, table: &[u32])
 }
 
 // Renames the leaves among the children of the nodes of a kind by a table.
-fn rename_children<N: InnerNode<P>, const P: usize>(nodes: &mut Slab<N>, table: &[u32])
+fn rename_children<N: NamesLeaves>(nodes: &mut Slab<N>, table: &[u32])
     ensures renamed { (slot : ℕ) → option_map N.view_of (slab.get nodes.new slot) ≡
         option_map (λ node. inner_renamed (new_name table.now) (N.view_of node))
         (slab.get nodes.old slot) }
