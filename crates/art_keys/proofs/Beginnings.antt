@@ -24,6 +24,17 @@ module _ (front back rest these : List ℕ) (is : these ≡ (front ++ back) ++ r
   pub both_within : (m n : ℕ) → m ≡ length front → n ≡ length back → m + n ≤ length these
   both_within m n is_m is_n = omega (arith, ap length is, length-append (front ++ back) rest, length-append front back, is_m, is_n)
 
+  -- lengths that are read as those of the two keys are together at most that of all bytes
+  pub both_counted : (first_length second_length : List ℕ → ℕ) →
+      ((others : List ℕ) → first_length (front ++ others) ≡ length front) →
+      ((others : List ℕ) → second_length (back ++ others) ≡ length back) →
+      (m n : ℕ) →
+      m ≡ first_length these →
+      n ≡ second_length (take (length these - m) (drop m these)) → m + n ≤ length these
+  both_counted first_length second_length first_known second_known m n is_m is_n =
+      let is_first = is_m ∙ first_counted first_length first_known in
+      both_within m n is_first (is_n ∙ ap second_length (second_is m is_first) ∙ second_known rest)
+
 -- the two lengths, each read from where its key begins, are the length of the joined keys
 pub lengths_joined : (first_length second_length : List ℕ → ℕ) (these : List ℕ) (m n : ℕ) → m ≡ first_length these →
     n ≡ second_length (take (length these - m) (drop m these)) →

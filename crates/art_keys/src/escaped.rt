@@ -139,9 +139,10 @@ fn split_at_escape(bytes: &[u8]) -> Option<(&[u8], &'static str, &[u8])>
     ensures { IfSome result (λ parts. length parts.2.now < length bytes.now) }
 {
     let at = bytes.iter().position(|byte| *byte == 1)?;
-    match &bytes[at..] {
-        [1, 1, others @ ..] => Some((&bytes[..at], "\0", others)),
-        [1, _, others @ ..] => Some((&bytes[..at], "\u{1}", others)),
+    let (plain, escape) = bytes.split_at(at);
+    match escape {
+        [_, 1, others @ ..] => Some((plain, "\0", others)),
+        [_, _, others @ ..] => Some((plain, "\u{1}", others)),
         _ => None,
     }
 }
@@ -188,17 +189,12 @@ fn push_escaped(bytes: &mut ShortBytes, byte: u8) -> Result<(), AllocError>
     ensures succeeds { length bytes.old + length (escape_byte byte) ≤ 30 → IsOk result }
 {
     match byte {
-        0 => {
+        0 | 1 => {
             bytes.push(1)?;
-            bytes.push(1)?;
+            bytes.push(byte + 1)
         }
-        1 => {
-            bytes.push(1)?;
-            bytes.push(2)?;
-        }
-        _ => bytes.push(byte)?,
+        _ => bytes.push(byte),
     }
-    Ok(())
 }
 
 impl AsBytes for Escaped {

@@ -89,8 +89,7 @@ impl<A: DecodeBytes + Drop, B: DecodeBytes + Drop> Joined<A, B> {
 /// Writes the bytes in quotes, escaped as by `escape_ascii`.
 impl<A: DecodeBytes, B: DecodeBytes> fmt::Debug for Joined<A, B> {
     fn fmt<W: fmt::Write>(&self, f: &mut fmt::Formatter<W>) -> fmt::Result {
-        let bytes = self.as_bytes().escape_ascii();
-        write!(f, "\"{bytes}\"")
+        fmt::Debug::fmt(&self.bytes, f)
     }
 }
 
@@ -173,7 +172,7 @@ impl<A: DecodeBytes, B: DecodeBytes> PartialEq for Joined<A, B> {
     ghost laws = { Prim.search (comparing, rules) };
 
     fn eq(&self, other: &Self) -> bool {
-        self.bytes.cmp(&other.bytes).is_eq()
+        self.cmp(other).is_eq()
     }
 }
 
@@ -187,7 +186,7 @@ impl<A: DecodeBytes, B: DecodeBytes> PartialOrd for Joined<A, B> {
     ghost laws = { Prim.search (comparing, rules) };
 
     fn partial_cmp(&self, other: &Self) -> Option<Ordering> {
-        Some(self.bytes.cmp(&other.bytes))
+        Some(self.cmp(other))
     }
 }
 
@@ -202,7 +201,7 @@ impl<A: DecodeBytes, B: DecodeBytes> Ord for Joined<A, B> {
     ghost matches_eq = { Prim.search (comparing, rules) };
 
     fn cmp(&self, other: &Self) -> Ordering {
-        self.bytes.cmp(&other.bytes)
+        self.as_bytes().cmp(other.as_bytes())
     }
 }
 

@@ -12,6 +12,7 @@ ghost use Rattle.art_keys.specs.HashLaws.{bytes_hash};
 
 use super::fixed::all_of;
 use super::laws::{CloneBytes, DecodeBytes, FixedBytes, NoPrefixesBytes, OrderedBytes};
+use super::short_bytes::write_quoted;
 use art_parts::bytes::AsBytes;
 use std::alloc::{AllocError, Global};
 use std::cmp::Ordering;
@@ -93,8 +94,7 @@ impl<A: FixedBytes + Drop, B: FixedBytes + Drop, const N: usize> JoinedArray<A, 
 /// Writes the bytes in quotes, escaped as by `escape_ascii`.
 impl<A: FixedBytes, B: FixedBytes, const N: usize> fmt::Debug for JoinedArray<A, B, N> {
     fn fmt<W: fmt::Write>(&self, f: &mut fmt::Formatter<W>) -> fmt::Result {
-        let bytes = self.bytes.escape_ascii();
-        write!(f, "\"{bytes}\"")
+        write_quoted(f, &self.bytes)
     }
 }
 

@@ -301,9 +301,14 @@ impl AsBytes for ShortBytes {
 /// Writes the bytes in quotes, escaped as by `escape_ascii`.
 impl fmt::Debug for ShortBytes {
     fn fmt<W: fmt::Write>(&self, f: &mut fmt::Formatter<W>) -> fmt::Result {
-        let bytes = self.as_slice().escape_ascii();
-        write!(f, "\"{bytes}\"")
+        write_quoted(f, self.as_slice())
     }
+}
+
+// Writes bytes in quotes, escaped as by `escape_ascii`.
+pub(crate) fn write_quoted<W: fmt::Write>(f: &mut fmt::Formatter<W>, bytes: &[u8]) -> fmt::Result {
+    let bytes = bytes.escape_ascii();
+    write!(f, "\"{bytes}\"")
 }
 
 impl Clone for ShortBytes {

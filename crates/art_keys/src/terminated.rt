@@ -14,7 +14,7 @@ ghost use Rattle.std.specs.Hash as fed;
 ghost use Rattle.art_keys.specs.HashLaws.{strings_hash};
 
 use super::laws::{CloneBytes, DecodeBytes, NoPrefixesBytes, OrderedBytes, StringBytes, compare};
-use super::short_bytes::ShortBytes;
+use super::short_bytes::{ShortBytes, write_quoted};
 use art_parts::bytes::AsBytes;
 use std::alloc::{AllocError, AllocFailed, Global};
 use std::cmp::Ordering;
@@ -141,8 +141,7 @@ impl Terminated {
 
 impl fmt::Debug for Terminated {
     fn fmt<W: fmt::Write>(&self, f: &mut fmt::Formatter<W>) -> fmt::Result {
-        let text = self.as_bytes_without_end().escape_ascii();
-        write!(f, "\"{text}\"")
+        write_quoted(f, self.as_bytes_without_end())
     }
 }
 

@@ -1,5 +1,5 @@
 use Rattle.std.proofs.Common.{◌∙◌, ◌++◌, refl, arith}
-use Rattle.art_keys.proofs.Beginnings.{both_within, first_counted, first_is, lengths_joined, second_is}
+use Rattle.art_keys.proofs.Beginnings.{both_counted, both_within, first_counted, first_is, lengths_joined, second_is}
 use Rattle.art_keys.proofs.joined_array.JoinedArrayDecodeBytes.key_len.Goals as goal
 
 pub key_len-middle-requires : goal.key_len-middle-requires
@@ -32,6 +32,17 @@ key_len-requires g c =
       of_key = h.of_key.0.1;
       is = second_is front back h.rest c.args.bytes.now h.is c.key_len-middle.result (c.key_len-middle.ensures ∙ counted);
     }
+
+pub overflow_add-result : goal.overflow_add-result
+overflow_add-result g c =
+    let h = c.requires in
+    omega (
+      arith,
+      both_counted (g.A.AsBytes.bytes h.key.0) (g.B.AsBytes.bytes h.key.1) h.rest c.args.bytes.now h.is
+          g.A.DecodeBytes.length_of g.B.DecodeBytes.length_of (g.met.A.DecodeBytes.comes_back h.key.0 h.of_key.0.0).1
+          (g.met.B.DecodeBytes.comes_back h.key.1 h.of_key.0.1).1
+          _ _ c.key_len-middle.ensures c.key_len.ensures,
+    )
 
 pub returns : goal.returns
 returns g c =
