@@ -1,16 +1,16 @@
 //! Leases by their ids and by the times at which they end: two trees in one store.
 ghost use Rattle.std.specs.Prelude.{◌≡◌, ◌∷◌, [], List, Some, None, IfErr, IfNone, IfOk, IfSome};
+ghost use Rattle.std.specs.Option.{option_map};
 ghost use Rattle.art_model.specs.Apart.{HasBoth, KeepsApart};
 ghost use Rattle.art_model.specs.Canonical.{IsCanonical};
-ghost use Rattle.art_model.specs.Pairs.{of_key, put};
+ghost use Rattle.art_model.specs.Pairs.{first_of, of_key, put, remove_key, without_first};
 ghost use Rattle.art_model.specs.Roots.{IsCanonicalRoot};
-ghost use Rattle.uses.specs.Leases.{AreLeases};
+ghost use Rattle.uses.specs.Leases.{AreLeases, ends_after, first_due, id_of, ids_after, is_due};
 
 use art_nodes::node::{AsBytes, OpaqueNodePtr};
 use art_nodes::store::NodeStore;
-use art_operations::delete::{find_minimum_to_delete, search_for_delete_point};
+use art_operations::delete::find_minimum_to_delete;
 use art_operations::insert::plant;
-use art_operations::minmax::minimum_unchecked;
 
 /// The roots of two trees in one store; `None` for a tree without a pair.
 #[derive(Clone, Copy, PartialEq, Eq, Debug)]
@@ -100,20 +100,35 @@ pub fn begin<K: AsBytes + Drop, V: Drop, const P: usize>(
     })
 }
 
-/// Removes the lease that ends first from the leases by their ends, and returns the roots and its key, or `None` if
-/// there is no lease.
-pub fn take_first<K: AsBytes + Drop, V: Drop, const P: usize>(
+/// Removes the lease that ends first from the leases by their ends, if it ends at a time or before, and returns the roots
+/// and its key; `None` if no lease does. The time is given as eight bytes.
+pub fn take_due<K: AsBytes + Drop, V: Drop, const P: usize>(
     store: &mut NodeStore<K, V, P>,
     roots: Roots,
+    now: &[u8],
 ) -> Option<(Roots, K)>
     requires { AreLeases (of_key K.bytes) P store.old roots }
-    ensures left { IfSome result (λ left. AreLeases (of_key K.bytes) P store.new left.0) }
-    ensures kept { IfNone result (AreLeases (of_key K.bytes) P store.new roots) }
+    ensures taken { (ids ends : List (K × V)) →
+        HasBoth (of_key K.bytes) P store.old roots.by_id roots.by_end ids ends →
+        IfSome result (λ taken. HasBoth (of_key K.bytes) P store.new taken.0.by_id taken.0.by_end
+        ids (without_first ends)) }
+    ensures first { (ids ends : List (K × V)) →
+        HasBoth (of_key K.bytes) P store.old roots.by_id roots.by_end ids ends →
+        option_map (λ taken. taken.1) result ≡
+        option_map (λ lease. lease.0) (first_due (of_key K.bytes) now.now ends) }
+    ensures left { IfSome result (λ taken. AreLeases (of_key K.bytes) P store.new taken.0) }
+    ensures kept { IfNone result (store.new ≡ store.old) }
 {
     let Some(root) = roots.by_end else {
         return None;
     };
     let point = find_minimum_to_delete(store, root);
+    let Some(first) = store.leaf(point.leaf_node_ptr) else {
+        return None;
+    };
+    if !is_due(first.key_ref().as_bytes(), now) {
+        return None;
+    }
     let done = point.apply(store, root).unwrap();
     let by_end = done.new_root;
     Some((Roots { by_end, ..roots }, done.deleted_leaf.key))
@@ -126,19 +141,19 @@ pub fn forget<K: AsBytes + Drop, V: Drop, const P: usize>(
     id: &[u8],
 ) -> Roots
     requires { AreLeases (of_key K.bytes) P store.old roots }
-    ensures { AreLeases (of_key K.bytes) P store.new result }
+    ensures forgotten { (ids ends : List (K × V)) →
+        HasBoth (of_key K.bytes) P store.old roots.by_id roots.by_end ids ends →
+        HasBoth (of_key K.bytes) P store.new result.by_id result.by_end
+        (remove_key (of_key K.bytes) id.now ids) ends }
+    ensures left { AreLeases (of_key K.bytes) P store.new result }
 {
     let Some(root) = roots.by_id else {
         return roots;
     };
-    let Some(point) = search_for_delete_point(store, root, id) else {
+    let Some((by_id, _, _)) = crate::take(store, root, id) else {
         return roots;
     };
-    let done = point.apply(store, root).unwrap();
-    Roots {
-        by_id: done.new_root,
-        ..roots
-    }
+    Roots { by_id, ..roots }
 }
 
 /// Removes the leases that end at a time or before, in the order of their ends, and returns the roots. The time is
@@ -149,14 +164,15 @@ pub fn expire<K: AsBytes + Drop, V: Drop, const P: usize>(
     now: &[u8],
 ) -> Roots
     requires { AreLeases (of_key K.bytes) P store.old roots }
-    ensures { AreLeases (of_key K.bytes) P store.new result }
+    ensures expired { (ids ends : List (K × V)) →
+        HasBoth (of_key K.bytes) P store.old roots.by_id roots.by_end ids ends →
+        HasBoth (of_key K.bytes) P store.new result.by_id result.by_end
+        (ids_after (of_key K.bytes) now.now ids ends) (ends_after (of_key K.bytes) now.now ends) }
+    ensures left { AreLeases (of_key K.bytes) P store.new result }
 {
     let mut roots = roots;
-    for turn in 0..u64::MAX {
-        if !is_due(store, roots, now) {
-            return roots;
-        }
-        let Some((left, key)) = take_first(store, roots) else {
+    for turn in 0..store.leaf_count() {
+        let Some((left, key)) = take_due(store, roots, now) else {
             return roots;
         };
         roots = forget(store, left, id_of(key.as_bytes()));
@@ -164,25 +180,16 @@ pub fn expire<K: AsBytes + Drop, V: Drop, const P: usize>(
     roots
 }
 
-// Returns whether the lease that ends first ends at a time or before.
-fn is_due<K: AsBytes + Drop, V: Drop, const P: usize>(
-    store: &NodeStore<K, V, P>,
-    roots: Roots,
-    now: &[u8],
-) -> bool
-    requires { AreLeases (of_key K.bytes) P store.now roots }
+// Returns whether a lease with this key of its end ends at a time or before.
+fn is_due(key: &[u8], now: &[u8]) -> bool
+    ensures { result ≡ is_due now.now key.now }
 {
-    let Some(root) = roots.by_end else {
-        return false;
-    };
-    let Some(first) = store.leaf(minimum_unchecked(store, root)) else {
-        return false;
-    };
-    let bytes = first.key_ref().as_bytes();
-    8 <= bytes.len() && &bytes[..8] <= now
+    8 <= key.len() && key[..8].cmp(now).is_le()
 }
 
-// Returns the id in a key of a lease by its end.
-fn id_of(key: &[u8]) -> &[u8] {
+// Returns the id in a key of an end.
+fn id_of(key: &[u8]) -> &[u8]
+    ensures { result.now ≡ id_of key.now }
+{
     if 8 <= key.len() { &key[8..] } else { key }
 }

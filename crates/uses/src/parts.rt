@@ -40,7 +40,7 @@ pub fn count_below<K: AsBytes + Drop, V: Drop, const P: usize>(
     map: &ByteMap<K, V, P>,
     prefix: &[u8],
 ) -> usize
-    ensures { result ≤ length (below (of_key K.bytes) prefix.now map.now) }
+    ensures { result ≡ length (below (of_key K.bytes) prefix.now map.now) }
 {
     map.prefix(prefix).count()
 }
