@@ -46,7 +46,8 @@ Example:
 const STATUSES: &str = "Exit status:
   0  each line was carried out
   1  the input can't be read, the output can't be written, or an allocation failed
-  2  an invalid line or command line";
+  2  an invalid line or command line
+  141  the output was closed";
 
 fn main(rt: HostRuntime) -> ExitCode {
     let status = match words(&rt) {

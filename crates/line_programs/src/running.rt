@@ -108,11 +108,16 @@ fn described(alloc: Global, texts: Texts<'_>) -> Result<Command<'_>, AllocError>
 }
 
 fn with_flags(alloc: Global, command: Command<'_>) -> Result<Command<'_>, AllocError> {
-    command
-        .arg(strict(alloc))?
-        .arg(json(alloc))?
-        .arg(check_option(alloc)?)?
-        .arg(progress::option(alloc))
+    let command = command.arg(strict(alloc))?.arg(json(alloc))?;
+    with(command, check_option(alloc))?.arg(progress::option(alloc))
+}
+
+// Adds an option, where it could be made.
+fn with<'a>(
+    command: Command<'a>,
+    option: Result<Arg<'static>, AllocError>,
+) -> Result<Command<'a>, AllocError> {
+    command.arg(option?)
 }
 
 fn table(alloc: Global, texts: Texts<'_>) -> Arg<'_> {
@@ -143,15 +148,12 @@ fn json<'a>(alloc: Global) -> Arg<'a> {
         .help("Print each reply as a line of JSON: 'query', 'found' and 'lines'")
 }
 
-fn check_option<'a>(alloc: Global) -> Result<Arg<'a>, AllocError> {
-    let option = Arg::new(alloc, "check")
+fn check_option(alloc: Global) -> Result<Arg<'static>, AllocError> {
+    Arg::new(alloc, "check")
         .long("check")
         .action(ArgAction::SetTrue)
-        .conflicts_with("queries")?
-        .conflicts_with("strict")?
-        .conflicts_with("json")?
-        .help("Report each invalid line of the table, and answer nothing");
-    Ok(option)
+        .help("Report each invalid line of the table, and answer nothing")
+        .conflicts_with_all(&["queries", "strict", "json"])
 }
 
 /// Prints what is wrong with a command line, or its help or version. Returns the exit status.

@@ -2,7 +2,7 @@
 
 use super::{
     ERROR, Texts, answer_all, are_both_input, check_table, command, print_usage, read_file, report,
-    report_unread, report_unwritten, source_of, words,
+    report_unread, report_unwritten, source_of, with, words,
 };
 use crate::messages::Place;
 use crate::progress;
@@ -45,45 +45,37 @@ where
 }
 
 fn command_with_forms(alloc: Global, texts: Texts<'_>) -> Result<Command<'_>, AllocError> {
-    command(alloc, texts)?
-        .arg(zero(alloc)?)?
-        .arg(save(alloc)?)?
-        .arg(load(alloc)?)
+    let command = with(command(alloc, texts)?, zero(alloc))?;
+    let command = with(command, save(alloc))?;
+    with(command, load(alloc))
 }
 
-fn zero<'a>(alloc: Global) -> Result<Arg<'a>, AllocError> {
-    let option = Arg::new(alloc, "zero")
+fn zero(alloc: Global) -> Result<Arg<'static>, AllocError> {
+    Arg::new(alloc, "zero")
         .long("zero")
         .action(ArgAction::SetTrue)
-        .conflicts_with("check")?
         .help(
             "Read entries that end with a zero byte, as find -print0 writes them, in place of lines",
-        );
-    Ok(option)
+        )
+        .conflicts_with("check")
 }
 
-fn save<'a>(alloc: Global) -> Result<Arg<'a>, AllocError> {
-    let option = Arg::new(alloc, "save")
+fn save(alloc: Global) -> Result<Arg<'static>, AllocError> {
+    Arg::new(alloc, "save")
         .long("save")
         .value_name("SNAPSHOT")
-        .conflicts_with("queries")?
-        .conflicts_with("strict")?
-        .conflicts_with("json")?
-        .conflicts_with("check")?
         .help(
             "Write a snapshot of the table to a file, or to standard output if that is '-', and answer nothing",
-        );
-    Ok(option)
+        )
+        .conflicts_with_all(&["queries", "strict", "json", "check"])
 }
 
-fn load<'a>(alloc: Global) -> Result<Arg<'a>, AllocError> {
-    let option = Arg::new(alloc, "load")
+fn load(alloc: Global) -> Result<Arg<'static>, AllocError> {
+    Arg::new(alloc, "load")
         .long("load")
         .action(ArgAction::SetTrue)
-        .conflicts_with("zero")?
-        .conflicts_with("check")?
-        .help("Read a snapshot that --save wrote, in place of lines");
-    Ok(option)
+        .help("Read a snapshot that --save wrote, in place of lines")
+        .conflicts_with_all(&["zero", "check"])
 }
 
 fn status_of<T>(rt: &HostRuntime, texts: Texts<'_>, matches: &ArgMatches<'_>) -> u8
