@@ -1,4 +1,7 @@
+mod bytes;
+mod faults;
 mod kinds;
+mod lists;
 mod maps;
 mod random;
 mod values;

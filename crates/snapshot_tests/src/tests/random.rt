@@ -1,7 +1,8 @@
 //! Random maps, written, and read in pieces of few bytes.
+use super::maps::{put, written};
 use art_keyed::map::TreeMap;
 use art_keys::escaped::Escaped;
-use art_snapshots::{read_map, write_map};
+use art_snapshots::read_map;
 use snapshot_format::ReadError;
 use std::alloc::Global;
 use std::test::*;
@@ -56,21 +57,15 @@ fn value_of(key: &[u8]) -> Short {
     drawn(number)
 }
 
-// Adds a pair to the map.
-fn add(alloc: Global, map: &mut Map, key: Short) -> Option<()> {
-    let value = Vec::from_slice(alloc, value_of(key.as_slice()).as_slice()).ok()?;
-    let key = Escaped::encode(alloc, key.as_slice()).ok()?;
-    map.insert(key, value).ok()?;
-    Some(())
-}
-
 // Returns a map of the pairs of so many numbers, with the first of these.
-fn map_of(alloc: Global, first: u64, count: u64) -> Option<Map> {
+fn map_of(alloc: Global, first: u64, count: u64) -> Map {
     let mut map = TreeMap::new(alloc);
     for at in 0..count {
-        add(alloc, &mut map, drawn(first ^ at))?;
+        let key = drawn(first ^ at);
+        let value = Vec::from_slice(alloc, value_of(key.as_slice()).as_slice()).ok();
+        put(&mut map, Escaped::encode(alloc, key.as_slice()).ok(), value);
     }
-    Some(map)
+    map
 }
 
 // Returns whether the map has the pair of a key.
@@ -90,7 +85,7 @@ fn is_read(alloc: Global, input: Pieces, map: &Map, first: u64, count: u64) -> b
     let Ok(read) = read else {
         return false;
     };
-    let mut is_same = read == *map;
+    let mut is_same = read == *map && read.len() == map.len();
     for at in 0..count {
         is_same &= has(alloc, &read, drawn(first ^ at));
     }
@@ -101,13 +96,8 @@ fn is_read(alloc: Global, input: Pieces, map: &Map, first: u64, count: u64) -> b
 fn comes_back(alloc: Global, round: u64) -> bool {
     let first = next(round) & !63;
     let count = (first >> 33) % 41;
-    let Some(map) = map_of(alloc, first, count) else {
-        return false;
-    };
-    let mut bytes = Vec::new(alloc);
-    if write_map(alloc, &map, &mut bytes).is_err() {
-        return false;
-    }
+    let map = map_of(alloc, first, count);
+    let bytes = written(alloc, &map);
     let most = (round % 7) as usize + 1;
     is_read(alloc, Pieces::of_at_most(&bytes, most), &map, first, count)
 }

@@ -1,22 +1,25 @@
 //! Values of each type: their bytes, which a script worked out, and bytes that are those of no value.
-use super::kinds::{fault_of, is_read, is_written};
+use super::maps::{has_bad_entry, is_kept, is_read, put};
 use art_keyed::map::TreeMap;
 use art_keys::unsigned::U32Key;
 use art_snapshots::SnapshotValue;
-use snapshot_format::Fault;
 use std::alloc::Global;
 use std::test::*;
+use test_helpers::expected::same;
 
-// Returns whether the bytes of a value are these, and the value is read from them.
-fn both_ways<V: SnapshotValue + PartialEq + Drop>(alloc: Global, value: &V, bytes: &[u8]) -> bool {
-    let mut written = Vec::new(alloc);
-    if value.append_bytes(&mut written).is_err() || written.as_slice() != bytes {
-        return false;
-    }
+// Returns whether the value is read from the bytes.
+fn comes_from<V: SnapshotValue + PartialEq + Drop>(alloc: Global, value: &V, bytes: &[u8]) -> bool {
     match V::from_snapshot(alloc, bytes) {
         Ok(Some(read)) => read == *value,
         _ => false,
     }
+}
+
+// Returns whether the bytes of a value are these, and the value is read from them.
+fn both_ways<V: SnapshotValue + PartialEq + Drop>(alloc: Global, value: V, bytes: &[u8]) -> bool {
+    let mut written = Vec::new(alloc);
+    let is_ok = value.append_bytes(&mut written).is_ok();
+    is_ok && written.as_slice() == bytes && comes_from(alloc, &value, bytes)
 }
 
 // Returns whether the bytes are those of no value.
@@ -25,96 +28,84 @@ fn is_none<V: SnapshotValue + Drop>(alloc: Global, bytes: &[u8]) -> bool {
 }
 
 #[test]
-fn unsigned_numbers(rt: HostRuntime) {
+fn numbers_and_arrays(rt: HostRuntime) -> Result<(), Fail> {
     let alloc = rt.alloc();
-    assert!(rt; both_ways(alloc, &255u8, b"\xff"));
-    assert!(rt; both_ways(alloc, &258u16, b"\x01\x02"));
-    assert!(rt; both_ways(alloc, &0xdeadbeefu32, b"\xde\xad\xbe\xef"));
-    assert!(rt; both_ways(alloc, &((1u64 << 63) + 5), b"\x80\0\0\0\0\0\0\x05"));
-    let wide = b"\x01\x23\x45\x67\x89\xab\xcd\xef\xfe\xdc\xba\x98\x76\x54\x32\x10";
-    assert!(rt; both_ways(alloc, &0x0123_4567_89ab_cdef_fedc_ba98_7654_3210u128, wide));
+    let seen = [
+        both_ways(alloc, 255u8, b"\xff"),
+        both_ways(alloc, 258u16, b"\x01\x02"),
+        both_ways(alloc, 0xdeadbeefu32, b"\xde\xad\xbe\xef"),
+        both_ways(alloc, (1u64 << 63) + 5, b"\x80\0\0\0\0\0\0\x05"),
+        both_ways(
+            alloc,
+            0x0123_4567_89ab_cdef_fedc_ba98_7654_3210u128,
+            b"\x01\x23\x45\x67\x89\xab\xcd\xef\xfe\xdc\xba\x98\x76\x54\x32\x10",
+        ),
+        both_ways(alloc, -1i8, b"\xff"),
+        both_ways(alloc, -2i16, b"\xff\xfe"),
+        both_ways(alloc, 300i16, b"\x01\x2c"),
+        both_ways(alloc, i32::MIN, b"\x80\0\0\0"),
+        both_ways(alloc, -9i64, b"\xff\xff\xff\xff\xff\xff\xff\xf7"),
+        both_ways(
+            alloc,
+            -3i128,
+            b"\xff\xff\xff\xff\xff\xff\xff\xff\xff\xff\xff\xff\xff\xff\xff\xfd",
+        ),
+        both_ways(alloc, i128::MIN, b"\x80\0\0\0\0\0\0\0\0\0\0\0\0\0\0\0"),
+        both_ways(alloc, *b"abc", b"abc"),
+        both_ways(alloc, *b"", b""),
+    ];
+    same(seen, [true; 14])
 }
 
-#[test]
-fn signed_numbers(rt: HostRuntime) {
-    let alloc = rt.alloc();
-    assert!(rt; both_ways(alloc, &-1i8, b"\xff"));
-    assert!(rt; both_ways(alloc, &-2i16, b"\xff\xfe"));
-    assert!(rt; both_ways(alloc, &300i16, b"\x01\x2c"));
-    assert!(rt; both_ways(alloc, &i32::MIN, b"\x80\0\0\0"));
-    assert!(rt; both_ways(alloc, &-9i64, b"\xff\xff\xff\xff\xff\xff\xff\xf7"));
-    let mut wide = [0xffu8; 16];
-    wide[15] = 0xfd;
-    assert!(rt; both_ways(alloc, &-3i128, &wide));
-    let mut least = [0u8; 16];
-    least[0] = 0x80;
-    assert!(rt; both_ways(alloc, &i128::MIN, &least));
-}
-
-#[test]
-fn numbers_of_other_lengths(rt: HostRuntime) {
-    let alloc = rt.alloc();
+// Returns whether bytes are those of a value if there are so many of them.
+fn has_length<V: SnapshotValue + Drop>(alloc: Global, length: usize) -> bool {
     let bytes = [1u8; 17];
+    let mut is_right = true;
     for len in 0..18usize {
-        assert!(rt;
-            is_none::<u8>(alloc, &bytes[..len]) == (len != 1),
-            "{len} bytes"
-        );
-        assert!(rt;
-            is_none::<i16>(alloc, &bytes[..len]) == (len != 2),
-            "{len} bytes"
-        );
-        assert!(rt;
-            is_none::<i64>(alloc, &bytes[..len]) == (len != 8),
-            "{len} bytes"
-        );
-        assert!(rt;
-            is_none::<u128>(alloc, &bytes[..len]) == (len != 16),
-            "{len} bytes"
-        );
-        assert!(rt;
-            is_none::<[u8; 3]>(alloc, &bytes[..len]) == (len != 3),
-            "{len} bytes"
-        );
-        assert!(rt;
-            is_none::<()>(alloc, &bytes[..len]) == (len != 0),
-            "{len} bytes"
-        );
+        is_right &= is_none::<V>(alloc, &bytes[..len]) == (len != length);
     }
+    is_right
 }
 
 #[test]
-fn arrays(rt: HostRuntime) {
+fn numbers_of_other_lengths(rt: HostRuntime) -> Result<(), Fail> {
     let alloc = rt.alloc();
-    assert!(rt; both_ways(alloc, b"abc", b"abc"));
-    assert!(rt; both_ways(alloc, b"", b""));
+    let seen = [
+        has_length::<u8>(alloc, 1),
+        has_length::<i16>(alloc, 2),
+        has_length::<i64>(alloc, 8),
+        has_length::<u128>(alloc, 16),
+        has_length::<[u8; 3]>(alloc, 3),
+        has_length::<()>(alloc, 0),
+    ];
+    same(seen, [true; 6])
 }
 
 // Returns whether the bytes of a text are its own, and it is read from them.
 fn is_text(alloc: Global, text: &str) -> bool {
-    let Ok(value) = String::from_str(alloc, text) else {
-        return false;
-    };
-    both_ways(alloc, &value, text.as_bytes())
+    match String::from_str(alloc, text) {
+        Ok(value) => both_ways(alloc, value, text.as_bytes()),
+        Err(_) => false,
+    }
 }
 
 #[test]
-fn texts(rt: HostRuntime) {
+fn texts(rt: HostRuntime) -> Result<(), Fail> {
     let alloc = rt.alloc();
-    for text in ["", "na\u{ef}ve", "a\0b", "\u{10ffff}"] {
-        assert!(rt; is_text(alloc, text), "{text}");
-    }
-    // A byte of none, a character that is cut short, a long form of 0, a surrogate, and a number above all characters.
-    let rows: [&[u8]; 5] = [
-        b"a\xff",
-        b"a\xc3",
-        b"\xc0\x80",
-        b"\xed\xa0\x80",
-        b"\xf4\x90\x80\x80",
+    let seen = [
+        is_text(alloc, ""),
+        is_text(alloc, "na\u{ef}ve"),
+        is_text(alloc, "a\0b"),
+        is_text(alloc, "\u{10ffff}"),
+        // A byte of none, a character that is cut short, a long form of 0, a surrogate, and a number above all
+        // characters.
+        is_none::<String>(alloc, b"a\xff"),
+        is_none::<String>(alloc, b"a\xc3"),
+        is_none::<String>(alloc, b"\xc0\x80"),
+        is_none::<String>(alloc, b"\xed\xa0\x80"),
+        is_none::<String>(alloc, b"\xf4\x90\x80\x80"),
     ];
-    for bytes in rows {
-        assert!(rt; is_none::<String>(alloc, bytes), "{bytes:?}");
-    }
+    same(seen, [true; 9])
 }
 
 static TEXTS_BYTES: [u8; 69] = [
@@ -140,40 +131,37 @@ static ARRAYS_BYTES: [u8; 55] = [
     0x2b, 0x46, 0xff, 0x88, 0x01, 0x69, 0xcb,
 ];
 
-fn map_of_texts(alloc: Global) -> Option<TreeMap<U32Key, String, 10>> {
+fn map_of_texts(alloc: Global) -> TreeMap<U32Key, String, 10> {
     let mut map = TreeMap::new(alloc);
     for (key, text) in [(258u32, ""), (u32::MAX, "\u{20ac}"), (3, "na\u{ef}ve")] {
-        let value = String::from_str(alloc, text).ok()?;
-        map.insert(U32Key::from(key), value).ok()?;
+        put(
+            &mut map,
+            Some(U32Key::from(key)),
+            String::from_str(alloc, text).ok(),
+        );
     }
-    Some(map)
+    map
 }
 
-#[test]
-fn maps_of_texts(rt: HostRuntime) {
-    let alloc = rt.alloc();
-    let bytes = &TEXTS_BYTES;
-    assert!(rt; map_of_texts(alloc).is_some_and(|map| is_written(alloc, &map, bytes)));
-    assert!(rt; is_read::<U32Key, String>(alloc, bytes));
-    assert!(rt; fault_of::<U32Key, String>(alloc, &BAD_TEXT_BYTES) == Some(Fault::BadEntry));
-    assert!(rt; is_read::<U32Key, Vec<u8>>(alloc, &BAD_TEXT_BYTES));
-}
-
-fn map_of_arrays(alloc: Global) -> Option<TreeMap<[u8; 3], i16, 10>> {
+fn map_of_arrays(alloc: Global) -> TreeMap<[u8; 3], i16, 10> {
     let mut map = TreeMap::new(alloc);
     for (key, value) in [([1, 2, 255u8], 300i16), ([1, 2, 3], -2)] {
-        map.insert(key, value).ok()?;
+        put(&mut map, Some(key), Some(value));
     }
-    Some(map)
+    map
 }
 
 #[test]
-fn maps_of_arrays(rt: HostRuntime) {
+fn maps_of_texts_and_arrays(rt: HostRuntime) -> Result<(), Fail> {
     let alloc = rt.alloc();
-    let bytes = &ARRAYS_BYTES;
-    assert!(rt; map_of_arrays(alloc).is_some_and(|map| is_written(alloc, &map, bytes)));
-    assert!(rt; is_read::<[u8; 3], i16>(alloc, bytes));
-    assert!(rt; is_read::<[u8; 3], [u8; 2]>(alloc, bytes));
-    assert!(rt; fault_of::<[u8; 3], [u8; 3]>(alloc, bytes) == Some(Fault::BadEntry));
-    assert!(rt; fault_of::<[u8; 4], i16>(alloc, bytes) == Some(Fault::BadEntry));
+    let seen = [
+        is_kept(alloc, map_of_texts(alloc), &TEXTS_BYTES, 16),
+        has_bad_entry::<U32Key, String>(alloc, &BAD_TEXT_BYTES),
+        is_read::<U32Key, Vec<u8>>(alloc, &BAD_TEXT_BYTES),
+        is_kept(alloc, map_of_arrays(alloc), &ARRAYS_BYTES, 15),
+        is_read::<[u8; 3], [u8; 2]>(alloc, &ARRAYS_BYTES),
+        has_bad_entry::<[u8; 3], [u8; 3]>(alloc, &ARRAYS_BYTES),
+        has_bad_entry::<[u8; 4], i16>(alloc, &ARRAYS_BYTES),
+    ];
+    same(seen, [true; 7])
 }

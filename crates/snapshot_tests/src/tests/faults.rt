@@ -1,9 +1,11 @@
 //! What is wrong with bytes that are no snapshot, and where.
 use super::bytes::{THREE, THREE_BYTES};
 use super::lists::{error_of, reads};
+use super::maps::flipped;
 use snapshot_format::{Fault, Malformed, ReadError};
 use std::alloc::Global;
 use std::test::*;
+use test_helpers::expected::same;
 use test_helpers::streams::Pieces;
 
 // Returns whether this is the fault, found after so many bytes.
@@ -24,34 +26,35 @@ fn has_fault(alloc: Global, place: usize, byte: u8, at: u64, fault: Fault) -> bo
     is_fault(error_of(alloc, &bytes[..]), at, fault)
 }
 
+// Another byte in a place, and after how many bytes which fault is found.
+static FAULTS: [(usize, u8, u64, Fault); 12] = [
+    // The start, and the version.
+    (6, b'Q', 7, Fault::NotASnapshot),
+    (0, b'B', 1, Fault::NotASnapshot),
+    (7, 2, 8, Fault::UnknownVersion(2)),
+    // Two entries, and then no checksum.
+    (8, 2, 20, Fault::WrongChecksum),
+    // The first key shares a byte with none.
+    (9, 1, 10, Fault::OutOfOrder),
+    // "abc" shares three bytes of "ab".
+    (15, 3, 16, Fault::OutOfOrder),
+    // "ab" and "a" after "abc".
+    (19, 1, 22, Fault::OutOfOrder),
+    (21, b'a', 22, Fault::OutOfOrder),
+    // A number of two bytes that needs one.
+    (18, 128, 20, Fault::BadNumber),
+    // A value of 128 bytes.
+    (22, 255, 57, Fault::CutShort),
+    // Another value, and another checksum.
+    (14, b'y', 26, Fault::WrongChecksum),
+    (56, 0, 57, Fault::WrongChecksum),
+];
+
 #[test]
 fn faults_of_bytes(rt: HostRuntime) {
-    let alloc = rt.alloc();
-    let rows = [
-        // The start, and the version.
-        (6, b'Q', 7, Fault::NotASnapshot),
-        (0, b'B', 1, Fault::NotASnapshot),
-        (7, 2, 8, Fault::UnknownVersion(2)),
-        // Two entries, and then no checksum.
-        (8, 2, 20, Fault::WrongChecksum),
-        // The first key shares a byte with none.
-        (9, 1, 10, Fault::OutOfOrder),
-        // "abc" shares three bytes of "ab".
-        (15, 3, 16, Fault::OutOfOrder),
-        // "ab" and "a" after "abc".
-        (19, 1, 22, Fault::OutOfOrder),
-        (21, b'a', 22, Fault::OutOfOrder),
-        // A number of two bytes that needs one.
-        (18, 128, 20, Fault::BadNumber),
-        // A value of 128 bytes.
-        (22, 255, 57, Fault::CutShort),
-        // Another value, and another checksum.
-        (14, b'y', 26, Fault::WrongChecksum),
-        (56, 0, 57, Fault::WrongChecksum),
-    ];
-    for (place, byte, at, fault) in rows {
+    for (place, byte, at, fault) in FAULTS {
         assert!(rt;
-            has_fault(alloc, place, byte, at, fault),
+            has_fault(rt.alloc(), place, byte, at, fault),
             "{byte} in {place}"
         );
     }
@@ -74,10 +77,7 @@ fn each_cut(rt: HostRuntime) {
 
 // Returns whether the bytes with a bit flipped are no snapshot.
 fn is_refused(alloc: Global, place: usize, bit: u8) -> bool {
-    let mut bytes = THREE_BYTES;
-    if let Some(byte) = bytes.get_mut(place) {
-        *byte ^= bit;
-    }
+    let bytes = flipped(&THREE_BYTES, place, bit);
     matches!(error_of(alloc, &bytes[..]), Some(ReadError::Malformed(_)))
 }
 
@@ -113,11 +113,14 @@ static HUGE_COUNT: [u8; 17] = [
 
 // An allocation of so many bytes would fail.
 #[test]
-fn large_numbers_allocate_nothing(rt: HostRuntime) {
+fn large_numbers_allocate_nothing(rt: HostRuntime) -> Result<(), Fail> {
     let alloc = rt.alloc();
-    assert!(rt; is_fault(error_of(alloc, &HUGE_KEY[..]), 19, Fault::CutShort));
-    assert!(rt; is_fault(error_of(alloc, &HUGE_VALUE[..]), 21, Fault::CutShort));
-    assert!(rt; is_fault(error_of(alloc, &HUGE_COUNT[..]), 17, Fault::CutShort));
+    let seen = [
+        is_fault(error_of(alloc, &HUGE_KEY[..]), 19, Fault::CutShort),
+        is_fault(error_of(alloc, &HUGE_VALUE[..]), 21, Fault::CutShort),
+        is_fault(error_of(alloc, &HUGE_COUNT[..]), 17, Fault::CutShort),
+    ];
+    same(seen, [true; 3])
 }
 
 // Returns whether a byte after the snapshot is reported.

@@ -1,3 +1,0 @@
-mod bytes;
-mod faults;
-mod lists;
