@@ -13,7 +13,7 @@
  *   - A pointer is never null. A pointer to bytes or pairs points to as many as its length says, also if that is 0. What a
  *     call writes to overlaps with nothing else that is passed to it.
  *   - malloc, realloc and free are one allocator, as those of the C library are.
- *   - No call is made in a signal handler.
+ *   - No call is made in a signal handler, or in a child that was forked while another thread was in one.
  *
  * A call that returns VOKUJIN_NO_MEMORY has changed nothing. What a call writes through a pointer to a number, a pair or a
  * vokujin_given is written only if it returns VOKUJIN_DONE, or as the call says.
@@ -62,7 +62,7 @@ enum {
     VOKUJIN_ABSENT = 1,
     /* An allocation failed, and the map is unchanged. */
     VOKUJIN_NO_MEMORY = 2,
-    /* A key is longer than the space for it. Its length is written. */
+    /* A key is longer than the space for it. Its length is written, by `vokujin_first` and `vokujin_last` with its value. */
     VOKUJIN_TOO_LONG = 3,
     /* The space for pairs is full. More pairs may be left. */
     VOKUJIN_FULL = 4,

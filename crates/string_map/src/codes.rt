@@ -6,7 +6,7 @@ pub const DONE: u32 = 0;
 pub const ABSENT: u32 = 1;
 /// An allocation failed, and the map is unchanged.
 pub const NO_MEMORY: u32 = 2;
-/// A key is longer than the space for it. Its length is written.
+/// A key is longer than the space for it. Its length is written, by `vokujin_first` and `vokujin_last` with its value.
 pub const TOO_LONG: u32 = 3;
 /// The space for pairs is full. More pairs may be left.
 pub const FULL: u32 = 4;
