@@ -10,11 +10,7 @@ use Rattle.snapshot_format.specs.declared.error.ReadError.TheVariants as errors
 use Rattle.snapshot_format.specs.declared.source.Source.{Source}
 use Rattle.snapshot_format.specs.Faults.{Finds, IfMalformed}
 use Rattle.snapshot_format.specs.Reading.{IfFault, Reads}
-use Rattle.snapshot_format.proofs.Known.{consumes_more, saturate_more, few_sized}
-use Rattle.snapshot_format.proofs.Faults.{if_err_fault}
-use Rattle.snapshot_format.proofs.PartFaults.{number_sized, within_number}
-use Rattle.std.proofs.lemmas.Result.{err_from_is_err_and}
-use Rattle.snapshot_format.proofs.Numbers.{fits_within}
+use Rattle.snapshot_format.proofs.Known.{consumes_more, saturate_more}
 
 pub if_malformed : {P Q : Malformed → Type 0} (error : ReadError) → ((m : Malformed) → P m → Q m) → IfMalformed error P → IfMalformed error Q
 if_malformed (errors.Malformed m) f p = f m p
@@ -25,14 +21,6 @@ pub if_err_malformed : {X : Type 0} {P Q : Malformed → Type 0} (result : Resul
     IfErr result (λ error. IfMalformed error P) → IfErr result (λ error. IfMalformed error Q)
 if_err_malformed (Ok x) f h = tt
 if_err_malformed (Err error) f h = if_malformed error f h
-
--- what holds of an error, and what follows
-pub of_malformed : {P Q : Malformed → Type 0} (error : ReadError) → IfMalformed error P → ((m : Malformed) → P m → Q m) → IfMalformed error Q
-of_malformed error h f = if_malformed error f h
-
-pub of_err_malformed : {X : Type 0} {P Q : Malformed → Type 0} (result : Result X ReadError) → IfErr result (λ error. IfMalformed error P) → ((m : Malformed) → P m → Q m) →
-    IfErr result (λ error. IfMalformed error Q)
-of_err_malformed result h f = if_err_malformed result f h
 
 pub both_malformed : {P : Type 0} {Q S : Malformed → Type 0} (error : ReadError) → IfFault error P → IfMalformed error Q → ((m : Malformed) → P → Q m → S m) → IfMalformed error S
 both_malformed (errors.Malformed m) p q f = f m p q
@@ -71,8 +59,3 @@ module _ {R : Type 0} (left : R → Option (List ℕ)) where
     ended = f.ended;
     has = f.has;
   }
-
--- for searches in the proofs of functions
-pub ruleset append_sized_facts = (err_from_is_err_and, few_sized, finds_part, if_err_fault, if_malformed, number_sized)
-
-pub ruleset number_facts = (finds_part, fits_within, if_err_fault, if_err_malformed, within_number)

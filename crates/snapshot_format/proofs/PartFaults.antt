@@ -1,13 +1,16 @@
 -- Numbers, bytes and entries that are wrong in a part.
-use Rattle.std.proofs.Common.{◌≡◌, ◌≢◌, ◌⊎◌, inl, ℕ, zero, suc, ◌+◌, ◌-◌, ◌*◌, ◌/◌, ◌^◌, ◌<◌, ◌≤◌, Bool, true, false, List, [], ◌∷◌, ◌++◌, length, length-append, take, drop, replicate, get_or, Some, refl, ap, ap₂, sym, ◌∙◌, subst, append_assoc, append-nil, arith}
-use Rattle.std.proofs.lemmas.List.{drop_at, length-replicate, length-drop, length-take-le, take-append-drop, take_more}
+use Rattle.std.proofs.Common.{◌≡◌, ◌≢◌, ◌⊎◌, inl, ℕ, zero, suc, ◌+◌, ◌-◌, ◌*◌, ◌/◌, ◌^◌, ◌<◌, ◌≤◌, Bool, true, false, List, [], ◌∷◌, ◌++◌, length, length-append, take, drop, replicate, get_or, Option, Some, refl, ap, ap₂, sym, ◌∙◌, subst, append_assoc, append-nil, arith}
+use Rattle.std.proofs.lemmas.List.{append_cancel_left, drop_at, length-replicate, length-drop, length-take-le, take-append-drop, take_more}
 use Rattle.std.specs.List.{slice_get}
+use Rattle.std.specs.Io.KnownBytes.{Consumes, IsAtEnd}
 use Rattle.snapshot_format.specs.declared.error.Fault.{Fault}
 use Rattle.snapshot_format.specs.declared.error.Fault.TheVariants as faults
 use Rattle.snapshot_format.specs.Numbers.{FitsWithin, number_bytes, number_within}
 use Rattle.snapshot_format.specs.Reading.{is_above, is_next}
 use Rattle.snapshot_format.specs.Snapshots.{key_bytes, shared_len, sized}
 use Rattle.snapshot_format.specs.Faults.{EntryFault, FitsBelow, first, second, third, IsCutEntry, IsCutNumber, IsCutOf, IsCutSized, IsCutWithin, IsMisplaced, IsNot, IsOtherThan, NumberFault, SizedFault, WithinFault, parts}
+use Rattle.snapshot_format.proofs.Known.{left_of}
+use Rattle.snapshot_format.proofs.RestsOfBytes.{after_same}
 use Rattle.snapshot_format.proofs.SharedKeys.{after_is_above, shared_within}
 use Rattle.snapshot_format.proofs.Numbers.{fits_within, within_joined, within_small}
 use Rattle.snapshot_format.proofs.NumberReads.{is_last, none_high, wrong_high}
@@ -52,6 +55,19 @@ other_at wanted i byte within other = record {
       ∙ append_assoc (take i wanted) (get_or wanted i 0 ∷ []) (drop (i + 1) wanted);
   read_is = refl;
 }
+
+-- other bytes are there, or fewer
+pub other_starts : (a b : Option (List ℕ)) (wanted read : List ℕ) → Consumes a b read → IsOtherThan wanted read → (rest : List ℕ) → a ≢ Some (wanted ++ rest)
+other_starts a b wanted read taken h rest e =
+    let l = left_of a b read (wanted ++ rest) taken e in
+    let f = append_cancel_left h.same (h.right ∷ (h.rest ++ rest)) (h.byte ∷ l.0)
+    (sym (ap (λ bs. bs ++ rest) h.wanted_is ∙ append_assoc h.same (h.right ∷ h.rest) rest) ∙ l.2 ∙ ap (λ bs. bs ++ l.0) h.read_is ∙ append_assoc h.same (h.byte ∷ []) l.0) in
+    h.other cc
+
+pub fewer_start : (a b : Option (List ℕ)) (wanted : List ℕ) (i : ℕ) → i < length wanted → Consumes a b (take i wanted) → IsAtEnd b → (rest : List ℕ) → a ≢ Some (wanted ++ rest)
+fewer_start a b wanted i within taken end rest e =
+    let h = cut_more wanted (take i wanted) rest (cut_at wanted i within) in
+    h.some (subst IsAtEnd (after_same a b (take i wanted) h.missing taken (e ∙ ap (λ bs. Some bs) h.is)) end)
 
 -- the input ends there
 pub ended_at : (wanted : List ℕ) (fault : Fault) (i : ℕ) → i < length wanted → (found : Fault) (read : List ℕ) → (found ≡ faults.CutShort) × (read ≡ []) → IsNot wanted fault found (take i wanted ++ read)

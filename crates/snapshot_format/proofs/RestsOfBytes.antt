@@ -86,17 +86,28 @@ not_above a b c before bytes false shared read read_rest low key tail after e =
     cc
 
 -- the other bytes of what was read
-pub rest_is : (before bytes key : List ℕ) (shared : ℕ) → shared ≤ length before → key ≡ take shared before ++ bytes → take (length key - shared) (drop shared key) ≡ bytes
+rest_is : (before bytes key : List ℕ) (shared : ℕ) → shared ≤ length before → key ≡ take shared before ++ bytes → take (length key - shared) (drop shared key) ≡ bytes
 rest_is before bytes key shared within e =
     let l : length (take shared before) ≡ shared = length-take-le shared before within in
     let d : drop shared key ≡ bytes = ap (drop shared) e ∙ drop_at (take shared before) bytes shared l in
     let n : length key ≡ length (take shared before ++ bytes) = ap length e in
     rw d (take_all (length key - shared) bytes (omega (arith, length-append (take shared before) bytes)))
 
--- what the test of its order was of
-pub tested : (is_first : Bool) (byte other : Option ℕ) (rest bytes : List ℕ) (result answer : Bool) → result ≡ is_next is_first byte rest → byte ≡ other → rest ≡ bytes → result ≡ answer →
-    is_next is_first other bytes ≡ answer
-tested is_first byte other rest bytes result answer is same_byte same_rest e = rw (← same_byte, ← same_rest) (sym is ∙ e)
+-- a key has the bytes that it shares
+pub shares_within : (before bytes part key rest : List ℕ) (shared : ℕ) → shared ≤ length before → part ≡ take shared before → key ≡ part ++ bytes → rest ≡ key → shared ≤ length rest
+shares_within before bytes part key rest shared within part_is key_is rest_is_key =
+    omega (arith, ap length rest_is_key, ap length key_is, length-append part bytes, ap length part_is, length-take-le shared before within)
+
+-- what was appended to a part of the key before it, and what the test of its order was of
+pub tested : (is_first : Bool) (before bytes part key shown rest : List ℕ) (byte : Option ℕ) (shared : ℕ) (result answer : Bool) → shared ≤ length before →
+    part ≡ take shared before → key ≡ part ++ bytes → shown ≡ before → byte ≡ slice_get shown shared → rest ≡ key →
+    result ≡ is_next is_first byte (take (length rest - shared) (drop shared rest)) → result ≡ answer →
+    (key ≡ take shared before ++ bytes) × (is_next is_first (slice_get before shared) bytes ≡ answer)
+tested is_first before bytes part key shown rest byte shared result answer within part_is key_is shown_is byte_is rest_is_key result_is is =
+    let whole : key ≡ take shared before ++ bytes = key_is ∙ ap (λ bs. bs ++ bytes) part_is in
+    let others : take (length rest - shared) (drop shared rest) ≡ bytes =
+    ap (λ bs. take (length bs - shared) (drop shared bs)) rest_is_key ∙ rest_is before bytes key shared within whole in
+    (whole, sym (ap₂ (is_next is_first) (byte_is ∙ ap (λ bs. slice_get bs shared) shown_is) others) ∙ sym result_is ∙ is)
 
 -- what was read is its bytes
 pub key_is : (is_first : Bool) (before bytes : List ℕ) (shared : ℕ) → shared ≤ length before → (is_first ≡ true → before ≡ []) → is_next is_first (slice_get before shared) bytes ≡ true →

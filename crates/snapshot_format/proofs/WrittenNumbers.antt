@@ -1,7 +1,8 @@
 -- Writing numbers, and the bytes that keys share.
 use Rattle.std.proofs.Common.{◌≡◌, ◌≢◌, ℕ, zero, suc, ◌+◌, ◌-◌, ◌/◌, ◌%◌, ◌<◌, ◌≤◌, List, [], ◌∷◌, ◌++◌, length, length-append, drop, get_or, Option, refl, ap, sym, ◌∙◌, subst, append_assoc, append-nil, arith}
+use Rattle.std.specs.List.{AllByRecursion as Each}
 use Rattle.std.proofs.lemmas.Bool.{eq-eqb, ne_eqb}
-use Rattle.std.proofs.lemmas.List.{drop_more, drop_all}
+use Rattle.std.proofs.lemmas.List.{drop_more, drop_all, nil_from_length}
 use Rattle.snapshot_format.specs.Numbers.{number_within, FitsWithin}
 use Rattle.std.specs.Io.KnownBytes.{Appends}
 use Rattle.sha2.specs.declared.Sha256.{Sha256}
@@ -80,6 +81,17 @@ module _ {W : Type 0} (contents : W → Option (List ℕ)) where
     fits = each_more FitsEntry h.done one h.fits fits;
     last = sym (last_more [] h.done one);
   }
+
+  -- as many as there are
+  pub none_left : (a b : W) (x y : Sha256) (entries left : List Entry) (key : List ℕ) (count : ℕ) → length entries ≤ count → HasWritten contents a b x y entries left key count → left ≡ []
+  none_left a b x y entries left key count all h =
+      nil_from_length left (let are = ap length h.are in let n = h.counted in omega (arith, length-append h.done left))
+
+  pub all_written : (a b : W) (x y : Sha256) (entries left : List Entry) (key : List ℕ) (count : ℕ) → HasWritten contents a b x y entries left key count → left ≡ [] →
+      Writes contents a b x y (entries_bytes [] entries) × Each FitsEntry entries
+  all_written a b x y entries left key count h none =
+      let done : h.done ≡ entries = sym (append-nil h.done) ∙ ap (λ es. h.done ++ es) (sym none) ∙ sym h.are in
+      (subst (λ es. Writes contents a b x y (entries_bytes [] es)) done h.written, subst (Each FitsEntry) done h.fits)
 
   -- the checksum is of all that was written
   pub body_written : (a b c : W) (x y z : Sha256) (entries : List Entry) (count : ℕ) → count ≡ length entries → Writes contents a b x y (head_bytes count) → Writes contents b c y z (entries_bytes [] entries) →

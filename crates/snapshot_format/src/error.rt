@@ -47,16 +47,16 @@ pub enum ReadError {
 
 impl fmt::Display for Fault {
     fn fmt<W: fmt::Write>(&self, f: &mut fmt::Formatter<W>) -> fmt::Result {
-        match self {
-            Fault::NotASnapshot => f.write_str("not a snapshot"),
-            Fault::UnknownVersion(version) => write!(f, "unknown version {version}"),
-            Fault::CutShort => f.write_str("the snapshot is cut short"),
-            Fault::BadNumber => f.write_str("bad number"),
-            Fault::OutOfOrder => f.write_str("the keys are out of order"),
-            Fault::BadEntry => f.write_str("bad key or value"),
-            Fault::WrongChecksum => f.write_str("wrong checksum"),
-            Fault::TrailingBytes => f.write_str("bytes follow the snapshot"),
-        }
+        f.write_str(match self {
+            Fault::UnknownVersion(version) => return write!(f, "unknown version {version}"),
+            Fault::NotASnapshot => "not a snapshot",
+            Fault::CutShort => "the snapshot is cut short",
+            Fault::BadNumber => "bad number",
+            Fault::OutOfOrder => "the keys are out of order",
+            Fault::BadEntry => "bad key or value",
+            Fault::WrongChecksum => "wrong checksum",
+            Fault::TrailingBytes => "bytes follow the snapshot",
+        })
     }
 }
 

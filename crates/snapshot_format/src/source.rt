@@ -75,7 +75,6 @@ impl<R: Read> Source<R> {
     }
 
     /// Reads a number.
-    #[tactic(auto, using(crate::proofs::Causes::number_facts))]
     pub fn number(&mut self) -> Result<u64, ReadError>
         ensures read { IfOk result (λ n. Reads R.remaining self.old self.new (number_bytes n)) }
         ensures fault { IfErr result (λ error. IfFault error ((n : ℕ) (rest : List ℕ) →
@@ -134,7 +133,6 @@ impl<R: Read> Source<R> {
     }
 
     /// Appends bytes that follow their number.
-    #[tactic(auto, using(crate::proofs::Causes::append_sized_facts))]
     pub fn append_sized(&mut self, into: &mut Vec<u8>) -> Result<(), ReadError>
         ensures read { OnOk result (AppendedSized R.remaining self.old self.new into.old.items into.new.items) }
         ensures fault { IfErr result (λ error. IfFault error ((bytes rest : List ℕ) →

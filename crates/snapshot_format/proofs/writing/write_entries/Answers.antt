@@ -1,8 +1,8 @@
-use Rattle.std.proofs.Common.{◌≡◌, ◌<◌, ◌^◌, ℕ, List, length, ap₂, subst}
+use Rattle.std.proofs.Common.{◌≡◌, ◌<◌, ◌^◌, ℕ, List, length, ap₂, subst, arith}
 use Rattle.snapshot_format.specs.Entries.{IsGiven}
 use Rattle.snapshot_format.specs.Snapshots.{entry, entry_bytes}
 use Rattle.snapshot_format.specs.Writing.{Writes}
-use Rattle.snapshot_format.proofs.WrittenNumbers.{writing_begins, writing_goes_on}
+use Rattle.snapshot_format.proofs.WrittenNumbers.{all_written, none_left, writing_begins, writing_goes_on}
 use Rattle.snapshot_format.proofs.writing.write_entries.Goals as goal
 
 -- the length of the same bytes
@@ -24,3 +24,18 @@ loop-preserved g c =
     rw c.swap.ensures.x_after (writing_goes_on contents c.args.output.now c.loop.output c.write_entry.new.output c.args.digest.now c.loop.digest c.write_entry.new.digest
     (entries c.args.entries.now) (entries c.loop.entries) (entries c.give_entry.new.self) c.loop.before.items one c.loop.counter c.loop.invariant given wrote
     (record { key = small c.deref-in-loop.ensures.value c.write_entry.ensures.key; value = small c.deref-in-loop-2.ensures.value c.write_entry.ensures.value }))
+
+pub returns-then-not-branch : goal.returns-then-not-branch
+returns-then-not-branch g c =
+    let entries = g.G.GiveEntries.entries in
+    let one = entry c.give_entry.new.key.items c.give_entry.new.value.items in
+    let none = subst (λ more. IsGiven more one (entries c.loop.entries) (entries c.give_entry.new.self)) c.if-not-branch.true c.in_ok-give_entry.ensures in
+    let all = all_written g.W.Write.contents c.args.output.now c.loop.output c.args.digest.now c.loop.digest (entries c.args.entries.now) (entries c.loop.entries) c.loop.before.items c.loop.counter c.loop.invariant none in
+    record { written = all.0; fits = all.1 }
+
+pub returns : goal.returns
+returns g c =
+    let entries = g.G.GiveEntries.entries in
+    let none = none_left g.W.Write.contents c.args.output.now c.loop.output c.args.digest.now c.loop.digest (entries c.args.entries.now) (entries c.loop.entries) c.loop.before.items c.loop.counter (omega arith) c.loop.invariant in
+    let all = all_written g.W.Write.contents c.args.output.now c.loop.output c.args.digest.now c.loop.digest (entries c.args.entries.now) (entries c.loop.entries) c.loop.before.items c.loop.counter c.loop.invariant none in
+    record { written = all.0; fits = all.1 }
