@@ -5,7 +5,8 @@ ghost use Rattle.std.specs.Io.KnownBytes.{Appends, ReadConsumes};
 ghost use Rattle.line_programs.specs.Progress.{clearing, percentage, shown_percentage};
 
 use crate::messages::Place;
-use clap::{Arg, ArgAction};
+use crate::running::flag;
+use clap::Arg;
 use std::alloc::Global;
 use std::fs::File;
 use std::io::{BufReader, IsTerminal, Read, Stderr, Write};
@@ -165,10 +166,11 @@ impl<'a, R: Read, E: Write + Drop> Read for Progress<'a, R, E> {
 
 /// Returns the option that asks for the progress.
 pub fn option<'a>(alloc: Global) -> Arg<'a> {
-    Arg::new(alloc, "progress")
-        .long("progress")
-        .action(ArgAction::SetTrue)
-        .help("Show how much of a file was read, also where standard error is no terminal")
+    flag(
+        alloc,
+        "progress",
+        "Show how much of a file was read, also where standard error is no terminal",
+    )
 }
 
 /// Opens a file. Standard error shows how much of it was read, if that is asked for or is a terminal.

@@ -91,33 +91,29 @@ where
 }
 
 fn command(alloc: Global, texts: Texts<'_>) -> Result<Command<'_>, AllocError> {
-    let command = described(alloc, texts)?
-        .arg(table(alloc, texts))?
-        .arg(queries(alloc, texts))?;
-    with_flags(alloc, command)
+    let command = with(described(alloc, texts), Ok(table(alloc, texts)));
+    let command = with(command, Ok(queries(alloc, texts)));
+    let command = with(command, Ok(strict(alloc)));
+    let command = with(command, Ok(json(alloc)));
+    let command = with(command, check_option(alloc));
+    with(command, Ok(progress::option(alloc)))
 }
 
 fn described(alloc: Global, texts: Texts<'_>) -> Result<Command<'_>, AllocError> {
-    let command = Command::new(alloc, texts.name)
-        .bin_name(texts.name)?
+    Command::new(alloc, texts.name)
         .version(VERSION)
         .about(texts.about)
         .long_about(texts.details)
-        .after_help(STATUSES);
-    Ok(command)
+        .after_help(STATUSES)
+        .bin_name(texts.name)
 }
 
-fn with_flags(alloc: Global, command: Command<'_>) -> Result<Command<'_>, AllocError> {
-    let command = command.arg(strict(alloc))?.arg(json(alloc))?;
-    with(command, check_option(alloc))?.arg(progress::option(alloc))
-}
-
-// Adds an option, where it could be made.
+// Adds an argument, where both could be made.
 fn with<'a>(
-    command: Command<'a>,
-    option: Result<Arg<'static>, AllocError>,
+    command: Result<Command<'a>, AllocError>,
+    arg: Result<Arg<'a>, AllocError>,
 ) -> Result<Command<'a>, AllocError> {
-    command.arg(option?)
+    command?.arg(arg?)
 }
 
 fn table(alloc: Global, texts: Texts<'_>) -> Arg<'_> {
@@ -135,25 +131,37 @@ fn queries(alloc: Global, texts: Texts<'_>) -> Arg<'_> {
 }
 
 fn strict<'a>(alloc: Global) -> Arg<'a> {
-    Arg::new(alloc, "strict")
-        .long("strict")
-        .action(ArgAction::SetTrue)
-        .help("Stop at the first line that asks for nothing")
+    flag(
+        alloc,
+        "strict",
+        "Stop at the first line that asks for nothing",
+    )
 }
 
 fn json<'a>(alloc: Global) -> Arg<'a> {
-    Arg::new(alloc, "json")
-        .long("json")
-        .action(ArgAction::SetTrue)
-        .help("Print each reply as a line of JSON: 'query', 'found' and 'lines'")
+    flag(
+        alloc,
+        "json",
+        "Print each reply as a line of JSON: 'query', 'found' and 'lines'",
+    )
 }
 
-fn check_option(alloc: Global) -> Result<Arg<'static>, AllocError> {
-    Arg::new(alloc, "check")
-        .long("check")
+fn check_option<'a>(alloc: Global) -> Result<Arg<'a>, AllocError> {
+    let others: &'a [&'a str] = &["queries", "strict", "json"];
+    flag(
+        alloc,
+        "check",
+        "Report each invalid line of the table, and answer nothing",
+    )
+    .conflicts_with_all(others)
+}
+
+// Returns an option without a value.
+pub(crate) fn flag<'a>(alloc: Global, name: &'a str, help: &'a str) -> Arg<'a> {
+    Arg::new(alloc, name)
+        .long(name)
         .action(ArgAction::SetTrue)
-        .help("Report each invalid line of the table, and answer nothing")
-        .conflicts_with_all(&["queries", "strict", "json"])
+        .help(help)
 }
 
 /// Prints what is wrong with a command line, or its help or version. Returns the exit status.
@@ -175,18 +183,23 @@ where
     if matches.get_flag("check") {
         return check_table::<T>(rt, texts.name, path, is_shown);
     }
-    if are_both_input(rt, texts, matches) {
+    if are_both_input(rt, texts, matches, path) {
         return ERROR;
     }
-    match read_table::<T>(rt, texts.name, path, is_shown) {
+    match read_table::<T>(rt, texts.name, End::LineFeed, path, is_shown) {
         Ok(table) => answer_all(rt, texts, matches, &table),
         Err(status) => status,
     }
 }
 
 // Returns whether the table and the lines would both be standard input, and prints that they can't.
-fn are_both_input(rt: &HostRuntime, texts: Texts<'_>, matches: &ArgMatches<'_>) -> bool {
-    let are_both = matches.get_str("table") == Some("-") && matches.get_strs("queries").is_none();
+fn are_both_input(
+    rt: &HostRuntime,
+    texts: Texts<'_>,
+    matches: &ArgMatches<'_>,
+    path: &str,
+) -> bool {
+    let are_both = path == "-" && matches.get_strs("queries").is_none();
     if are_both {
         let _ = eprintln!(rt;
             "{}: {} and the lines can't both be standard input",
@@ -270,13 +283,19 @@ where
 }
 
 // Reads the table of a file, or of standard input if that is `-`.
-fn read_table<T>(rt: &HostRuntime, program: &str, path: &str, is_shown: bool) -> Result<T, u8>
+fn read_table<T>(
+    rt: &HostRuntime,
+    program: &str,
+    end: End,
+    path: &str,
+    is_shown: bool,
+) -> Result<T, u8>
 where
     T: LineTable + Drop,
     T::Fault: Display + Drop,
 {
     let source = source_of(path);
-    match read_file::<T>(rt, End::LineFeed, Place { program, source }, path, is_shown) {
+    match read_file::<T>(rt, end, Place { program, source }, path, is_shown) {
         Ok(table) => Ok(table),
         Err(error) => Err(report_unread::<T>(rt, program, source, error)),
     }
@@ -347,8 +366,6 @@ fn answer<T: LineTable>(
     table: &T,
 ) -> Result<Outcome, ServeError> {
     let alloc = rt.alloc();
-    let mut output = BufWriter::new(alloc, io::writer(rt))?;
-    let mut errors = BufWriter::new(alloc, rt.stderr())?;
     let source = if queries.is_some() {
         "argument"
     } else {
@@ -367,6 +384,8 @@ fn answer<T: LineTable>(
         fault: texts.fault,
         is_strict: matches.get_flag("strict"),
     };
+    let mut output = BufWriter::new(alloc, io::writer(rt))?;
+    let mut errors = BufWriter::new(alloc, rt.stderr())?;
     match queries {
         Some(words) => serve_words(alloc, table, rules, words, &mut output, &mut errors),
         None => {

@@ -1,13 +1,13 @@
 //! Runs a program whose table is read from lines, from other pieces or from a snapshot, and saved in one.
 
 use super::{
-    ERROR, Texts, answer_all, are_both_input, check_table, command, print_usage, read_file, report,
-    report_unread, report_unwritten, source_of, with, words,
+    ERROR, Texts, answer_all, are_both_input, check_table, command, flag, print_usage, read_table,
+    report, report_unwritten, source_of, with, words,
 };
 use crate::messages::Place;
 use crate::progress;
 use crate::saved_tables::SavedTable;
-use clap::{Arg, ArgAction, ArgMatches, Command};
+use clap::{Arg, ArgMatches, Command};
 use std::alloc::{AllocError, Global};
 use std::fmt::Display;
 use std::io::{BufReader, BufWriter, Write};
@@ -45,37 +45,38 @@ where
 }
 
 fn command_with_forms(alloc: Global, texts: Texts<'_>) -> Result<Command<'_>, AllocError> {
-    let command = with(command(alloc, texts)?, zero(alloc))?;
-    let command = with(command, save(alloc))?;
-    with(command, load(alloc))
+    let command = with(command(alloc, texts), zero(alloc));
+    with(with(command, save(alloc)), load(alloc))
 }
 
-fn zero(alloc: Global) -> Result<Arg<'static>, AllocError> {
-    Arg::new(alloc, "zero")
-        .long("zero")
-        .action(ArgAction::SetTrue)
-        .help(
-            "Read entries that end with a zero byte, as find -print0 writes them, in place of lines",
-        )
-        .conflicts_with("check")
+fn zero<'a>(alloc: Global) -> Result<Arg<'a>, AllocError> {
+    flag(
+        alloc,
+        "zero",
+        "Read entries that end with a zero byte, as find -print0 writes them, in place of lines",
+    )
+    .conflicts_with("check")
 }
 
-fn save(alloc: Global) -> Result<Arg<'static>, AllocError> {
+fn save<'a>(alloc: Global) -> Result<Arg<'a>, AllocError> {
+    let others: &'a [&'a str] = &["queries", "strict", "json", "check"];
     Arg::new(alloc, "save")
         .long("save")
         .value_name("SNAPSHOT")
         .help(
             "Write a snapshot of the table to a file, or to standard output if that is '-', and answer nothing",
         )
-        .conflicts_with_all(&["queries", "strict", "json", "check"])
+        .conflicts_with_all(others)
 }
 
-fn load(alloc: Global) -> Result<Arg<'static>, AllocError> {
-    Arg::new(alloc, "load")
-        .long("load")
-        .action(ArgAction::SetTrue)
-        .help("Read a snapshot that --save wrote, in place of lines")
-        .conflicts_with_all(&["zero", "check"])
+fn load<'a>(alloc: Global) -> Result<Arg<'a>, AllocError> {
+    let others: &'a [&'a str] = &["zero", "check"];
+    flag(
+        alloc,
+        "load",
+        "Read a snapshot that --save wrote, in place of lines",
+    )
+    .conflicts_with_all(others)
 }
 
 fn status_of<T>(rt: &HostRuntime, texts: Texts<'_>, matches: &ArgMatches<'_>) -> u8
@@ -89,7 +90,7 @@ where
     if matches.get_flag("check") {
         return check_table::<T>(rt, texts.name, path, matches.get_flag("progress"));
     }
-    if snapshot.is_none() && are_both_input(rt, texts, matches) {
+    if snapshot.is_none() && are_both_input(rt, texts, matches, path) {
         return ERROR;
     }
     let table = match read_form::<T>(rt, texts.name, matches, path) {
@@ -114,11 +115,10 @@ where
     T::Fault: Display + Drop,
     T::LoadFault: From<io::Error> + Display + Drop,
 {
-    let source = source_of(path);
-    let place = Place { program, source };
     let is_shown = matches.get_flag("progress");
     if matches.get_flag("load") {
-        return match load_file::<T>(rt, place, path, is_shown) {
+        let source = source_of(path);
+        return match load_file::<T>(rt, Place { program, source }, path, is_shown) {
             Ok(table) => Ok(table),
             Err(fault) => Err(report(rt, program, source, fault)),
         };
@@ -128,10 +128,7 @@ where
     } else {
         End::LineFeed
     };
-    match read_file::<T>(rt, end, place, path, is_shown) {
-        Ok(table) => Ok(table),
-        Err(error) => Err(report_unread::<T>(rt, program, source, error)),
-    }
+    read_table::<T>(rt, program, end, path, is_shown)
 }
 
 // Loads the table of a file, or of standard input if that is `-`.
