@@ -1,3 +1,5 @@
+//! The format of snapshots, and snapshots of maps and sets.
+
 mod bytes;
 mod faults;
 mod kinds;

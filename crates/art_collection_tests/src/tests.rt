@@ -4,4 +4,5 @@ mod hinted;
 mod memory;
 mod set;
 mod set_parts;
+mod snapshots;
 mod texts;

@@ -3,6 +3,7 @@ ghost use Rattle.std.specs.Prelude.{◌<◌};
 
 use art_building::byte_map::{AppendReason, MapBuilder};
 use art_building::tree_map::TreeMapBuilder;
+use art_keyed::map::TreeMap;
 use art_keys::terminated::Terminated;
 use art_map::map::ByteMap;
 use art_node_support::expected::same;
@@ -30,14 +31,15 @@ fn draw(alloc: Global, seed: u64) -> Result<Model, AllocError> {
     Ok(model)
 }
 
-fn build<const P: usize>(alloc: Global, model: &Model) -> Option<ByteMap<[u8; 4], u32, P>>
+// The map of the pairs, without those for which an allocation failed.
+fn build<const P: usize>(alloc: Global, model: &Model) -> ByteMap<[u8; 4], u32, P>
     requires { P < 256 }
 {
     let mut builder = MapBuilder::new(alloc);
     for (key, value) in model.iter() {
-        builder.push(*key, *value).ok()?;
+        let _ = builder.push(*key, *value);
     }
-    Some(builder.finish())
+    builder.finish()
 }
 
 // Whether the map finds each value, and then has no pair left once all were removed.
@@ -52,37 +54,54 @@ fn is_map_of<const P: usize>(map: &mut ByteMap<[u8; 4], u32, P>, model: &Model) 
     is_right && map.is_empty()
 }
 
-// How many of twenty drawn maps are right, with so many bytes of a prefix stored.
-fn count_right<const P: usize>(alloc: Global) -> Option<usize>
+// Whether the map is built, with so many bytes of a prefix stored.
+fn is_built<const P: usize>(alloc: Global, model: &Model) -> bool
     requires { P < 256 }
 {
-    let mut right = 0usize;
+    let mut map = build::<P>(alloc, model);
+    is_map_of(&mut map, model)
+}
+
+// How many of twenty drawn maps are built, with 0, 2 and 16 bytes of a prefix stored.
+fn count_built(alloc: Global) -> usize {
+    let mut built = 0usize;
     for seed in 0..20u64 {
-        let model = draw(alloc, seed).ok()?;
-        let mut map = build::<P>(alloc, &model)?;
-        right = right.saturating_add(is_map_of(&mut map, &model) as usize);
+        if let Ok(model) = draw(alloc, seed) {
+            let is_each = is_built::<0>(alloc, &model)
+                && is_built::<2>(alloc, &model)
+                && is_built::<16>(alloc, &model);
+            built = built.saturating_add(is_each as usize);
+        }
     }
-    Some(right)
+    built
 }
 
 #[test]
 fn drawn_pairs_are_built(rt: HostRuntime) -> Result<(), Fail> {
-    let alloc = rt.alloc();
-    let seen = [
-        count_right::<0>(alloc),
-        count_right::<2>(alloc),
-        count_right::<16>(alloc),
-    ];
-    same(seen, [Some(20); 3])
+    same(count_built(rt.alloc()), 20)
+}
+
+// Adds a key, unless an allocation fails. Returns why it is not added, with the value.
+fn push(
+    alloc: Global,
+    builder: &mut MapBuilder<Vec<u8>, u32, 4>,
+    key: &[u8],
+    value: u32,
+) -> Option<(AppendReason, u32)> {
+    let key = key.to_vec(alloc).ok()?;
+    match builder.push(key, value) {
+        Ok(()) => None,
+        Err(error) => Some((error.reason, error.value)),
+    }
 }
 
 // Why a key is not added after another one, if it isn't.
 fn reason_after(alloc: Global, last: &[u8], key: &[u8]) -> Option<AppendReason> {
-    let mut builder: MapBuilder<Vec<u8>, u32, 4> = MapBuilder::new(alloc);
-    builder.push(last.to_vec(alloc).ok()?, 1).ok()?;
-    match builder.push(key.to_vec(alloc).ok()?, 2) {
-        Ok(()) => None,
-        Err(error) => (error.value == 2 && builder.len() == 1).then_some(error.reason),
+    let mut builder = MapBuilder::new(alloc);
+    push(alloc, &mut builder, last, 1);
+    match push(alloc, &mut builder, key, 2) {
+        Some((reason, 2)) if builder.len() == 1 => Some(reason),
+        _ => None,
     }
 }
 
@@ -143,30 +162,36 @@ fn refused_each_addition_leaves_the_builder(rt: HostRuntime) -> Result<(), Fail>
     Ok(())
 }
 
-fn words(alloc: Global, texts: [&[u8]; 4]) -> Option<Vec<(Terminated, u32)>> {
+// The words with their places, without those for which an allocation failed.
+fn words(alloc: Global, texts: [&[u8]; 4]) -> Vec<(Terminated, u32)> {
     let mut words = Vec::new(alloc);
     let mut place = 0u32;
     for text in texts {
-        let word = Terminated::encode(alloc, text).ok()??;
-        words.push((word, place)).ok()?;
+        if let Ok(Some(word)) = Terminated::encode(alloc, text) {
+            let _ = words.push((word, place));
+        }
         place = place.saturating_add(1);
     }
-    Some(words)
+    words
 }
 
 // The value of the longest of four sorted words that a text starts with.
 fn longest(alloc: Global) -> Option<u32> {
-    let mut sorted = words(alloc, [b"car", b"cart", b"do", b"dot"])?.into_iter();
+    let mut sorted = words(alloc, [b"car", b"cart", b"do", b"dot"]).into_iter();
     let map = TreeMapBuilder::<_, _, 4>::new(alloc)
         .build(&mut sorted)
         .ok()?;
+    longest_of(&map)
+}
+
+fn longest_of(map: &TreeMap<Terminated, u32, 4>) -> Option<u32> {
     let (_, value) = map.longest_match(b"carton")?;
     Some(*value)
 }
 
 // The value of the first word out of order, how many are left after it, and how many keys the set of those before has.
 fn disordered(alloc: Global) -> Option<(u32, usize, usize)> {
-    let mut pairs = words(alloc, [b"car", b"do", b"cart", b"dot"])?.into_iter();
+    let mut pairs = words(alloc, [b"car", b"do", b"cart", b"dot"]).into_iter();
     let mut builder = TreeMapBuilder::<_, _, 4>::new(alloc);
     match builder.extend(&mut pairs) {
         Ok(()) => None,
@@ -180,26 +205,32 @@ fn words_are_built(rt: HostRuntime) -> Result<(), Fail> {
     same(seen, (Some(1), Some((2, 1, 2))))
 }
 
-// The values of a map of four words in any order, as digits in the order of the words. One word comes twice.
-fn unsorted(alloc: Global) -> Option<u32> {
-    let pairs = words(alloc, [b"dot", b"cart", b"dot", b"car"])?;
-    let map = TreeMapBuilder::<_, _, 4>::from_unsorted(alloc, pairs)
-        .ok()?
-        .finish();
+// The values of a map, as digits in the order of the words.
+fn digits_of(map: &TreeMap<Terminated, u32, 4>) -> u32 {
     let mut digits = 0u32;
     for value in map.values() {
         digits = digits.saturating_mul(10).saturating_add(*value);
     }
-    Some(digits)
+    digits
 }
 
-// Whether a map of four words in any order is built while an allocation may fail.
-fn refuse_unsorted(alloc: Global) -> Option<bool> {
-    let pairs = words(alloc, [b"dot", b"cart", b"dot", b"car"])?;
+// The values of a map of four words in any order. One word comes twice.
+fn unsorted(alloc: Global) -> Option<u32> {
+    let pairs = words(alloc, [b"dot", b"cart", b"dot", b"car"]);
+    match TreeMapBuilder::from_unsorted(alloc, pairs) {
+        Ok(builder) => Some(digits_of(&builder.finish())),
+        Err(_) => None,
+    }
+}
+
+// Whether a map of so many words in any order is built while an allocation may fail.
+fn refuse_unsorted(alloc: Global) -> (usize, bool) {
+    let pairs = words(alloc, [b"dot", b"cart", b"dot", b"car"]);
+    let len = pairs.len();
     begin_refusals(alloc);
     let is_built = TreeMapBuilder::<_, _, 4>::from_unsorted(alloc, pairs).is_ok();
     end_refusals(alloc);
-    Some(is_built)
+    (len, is_built)
 }
 
 #[test]
@@ -209,9 +240,9 @@ fn words_in_any_order_are_built(rt: HostRuntime) -> Result<(), Fail> {
 
 #[test]
 fn refused_each_building_of_words_fails(rt: HostRuntime) -> Result<(), Fail> {
-    let is_built = refuse_unsorted(rt.alloc());
-    same(is_built.is_some(), true)?;
-    if is_built == Some(false) {
+    let (len, is_built) = refuse_unsorted(rt.alloc());
+    same(len, 4)?;
+    if !is_built {
         println!(rt; "asserted")?;
     }
     Ok(())
