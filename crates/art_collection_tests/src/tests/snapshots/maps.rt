@@ -15,13 +15,15 @@ pub fn put<K: SnapshotKey + Drop, V: SnapshotValue + Drop>(
     }
 }
 
-/// Returns the bytes of the map's snapshot: not all of them if an allocation failed.
+/// Returns the bytes of the map's snapshot, or none if writing it failed.
 pub fn written<K: SnapshotKey + Drop, V: SnapshotValue + Drop>(
     alloc: Global,
     map: &TreeMap<K, V, 10>,
 ) -> Vec<u8> {
     let mut bytes = Vec::new(alloc);
-    let _ = write_map(alloc, map, &mut bytes);
+    if write_map(alloc, map, &mut bytes).is_err() {
+        bytes.clear();
+    }
     bytes
 }
 
