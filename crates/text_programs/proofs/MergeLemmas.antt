@@ -1,9 +1,10 @@
 -- A text of counts that are added line by line.
-use Rattle.std.proofs.Common.{◌≡◌, ℕ, ◌+◌, List, [], ◌∷◌, ◌++◌, length, refl, ap, ap₂, sym, ◌∙◌, subst, arith, append_assoc, append-nil}
-use Rattle.std.proofs.lemmas.List.{map-append}
+use Rattle.std.proofs.Common.{◌≡◌, ◌≢◌, ℕ, ◌+◌, List, [], ◌∷◌, ◌++◌, length, Option, Some, None, IfSome, refl, ap, ap₂, sym, ◌∙◌, subst, arith, append_assoc, append-nil}
+use Rattle.std.specs.Prelude.{⊤}
+use Rattle.std.proofs.lemmas.List.{length-map, map-append}
 use Rattle.art_model.proofs.lists.Lists.{Each-append}
 use Rattle.text_programs.specs.Merged.{AreAdded}
-use Rattle.text_programs.specs.Rows.{IsCount, row_of}
+use Rattle.text_programs.specs.Rows.{IsBadRow, IsCount, row_of}
 use Rattle.text_programs.specs.Sums.{HasSums, OutputsAreRows, RowsAreDetermined}
 use Rattle.text_programs.proofs.CountRows.{rows_determined, written_rows}
 use Rattle.text_programs.proofs.SumLemmas.{counts_are}
@@ -24,6 +25,18 @@ module _ (number : ℕ) (old now : List (List ℕ × ℕ)) (line seen : List ℕ
     ),
     (λ before k. subst (λ xs. HasSums xs next) (append_assoc before h.0 (count ∷ [])) (more (before ++ h.0) (h.2 before k))),
   )
+
+  -- this line is that of no count
+  pub line_is_bad : ((count : List ℕ × ℕ) → IsCount count → seen ≢ row_of count) → (before after : List (List ℕ)) → number ≡ length before + 1 →
+      AreAdded old now before → IsBadRow number line (before ++ line ∷ after)
+  line_is_bad none before after n h =
+      let count = ap length h.1.0 ∙ length-map h.0 row_of in
+      (h.0, after, ap (λ ls. ls ++ line ∷ after) h.1.0, h.1.1, (λ count is row. none count is (same ∙ row)), n ∙ ap (λ k. k + 1) count)
+
+-- of an input that can't be read nothing is told
+pub nothing_told : (text : Option (List ℕ)) → IfSome text (λ bs. ⊤)
+nothing_told None = tt
+nothing_told (Some bs) = tt
 
 pub outputs_are_rows : OutputsAreRows
 outputs_are_rows text counts h = let all = counts_are text counts h in (written_rows counts all, all)

@@ -1,4 +1,5 @@
 use Rattle.std.proofs.Common.{◌≡◌, ◌∷◌, [], List, length, ap, arith, refl, rules, subst, sym, ◌∙◌}
+use Rattle.std.proofs.lemmas.Result.{err_from_is_err_and}
 use Rattle.std.specs.Vec.Iter.{into_iter_items, into_iter_len}
 use Rattle.art_building.proofs.Lasts.{IsBuiltUpTo, built_first, built_next, built_all}
 use Rattle.art_building.proofs.tree_map.TreeMapBuilder.from_sorted.Goals as goal
@@ -40,3 +41,16 @@ returns g c =
     let gone : into_iter_items c.loop-next.next-iterator ≡ [] = empty _ (sym c.loop-next.invariant.len ∙ c.in-None.ensures.steps.0) in
     let (puts, keys) = built_all _ c.loop-next.invariant.built gone c.in_ok-push_last.ensures in
     record { put = puts; keys = keys }
+
+pub push_last-requires : goal.push_last-requires
+push_last-requires g c = (search rules, c.loop-next.invariant.built.map)
+
+pub returns-in_err-put_next : goal.returns-in_err-put_next
+returns-in_err-put_next g c =
+    let p = err_from_is_err_and c.from_residual.result c.from_residual.ensures.1 in
+    rw p.1 (record { put = tt; keys = tt })
+
+pub returns-in_err-push_last : goal.returns-in_err-push_last
+returns-in_err-push_last g c =
+    let p = err_from_is_err_and c.from_residual-in_err-push_last.result c.from_residual-in_err-push_last.ensures.1 in
+    rw p.1 (record { put = tt; keys = tt })
