@@ -22,10 +22,10 @@ loop-number-preserved g c =
 pub returns-in-Ok-false : goal.returns-in-Ok-false
 returns-in-Ok-false g c = record {
   added =
-    ends (λ before. AreAdded c.args.counts.now c.loop-number.counts before) (λ before. AreAdded c.args.counts.now c.loop-number.counts before)
-    (g.R.Read.remaining c.args.input.now) (g.R.Read.remaining c.loop-number.input) (g.R.Read.remaining c.next_line.new.input) c.loop-number.number
-    c.next_line.new.line.items c.loop-number.invariant
-    (read_as _ _ _ c.in-Ok-false.field-0 false c.in-Ok-false.field-0-test c.in-Ok-false.ensures) (λ ls h. h);
+      ends (λ before. AreAdded c.args.counts.now c.loop-number.counts before) (λ before. AreAdded c.args.counts.now c.loop-number.counts before)
+      (g.R.Read.remaining c.args.input.now) (g.R.Read.remaining c.loop-number.input) (g.R.Read.remaining c.next_line.new.input) c.loop-number.number
+      c.next_line.new.line.items c.loop-number.invariant
+      (read_as _ _ _ c.in-Ok-false.field-0 false c.in-Ok-false.field-0-test c.in-Ok-false.ensures) (λ ls h. h);
   refused = tt;
 }
 
@@ -33,12 +33,12 @@ pub returns-in_default : goal.returns-in_default
 returns-in_default g c = record {
   added = tt;
   refused =
-    stops (λ before. AreAdded c.args.counts.now c.loop-number.counts before) (IsBadRow c.loop-number.number c.next_line.new.line.items)
-    (g.R.Read.remaining c.args.input.now) (g.R.Read.remaining c.loop-number.input) (g.R.Read.remaining c.next_line.new.input) c.loop-number.number
-    c.next_line.new.line.items c.loop-number.invariant
-    (read_as _ _ _ c.in-Ok-true.field-0 true c.in-Ok-true.field-0-test c.in-Ok-true.ensures)
-    (line_is_bad c.loop-number.number c.args.counts.now c.loop-number.counts c.next_line.new.line.items c.deref.result.now c.deref.ensures.value
-    c.in_default.ensures.none);
+      stops (λ before. AreAdded c.args.counts.now c.loop-number.counts before) (IsBadRow c.loop-number.number c.next_line.new.line.items)
+      (g.R.Read.remaining c.args.input.now) (g.R.Read.remaining c.loop-number.input) (g.R.Read.remaining c.next_line.new.input) c.loop-number.number
+      c.next_line.new.line.items c.loop-number.invariant
+      (read_as _ _ _ c.in-Ok-true.field-0 true c.in-Ok-true.field-0-test c.in-Ok-true.ensures)
+      (line_is_bad c.loop-number.number c.args.counts.now c.loop-number.counts c.next_line.new.line.items c.deref.result.now c.deref.ensures.value
+      c.in_default.ensures.none);
 }
 
 pub returns-in-Err : goal.returns-in-Err
