@@ -38,53 +38,24 @@ pub(super) fn number_of(key: Key, value: u32) -> u64 {
     ((u32::from_be_bytes(key) as u64) << 32) | value as u64
 }
 
-// What the pairs make in their order.
-fn digest(map: &Map) -> u64 {
-    let mut digest = map.len() as u64;
-    for (key, value) in map.iter() {
-        digest = added(digest, *key, *value);
-    }
-    digest
+/// A number that the pairs before this one made, and this one, which is borrowed.
+pub(super) fn with_pair(digest: u64, pair: (&Key, &u32)) -> u64 {
+    added(digest, *pair.0, *pair.1)
 }
 
-fn digest_of_model(model: &Model) -> u64 {
-    let mut digest = model.len() as u64;
-    for (key, value) in model.iter() {
-        digest = added(digest, *key, *value);
-    }
-    digest
+// A sum of keys, and one more.
+fn with_key(sum: u64, key: &Key) -> u64 {
+    sum.wrapping_add(number_of(*key, 0))
+}
+
+// A number that the values before this one made, and this one.
+fn with_value(digest: u64, value: &u32) -> u64 {
+    added(digest, [0; 4], *value)
 }
 
 /// Whether both have the same pairs.
 pub(super) fn agree_on_pairs(map: &Map, model: &Model) -> bool {
-    digest(map) == digest_of_model(model)
-}
-
-// What the pairs make from the back.
-fn from_back(map: &Map) -> u64 {
-    let mut digest = 1u64;
-    for (key, value) in map.iter().rev() {
-        digest = added(digest, *key, *value);
-    }
-    digest
-}
-
-// The sum of the keys.
-fn sum_of_keys(map: &Map) -> u64 {
-    let mut sum = 0u64;
-    for key in map.keys() {
-        sum = sum.wrapping_add(number_of(*key, 0));
-    }
-    sum
-}
-
-// What the values make from the back.
-fn values_from_back(map: &Map) -> u64 {
-    let mut digest = 1u64;
-    for value in map.values().rev() {
-        digest = added(digest, [0; 4], *value);
-    }
-    digest
+    map.len() == model.len() && map.iter().fold(1, with_pair) == model.iter().fold(1, with_pair)
 }
 
 // What the pairs of the other map make from the back, the sum of its keys, and what its values make from the back.
@@ -100,34 +71,23 @@ fn from_back_of_model(model: &Model) -> [u64; 3] {
 
 // Whether both have the same pairs from the back, and the same keys and values.
 fn agree_from_back(map: &Map, model: &Model) -> bool {
-    [from_back(map), sum_of_keys(map), values_from_back(map)] == from_back_of_model(model)
+    let seen = [
+        map.iter().rfold(1, with_pair),
+        map.keys().fold(0, with_key),
+        map.values().rfold(1, with_value),
+    ];
+    seen == from_back_of_model(model)
 }
 
-fn first(map: &Map) -> Option<(Key, u32)> {
-    let (key, value) = map.first_key_value()?;
-    Some((*key, *value))
-}
-
-fn last(map: &Map) -> Option<(Key, u32)> {
-    let (key, value) = map.last_key_value()?;
-    Some((*key, *value))
-}
-
-fn pair_at(map: &Map, key: Key) -> Option<(Key, u32)> {
-    let (key, value) = map.get_key_value(&key)?;
+/// A pair that the map keeps, if there is one.
+pub(super) fn plain(pair: Option<(&Key, &u32)>) -> Option<(Key, u32)> {
+    let (key, value) = pair?;
     Some((*key, *value))
 }
 
 // The pairs at the ends of the other map.
 fn ends_of_model(model: &Model) -> [Option<(Key, u32)>; 2] {
-    let (mut first, mut last) = (None, None);
-    for (key, value) in model.iter() {
-        last = Some((*key, *value));
-        if first.is_none() {
-            first = last;
-        }
-    }
-    [first, last]
+    [plain(model.iter().next()), plain(model.iter().next_back())]
 }
 
 // Whether both have the same value of a key, and the same pairs at their ends.
@@ -135,8 +95,8 @@ fn agree_on_questions(map: &Map, model: &Model, key: Key) -> bool {
     let value = model.get(&key).copied();
     map.get(&key).copied() == value
         && map.contains_key(&key) == value.is_some()
-        && pair_at(map, key) == pair_with(key, value)
-        && [first(map), last(map)] == ends_of_model(model)
+        && plain(map.get_key_value(&key)) == pair_with(key, value)
+        && [plain(map.first_key_value()), plain(map.last_key_value())] == ends_of_model(model)
 }
 
 // A key with its value, if there is one.

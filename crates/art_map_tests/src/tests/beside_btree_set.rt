@@ -50,81 +50,22 @@ fn agree_on_questions(set: &Set, model: &Model, key: Key) -> bool {
         && set.is_empty() == model.is_empty()
 }
 
-// What the keys make.
-fn digest(set: &Set) -> u64 {
-    let mut digest = set.len() as u64;
-    for key in set.iter() {
-        digest = added(digest, *key);
-    }
-    digest
-}
-
-// What the keys make from the back.
-fn from_back(set: &Set) -> u64 {
-    let mut digest = 1u64;
-    for key in set.iter().rev() {
-        digest = added(digest, *key);
-    }
-    digest
-}
-
-fn digest_of_model(model: &Model) -> u64 {
-    let mut digest = model.len() as u64;
-    for key in model.iter() {
-        digest = added(digest, *key);
-    }
-    digest
-}
-
-fn from_back_of_model(model: &Model) -> u64 {
-    let mut digest = 1u64;
-    for key in model.iter().rev() {
-        digest = added(digest, *key);
-    }
-    digest
+// A number that the keys before this one made, and this one, which is borrowed.
+fn with_key(digest: u64, key: &Key) -> u64 {
+    added(digest, *key)
 }
 
 // Whether both have the same keys from both ends.
 pub(super) fn agree_on_keys(set: &Set, model: &Model) -> bool {
-    digest(set) == digest_of_model(model) && from_back(set) == from_back_of_model(model)
+    set.len() == model.len()
+        && set.iter().fold(1, with_key) == model.iter().fold(1, with_key)
+        && set.iter().rfold(1, with_key) == model.iter().rfold(1, with_key)
 }
 
 // ---- two sets
 
-// What the keys of the union, the intersection, the difference and the symmetric difference make.
-fn of_union(set: &Set, other: &Set) -> u64 {
-    let mut digest = 1u64;
-    for key in set.union(other) {
-        digest = added(digest, *key);
-    }
-    digest
-}
-
-fn of_intersection(set: &Set, other: &Set) -> u64 {
-    let mut digest = 1u64;
-    for key in set.intersection(other) {
-        digest = added(digest, *key);
-    }
-    digest
-}
-
-fn of_difference(set: &Set, other: &Set) -> u64 {
-    let mut digest = 1u64;
-    for key in set.difference(other) {
-        digest = added(digest, *key);
-    }
-    digest
-}
-
-fn of_symmetric_difference(set: &Set, other: &Set) -> u64 {
-    let mut digest = 1u64;
-    for key in set.symmetric_difference(other) {
-        digest = added(digest, *key);
-    }
-    digest
-}
-
-// The same of the other sets, by a look at each of the keys that are drawn.
+// What the keys of the union, the intersection, the difference and the symmetric difference make, by a look at each of
+// the keys that are drawn.
 fn expected_of_both(model: &Model, beside: &Model) -> [u64; 4] {
     let mut digests = [1u64; 4];
     for number in 0..60u8 {
@@ -148,10 +89,10 @@ fn expected_of_both(model: &Model, beside: &Model) -> [u64; 4] {
 // Whether both pairs of sets have the same unions, intersections and differences.
 fn agree_on_both(set: &Set, other: &Set, model: &Model, beside: &Model) -> bool {
     let seen = [
-        of_union(set, other),
-        of_intersection(set, other),
-        of_difference(set, other),
-        of_symmetric_difference(set, other),
+        set.union(other).fold(1, with_key),
+        set.intersection(other).fold(1, with_key),
+        set.difference(other).fold(1, with_key),
+        set.symmetric_difference(other).fold(1, with_key),
     ];
     seen == expected_of_both(model, beside)
 }
@@ -160,34 +101,20 @@ fn agree_on_both(set: &Set, other: &Set, model: &Model, beside: &Model) -> bool 
 fn agree_on_union_copy(set: &Set, other: &Set) -> bool {
     let mut all = set.union(other);
     all.next();
-    let Ok(copy) = all.clone() else {
-        return false;
-    };
-    let mut digests = [1u64; 2];
-    for key in copy {
-        digests[0] = added(digests[0], *key);
+    match all.clone() {
+        Ok(copy) => copy.fold(1, with_key) == all.fold(1, with_key),
+        Err(_) => false,
     }
-    for key in all {
-        digests[1] = added(digests[1], *key);
-    }
-    digests[0] == digests[1]
 }
 
 // The same over an intersection.
 fn agree_on_intersection_copy(set: &Set, other: &Set) -> bool {
     let mut both = set.intersection(other);
     both.next();
-    let Ok(copy) = both.clone() else {
-        return false;
-    };
-    let mut digests = [1u64; 2];
-    for key in copy {
-        digests[0] = added(digests[0], *key);
+    match both.clone() {
+        Ok(copy) => copy.fold(1, with_key) == both.fold(1, with_key),
+        Err(_) => false,
     }
-    for key in both {
-        digests[1] = added(digests[1], *key);
-    }
-    digests[0] == digests[1]
 }
 
 fn agree_on_copies(set: &Set, other: &Set) -> bool {

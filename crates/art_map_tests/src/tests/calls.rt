@@ -31,6 +31,11 @@ pub fn remove(map: &mut Map, removal: Removal<[u8; 1]>) -> Option<([u8; 1], u32)
     }
 }
 
+/// Digits, and the value of a pair as one more.
+pub fn with_digit<K>(digits: u32, pair: (&K, &u32)) -> u32 {
+    digits.wrapping_mul(10).wrapping_add(*pair.1)
+}
+
 /// The value of a pair, if there is one.
 pub fn value_of<K>(pair: Option<(&K, &u32)>) -> Option<u32> {
     let (_, value) = pair?;

@@ -1,5 +1,5 @@
 //! Maps whose pairs were moved into the order of their keys.
-use super::calls::Map;
+use super::calls::{Map, with_digit};
 use art_map::map::ByteMap;
 use art_node_support::expected::same;
 use art_node_support::memory::{all_memory, begin_refusals, end_refusals};
@@ -14,26 +14,12 @@ fn fill_unsorted(map: &mut Map) {
     }
 }
 
-// The values as the digits of a number.
-fn from_front(map: &Map) -> u32 {
-    let mut digits = 0u32;
-    for (_, digit) in map.iter() {
-        digits = digits.wrapping_mul(10).wrapping_add(*digit);
-    }
-    digits
-}
-
-fn from_back(map: &Map) -> u32 {
-    let mut digits = 0u32;
-    for (_, digit) in map.iter().rev() {
-        digits = digits.wrapping_mul(10).wrapping_add(*digit);
-    }
-    digits
-}
-
 // The values as the digits of a number, from the front, and from the back.
 fn digits(map: &Map) -> [u32; 2] {
-    [from_front(map), from_back(map)]
+    [
+        map.iter().fold(0, with_digit),
+        map.iter().rfold(0, with_digit),
+    ]
 }
 
 // Whether a map is compacted, its digits then, and the values of two keys.
@@ -98,13 +84,13 @@ fn refused_each_compact_moves_no_pair(rt: HostRuntime) -> Result<(), Fail> {
     Ok(())
 }
 
+fn with_byte(digits: u32, key: &[u8; 1]) -> u32 {
+    digits.wrapping_mul(10).wrapping_add(key[0] as u32)
+}
+
 // The bytes of the keys of a set as digits.
 fn digits_of_set(set: &ByteSet<[u8; 1], 4>) -> u32 {
-    let mut digits = 0u32;
-    for key in set.iter() {
-        digits = digits.wrapping_mul(10).wrapping_add(key[0] as u32);
-    }
-    digits
+    set.iter().fold(0, with_byte)
 }
 
 #[test]

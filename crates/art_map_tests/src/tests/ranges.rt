@@ -1,7 +1,8 @@
 //! Parts of a map: the pairs with a prefix, those between two bounds, and those next to a bound. They are drawn, read,
 //! removed and moved into another map, and compared with a `BTreeMap`.
 use super::beside_btree::{
-    Key, Map, Model, added, agree_on_drawn_insertion, agree_on_pairs, drawn_key, number_of,
+    Key, Map, Model, added, agree_on_drawn_insertion, agree_on_pairs, drawn_key, number_of, plain,
+    with_pair,
 };
 use art_map::map::{ByteMap, Range};
 use art_node_support::expected::same;
@@ -123,29 +124,35 @@ fn part_of(map: &Map, part: Part) -> Range<'_, Key, u32, 1> {
 
 // What the pairs of a part make of which so many are first returned from the back, and the others from the front.
 fn read(mut pairs: Range<'_, Key, u32, 1>, back: usize) -> [u64; 2] {
-    let (mut from_back, mut from_front) = (1u64, 1u64);
+    let mut from_back = 1u64;
     for _ in 0..back {
-        if let Some((key, value)) = pairs.next_back() {
-            from_back = added(from_back, *key, *value);
+        if let Some(pair) = pairs.next_back() {
+            from_back = with_pair(from_back, pair);
         }
     }
-    for (key, value) in pairs {
-        from_front = added(from_front, *key, *value);
-    }
-    [from_back, from_front]
+    [from_back, pairs.fold(1, with_pair)]
 }
 
-fn count_in(model: &Model, part: Part) -> usize {
-    let mut count = 0usize;
-    for (key, _) in model.iter() {
-        count = count.saturating_add(part.has(*key) as usize);
+// How many pairs there are in a part, and the first and the last one.
+type Seen = (usize, Option<(Key, u32)>, Option<(Key, u32)>);
+
+fn seen_in(model: &Model, part: Part) -> Seen {
+    let (mut count, mut first, mut last) = (0usize, None, None);
+    for (key, value) in model.iter() {
+        if part.has(*key) {
+            count = count.saturating_add(1);
+            last = Some((*key, *value));
+            if first.is_none() {
+                first = last;
+            }
+        }
     }
-    count
+    (count, first, last)
 }
 
 // The same of the other map.
 fn expected(model: &Model, part: Part, back: usize) -> [u64; 2] {
-    let mut front = count_in(model, part).saturating_sub(back);
+    let mut front = seen_in(model, part).0.saturating_sub(back);
     let (mut from_back, mut power, mut from_front) = (0u64, 1u64, 1u64);
     for (key, value) in model.iter() {
         if !part.has(*key) {
@@ -162,40 +169,10 @@ fn expected(model: &Model, part: Part, back: usize) -> [u64; 2] {
     [from_back.wrapping_add(power), from_front]
 }
 
-// The first pair of a part.
-fn first_in(model: &Model, part: Part) -> Option<(Key, u32)> {
-    for (key, value) in model.iter() {
-        if part.has(*key) {
-            return Some((*key, *value));
-        }
-    }
-    None
-}
-
-fn last_in(model: &Model, part: Part) -> Option<(Key, u32)> {
-    let mut last = None;
-    for (key, value) in model.iter() {
-        if part.has(*key) {
-            last = Some((*key, *value));
-        }
-    }
-    last
-}
-
-fn first_from(map: &Map, from: Edge) -> Option<(Key, u32)> {
-    let (key, value) = map.first_from(from.bound())?;
-    Some((*key, *value))
-}
-
-fn last_up_to(map: &Map, to: Edge) -> Option<(Key, u32)> {
-    let (key, value) = map.last_up_to(to.bound())?;
-    Some((*key, *value))
-}
-
 // Whether both have the same pairs next to a bound.
 fn agree_on_ends(map: &Map, model: &Model, edge: Edge) -> bool {
-    first_from(map, edge) == first_in(model, Part::Between(edge, Edge::Open))
-        && last_up_to(map, edge) == last_in(model, Part::Between(Edge::Open, edge))
+    plain(map.first_from(edge.bound())) == seen_in(model, Part::Between(edge, Edge::Open)).1
+        && plain(map.last_up_to(edge.bound())) == seen_in(model, Part::Between(Edge::Open, edge)).2
 }
 
 /// Whether both have the same pairs in a drawn part, and next to a drawn bound.
@@ -207,7 +184,7 @@ pub(super) fn agree_on_questions(map: &Map, model: &Model, numbers: &mut Numbers
 
 // Whether the first pair of a part was removed from the map; it is removed from the other one.
 fn agree_on_first(own: Option<(Key, u32)>, model: &mut Model, part: Part) -> bool {
-    let first = first_in(model, part);
+    let first = seen_in(model, part).1;
     if let Some(pair) = first {
         let key = pair.0;
         model.remove(&key);
@@ -310,16 +287,21 @@ fn fill(map: &mut Map) {
 // What a split leaves while all memory is held: how many pairs moved, the pair that did not, and how many are left.
 type Refused = (usize, (Key, u32), usize);
 
+// How many pairs moved in a split that fails, and the pair that did not.
+fn refusal(map: &mut Map) -> Option<(usize, (Key, u32))> {
+    match map.split_off(&[0, 0, 0, 4]) {
+        Ok(_) => None,
+        Err(refused) => Some((refused.moved.len(), (refused.key, refused.value))),
+    }
+}
+
 fn split_refused(alloc: Global, map: &mut Map) -> Option<Refused> {
     fill(map);
     let held = all_memory(alloc).ok()?;
-    let refused = match map.split_off(&[0, 0, 0, 4]) {
-        Ok(_) => return None,
-        Err(refused) => refused,
-    };
+    let refusal = refusal(map);
     drop(held);
-    let (key, value) = (refused.key, refused.value);
-    Some((refused.moved.len(), (key, value), map.len()))
+    let (moved, pair) = refusal?;
+    Some((moved, pair, map.len()))
 }
 
 // Whether an append to an empty map fails while all memory is held, and how many pairs both then have.

@@ -1,38 +1,40 @@
 //! Keys of several lengths, some of which are prefixes of others.
+use super::calls::with_digit;
 use art_map::map::{ByteMap, MapInsertError};
 use art_node_support::expected::same;
 use std::alloc::Global;
 use std::test::Fail;
 
-type Map = ByteMap<Vec<u8>, u32, 4>;
+pub(super) type Map = ByteMap<Vec<u8>, u32, 4>;
 
-// Whether a key is inserted: if not, it is returned with its value and its bytes. None if an allocation fails.
-fn is_put(map: &mut Map, alloc: Global, key: &[u8], value: u32) -> Option<bool> {
+// Whether an insertion is refused for a related key in another way than with this key, its value and its bytes. None if
+// an allocation failed.
+fn is_wrongly_refused(
+    refused: &MapInsertError<Vec<u8>, u32>,
+    key: &[u8],
+    value: u32,
+) -> Option<bool> {
+    match refused {
+        MapInsertError::Conflict {
+            key: own,
+            value: back,
+            error,
+        } => Some(own.as_slice() != key || *back != value || error.byte_repr.as_slice() != key),
+        MapInsertError::Memory { .. } => None,
+    }
+}
+
+/// Whether a key is inserted: if not, it is returned with its value and its bytes. None if an allocation fails.
+pub(super) fn is_put(map: &mut Map, alloc: Global, key: &[u8], value: u32) -> Option<bool> {
     match map.insert(key.to_vec(alloc).ok()?, value) {
         Ok(_) => Some(true),
-        Err(
-            MapInsertError::Conflict {
-                key: own,
-                value: back,
-                error,
-            },
-        ) => Some(own.as_slice() != key || back != value || error.byte_repr.as_slice() != key),
-        Err(MapInsertError::Memory { .. }) => None,
+        Err(refused) => is_wrongly_refused(&refused, key, value),
     }
 }
 
 fn put_over(map: &mut Map, alloc: Global, key: &[u8], value: u32) -> Option<usize> {
     let key = key.to_vec(alloc).ok()?;
     map.insert_over(key, value).ok()
-}
-
-// The values of a map in the order of its keys, as digits.
-fn digits(map: &Map) -> u32 {
-    let mut digits = 0u32;
-    for (_, value) in map.iter() {
-        digits = digits.wrapping_mul(10).wrapping_add(*value);
-    }
-    digits
 }
 
 #[test]
@@ -45,7 +47,7 @@ fn related_keys_are_refused(rt: HostRuntime) -> Result<(), Fail> {
         is_put(&mut map, alloc, &[], 4),
     ];
     same(
-        (are_put, digits(&map)),
+        (are_put, map.iter().fold(0, with_digit)),
         ([Some(true), Some(true), Some(false), Some(false)], 21),
     )
 }
@@ -80,7 +82,7 @@ fn a_map_goes_on_after_a_conflict(rt: HostRuntime) -> Result<(), Fail> {
         is_put(&mut map, alloc, &[1], 2),
         is_put(&mut map, alloc, &[1, 1], 3),
     ];
-    let kept = (map.len(), digits(&map));
+    let kept = (map.len(), map.iter().fold(0, with_digit));
     let replaced = returned(&mut map, alloc, &[2], 5);
     let then = (map.len(), map.get(&[2]).copied());
     let removed = (removed_in_turn(&mut map), map.len());
@@ -113,7 +115,7 @@ fn all_related_keys_give_way(rt: HostRuntime) -> Result<(), Fail> {
     let mut map = ByteMap::new(rt.alloc());
     let gone = put_six_over(&mut map, rt.alloc());
     let expected = [Some(0), Some(0), Some(0), Some(2), Some(1), Some(1)];
-    same((gone, digits(&map)), (expected, 46))
+    same((gone, map.iter().fold(0, with_digit)), (expected, 46))
 }
 
 // The length of the key that matches a query, and its value.

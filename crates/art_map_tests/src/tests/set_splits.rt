@@ -104,16 +104,22 @@ fn fill(set: &mut Set) {
     }
 }
 
+// How many keys moved in a split that fails, and the key that did not.
+fn refusal(set: &mut Set) -> Option<(usize, Key)> {
+    match set.split_off(&[0, 0, 0, 4]) {
+        Ok(_) => None,
+        Err(refused) => Some((refused.moved.len(), refused.key)),
+    }
+}
+
 // What a split leaves while all memory is held: how many keys moved, the key that did not, and how many are left.
 fn split_refused(alloc: Global, set: &mut Set) -> Option<(usize, Key, usize)> {
     fill(set);
     let held = all_memory(alloc).ok()?;
-    let refused = match set.split_off(&[0, 0, 0, 4]) {
-        Ok(_) => return None,
-        Err(refused) => refused,
-    };
+    let refusal = refusal(set);
     drop(held);
-    Some((refused.moved.len(), refused.key, set.len()))
+    let (moved, key) = refusal?;
+    Some((moved, key, set.len()))
 }
 
 // Whether an append to an empty set fails while all memory is held, and how many keys both then have.

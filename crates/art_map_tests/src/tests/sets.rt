@@ -11,11 +11,20 @@ fn tagged(alloc: Global, tag: u32) -> Option<Tagged> {
     Some(Tagged { bytes, tag })
 }
 
+// The tag of the key that this one replaces, if it replaces one. None if an allocation fails.
+fn replaced(set: &mut ByteSet<Tagged, 4>, key: Tagged) -> Option<Option<u32>> {
+    match set.replace(key) {
+        Ok(Some(old)) => Some(Some(old.tag)),
+        Ok(None) => Some(None),
+        Err(_) => None,
+    }
+}
+
 // Whether a first key replaces none, the tag of the key that a second one replaces, and that of the stored key.
 fn replaced_in(set: &mut ByteSet<Tagged, 4>, alloc: Global) -> Option<(bool, u32, u32)> {
-    let first = set.replace(tagged(alloc, 1)?).ok()?;
-    let second = set.replace(tagged(alloc, 2)?).ok()??;
-    Some((first.is_none(), second.tag, set.first()?.tag))
+    let first = replaced(set, tagged(alloc, 1)?)?;
+    let second = replaced(set, tagged(alloc, 2)?)??;
+    Some((first.is_none(), second, set.first()?.tag))
 }
 
 #[test]
