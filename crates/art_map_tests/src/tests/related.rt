@@ -37,6 +37,11 @@ fn put_over(map: &mut Map, alloc: Global, key: &[u8], value: u32) -> Option<usiz
     map.insert_over(key, value).ok()
 }
 
+// The values of a map in the order of its keys, as digits.
+fn digits(map: &Map) -> u32 {
+    map.iter().fold(0, with_digit)
+}
+
 #[test]
 fn related_keys_are_refused(rt: HostRuntime) -> Result<(), Fail> {
     let (mut map, alloc) = (ByteMap::new(rt.alloc()), rt.alloc());
@@ -47,7 +52,7 @@ fn related_keys_are_refused(rt: HostRuntime) -> Result<(), Fail> {
         is_put(&mut map, alloc, &[], 4),
     ];
     same(
-        (are_put, map.iter().fold(0, with_digit)),
+        (are_put, digits(&map)),
         ([Some(true), Some(true), Some(false), Some(false)], 21),
     )
 }
@@ -82,7 +87,7 @@ fn a_map_goes_on_after_a_conflict(rt: HostRuntime) -> Result<(), Fail> {
         is_put(&mut map, alloc, &[1], 2),
         is_put(&mut map, alloc, &[1, 1], 3),
     ];
-    let kept = (map.len(), map.iter().fold(0, with_digit));
+    let kept = (map.len(), digits(&map));
     let replaced = returned(&mut map, alloc, &[2], 5);
     let then = (map.len(), map.get(&[2]).copied());
     let removed = (removed_in_turn(&mut map), map.len());
@@ -115,7 +120,7 @@ fn all_related_keys_give_way(rt: HostRuntime) -> Result<(), Fail> {
     let mut map = ByteMap::new(rt.alloc());
     let gone = put_six_over(&mut map, rt.alloc());
     let expected = [Some(0), Some(0), Some(0), Some(2), Some(1), Some(1)];
-    same((gone, map.iter().fold(0, with_digit)), (expected, 46))
+    same((gone, digits(&map)), (expected, 46))
 }
 
 // The length of the key that matches a query, and its value.

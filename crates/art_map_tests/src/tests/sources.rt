@@ -66,8 +66,17 @@ fn is_added(map: &mut Map, alloc: Global, byte: u8) -> bool {
 fn a_key_is_made_where_it_is_new(rt: HostRuntime) -> Result<(), Fail> {
     let mut map = ByteMap::new(rt.alloc());
     fill(&mut map, 3);
-    let added = [2, 9, 9, 0].map(|byte| is_added(&mut map, rt.alloc(), byte));
-    let values = [1, 2, 9].map(|byte| map.get(&[byte]).copied());
+    let added = [
+        is_added(&mut map, rt.alloc(), 2),
+        is_added(&mut map, rt.alloc(), 9),
+        is_added(&mut map, rt.alloc(), 9),
+        is_added(&mut map, rt.alloc(), 0),
+    ];
+    let values = [
+        map.get(&[1]).copied(),
+        map.get(&[2]).copied(),
+        map.get(&[9]).copied(),
+    ];
     same(
         (added, values, map.len()),
         ([true, true, true, false], [Some(1), Some(12), Some(27)], 4),
