@@ -1,6 +1,5 @@
 //! Calls while allocations fail.
 use super::calls::{Map, Removal, fill, remove, value_of};
-use super::related;
 use art_map::map::{ByteMap, MapInsertError};
 use art_node_support::expected::same;
 use art_node_support::memory::{all_memory, begin_refusals, end_refusals};
@@ -107,8 +106,11 @@ fn without_memory_pairs_are_found_and_removed(rt: HostRuntime) -> Result<(), Fai
     same(seen, Some(([Some(3), Some(3), Some(5)], [true; 4])))
 }
 
+// A map with keys of any length.
+type OfAnyLen = ByteMap<Vec<u8>, u32, 4>;
+
 // How many pairs this one replaces while all memory is held.
-fn starve_over(alloc: Global, map: &mut related::Map, key: Vec<u8>, value: u32) -> Option<usize> {
+fn starve_over(alloc: Global, map: &mut OfAnyLen, key: Vec<u8>, value: u32) -> Option<usize> {
     let held = all_memory(alloc).ok()?;
     let gone = map.insert_over(key, value).ok();
     drop(held);
@@ -118,11 +120,9 @@ fn starve_over(alloc: Global, map: &mut related::Map, key: Vec<u8>, value: u32) 
 // The same if exactly one longer key is stored, with how many pairs there then are, and the values of both keys.
 fn starve_over_longer(
     alloc: Global,
-    map: &mut related::Map,
+    map: &mut OfAnyLen,
 ) -> Option<(usize, usize, [Option<u32>; 2])> {
-    if !related::is_put(map, alloc, &[1, 1], 7)? {
-        return None;
-    }
+    map.insert([1, 1].to_vec(alloc).ok()?, 7).ok()?;
     let gone = starve_over(alloc, map, [1].to_vec(alloc).ok()?, 9)?;
     let values = [map.get(&[1, 1]).copied(), map.get(&[1]).copied()];
     Some((gone, map.len(), values))

@@ -5,7 +5,7 @@ use art_node_support::expected::same;
 use std::alloc::Global;
 use std::test::Fail;
 
-pub(super) type Map = ByteMap<Vec<u8>, u32, 4>;
+type Map = ByteMap<Vec<u8>, u32, 4>;
 
 // Whether an insertion is refused for a related key in another way than with this key, its value and its bytes. None if
 // an allocation failed.
@@ -24,8 +24,8 @@ fn is_wrongly_refused(
     }
 }
 
-/// Whether a key is inserted: if not, it is returned with its value and its bytes. None if an allocation fails.
-pub(super) fn is_put(map: &mut Map, alloc: Global, key: &[u8], value: u32) -> Option<bool> {
+// Whether a key is inserted: if not, it is returned with its value and its bytes. None if an allocation fails.
+fn is_put(map: &mut Map, alloc: Global, key: &[u8], value: u32) -> Option<bool> {
     match map.insert(key.to_vec(alloc).ok()?, value) {
         Ok(_) => Some(true),
         Err(refused) => is_wrongly_refused(&refused, key, value),
