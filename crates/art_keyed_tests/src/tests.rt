@@ -7,5 +7,6 @@ mod longest;
 mod map;
 mod memory;
 mod parts;
+mod shared;
 mod text_ranges;
 mod visits;

@@ -1,8 +1,10 @@
 //! Strings that are prefixes of others: the longest one, all of them, and calls by text.
 ghost use Rattle.std.specs.Prelude.{◌<◌};
 
-use art_keyed::map::{TextRefused, TreeMap};
+use super::shared::{put, read, taken, value_of, word};
+use art_keyed::map::{Matches, TextRefused, TreeMap};
 use art_keys::escaped::Escaped;
+use art_keys::laws::StringBytes;
 use art_keys::terminated::Terminated;
 use std::alloc::Global;
 use std::test::Fail;
@@ -26,48 +28,54 @@ static MOUNTS: [&str; 7] = [
     "/var/lib/",
 ];
 
-// Inserts them.
-fn mount<const P: usize>(map: &mut Texts<P>, alloc: Global) -> Option<()>
+// Inserts them, and returns whether all are new.
+fn mount<const P: usize>(map: &mut Texts<P>, alloc: Global) -> bool
     requires { P < 256 }
 {
     let mut value = 0u32;
+    let mut are_new = true;
     for text in &MOUNTS {
         value = value.wrapping_add(1);
-        let key = Terminated::encode_str(alloc, text).ok()??;
-        map.insert(key, value).ok()?;
+        are_new &= put(map, word(alloc, text.as_bytes()), value) == Some(None);
     }
-    Some(())
+    are_new
 }
 
 // The value of the longest string that is a prefix of a text, or 0.
 fn longest<const P: usize>(map: &Texts<P>, text: &str) -> u32 {
-    match map.longest_match(text.as_bytes()) {
-        Some((_, value)) => *value,
-        None => 0,
-    }
+    value_of(map.longest_match(text.as_bytes())).unwrap_or(0)
 }
+
+static PATHS: [&str; 9] = [
+    "/etc/passwd",
+    "/home/alice/projects/deep/dirXctory/inner/file",
+    "/homX/alice/projects/deep/directory/inner/file",
+    "/home/alice/projects/deep/directory/inner/file",
+    "/home/alice/projects/deep/directory/inXer/file",
+    "/home/alice/projects/deep/directory/",
+    "/home/alice/projects/deep/directory",
+    "home/alice",
+    "",
+];
 
 // The same for nine texts.
 fn longest_of_nine<const P: usize>(map: &Texts<P>) -> [u32; 9] {
-    [
-        longest(map, "/etc/passwd"),
-        longest(map, "/home/alice/projects/deep/dirXctory/inner/file"),
-        longest(map, "/homX/alice/projects/deep/directory/inner/file"),
-        longest(map, "/home/alice/projects/deep/directory/inner/file"),
-        longest(map, "/home/alice/projects/deep/directory/inXer/file"),
-        longest(map, "/home/alice/projects/deep/directory/"),
-        longest(map, "/home/alice/projects/deep/directory"),
-        longest(map, "home/alice"),
-        longest(map, ""),
-    ]
+    let mut values = [0u32; 9];
+    let mut at = 0usize;
+    for text in &PATHS {
+        if at < 9 {
+            values[at] = longest(map, text);
+        }
+        at = at.saturating_add(1);
+    }
+    values
 }
 
-fn mounted<const P: usize>(alloc: Global) -> Option<[u32; 9]>
+fn mounted<const P: usize>(alloc: Global) -> (bool, [u32; 9])
     requires { P < 256 }
 {
     let mut map: Texts<P> = TreeMap::new(alloc);
-    mount(&mut map, alloc)?;
-    Some(longest_of_nine(&map))
+    (mount(&mut map, alloc), longest_of_nine(&map))
 }
 
 #[test]
@@ -79,25 +87,46 @@ fn paths_are_matched_by_the_longest_mount(rt: HostRuntime) -> Result<(), Fail> {
             mounted::<4>(alloc),
             mounted::<64>(alloc),
         ],
-        [Some([2, 3, 2, 5, 4, 4, 3, 1, 1]); 3],
+        [(true, [2, 3, 2, 5, 4, 4, 3, 1, 1]); 3],
     )
+}
+
+// Which turns of two take a pair from the front.
+const FROM_FRONT: [bool; 2] = [true, true];
+
+const FROM_BACK: [bool; 2] = [false, false];
+
+const IN_TURN: [bool; 2] = [true, false];
+
+// A number that the values of all matches make: each is added to the number before it, times a factor.
+fn digest<K: StringBytes + Drop, const P: usize>(
+    mut matches: Matches<'_, '_, K, u32, P>,
+    turns: [bool; 2],
+    (first, factor): (u32, u32),
+) -> u32 {
+    let mut digest = first;
+    for turn in 0..64usize {
+        let next = if turns[turn % 2] {
+            matches.next()
+        } else {
+            matches.next_back()
+        };
+        let Some((_, value)) = next else {
+            return digest;
+        };
+        digest = digest.wrapping_mul(factor).wrapping_add(*value);
+    }
+    0
 }
 
 // The values of the matches of a text, as digits.
 fn digits(map: &Texts<2>, text: &[u8]) -> u32 {
-    let mut digits = 0u32;
-    for (_, value) in map.matches(text) {
-        digits = digits.wrapping_mul(10).wrapping_add(*value);
-    }
-    digits
+    digest(map.matches(text), FROM_FRONT, (0, 10))
 }
 
 // The value of the shortest match, or 0.
 fn shortest(map: &Texts<2>, text: &[u8]) -> u32 {
-    match map.shortest_match(text) {
-        Some((_, value)) => *value,
-        None => 0,
-    }
+    value_of(map.shortest_match(text)).unwrap_or(0)
 }
 
 // How many of three texts are stored.
@@ -109,28 +138,30 @@ fn count_stored(map: &Texts<2>) -> usize {
 
 // The value of a text as it is removed, or 0.
 fn removed(map: &mut Texts<2>, text: &[u8]) -> u32 {
-    match map.remove_text(text) {
-        Some((_, value)) => value,
-        None => 0,
-    }
+    taken(map.remove_text(text)).unwrap_or(0)
+}
+
+// What is found of four texts, how many of three are stored, and what is removed, and left.
+fn found_and_removed(map: &mut Texts<2>) -> ([u32; 4], usize, [u32; 2], usize) {
+    let matches = [
+        digits(map, b"/home/alice/projects/deep/directory/inner/file"),
+        digits(map, b"/home\0/alice"),
+        shortest(map, b"/home\0/alice"),
+        digits(map, b""),
+    ];
+    let stored = count_stored(map);
+    let removed = [removed(map, b"/home/"), removed(map, b"/home/")];
+    (matches, stored, removed, map.len())
+}
+
+fn mounts(map: &mut Texts<2>, alloc: Global) -> (bool, ([u32; 4], usize, [u32; 2], usize)) {
+    (mount(map, alloc), found_and_removed(map))
 }
 
 #[test]
 fn all_mounts_of_a_path_come_in_order(rt: HostRuntime) -> Result<(), Fail> {
-    let mut map = TreeMap::new(rt.alloc());
-    let mounted = mount(&mut map, rt.alloc());
-    let matches = [
-        digits(&map, b"/home/alice/projects/deep/directory/inner/file"),
-        digits(&map, b"/home\0/alice"),
-        shortest(&map, b"/home\0/alice"),
-        digits(&map, b""),
-    ];
-    let stored = count_stored(&map);
-    let removed = [removed(&mut map, b"/home/"), removed(&mut map, b"/home/")];
-    same(
-        (mounted, matches, stored, removed, map.len()),
-        (Some(()), [12_345, 12, 1, 1], 1, [3, 0], 6),
-    )
+    let seen = mounts(&mut TreeMap::new(rt.alloc()), rt.alloc());
+    same(seen, (true, ([12_345, 12, 1, 1], 1, [3, 0], 6)))
 }
 
 // ---- random strings, with their lengths as values
@@ -160,37 +191,40 @@ fn query(alloc: Global, numbers: &mut Numbers, number: usize, times: usize) -> O
     Some(query)
 }
 
-// Inserts a string into a map and a list.
+// Whether a new string is inserted into a map and a list.
 fn put_both<const P: usize>(
     map: &mut Bytes<P>,
     list: &mut Vec<Vec<u8>>,
     alloc: Global,
     string: Vec<u8>,
-) -> Option<()>
+) -> bool
     requires { P < 256 }
 {
-    let len = u32::try_from(string.len()).ok()?;
-    map.insert(Escaped::encode(alloc, &string).ok()?, len).ok()?;
-    list.push(string).ok()
+    let len = u32::try_from(string.len()).unwrap_or(u32::MAX);
+    let key = Escaped::encode(alloc, &string).ok();
+    put(map, key, len) == Some(None) && list.push(string).is_ok()
 }
 
-// Inserts random strings.
+// Inserts random strings, and returns whether all are new.
 fn draw<const P: usize>(
     map: &mut Bytes<P>,
     list: &mut Vec<Vec<u8>>,
     alloc: Global,
     numbers: &mut Numbers,
     times: usize,
-) -> Option<()>
+) -> bool
     requires { P < 256 }
 {
+    let mut are_new = true;
     for number in 0..COUNT {
         if number < 2 || numbers.below(4) == 0 {
-            let string = stretched(alloc, Short::new(number), times)?;
-            put_both(map, list, alloc, string)?;
+            match stretched(alloc, Short::new(number), times) {
+                Some(string) => are_new &= put_both(map, list, alloc, string),
+                None => return false,
+            }
         }
     }
-    Some(())
+    are_new
 }
 
 // The longest match, the shortest one, and numbers that all make from the front, from the back, and from both ends in
@@ -249,101 +283,66 @@ fn front_and_back(is_match: [bool; 64]) -> u32 {
     digest
 }
 
-fn len_of(pair: Option<(&Escaped, &u32)>) -> u32 {
-    match pair {
-        Some((_, len)) => *len,
-        None => u32::MAX,
-    }
-}
-
-// What all matches make from one end.
-fn from_front<const P: usize>(map: &Bytes<P>, query: &Escaped) -> u32
-    requires { P < 256 }
-{
-    let mut digest = 1u32;
-    for (_, len) in map.matches_key(query) {
-        digest = added(digest, *len);
-    }
-    digest
-}
-
-fn from_back<const P: usize>(map: &Bytes<P>, query: &Escaped) -> u32
-    requires { P < 256 }
-{
-    let mut digest = 1u32;
-    for (_, len) in map.matches_key(query).rev() {
-        digest = added(digest, *len);
-    }
-    digest
-}
-
-fn from_both_ends<const P: usize>(map: &Bytes<P>, query: &Escaped) -> u32
-    requires { P < 256 }
-{
-    let mut matches = map.matches_key(query);
-    let mut digest = 1u32;
-    for turn in 0..64 {
-        let next = if turn % 2 == 0 {
-            matches.next()
-        } else {
-            matches.next_back()
-        };
-        let Some((_, len)) = next else {
-            return digest;
-        };
-        digest = added(digest, *len);
-    }
-    digest
-}
-
 fn seen<const P: usize>(map: &Bytes<P>, query: &Escaped) -> Seen
     requires { P < 256 }
 {
     [
-        len_of(map.longest_match_key(query)),
-        len_of(map.shortest_match_key(query)),
-        from_front(map, query),
-        from_back(map, query),
-        from_both_ends(map, query),
+        value_of(map.longest_match_key(query)).unwrap_or(u32::MAX),
+        value_of(map.shortest_match_key(query)).unwrap_or(u32::MAX),
+        digest(map.matches_key(query), FROM_FRONT, (1, 37)),
+        digest(map.matches_key(query), FROM_BACK, (1, 37)),
+        digest(map.matches_key(query), IN_TURN, (1, 37)),
     ]
 }
 
-// Whether a map and a list agree on a query.
-fn agree<const P: usize>(
+// Whether a map and a list agree on a query, which is a key of the map too.
+fn agree<const P: usize>(map: &Bytes<P>, list: &[Vec<u8>], query: &[u8], key: &Escaped) -> bool
+    requires { P < 256 }
+{
+    let by_text = value_of(map.longest_match(query)).unwrap_or(u32::MAX);
+    let seen = seen(map, key);
+    seen == expected(list, query) && by_text == seen[0]
+}
+
+// Whether they agree on a query that is made.
+fn agree_on<const P: usize>(
     map: &Bytes<P>,
     list: &[Vec<u8>],
     alloc: Global,
-    query: &[u8],
-) -> Option<bool>
+    query: Option<Vec<u8>>,
+) -> bool
     requires { P < 256 }
 {
-    let key = Escaped::encode(alloc, query).ok()?;
-    let by_text = map.longest_match(query).map(|pair| *pair.1);
-    let seen = seen(map, &key);
-    Some(seen == expected(list, query) && by_text.unwrap_or(u32::MAX) == seen[0])
+    let Some(query) = query else {
+        return false;
+    };
+    match Escaped::encode(alloc, &query) {
+        Ok(key) => agree(map, list, &query, &key),
+        Err(_) => false,
+    }
 }
 
-// On how many random queries they agree.
+// Whether random strings are inserted, and on how many random queries a map and a list then agree.
 fn count_agreed<const P: usize>(
     map: &mut Bytes<P>,
     list: &mut Vec<Vec<u8>>,
     alloc: Global,
     seed: u64,
     times: usize,
-) -> Option<usize>
+) -> (bool, usize)
     requires { P < 256 }
 {
     let mut numbers = Numbers::new(seed);
-    draw(map, list, alloc, &mut numbers, times)?;
+    let are_new = draw(map, list, alloc, &mut numbers, times);
     let mut count = 0usize;
     for number in 0..COUNT {
-        let query = query(alloc, &mut numbers, number, times)?;
-        count = count.saturating_add(agree(map, list, alloc, &query)? as usize);
+        let query = query(alloc, &mut numbers, number, times);
+        count = count.saturating_add(agree_on(map, list, alloc, query) as usize);
     }
-    Some(count)
+    (are_new, count)
 }
 
-fn agreed<const P: usize>(alloc: Global, seed: u64, times: usize) -> Option<usize>
+fn agreed<const P: usize>(alloc: Global, seed: u64, times: usize) -> (bool, usize)
     requires { P < 256 }
 {
     count_agreed::<P>(
@@ -365,7 +364,7 @@ fn drawn_strings_are_matched_as_in_a_list(rt: HostRuntime) -> Result<(), Fail> {
             agreed::<4>(alloc, 3, 3),
             agreed::<16>(alloc, 4, 9),
         ],
-        [Some(COUNT); 4],
+        [(true, COUNT); 4],
     )
 }
 
@@ -416,41 +415,62 @@ fn write(map: &mut Texts<2>, text: &[u8], to: u32) -> bool {
 
 // The value of the longest match of a text as it is removed, or 0.
 fn take_longest(map: &mut Texts<2>, text: &[u8]) -> u32 {
-    match map.remove_longest_match(text) {
-        Some((_, value)) => value,
-        None => 0,
-    }
+    taken(map.remove_longest_match(text)).unwrap_or(0)
 }
 
-fn value_of(map: &Texts<2>, text: &[u8]) -> u32 {
+fn value_at(map: &Texts<2>, text: &[u8]) -> u32 {
     match map.get_text(text) {
         Some(value) => *value,
         None => 0,
     }
 }
 
+// Whether words are counted, and whether a zero is told.
+fn counted(map: &mut Texts<2>, alloc: Global) -> [bool; 2] {
+    [count_words(map, alloc), is_zero_told(map, alloc)]
+}
+
+// Whether each of four values is written.
+fn written(map: &mut Texts<2>) -> [bool; 4] {
+    [
+        add_to_longest(map, b"total", 10),
+        add_to_longest(map, b"t", 10),
+        write(map, b"or", 5),
+        write(map, b"o", 5),
+    ]
+}
+
+// The values of two words, and that of a third one as it is removed.
+fn values(map: &mut Texts<2>) -> [u32; 3] {
+    [
+        value_at(map, b"to"),
+        value_at(map, b"be"),
+        take_longest(map, b"ordinary"),
+    ]
+}
+
+// How many words start with a text, how many of them are removed, and how many are left.
+fn removed_below(map: &mut Texts<2>) -> [usize; 3] {
+    let below = read(map.prefix_text(b"t")).0;
+    [below, map.remove_prefix_text(b"t"), map.len()]
+}
+
+type ByTexts = ([bool; 2], [bool; 4], [u32; 3], [usize; 3]);
+
+fn by_texts(map: &mut Texts<2>, alloc: Global) -> ByTexts {
+    (
+        counted(map, alloc),
+        written(map),
+        values(map),
+        removed_below(map),
+    )
+}
+
 #[test]
 fn words_are_counted_by_their_texts(rt: HostRuntime) -> Result<(), Fail> {
-    let mut map = TreeMap::new(rt.alloc());
-    let counted = [
-        count_words(&mut map, rt.alloc()),
-        is_zero_told(&mut map, rt.alloc()),
-    ];
-    let written = [
-        add_to_longest(&mut map, b"total", 10),
-        add_to_longest(&mut map, b"t", 10),
-        write(&mut map, b"or", 5),
-        write(&mut map, b"o", 5),
-    ];
-    let values = [
-        value_of(&map, b"to"),
-        value_of(&map, b"be"),
-        take_longest(&mut map, b"ordinary"),
-    ];
-    let below = map.prefix_text(b"t").count();
-    let counts = [below, map.remove_prefix_text(b"t"), map.len()];
+    let seen = by_texts(&mut TreeMap::new(rt.alloc()), rt.alloc());
     same(
-        (counted, written, values, counts),
+        seen,
         ([true; 2], [true, false, true, false], [13, 1, 5], [1, 1, 1]),
     )
 }
@@ -484,47 +504,54 @@ fn set_word(map: &mut Bytes<4>, word: &[u8], to: u32) -> bool {
 }
 
 // The values of two words, and whether they are found by two other calls.
-fn found(map: &Bytes<4>) -> Option<([u32; 2], [bool; 3])> {
-    let values = [
-        map.get_text(b"a\0").copied()?,
-        map.get_text(b"ab").copied()?,
-    ];
+fn found(map: &Bytes<4>) -> ([Option<u32>; 2], [bool; 3]) {
+    let values = [map.get_text(b"a\0").copied(), map.get_text(b"ab").copied()];
     let are_there = [
         map.contains_text(b"a\0"),
         map.contains_text(b"a"),
         map.get_key_value_text(b"b\x01").is_some(),
     ];
-    Some((values, are_there))
+    (values, are_there)
 }
 
 // How many words start with a text, how many of two are removed, how many that start with each of two texts, and how many
 // are left.
-fn taken(map: &mut Bytes<4>) -> [usize; 5] {
-    let below = map.prefix_text(b"a").count();
-    let stored = map.remove_text(b"b\x01").is_some() as usize;
-    let other = map.remove_text(b"b\0").is_some() as usize;
+fn taken_below(map: &mut Bytes<4>) -> [usize; 5] {
+    let below = read(map.prefix_text(b"a")).0;
+    let stored = taken(map.remove_text(b"b\x01")).is_some() as usize;
+    let other = taken(map.remove_text(b"b\0")).is_some() as usize;
     let ended = map.remove_prefix_text(b"a\0");
     let gone = map.remove_prefix_text(b"a");
     [below, stored + other, ended, gone, map.len()]
 }
 
+// Whether each of four values is set.
+fn set_words(map: &mut Bytes<4>) -> [bool; 4] {
+    [
+        set_word(map, b"ab", 12),
+        set_word(map, b"a", 1),
+        set_word(map, b"a\0", 4),
+        set_word(map, b"a\x01", 5),
+    ]
+}
+
+type OfAny = (bool, [bool; 4], ([Option<u32>; 2], [bool; 3]), [usize; 5]);
+
+fn of_any(map: &mut Bytes<4>, alloc: Global) -> OfAny {
+    let are_counted = count_all(map, alloc);
+    let set = set_words(map);
+    (are_counted, set, found(map), taken_below(map))
+}
+
 #[test]
 fn words_of_any_bytes_are_counted(rt: HostRuntime) -> Result<(), Fail> {
-    let mut map = TreeMap::new(rt.alloc());
-    let are_counted = count_all(&mut map, rt.alloc());
-    let set = [
-        set_word(&mut map, b"ab", 12),
-        set_word(&mut map, b"a", 1),
-        set_word(&mut map, b"a\0", 4),
-        set_word(&mut map, b"a\x01", 5),
-    ];
-    let found = found(&map);
+    let seen = of_any(&mut TreeMap::new(rt.alloc()), rt.alloc());
     same(
-        (are_counted, set, found, taken(&mut map)),
+        seen,
         (
             true,
             [true, false, true, false],
-            Some(([4, 12], [true, false, true])),
+            ([Some(4), Some(12)], [true, false, true]),
             [2, 1, 1, 1, 0],
         ),
     )

@@ -1,6 +1,6 @@
 //! Maps of keys that never conflict.
+use super::shared::{digest, put, taken, value_of, word};
 use art_keyed::map::TreeMap;
-use art_keys::laws::NoPrefixesBytes;
 use art_keys::signed::I32Key;
 use art_keys::terminated::Terminated;
 use std::alloc::Global;
@@ -12,21 +12,16 @@ type Days = TreeMap<I32Key, u32, 8>;
 
 type Words = TreeMap<Terminated, u32, 8>;
 
-// The values of a map in the order of its keys, as digits.
-fn digits<K: NoPrefixesBytes + Drop>(map: &TreeMap<K, u32, 8>) -> u32 {
-    let mut digits = 0u32;
-    for (_, value) in map.iter() {
-        digits = digits.wrapping_mul(10).wrapping_add(*value);
-    }
-    digits
-}
+// What `digest` takes to make digits of the values.
+const DIGITS: (u64, u64) = (0, 10);
 
-// Whether a map of two keys is printed in their order.
+// Whether a map of two new keys is printed in their order.
 fn is_printed(map: &mut TreeMap<[u8; 1], u32, 8>, alloc: Global) -> Option<bool> {
-    map.insert([3], 1).ok()?;
-    map.insert([1], 2).ok()?;
-    let text = format!(in alloc; "{map:?}").ok()?;
-    Some(text.as_str() == "{[1]: 2, [3]: 1}")
+    let new = [put(map, Some([3]), 1), put(map, Some([1]), 2)];
+    match format!(in alloc; "{map:?}") {
+        Ok(text) => Some(new == [Some(None); 2] && text.as_str() == "{[1]: 2, [3]: 1}"),
+        Err(_) => None,
+    }
 }
 
 #[test]
@@ -35,69 +30,86 @@ fn a_map_is_printed_in_order(rt: HostRuntime) -> Result<(), Fail> {
     same(seen, Some(true))
 }
 
-// Whether a map of numbers is compacted, and its values after one more insertion.
-fn compacted(map: &mut Days) -> Option<(bool, u32)> {
+// Whether the pairs of a map of numbers are new, whether it is compacted, and its values after one more insertion.
+fn compacted(map: &mut Days) -> (bool, bool, u64) {
     let mut value = 1u32;
+    let mut are_new = true;
     for number in [5i32, -1, 0, i32::MIN] {
-        map.insert(I32Key::from(number), value).ok()?;
+        are_new &= put(map, Some(I32Key::from(number)), value) == Some(None);
         value = value.saturating_add(1);
     }
     let is_compact = map.compact().is_ok();
-    map.insert(I32Key::from(7), 5).ok()?;
-    Some((is_compact, digits(map)))
+    are_new &= put(map, Some(I32Key::from(7)), 5) == Some(None);
+    (are_new, is_compact, digest(map, DIGITS))
 }
 
 // The values next to a number, and whether the number and another one are stored.
-fn next_to(map: &Days, number: I32Key) -> Option<([u32; 2], [bool; 2])> {
-    let after = *map.first_from(Bound::Excluded(&number))?.1;
-    let up_to = *map.last_up_to(Bound::Included(&number))?.1;
+fn next_to(map: &Days, number: I32Key) -> ([Option<u32>; 2], [bool; 2]) {
+    let after = value_of(map.first_from(Bound::Excluded(&number)));
+    let up_to = value_of(map.last_up_to(Bound::Included(&number)));
     let is_other = map.contains_key(&I32Key::from(1));
-    Some(([after, up_to], [map.contains_key(&number), is_other]))
+    ([after, up_to], [map.contains_key(&number), is_other])
+}
+
+type Beside = ([Option<u32>; 2], [bool; 2]);
+
+fn compacted_and_next_to(map: &mut Days) -> ((bool, bool, u64), Beside) {
+    (compacted(map), next_to(map, I32Key::from(-1)))
 }
 
 #[test]
 fn numbers_stay_in_order_in_a_compact_map(rt: HostRuntime) -> Result<(), Fail> {
-    let mut map = TreeMap::new(rt.alloc());
-    let seen = compacted(&mut map);
-    let beside = next_to(&map, I32Key::from(-1));
+    let seen = compacted_and_next_to(&mut TreeMap::new(rt.alloc()));
     same(
-        (seen, beside),
-        (Some((true, 42_315)), Some(([3, 2], [true, false]))),
+        seen,
+        ((true, true, 42_315), ([Some(3), Some(2)], [true, false])),
     )
 }
 
-// The value that a word had before an insertion, or 0.
-fn put(map: &mut Words, alloc: Global, text: &[u8], value: u32) -> Option<u32> {
-    let key = Terminated::encode(alloc, text).ok()??;
-    match map.insert(key, value) {
-        Ok(Some(old)) => Some(old.1),
-        Ok(None) => Some(0),
-        Err(_) => None,
-    }
+// The values that four words had before their insertions, as `put` returns them.
+fn replaced(map: &mut Words, alloc: Global) -> [Option<Option<u32>>; 4] {
+    [
+        put(map, word(alloc, b"car"), 1),
+        put(map, word(alloc, b"cart"), 2),
+        put(map, word(alloc, b"car"), 3),
+        put(map, word(alloc, b"ca"), 4),
+    ]
 }
 
-// The values that four words replace, those that the map then has, and those of the first and the last pair as they are
-// removed.
-fn words(map: &mut Words, alloc: Global) -> Option<([u32; 4], u32, [u32; 2])> {
-    let replaced = [
-        put(map, alloc, b"car", 1)?,
-        put(map, alloc, b"cart", 2)?,
-        put(map, alloc, b"car", 3)?,
-        put(map, alloc, b"ca", 4)?,
-    ];
-    let digits = digits(map);
-    let ends = [map.pop_first()?.1, map.pop_last()?.1];
-    Some((replaced, digits, ends))
+// The values that the map then has, and those of the first and the last pair as they are removed.
+fn ends(map: &mut Words) -> (u64, [Option<u32>; 2]) {
+    (
+        digest(map, DIGITS),
+        [taken(map.pop_first()), taken(map.pop_last())],
+    )
+}
+
+// How many pairs there are, and whether there is none after all are removed.
+fn cleared(map: &mut Words) -> (usize, bool) {
+    let left = map.len();
+    map.clear();
+    (left, map.is_empty())
+}
+
+type Seen = (
+    [Option<Option<u32>>; 4],
+    (u64, [Option<u32>; 2]),
+    (usize, bool),
+);
+
+fn words(map: &mut Words, alloc: Global) -> Seen {
+    (replaced(map, alloc), ends(map), cleared(map))
 }
 
 #[test]
 fn a_word_may_begin_another(rt: HostRuntime) -> Result<(), Fail> {
-    let mut map = TreeMap::new(rt.alloc());
-    let seen = words(&mut map, rt.alloc());
-    let left = map.len();
-    map.clear();
+    let seen = words(&mut TreeMap::new(rt.alloc()), rt.alloc());
     same(
-        (seen, left, map.is_empty()),
-        (Some(([0, 0, 1, 0], 432, [4, 2])), 1, true),
+        seen,
+        (
+            [Some(None), Some(None), Some(Some(1)), Some(None)],
+            (432, [Some(4), Some(2)]),
+            (1, true),
+        ),
     )
 }

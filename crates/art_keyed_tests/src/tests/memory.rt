@@ -1,4 +1,5 @@
 //! Maps while allocations fail.
+use super::shared::{put, read, taken};
 use art_keyed::map::{TextRefused, TreeMap};
 use art_keys::escaped::Escaped;
 use art_keys::joined::Joined;
@@ -32,7 +33,7 @@ fn look_ups(map: &TreeMap<Escaped, u32, 8>) -> (Option<u32>, Option<u32>, usize)
     (
         map.get_text(b"car").copied(),
         map.get_text(b"c\0").copied(),
-        map.prefix_text(b"c\0").count(),
+        read(map.prefix_text(b"c\0")).0,
     )
 }
 
@@ -42,31 +43,44 @@ fn take_one_more(map: &mut TreeMap<Escaped, u32, 8>, alloc: Global) -> Option<u3
         return None;
     };
     *value = value.wrapping_add(1);
-    let (_, value) = map.remove_text(b"c\0")?;
-    Some(value)
+    taken(map.remove_text(b"c\0"))
 }
 
-// The same in a map of two pairs while every allocation fails.
-fn starve_strings(
-    map: &mut TreeMap<Escaped, u32, 8>,
-    alloc: Global,
-) -> Option<((Option<u32>, Option<u32>, usize), Option<u32>)> {
-    map.insert(Escaped::encode(alloc, b"car").ok()?, 7).ok()?;
-    map.insert(Escaped::encode(alloc, b"c\0").ok()?, 8).ok()?;
+type Found = ((Option<u32>, Option<u32>, usize), Option<u32>);
+
+// The same while every allocation fails.
+fn starve_found(map: &mut TreeMap<Escaped, u32, 8>, alloc: Global) -> Option<Found> {
     let held = all_memory(alloc).ok()?;
-    let found = look_ups(map);
-    let taken = take_one_more(map, alloc);
+    let (found, taken) = (look_ups(map), take_one_more(map, alloc));
     drop(held);
     Some((found, taken))
+}
+
+// Whether two new pairs are inserted, and what is then found.
+fn starve_strings(map: &mut TreeMap<Escaped, u32, 8>, alloc: Global) -> (bool, Option<Found>) {
+    let new = [
+        put(map, Escaped::encode(alloc, b"car").ok(), 7),
+        put(map, Escaped::encode(alloc, b"c\0").ok(), 8),
+    ];
+    (new == [Some(None); 2], starve_found(map, alloc))
 }
 
 #[test]
 fn without_memory_any_strings_are_found_and_removed(rt: HostRuntime) -> Result<(), Fail> {
     let seen = starve_strings(&mut TreeMap::new(rt.alloc()), rt.alloc());
-    same(seen, Some(((Some(7), Some(8), 1), Some(9))))
+    same(seen, (true, Some(((Some(7), Some(8), 1), Some(9)))))
 }
 
 // ---- insertions by a text
+
+// Asserts that a map has no pair where an insertion was refused, and one where it was not.
+fn is_kept(rt: &HostRuntime, (is_refused, len): (bool, usize)) -> Result<(), Fail> {
+    same(len, if is_refused { 0 } else { 1 })?;
+    if is_refused {
+        println!(rt; "asserted")?;
+    }
+    Ok(())
+}
 
 // Whether an insertion of a first text fails and returns the value, and how many pairs the map then has.
 fn insert_word(alloc: Global, map: &mut TreeMap<Terminated, u32, 8>) -> (bool, usize) {
@@ -81,12 +95,8 @@ fn insert_word(alloc: Global, map: &mut TreeMap<Terminated, u32, 8>) -> (bool, u
 
 #[test]
 fn refused_each_insertion_of_a_word_returns_the_value(rt: HostRuntime) -> Result<(), Fail> {
-    let (is_refused, len) = insert_word(rt.alloc(), &mut TreeMap::new(rt.alloc()));
-    same(len, if is_refused { 0 } else { 1 })?;
-    if is_refused {
-        println!(rt; "asserted")?;
-    }
-    Ok(())
+    let seen = insert_word(rt.alloc(), &mut TreeMap::new(rt.alloc()));
+    is_kept(&rt, seen)
 }
 
 // The same of a text with a byte to escape.
@@ -102,12 +112,8 @@ fn insert_bytes(alloc: Global, map: &mut TreeMap<Escaped, u32, 8>) -> (bool, usi
 
 #[test]
 fn refused_each_insertion_of_bytes_returns_the_value(rt: HostRuntime) -> Result<(), Fail> {
-    let (is_refused, len) = insert_bytes(rt.alloc(), &mut TreeMap::new(rt.alloc()));
-    same(len, if is_refused { 0 } else { 1 })?;
-    if is_refused {
-        println!(rt; "asserted")?;
-    }
-    Ok(())
+    let seen = insert_bytes(rt.alloc(), &mut TreeMap::new(rt.alloc()));
+    is_kept(&rt, seen)
 }
 
 // ---- removals
@@ -158,15 +164,17 @@ fn without_memory_256_pairs_are_removed(rt: HostRuntime) -> Result<(), Fail> {
 
 type Times = TreeMap<Joined<Unsigned<1>, Unsigned<1>>, u32, 2>;
 
-// Inserts twenty times of each of twenty users.
-fn fill_times(times: &mut Times, alloc: Global) -> Option<()> {
+// Inserts twenty times of each of twenty users, and returns how many were new.
+fn fill_times(times: &mut Times, alloc: Global) -> usize {
+    let mut new = 0usize;
     for user in 0..20u8 {
         for time in 0..20u8 {
-            let key = Joined::join(alloc, &Unsigned::from(user), &Unsigned::from(time)).ok()?;
-            times.insert(key, time as u32).ok()?;
+            let key = Joined::join(alloc, &Unsigned::from(user), &Unsigned::from(time)).ok();
+            let is_new = put(times, key, time as u32) == Some(None);
+            new = new.saturating_add(is_new as usize);
         }
     }
-    Some(())
+    new
 }
 
 // How many times of the first users are removed one by one, and of the others all at once.
@@ -188,32 +196,38 @@ fn remove_times(times: &mut Times) -> [usize; 2] {
 
 // The same while every allocation fails, and whether none is left.
 fn starve_times(times: &mut Times, alloc: Global) -> Option<([usize; 2], bool)> {
-    fill_times(times, alloc)?;
     let held = all_memory(alloc).ok()?;
     let removed = remove_times(times);
     drop(held);
     Some((removed, times.is_empty()))
 }
 
+fn filled_times(times: &mut Times, alloc: Global) -> (usize, Option<([usize; 2], bool)>) {
+    (fill_times(times, alloc), starve_times(times, alloc))
+}
+
 #[test]
 fn without_memory_pairs_with_a_first_key_are_removed(rt: HostRuntime) -> Result<(), Fail> {
-    let seen = starve_times(&mut TreeMap::new(rt.alloc()), rt.alloc());
-    same(seen, Some(([200, 200], true)))
+    let seen = filled_times(&mut TreeMap::new(rt.alloc()), rt.alloc());
+    same(seen, (400, Some(([200, 200], true))))
 }
 
 type Words = TreeMap<Terminated, u32, 4>;
 
-fn word(alloc: Global, bytes: &[u8]) -> Option<Terminated> {
+// A word made of a vector of its bytes.
+fn word_of(alloc: Global, bytes: &[u8]) -> Option<Terminated> {
     Terminated::new(bytes.to_vec(alloc).ok()?).ok()
 }
 
-// Inserts fifty words that start with each of two letters.
-fn fill_words(words: &mut Words, alloc: Global) -> Option<()> {
+// Inserts fifty words that start with each of two letters, and returns how many were new.
+fn fill_words(words: &mut Words, alloc: Global) -> usize {
+    let mut new = 0usize;
     for last in 1..=50u8 {
-        words.insert(word(alloc, &[b'a', last])?, 1).ok()?;
-        words.insert(word(alloc, &[b'b', last])?, 2).ok()?;
+        let is_first = put(words, word_of(alloc, &[b'a', last]), 1) == Some(None);
+        let is_second = put(words, word_of(alloc, &[b'b', last]), 2) == Some(None);
+        new = new.saturating_add(is_first as usize + is_second as usize);
     }
-    Some(())
+    new
 }
 
 // How many words are removed one by one, and then all at once.
@@ -226,17 +240,31 @@ fn remove_words(words: &mut Words, one_by_one: &Terminated, at_once: &Terminated
 }
 
 // The same while every allocation fails, and whether none is left.
-fn starve_words(words: &mut Words, alloc: Global) -> Option<([usize; 2], bool)> {
-    fill_words(words, alloc)?;
-    let (one_by_one, at_once) = (word(alloc, b"a")?, word(alloc, b"b")?);
+fn starve_words(
+    words: &mut Words,
+    alloc: Global,
+    one_by_one: &Terminated,
+    at_once: &Terminated,
+) -> Option<([usize; 2], bool)> {
     let held = all_memory(alloc).ok()?;
-    let removed = remove_words(words, &one_by_one, &at_once);
+    let removed = remove_words(words, one_by_one, at_once);
     drop(held);
     Some((removed, words.is_empty()))
 }
 
+// How many words are inserted, and the same by two prefixes.
+fn filled_words(words: &mut Words, alloc: Global) -> (usize, Option<([usize; 2], bool)>) {
+    let new = fill_words(words, alloc);
+    match (word_of(alloc, b"a"), word_of(alloc, b"b")) {
+        (Some(one_by_one), Some(at_once)) => {
+            (new, starve_words(words, alloc, &one_by_one, &at_once))
+        }
+        _ => (new, None),
+    }
+}
+
 #[test]
 fn without_memory_words_with_a_prefix_are_removed(rt: HostRuntime) -> Result<(), Fail> {
-    let seen = starve_words(&mut TreeMap::new(rt.alloc()), rt.alloc());
-    same(seen, Some(([50, 50], true)))
+    let seen = filled_words(&mut TreeMap::new(rt.alloc()), rt.alloc());
+    same(seen, (100, Some(([50, 50], true))))
 }

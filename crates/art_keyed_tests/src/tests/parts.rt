@@ -1,5 +1,6 @@
 //! Removals of the pairs of a map of numbers by their bounds, iterators that remove pairs, and moves of pairs into another
 //! map, at random, beside a `BTreeMap`.
+use super::shared::is_taken;
 use art_keyed::map::TreeMap;
 use art_keys::unsigned::U16Key;
 use std::collections::BTreeMap;
@@ -75,21 +76,19 @@ fn agree_on_values(map: &mut Map, model: &mut Model, low: u16) -> bool {
         Bound::Unbounded,
         &mut |key: &U16Key, value: &mut u32| *value = value.wrapping_add(key.get() as u32),
     );
-    for (key, value) in model.iter_mut() {
+    model.retain(|key, value| {
         *value ^= *key as u32;
         if low < *key {
             *value = value.wrapping_add(*key as u32);
         }
-    }
+        true
+    });
     digest(map) == digest_of_model(model)
 }
 
 // Whether an entry's pair is removed from both.
 fn agree_on_entry(map: &mut Map, model: &mut Model, key: u16) -> bool {
-    match map.entry(U16Key::from(key)).remove() {
-        Some((_, value)) => model.remove(&key) == Some(value),
-        None => model.remove(&key).is_none(),
-    }
+    is_taken(map.entry(U16Key::from(key)).remove(), model.remove(&key))
 }
 
 // Whether the second parts are appended, after an insertion into both that may replace a pair.

@@ -1,5 +1,6 @@
 //! Ranges of maps and sets of strings between two texts, beside the same parts of a `BTreeMap`. The strings and texts
 //! are short ones, most of which are prefixes of others; a third of the strings is not stored.
+use super::shared::{agree_on_insertion, counts_of_strings, is_taken, read, word};
 use art_keyed::map::TreeMap;
 use art_keys::escaped::Escaped;
 use art_keys::terminated::Terminated;
@@ -62,33 +63,26 @@ impl Drawn {
     }
 }
 
-// A number that the values between two bounds make, in their order.
-fn digest_of_model(model: &Model, from: Drawn, to: Drawn) -> usize {
-    let mut digest = 0usize;
+// How many strings there are between two bounds, and a number that their values make in their order.
+fn read_model(model: &Model, from: Drawn, to: Drawn) -> (usize, u64) {
+    let (mut count, mut digest) = (0usize, 0u64);
     for (string, value) in model.iter() {
         if from.is_before(*string) && to.is_after(*string) {
-            digest = digest.wrapping_mul(31).wrapping_add(*value);
+            count = count.saturating_add(1);
+            digest = digest.wrapping_mul(31).wrapping_add(*value as u64);
         }
     }
-    digest
+    (count, digest)
 }
 
 // The same of the strings of a map that end with a zero.
-fn digest_of_ended(map: &Ended, from: Drawn, to: Drawn) -> usize {
-    let mut digest = 0usize;
-    for (_, value) in map.range_text(from.bound(), to.bound()) {
-        digest = digest.wrapping_mul(31).wrapping_add(*value);
-    }
-    digest
+fn read_ended(map: &Ended, from: Drawn, to: Drawn) -> (usize, u64) {
+    read(map.range_text(from.bound(), to.bound()))
 }
 
 // The same of those that are escaped.
-fn digest_of_any(map: &Any, from: Drawn, to: Drawn) -> usize {
-    let mut digest = 0usize;
-    for (_, value) in map.range_text(from.bound(), to.bound()) {
-        digest = digest.wrapping_mul(31).wrapping_add(*value);
-    }
-    digest
+fn read_any(map: &Any, from: Drawn, to: Drawn) -> (usize, u64) {
+    read(map.range_text(from.bound(), to.bound()))
 }
 
 // What a string is found to have in the map, and how many strings start with it.
@@ -97,46 +91,36 @@ fn found_of_any(map: &Any, string: Short) -> (Option<usize>, bool, usize) {
     (
         map.get_text(text).copied(),
         map.contains_text(text),
-        map.prefix_text(text).count(),
+        read(map.prefix_text(text)).0,
     )
 }
 
 // The same in the model.
 fn found_of_model(model: &Model, string: Short) -> (Option<usize>, bool, usize) {
-    let mut below = 0usize;
-    for other in model.keys() {
-        below = below.saturating_add(other.as_slice().starts_with(string.as_slice()) as usize);
-    }
     (
         model.get(&string).copied(),
         model.contains_key(&string),
-        below,
+        counts_of_strings(model, string)[0],
     )
 }
 
-// Inserts a string into both.
-fn put_any(map: &mut Any, model: &mut Model, alloc: Global, number: usize) -> Option<()> {
+// Whether a string is inserted into both alike.
+fn put_any(map: &mut Any, model: &mut Model, alloc: Global, number: usize) -> bool {
     let string = Short::new(number);
-    let key = Escaped::encode(alloc, string.as_slice()).ok()?;
-    map.insert(key, number).ok()?;
-    model.insert(string, number).ok()?;
-    Some(())
+    let key = Escaped::encode(alloc, string.as_slice()).ok();
+    agree_on_insertion(map, model, (key, string), number)
 }
 
 // Whether both give the same as a string is removed.
 fn take_alike(map: &mut Any, model: &mut Model, string: Short) -> bool {
-    let taken = match map.remove_text(string.as_slice()) {
-        Some((_, value)) => Some(value),
-        None => None,
-    };
-    taken == model.remove(&string)
+    is_taken(map.remove_text(string.as_slice()), model.remove(&string))
 }
 
 // The number of the first string that is not found or removed as in the model, or of the first draw for which the parts
 // differ.
 fn any_differ_at(map: &mut Any, model: &mut Model, alloc: Global) -> Option<usize> {
     for number in 0..COUNT {
-        if number % 3 != 0 && put_any(map, model, alloc, number).is_none() {
+        if number % 3 != 0 && !put_any(map, model, alloc, number) {
             return Some(number);
         }
     }
@@ -149,7 +133,7 @@ fn any_differ_at(map: &mut Any, model: &mut Model, alloc: Global) -> Option<usiz
     let mut numbers = Numbers::new(5);
     for draw in 0..2_000usize {
         let (from, to) = (Drawn::draw(&mut numbers), Drawn::draw(&mut numbers));
-        if digest_of_any(map, from, to) != digest_of_model(model, from, to) {
+        if read_any(map, from, to) != read_model(model, from, to) {
             return Some(draw);
         }
     }
@@ -168,27 +152,24 @@ fn parts_of_strings_are_those_of_a_btree_map(rt: HostRuntime) -> Result<(), Fail
     same(differ, None)
 }
 
-// Inserts a string into both.
-fn put_ended(map: &mut Ended, model: &mut Model, alloc: Global, number: usize) -> Option<()> {
+// Whether a string is inserted into both alike.
+fn put_ended(map: &mut Ended, model: &mut Model, alloc: Global, number: usize) -> bool {
     let string = Short::new(number);
-    let key = Terminated::encode(alloc, string.as_slice()).ok()??;
-    map.insert(key, number).ok()?;
-    model.insert(string, number).ok()?;
-    Some(())
+    agree_on_insertion(map, model, (word(alloc, string.as_slice()), string), number)
 }
 
 // The number of the first draw for which the parts differ, if they do. No string has a zero.
 fn ended_differ_at(map: &mut Ended, model: &mut Model, alloc: Global) -> Option<usize> {
     for number in 0..COUNT {
         let is_stored = number % 3 != 0 && !Short::new(number).has_zero();
-        if is_stored && put_ended(map, model, alloc, number).is_none() {
+        if is_stored && !put_ended(map, model, alloc, number) {
             return Some(number);
         }
     }
     let mut numbers = Numbers::new(6);
     for draw in 0..2_000usize {
         let (from, to) = (Drawn::draw(&mut numbers), Drawn::draw(&mut numbers));
-        if digest_of_ended(map, from, to) != digest_of_model(model, from, to) {
+        if read_ended(map, from, to) != read_model(model, from, to) {
             return Some(draw);
         }
     }

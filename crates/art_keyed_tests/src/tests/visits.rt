@@ -1,4 +1,5 @@
 //! Random calls of a map whose keys are two numbers joined into one, beside the same calls of a `BTreeMap`.
+use super::shared::{agree_on_insertion, digest, digest_of_model, is_taken, read};
 use art_keyed::map::TreeMap;
 use art_keys::joined::Joined;
 use art_keys::signed::I16Key;
@@ -15,35 +16,23 @@ type Visits = TreeMap<Key, u32, 2>;
 
 type Model = BTreeMap<(u8, i16), u32>;
 
+// Where the numbers that values make begin, and what they are multiplied by.
+const FACTORS: (u64, u64) = (1, 1_000_003);
+
 // One of 200 keys.
 fn drawn(numbers: &mut Numbers) -> (u8, i16) {
     (numbers.below(5) as u8, numbers.below(40) as i16 - 20)
 }
 
-// An insertion into both, and whether they return the same old value.
-fn agree_on_insertion(
-    map: &mut Visits,
-    model: &mut Model,
-    key: Key,
-    visit: (u8, i16),
-    value: u32,
-) -> bool {
-    let Ok(old) = model.insert(visit, value) else {
-        return false;
-    };
-    match map.insert(key, value) {
-        Ok(Some((_, own))) => old == Some(own),
-        Ok(None) => old.is_none(),
-        Err(_) => false,
-    }
+fn key_of(alloc: Global, visit: (u8, i16)) -> Option<Key> {
+    Joined::join(alloc, &U8Key::from(visit.0), &I16Key::from(visit.1)).ok()
 }
 
 // A removal from both, and whether they return the same value.
-fn agree_on_removal(map: &mut Visits, model: &mut Model, key: Key, visit: (u8, i16)) -> bool {
-    let value = model.remove(&visit);
-    match map.remove(&key) {
-        Some(pair) => value == Some(pair.1),
-        None => value.is_none(),
+fn agree_on_removal(map: &mut Visits, model: &mut Model, alloc: Global, visit: (u8, i16)) -> bool {
+    match key_of(alloc, visit) {
+        Some(key) => is_taken(map.remove(&key), model.remove(&visit)),
+        None => false,
     }
 }
 
@@ -55,9 +44,11 @@ fn counts_of(
     end: i16,
 ) -> Option<(usize, usize)> {
     let user = U8Key::from(user);
-    let all = map.with_first(&user).count();
-    let times = I16Key::from(time)..I16Key::from(end);
-    Some((all, map.range_with(alloc, &user, times).ok()?.count()))
+    let all = read(map.with_first(&user)).0;
+    match map.range_with(alloc, &user, I16Key::from(time)..I16Key::from(end)) {
+        Ok(times) => Some((all, read(times).0)),
+        Err(_) => None,
+    }
 }
 
 // Whether both have as many visits of a user, and as many of the user from a time on up to another one.
@@ -108,29 +99,13 @@ fn agree_on_all_of_a_user(map: &mut Visits, model: &mut Model, user: u8) -> bool
 // Both keep the even values, and count one more of each.
 fn keep_even(map: &mut Visits, model: &mut Model) -> bool {
     map.retain(|_, value| *value % 2 == 0);
-    model.retain(|_, value| *value % 2 == 0);
     map.for_each_value(|value| *value = value.wrapping_add(1));
-    for value in model.values_mut() {
+    model.retain(|_, value| {
+        let is_even = *value % 2 == 0;
         *value = value.wrapping_add(1);
-    }
+        is_even
+    });
     map.len() == model.len()
-}
-
-// A number that the values make in their order.
-fn digest(map: &Visits) -> u64 {
-    let mut digest = 1u64;
-    for (_, value) in map.iter() {
-        digest = digest.wrapping_mul(1_000_003).wrapping_add(*value as u64);
-    }
-    digest
-}
-
-fn digest_of_model(model: &Model) -> u64 {
-    let mut digest = 1u64;
-    for (_, value) in model.iter() {
-        digest = digest.wrapping_mul(1_000_003).wrapping_add(*value as u64);
-    }
-    digest
 }
 
 // A call of both, and whether they return the same.
@@ -141,12 +116,12 @@ fn agree_on_call(
     numbers: &mut Numbers,
 ) -> bool {
     let visit = drawn(numbers);
-    let Ok(key) = Joined::join(alloc, &U8Key::from(visit.0), &I16Key::from(visit.1)) else {
-        return false;
-    };
     match numbers.below(100) {
-        0..=59 => agree_on_insertion(map, model, key, visit, numbers.value()),
-        60..=69 => agree_on_removal(map, model, key, visit),
+        0..=59 => {
+            let key = key_of(alloc, visit);
+            agree_on_insertion(map, model, (key, visit), numbers.value())
+        }
+        60..=69 => agree_on_removal(map, model, alloc, visit),
         70..=79 => agree_on_the_first(map, model, alloc, visit.0),
         80..=97 => agree_on_a_user(map, model, alloc, visit, drawn(numbers).1),
         98 => agree_on_all_of_a_user(map, model, visit.0),
@@ -154,16 +129,21 @@ fn agree_on_call(
     }
 }
 
-// The number of the first call after which they differ, if they do.
-fn differ_at(map: &mut Visits, model: &mut Model, alloc: Global, calls: usize) -> Option<usize> {
+// The number of the first call after which they differ, if they do, and whether the map is then empty.
+fn differ_at(
+    map: &mut Visits,
+    model: &mut Model,
+    alloc: Global,
+    calls: usize,
+) -> (Option<usize>, bool) {
     let mut numbers = Numbers::new(5);
     for call in 0..calls {
         let agree = agree_on_call(map, model, alloc, &mut numbers);
-        if !agree || digest(map) != digest_of_model(model) {
-            return Some(call);
+        if !agree || digest(map, FACTORS) != digest_of_model(model, FACTORS) {
+            return (Some(call), map.is_empty());
         }
     }
-    None
+    (None, map.is_empty())
 }
 
 #[test]
@@ -171,7 +151,11 @@ fn drawn_calls_with_joined_keys_return_what_those_of_a_btree_map_do(
     rt: HostRuntime,
 ) -> Result<(), Fail> {
     let alloc = rt.alloc();
-    let (mut map, mut model) = (TreeMap::new(alloc), BTreeMap::new(alloc));
-    let differ = differ_at(&mut map, &mut model, alloc, 2_000);
-    same((differ, map.is_empty()), (None, false))
+    let seen = differ_at(
+        &mut TreeMap::new(alloc),
+        &mut BTreeMap::new(alloc),
+        alloc,
+        2_000,
+    );
+    same(seen, (None, false))
 }
