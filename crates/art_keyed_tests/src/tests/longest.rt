@@ -141,27 +141,22 @@ fn removed(map: &mut Texts<2>, text: &[u8]) -> u32 {
     taken(map.remove_text(text)).unwrap_or(0)
 }
 
-// What is found of four texts, how many of three are stored, and what is removed, and left.
-fn found_and_removed(map: &mut Texts<2>) -> ([u32; 4], usize, [u32; 2], usize) {
-    let matches = [
-        digits(map, b"/home/alice/projects/deep/directory/inner/file"),
-        digits(map, b"/home\0/alice"),
-        shortest(map, b"/home\0/alice"),
-        digits(map, b""),
-    ];
-    let stored = count_stored(map);
-    let removed = [removed(map, b"/home/"), removed(map, b"/home/")];
-    (matches, stored, removed, map.len())
-}
-
-fn mounts(map: &mut Texts<2>, alloc: Global) -> (bool, ([u32; 4], usize, [u32; 2], usize)) {
-    (mount(map, alloc), found_and_removed(map))
-}
-
 #[test]
 fn all_mounts_of_a_path_come_in_order(rt: HostRuntime) -> Result<(), Fail> {
-    let seen = mounts(&mut TreeMap::new(rt.alloc()), rt.alloc());
-    same(seen, (true, ([12_345, 12, 1, 1], 1, [3, 0], 6)))
+    let mut map = TreeMap::new(rt.alloc());
+    let mounted = mount(&mut map, rt.alloc());
+    let matches = [
+        digits(&map, b"/home/alice/projects/deep/directory/inner/file"),
+        digits(&map, b"/home\0/alice"),
+        shortest(&map, b"/home\0/alice"),
+        digits(&map, b""),
+    ];
+    let stored = count_stored(&map);
+    let removed = [removed(&mut map, b"/home/"), removed(&mut map, b"/home/")];
+    same(
+        (mounted, matches, stored, removed, map.len()),
+        (true, [12_345, 12, 1, 1], 1, [3, 0], 6),
+    )
 }
 
 // ---- random strings, with their lengths as values
@@ -425,30 +420,6 @@ fn value_at(map: &Texts<2>, text: &[u8]) -> u32 {
     }
 }
 
-// Whether words are counted, and whether a zero is told.
-fn counted(map: &mut Texts<2>, alloc: Global) -> [bool; 2] {
-    [count_words(map, alloc), is_zero_told(map, alloc)]
-}
-
-// Whether each of four values is written.
-fn written(map: &mut Texts<2>) -> [bool; 4] {
-    [
-        add_to_longest(map, b"total", 10),
-        add_to_longest(map, b"t", 10),
-        write(map, b"or", 5),
-        write(map, b"o", 5),
-    ]
-}
-
-// The values of two words, and that of a third one as it is removed.
-fn values(map: &mut Texts<2>) -> [u32; 3] {
-    [
-        value_at(map, b"to"),
-        value_at(map, b"be"),
-        take_longest(map, b"ordinary"),
-    ]
-}
-
 // How many words start with a text, how many of them are removed, and how many are left.
 fn removed_below(map: &mut Texts<2>) -> [usize; 3] {
     let below = read(map.prefix_text(b"t")).0;
@@ -457,13 +428,22 @@ fn removed_below(map: &mut Texts<2>) -> [usize; 3] {
 
 type ByTexts = ([bool; 2], [bool; 4], [u32; 3], [usize; 3]);
 
+// Whether words are counted and a zero is told, whether each of four values is written, the values of two words and that
+// of a third one as it is removed, and what is removed below a text.
 fn by_texts(map: &mut Texts<2>, alloc: Global) -> ByTexts {
-    (
-        counted(map, alloc),
-        written(map),
-        values(map),
-        removed_below(map),
-    )
+    let counted = [count_words(map, alloc), is_zero_told(map, alloc)];
+    let written = [
+        add_to_longest(map, b"total", 10),
+        add_to_longest(map, b"t", 10),
+        write(map, b"or", 5),
+        write(map, b"o", 5),
+    ];
+    let values = [
+        value_at(map, b"to"),
+        value_at(map, b"be"),
+        take_longest(map, b"ordinary"),
+    ];
+    (counted, written, values, removed_below(map))
 }
 
 #[test]
@@ -525,29 +505,19 @@ fn taken_below(map: &mut Bytes<4>) -> [usize; 5] {
     [below, stored + other, ended, gone, map.len()]
 }
 
-// Whether each of four values is set.
-fn set_words(map: &mut Bytes<4>) -> [bool; 4] {
-    [
-        set_word(map, b"ab", 12),
-        set_word(map, b"a", 1),
-        set_word(map, b"a\0", 4),
-        set_word(map, b"a\x01", 5),
-    ]
-}
-
-type OfAny = (bool, [bool; 4], ([Option<u32>; 2], [bool; 3]), [usize; 5]);
-
-fn of_any(map: &mut Bytes<4>, alloc: Global) -> OfAny {
-    let are_counted = count_all(map, alloc);
-    let set = set_words(map);
-    (are_counted, set, found(map), taken_below(map))
-}
-
 #[test]
 fn words_of_any_bytes_are_counted(rt: HostRuntime) -> Result<(), Fail> {
-    let seen = of_any(&mut TreeMap::new(rt.alloc()), rt.alloc());
+    let mut map = TreeMap::new(rt.alloc());
+    let are_counted = count_all(&mut map, rt.alloc());
+    let set = [
+        set_word(&mut map, b"ab", 12),
+        set_word(&mut map, b"a", 1),
+        set_word(&mut map, b"a\0", 4),
+        set_word(&mut map, b"a\x01", 5),
+    ];
+    let found = found(&map);
     same(
-        seen,
+        (are_counted, set, found, taken_below(&mut map)),
         (
             true,
             [true, false, true, false],
