@@ -70,21 +70,35 @@ fn changed_in_model(model: &mut Model, string: Short) -> Option<usize> {
     Some(value)
 }
 
+// A call of both by a string, or by its key, that adds nothing new but counts, and whether they return the same.
+fn agree_on_key(
+    map: &mut Map,
+    model: &mut Model,
+    alloc: Global,
+    key: &Terminated,
+    string: Short,
+    kind: usize,
+) -> bool {
+    match kind {
+        3..=4 => counted(map, alloc, string) == counted_in_model(model, string),
+        5..=6 => changed(map, key) == changed_in_model(model, string),
+        7 => is_removed(map.remove_text(string.as_slice()), model.remove(&string)),
+        8 => is_removed(map.remove(key), model.remove(&string)),
+        9 => map.compact().is_ok(),
+        _ => map.get(key).copied() == model.get(&string).copied(),
+    }
+}
+
 // A call of both, and whether they return the same.
 fn agree_on_call(map: &mut Map, model: &mut Model, alloc: Global, numbers: &mut Numbers) -> bool {
     let number = numbers.below(COUNT);
     let string = Short::new(number);
-    let Ok(Some(key)) = Terminated::encode(alloc, string.as_slice()) else {
-        return string.has_zero() && map.get_text(string.as_slice()).is_none();
-    };
-    match numbers.below(12) {
-        0..=2 => agree_on_insertion(map, model, key, string, number),
-        3..=4 => counted(map, alloc, string) == counted_in_model(model, string),
-        5..=6 => changed(map, &key) == changed_in_model(model, string),
-        7 => is_removed(map.remove_text(string.as_slice()), model.remove(&string)),
-        8 => is_removed(map.remove(&key), model.remove(&string)),
-        9 => map.compact().is_ok(),
-        _ => map.get(&key).copied() == model.get(&string).copied(),
+    match Terminated::encode(alloc, string.as_slice()) {
+        Ok(Some(key)) => match numbers.below(12) {
+            0..=2 => agree_on_insertion(map, model, key, string, number),
+            kind => agree_on_key(map, model, alloc, &key, string, kind),
+        },
+        _ => string.has_zero() && map.get_text(string.as_slice()).is_none(),
     }
 }
 
@@ -138,15 +152,24 @@ const WORDS: [&[u8]; 6] = [
     b"a longer word than stands in a leaf",
 ];
 
+// Adds one to the count of a word, and whether that succeeds.
+fn count_word(map: &mut AnyMap, alloc: Global, word: &[u8]) -> bool {
+    match map.get_text_or_insert(alloc, word, 0) {
+        Ok(count) => {
+            *count = count.wrapping_add(1);
+            true
+        }
+        Err(_) => false,
+    }
+}
+
 // Counts each word, and whether that succeeds.
 fn count_words(map: &mut AnyMap, alloc: Global) -> bool {
-    for word in WORDS {
-        let Ok(count) = map.get_text_or_insert(alloc, word, 0) else {
-            return false;
-        };
-        *count = count.wrapping_add(1);
+    let mut all = true;
+    for place in 0..6 {
+        all = all && count_word(map, alloc, WORDS[place]);
     }
-    true
+    all
 }
 
 // The count of each word, 0 where it is not stored.
@@ -193,17 +216,23 @@ fn extend(map: &mut AnyMap, source: &AnyMap) -> bool {
 }
 
 // The counts of a clone once it was changed, and once it has the pairs of the map again.
-fn changed_and_extended(map: &AnyMap) -> Option<[[usize; 6]; 2]> {
-    let mut copy = map.clone().ok()?;
-    let set = set(&mut copy, b"ab", 7);
-    let taken = takes_two(&mut copy, b"a\0") && takes_two(&mut copy, b"a");
-    let changed = counts(&copy);
-    let extended = extend(&mut copy, map);
+fn change_and_extend(copy: &mut AnyMap, map: &AnyMap) -> Option<[[usize; 6]; 2]> {
+    let set = set(copy, b"ab", 7);
+    let taken = takes_two(copy, b"a\0") && takes_two(copy, b"a");
+    let changed = counts(copy);
+    let extended = extend(copy, map);
     let all = set && taken && extended;
     if all {
-        Some([changed, counts(&copy)])
+        Some([changed, counts(copy)])
     } else {
         None
+    }
+}
+
+fn changed_and_extended(map: &AnyMap) -> Option<[[usize; 6]; 2]> {
+    match map.clone() {
+        Ok(mut copy) => change_and_extend(&mut copy, map),
+        Err(_) => None,
     }
 }
 
@@ -241,18 +270,43 @@ fn words_of_any_bytes_are_counted_with_hints(rt: HostRuntime) -> Result<(), Fail
     )
 }
 
-// What a map answers while every allocation fails: a stored word is changed, another one counted, one removed; a new one is
-// refused.
-fn answers_without_memory(alloc: Global, state: RandomState) -> Option<[bool; 4]> {
-    let mut map = counted_twice(alloc, state)?;
-    let held = all_memory(alloc).ok()?;
-    let is_set = set(&mut map, b"ab", 7);
-    let is_counted = matches!(map.get_text_or_insert(alloc, WORDS[5], 0), Ok(2));
-    let is_taken = takes_two(&mut map, b"a\0");
+// The count of a word, which is inserted with 0 if it is new, unless an allocation failed.
+fn count_of(map: &mut AnyMap, alloc: Global, word: &[u8]) -> Option<usize> {
+    match map.get_text_or_insert(alloc, word, 0) {
+        Ok(count) => Some(*count),
+        Err(_) => None,
+    }
+}
+
+// Whether a stored word is changed, another one counted, one removed, and a new one refused.
+fn answers(map: &mut AnyMap, alloc: Global) -> [bool; 4] {
     let new = b"a word that is new and longer than those";
-    let is_refused = map.get_text_or_insert(alloc, new, 0).is_err();
-    drop(held);
-    Some([is_set, is_counted, is_taken, is_refused])
+    [
+        set(map, b"ab", 7),
+        count_of(map, alloc, WORDS[5]) == Some(2),
+        takes_two(map, b"a\0"),
+        count_of(map, alloc, new).is_none(),
+    ]
+}
+
+// The same while every allocation fails.
+fn starve(map: &mut AnyMap, alloc: Global) -> Option<[bool; 4]> {
+    match all_memory(alloc) {
+        Ok(held) => {
+            let answers = answers(map, alloc);
+            drop(held);
+            Some(answers)
+        }
+        Err(_) => None,
+    }
+}
+
+// The same of a map in which each word was counted twice.
+fn answers_without_memory(alloc: Global, state: RandomState) -> Option<[bool; 4]> {
+    match counted_twice(alloc, state) {
+        Some(mut map) => starve(&mut map, alloc),
+        None => None,
+    }
 }
 
 #[test]
