@@ -83,9 +83,14 @@ fn combine(twos: &Numbers, threes: &Numbers) -> [Option<Sum>; 4] {
     ]
 }
 
+// The same for the multiples of 2 and of 3.
+fn combine_multiples(alloc: Global) -> [Option<Sum>; 4] {
+    combine(&set_of(alloc, 2), &set_of(alloc, 3))
+}
+
 #[test]
 fn two_sets_are_combined(rt: HostRuntime) -> Result<(), Fail> {
-    let seen = combine(&set_of(rt.alloc(), 2), &set_of(rt.alloc(), 3));
+    let seen = combine_multiples(rt.alloc());
     same(
         seen,
         [

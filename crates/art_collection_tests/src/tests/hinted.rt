@@ -70,52 +70,42 @@ fn changed_in_model(model: &mut Model, string: Short) -> Option<usize> {
     Some(value)
 }
 
-// A call of both by a string, or by its key, that adds nothing new but counts, and whether they return the same.
-fn agree_on_key(
-    map: &mut Map,
-    model: &mut Model,
-    alloc: Global,
-    key: &Terminated,
-    string: Short,
-    kind: usize,
-) -> bool {
-    match kind {
-        3..=4 => counted(map, alloc, string) == counted_in_model(model, string),
-        5..=6 => changed(map, key) == changed_in_model(model, string),
-        7 => is_removed(map.remove_text(string.as_slice()), model.remove(&string)),
-        8 => is_removed(map.remove(key), model.remove(&string)),
-        9 => map.compact().is_ok(),
-        _ => map.get(key).copied() == model.get(&string).copied(),
-    }
-}
-
 // A call of both, and whether they return the same.
 fn agree_on_call(map: &mut Map, model: &mut Model, alloc: Global, numbers: &mut Numbers) -> bool {
     let number = numbers.below(COUNT);
     let string = Short::new(number);
-    match Terminated::encode(alloc, string.as_slice()) {
-        Ok(Some(key)) => match numbers.below(12) {
-            0..=2 => agree_on_insertion(map, model, key, string, number),
-            kind => agree_on_key(map, model, alloc, &key, string, kind),
-        },
-        _ => string.has_zero() && map.get_text(string.as_slice()).is_none(),
+    let Ok(Some(key)) = Terminated::encode(alloc, string.as_slice()) else {
+        return string.has_zero() && map.get_text(string.as_slice()).is_none();
+    };
+    match numbers.below(12) {
+        0..=2 => agree_on_insertion(map, model, key, string, number),
+        3..=4 => counted(map, alloc, string) == counted_in_model(model, string),
+        5..=6 => changed(map, &key) == changed_in_model(model, string),
+        7 => is_removed(map.remove_text(string.as_slice()), model.remove(&string)),
+        8 => is_removed(map.remove(&key), model.remove(&string)),
+        9 => map.compact().is_ok(),
+        _ => map.get(&key).copied() == model.get(&string).copied(),
     }
 }
 
-// Whether each string has the same value in both, by a key and by a text.
+// Whether a string, if it is that of a key, has this value, by its key and by its text.
+fn has_value(map: &Map, alloc: Global, string: Short, value: Option<usize>) -> bool {
+    match Terminated::encode(alloc, string.as_slice()) {
+        Ok(Some(key)) => {
+            map.get(&key).copied() == value && map.get_text(string.as_slice()).copied() == value
+        }
+        _ => true,
+    }
+}
+
+// Whether each string has the same value in both.
 fn agree_on_all(map: &Map, model: &Model, alloc: Global) -> bool {
+    let mut all = map.len() == model.len();
     for number in 0..COUNT {
         let string = Short::new(number);
-        let Ok(Some(key)) = Terminated::encode(alloc, string.as_slice()) else {
-            continue;
-        };
-        let value = model.get(&string).copied();
-        let by_key = map.get(&key).copied();
-        if by_key != value || map.get_text(string.as_slice()).copied() != value {
-            return false;
-        }
+        all = all && has_value(map, alloc, string, model.get(&string).copied());
     }
-    map.len() == model.len()
+    all
 }
 
 // The number of the first call after which they differ, if they do.
@@ -152,24 +142,22 @@ const WORDS: [&[u8]; 6] = [
     b"a longer word than stands in a leaf",
 ];
 
-// Adds one to the count of a word, and whether that succeeds.
-fn count_word(map: &mut AnyMap, alloc: Global, word: &[u8]) -> bool {
+// Adds to the count of a word, which is inserted with 0 if it is new. Returns the count, unless an allocation failed.
+fn count(map: &mut AnyMap, alloc: Global, word: &[u8], more: usize) -> Option<usize> {
     match map.get_text_or_insert(alloc, word, 0) {
         Ok(count) => {
-            *count = count.wrapping_add(1);
-            true
+            *count = count.wrapping_add(more);
+            Some(*count)
         }
-        Err(_) => false,
+        Err(_) => None,
     }
 }
 
-// Counts each word, and whether that succeeds.
-fn count_words(map: &mut AnyMap, alloc: Global) -> bool {
-    let mut all = true;
+// Counts each word, unless an allocation fails.
+fn count_words(map: &mut AnyMap, alloc: Global) {
     for place in 0..6 {
-        all = all && count_word(map, alloc, WORDS[place]);
+        count(map, alloc, WORDS[place], 1);
     }
-    all
 }
 
 // The count of each word, 0 where it is not stored.
@@ -183,11 +171,12 @@ fn counts(map: &AnyMap) -> [usize; 6] {
     counts
 }
 
-// A map in which each word was counted twice.
-fn counted_twice(alloc: Global, state: RandomState) -> Option<AnyMap> {
+// A map in which each word was counted twice, without the counts for which an allocation failed.
+fn counted_twice(alloc: Global, state: RandomState) -> AnyMap {
     let mut map = AnyMap::new(alloc, state);
-    let all = count_words(&mut map, alloc) && count_words(&mut map, alloc);
-    if all { Some(map) } else { None }
+    count_words(&mut map, alloc);
+    count_words(&mut map, alloc);
+    map
 }
 
 // Sets the count of a word that is stored, and whether it is.
@@ -248,7 +237,7 @@ fn hinted_again(map: AnyMap, state: RandomState) -> Option<[usize; 6]> {
 
 // The counts of a map; of a clone without two words, and once it has the pairs of the map again; of a map of its tree.
 fn counted_and_copied(alloc: Global, state: RandomState) -> Option<[[usize; 6]; 4]> {
-    let map = counted_twice(alloc, state)?;
+    let map = counted_twice(alloc, state);
     let before = counts(&map);
     let copied = changed_and_extended(&map);
     let again = hinted_again(map, state)?;
@@ -270,22 +259,14 @@ fn words_of_any_bytes_are_counted_with_hints(rt: HostRuntime) -> Result<(), Fail
     )
 }
 
-// The count of a word, which is inserted with 0 if it is new, unless an allocation failed.
-fn count_of(map: &mut AnyMap, alloc: Global, word: &[u8]) -> Option<usize> {
-    match map.get_text_or_insert(alloc, word, 0) {
-        Ok(count) => Some(*count),
-        Err(_) => None,
-    }
-}
-
 // Whether a stored word is changed, another one counted, one removed, and a new one refused.
 fn answers(map: &mut AnyMap, alloc: Global) -> [bool; 4] {
     let new = b"a word that is new and longer than those";
     [
         set(map, b"ab", 7),
-        count_of(map, alloc, WORDS[5]) == Some(2),
+        count(map, alloc, WORDS[5], 0) == Some(2),
         takes_two(map, b"a\0"),
-        count_of(map, alloc, new).is_none(),
+        count(map, alloc, new, 0).is_none(),
     ]
 }
 
@@ -301,17 +282,15 @@ fn starve(map: &mut AnyMap, alloc: Global) -> Option<[bool; 4]> {
     }
 }
 
-// The same of a map in which each word was counted twice.
-fn answers_without_memory(alloc: Global, state: RandomState) -> Option<[bool; 4]> {
-    match counted_twice(alloc, state) {
-        Some(mut map) => starve(&mut map, alloc),
-        None => None,
-    }
+// The counts of a map in which each word was counted twice, and the same of it.
+fn answers_without_memory(alloc: Global, state: RandomState) -> ([usize; 6], Option<[bool; 4]>) {
+    let mut map = counted_twice(alloc, state);
+    (counts(&map), starve(&mut map, alloc))
 }
 
 #[test]
 fn without_memory_hints_find_words(rt: HostRuntime) -> Result<(), Fail> {
     let state = RandomState::new(&rt)?;
     let seen = answers_without_memory(rt.alloc(), state);
-    same(seen, Some([true; 4]))
+    same(seen, ([2; 6], Some([true; 4])))
 }
