@@ -4,7 +4,6 @@ ghost use Rattle.std.specs.Prelude.{◌<◌};
 use art_building::byte_map::{AppendError, AppendReason, MapBuilder};
 use art_building::tree_map::TreeMapBuilder;
 use art_keyed::map::TreeMap;
-use art_keyed_sets::set::TreeSet;
 use art_keys::terminated::Terminated;
 use art_map::map::ByteMap;
 use art_node_support::expected::same;
@@ -43,6 +42,7 @@ fn build<const P: usize>(alloc: Global, model: &Model) -> ByteMap<[u8; 4], u32, 
     builder.finish()
 }
 
+// Whether the map finds this value of a key.
 fn finds<const P: usize>(map: &ByteMap<[u8; 4], u32, P>, key: [u8; 4], value: u32) -> bool {
     map.get(&key).copied() == Some(value)
 }
@@ -264,21 +264,13 @@ fn refused_each_building_of_words_fails(rt: HostRuntime) -> Result<(), Fail> {
     Ok(())
 }
 
-// Adds keys of these bytes, and returns whether all were added.
-fn push_keys(builder: &mut TreeMapBuilder<[u8; 1], (), 4>, bytes: [u8; 3]) -> bool {
-    let mut all = true;
-    for byte in bytes {
-        all = all && builder.push([byte], ()).is_ok();
-    }
-    all
-}
-
-// How many keys a set of these bytes has, if all were added.
+// How many keys a set of these bytes has.
 fn set_of(alloc: Global, bytes: [u8; 3]) -> Option<usize> {
-    let mut builder = TreeMapBuilder::new(alloc);
-    let all = push_keys(&mut builder, bytes);
-    let len = builder.finish_set().len();
-    if all { Some(len) } else { None }
+    let mut builder = TreeMapBuilder::<[u8; 1], (), 4>::new(alloc);
+    for byte in bytes {
+        builder.push([byte], ()).ok()?;
+    }
+    Some(builder.finish_set().len())
 }
 
 #[test]
@@ -290,20 +282,13 @@ fn sets_are_built_of_ascending_keys(rt: HostRuntime) -> Result<(), Fail> {
     same(seen, [Some(3), None])
 }
 
-// How many keys a set has, and the first one.
-fn first_of(set: &TreeSet<[u8; 1], 4>) -> (usize, Option<[u8; 1]>) {
-    (set.len(), set.first().copied())
-}
-
-// The same for a set of these bytes, which come in any order.
+// How many keys a set of these bytes has, which come in any order, and the first one.
 fn set_of_unsorted(alloc: Global, bytes: [u8; 3]) -> Option<(usize, Option<[u8; 1]>)> {
-    match Vec::from_array(alloc, bytes.map(|byte| [byte])) {
-        Ok(keys) => match TreeMapBuilder::from_unsorted_keys(alloc, keys) {
-            Ok(builder) => Some(first_of(&builder.finish_set())),
-            Err(_) => None,
-        },
-        Err(_) => None,
-    }
+    let keys = Vec::from_array(alloc, bytes.map(|byte| [byte])).ok()?;
+    let set = TreeMapBuilder::<[u8; 1], (), 4>::from_unsorted_keys(alloc, keys)
+        .ok()?
+        .finish_set();
+    Some((set.len(), set.first().copied()))
 }
 
 #[test]

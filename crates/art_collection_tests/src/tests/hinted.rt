@@ -88,24 +88,20 @@ fn agree_on_call(map: &mut Map, model: &mut Model, alloc: Global, numbers: &mut 
     }
 }
 
-// Whether a string, if it is that of a key, has this value, by its key and by its text.
-fn has_value(map: &Map, alloc: Global, string: Short, value: Option<usize>) -> bool {
-    match Terminated::encode(alloc, string.as_slice()) {
-        Ok(Some(key)) => {
-            map.get(&key).copied() == value && map.get_text(string.as_slice()).copied() == value
-        }
-        _ => true,
-    }
-}
-
-// Whether each string has the same value in both.
+// Whether each string has the same value in both, by a key and by a text.
 fn agree_on_all(map: &Map, model: &Model, alloc: Global) -> bool {
-    let mut all = map.len() == model.len();
     for number in 0..COUNT {
         let string = Short::new(number);
-        all = all && has_value(map, alloc, string, model.get(&string).copied());
+        let Ok(Some(key)) = Terminated::encode(alloc, string.as_slice()) else {
+            continue;
+        };
+        let value = model.get(&string).copied();
+        let by_key = map.get(&key).copied();
+        if by_key != value || map.get_text(string.as_slice()).copied() != value {
+            return false;
+        }
     }
-    all
+    map.len() == model.len()
 }
 
 // The number of the first call after which they differ, if they do.
@@ -204,7 +200,7 @@ fn extend(map: &mut AnyMap, source: &AnyMap) -> bool {
     }
 }
 
-// The counts of a clone once it was changed, and once it has the pairs of the map again.
+// Changes the clone of a map, and inserts the pairs of the map again. Returns the counts after each, if all succeeds.
 fn change_and_extend(copy: &mut AnyMap, map: &AnyMap) -> Option<[[usize; 6]; 2]> {
     let set = set(copy, b"ab", 7);
     let taken = takes_two(copy, b"a\0") && takes_two(copy, b"a");
@@ -218,6 +214,7 @@ fn change_and_extend(copy: &mut AnyMap, map: &AnyMap) -> Option<[[usize; 6]; 2]>
     }
 }
 
+// The counts of a clone once it was changed, and once it has the pairs of the map again.
 fn changed_and_extended(map: &AnyMap) -> Option<[[usize; 6]; 2]> {
     match map.clone() {
         Ok(mut copy) => change_and_extend(&mut copy, map),
@@ -259,7 +256,7 @@ fn words_of_any_bytes_are_counted_with_hints(rt: HostRuntime) -> Result<(), Fail
     )
 }
 
-// Whether a stored word is changed, another one counted, one removed, and a new one refused.
+// Whether a stored word is changed, another one counted, one removed, and a new one refused, as all are without memory.
 fn answers(map: &mut AnyMap, alloc: Global) -> [bool; 4] {
     let new = b"a word that is new and longer than those";
     [
@@ -282,7 +279,7 @@ fn starve(map: &mut AnyMap, alloc: Global) -> Option<[bool; 4]> {
     }
 }
 
-// The counts of a map in which each word was counted twice, and the same of it.
+// The counts of a map in which each word was counted twice, and what it answers while every allocation fails.
 fn answers_without_memory(alloc: Global, state: RandomState) -> ([usize; 6], Option<[bool; 4]>) {
     let mut map = counted_twice(alloc, state);
     (counts(&map), starve(&mut map, alloc))
