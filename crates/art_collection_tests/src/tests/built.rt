@@ -1,7 +1,7 @@
 //! Maps and sets that are built from sorted pairs.
 ghost use Rattle.std.specs.Prelude.{◌<◌};
 
-use art_building::byte_map::{AppendError, AppendReason, MapBuilder};
+use art_building::byte_map::{AppendReason, MapBuilder};
 use art_building::tree_map::TreeMapBuilder;
 use art_keyed::map::TreeMap;
 use art_keys::terminated::Terminated;
@@ -42,24 +42,14 @@ fn build<const P: usize>(alloc: Global, model: &Model) -> ByteMap<[u8; 4], u32, 
     builder.finish()
 }
 
-// Whether the map finds this value of a key.
-fn finds<const P: usize>(map: &ByteMap<[u8; 4], u32, P>, key: [u8; 4], value: u32) -> bool {
-    map.get(&key).copied() == Some(value)
-}
-
-// Whether the first pair of the map, which is removed, is this.
-fn pops<const P: usize>(map: &mut ByteMap<[u8; 4], u32, P>, key: [u8; 4], value: u32) -> bool {
-    map.pop_first().unwrap() == Some((key, value))
-}
-
 // Whether the map finds each value, and then has no pair left once all were removed.
 fn is_map_of<const P: usize>(map: &mut ByteMap<[u8; 4], u32, P>, model: &Model) -> bool {
     let mut is_right = map.len() == model.len();
     for (key, value) in model.iter() {
-        is_right = is_right && finds(map, *key, *value);
+        is_right = is_right && map.get(key) == Some(value);
     }
     for (key, value) in model.iter() {
-        is_right = is_right && pops(map, *key, *value);
+        is_right = is_right && map.pop_first().unwrap() == Some((*key, *value));
     }
     is_right && map.is_empty()
 }
@@ -199,26 +189,20 @@ fn longest_of(map: &TreeMap<Terminated, u32, 4>) -> Option<u32> {
     Some(*value)
 }
 
-// The value of a pair that was refused, if one was.
-fn refused_value(added: Result<(), AppendError<Terminated, u32>>) -> Option<u32> {
-    match added {
-        Ok(()) => None,
-        Err(error) => Some(error.value),
-    }
-}
-
 // The value of the first word out of order, how many are left after it, and how many keys the set of those before has.
-fn disordered(alloc: Global) -> (Option<u32>, usize, usize) {
+fn disordered(alloc: Global) -> Option<(u32, usize, usize)> {
     let mut pairs = words(alloc, [b"car", b"do", b"cart", b"dot"]).into_iter();
     let mut builder = TreeMapBuilder::<_, _, 4>::new(alloc);
-    let refused = refused_value(builder.extend(&mut pairs));
-    (refused, pairs.count(), builder.finish().len())
+    match builder.extend(&mut pairs) {
+        Ok(()) => None,
+        Err(error) => Some((error.value, pairs.count(), builder.finish().len())),
+    }
 }
 
 #[test]
 fn words_are_built(rt: HostRuntime) -> Result<(), Fail> {
     let seen = (longest(rt.alloc()), disordered(rt.alloc()));
-    same(seen, (Some(1), (Some(2), 1, 2)))
+    same(seen, (Some(1), Some((2, 1, 2))))
 }
 
 // The values of a map, as digits in the order of the words.

@@ -138,22 +138,15 @@ const WORDS: [&[u8]; 6] = [
     b"a longer word than stands in a leaf",
 ];
 
-// Adds to the count of a word, which is inserted with 0 if it is new. Returns the count, unless an allocation failed.
-fn count(map: &mut AnyMap, alloc: Global, word: &[u8], more: usize) -> Option<usize> {
-    match map.get_text_or_insert(alloc, word, 0) {
-        Ok(count) => {
-            *count = count.wrapping_add(more);
-            Some(*count)
-        }
-        Err(_) => None,
+// Counts each word, and whether that succeeds.
+fn count_words(map: &mut AnyMap, alloc: Global) -> bool {
+    for word in WORDS {
+        let Ok(count) = map.get_text_or_insert(alloc, word, 0) else {
+            return false;
+        };
+        *count = count.wrapping_add(1);
     }
-}
-
-// Counts each word, unless an allocation fails.
-fn count_words(map: &mut AnyMap, alloc: Global) {
-    for place in 0..6 {
-        count(map, alloc, WORDS[place], 1);
-    }
+    true
 }
 
 // The count of each word, 0 where it is not stored.
@@ -167,12 +160,11 @@ fn counts(map: &AnyMap) -> [usize; 6] {
     counts
 }
 
-// A map in which each word was counted twice, without the counts for which an allocation failed.
-fn counted_twice(alloc: Global, state: RandomState) -> AnyMap {
+// A map in which each word was counted twice.
+fn counted_twice(alloc: Global, state: RandomState) -> Option<AnyMap> {
     let mut map = AnyMap::new(alloc, state);
-    count_words(&mut map, alloc);
-    count_words(&mut map, alloc);
-    map
+    let all = count_words(&mut map, alloc) && count_words(&mut map, alloc);
+    if all { Some(map) } else { None }
 }
 
 // Sets the count of a word that is stored, and whether it is.
@@ -200,25 +192,18 @@ fn extend(map: &mut AnyMap, source: &AnyMap) -> bool {
     }
 }
 
-// Changes the clone of a map, and inserts the pairs of the map again. Returns the counts after each, if all succeeds.
-fn change_and_extend(copy: &mut AnyMap, map: &AnyMap) -> Option<[[usize; 6]; 2]> {
-    let set = set(copy, b"ab", 7);
-    let taken = takes_two(copy, b"a\0") && takes_two(copy, b"a");
-    let changed = counts(copy);
-    let extended = extend(copy, map);
-    let all = set && taken && extended;
-    if all {
-        Some([changed, counts(copy)])
-    } else {
-        None
-    }
-}
-
 // The counts of a clone once it was changed, and once it has the pairs of the map again.
 fn changed_and_extended(map: &AnyMap) -> Option<[[usize; 6]; 2]> {
-    match map.clone() {
-        Ok(mut copy) => change_and_extend(&mut copy, map),
-        Err(_) => None,
+    let mut copy = map.clone().ok()?;
+    let set = set(&mut copy, b"ab", 7);
+    let taken = takes_two(&mut copy, b"a\0") && takes_two(&mut copy, b"a");
+    let changed = counts(&copy);
+    let extended = extend(&mut copy, map);
+    let all = set && taken && extended;
+    if all {
+        Some([changed, counts(&copy)])
+    } else {
+        None
     }
 }
 
@@ -234,7 +219,7 @@ fn hinted_again(map: AnyMap, state: RandomState) -> Option<[usize; 6]> {
 
 // The counts of a map; of a clone without two words, and once it has the pairs of the map again; of a map of its tree.
 fn counted_and_copied(alloc: Global, state: RandomState) -> Option<[[usize; 6]; 4]> {
-    let map = counted_twice(alloc, state);
+    let map = counted_twice(alloc, state)?;
     let before = counts(&map);
     let copied = changed_and_extended(&map);
     let again = hinted_again(map, state)?;
@@ -256,38 +241,23 @@ fn words_of_any_bytes_are_counted_with_hints(rt: HostRuntime) -> Result<(), Fail
     )
 }
 
-// Whether a stored word is changed, another one counted, one removed, and a new one refused, as all are without memory.
-fn answers(map: &mut AnyMap, alloc: Global) -> [bool; 4] {
+// What a map answers while every allocation fails: a stored word is changed, another one counted, one removed; a new one is
+// refused.
+fn answers_without_memory(alloc: Global, state: RandomState) -> Option<[bool; 4]> {
+    let mut map = counted_twice(alloc, state)?;
+    let held = all_memory(alloc).ok()?;
+    let is_set = set(&mut map, b"ab", 7);
+    let is_counted = matches!(map.get_text_or_insert(alloc, WORDS[5], 0), Ok(2));
+    let is_taken = takes_two(&mut map, b"a\0");
     let new = b"a word that is new and longer than those";
-    [
-        set(map, b"ab", 7),
-        count(map, alloc, WORDS[5], 0) == Some(2),
-        takes_two(map, b"a\0"),
-        count(map, alloc, new, 0).is_none(),
-    ]
-}
-
-// The same while every allocation fails.
-fn starve(map: &mut AnyMap, alloc: Global) -> Option<[bool; 4]> {
-    match all_memory(alloc) {
-        Ok(held) => {
-            let answers = answers(map, alloc);
-            drop(held);
-            Some(answers)
-        }
-        Err(_) => None,
-    }
-}
-
-// The counts of a map in which each word was counted twice, and what it answers while every allocation fails.
-fn answers_without_memory(alloc: Global, state: RandomState) -> ([usize; 6], Option<[bool; 4]>) {
-    let mut map = counted_twice(alloc, state);
-    (counts(&map), starve(&mut map, alloc))
+    let is_refused = map.get_text_or_insert(alloc, new, 0).is_err();
+    drop(held);
+    Some([is_set, is_counted, is_taken, is_refused])
 }
 
 #[test]
 fn without_memory_hints_find_words(rt: HostRuntime) -> Result<(), Fail> {
     let state = RandomState::new(&rt)?;
     let seen = answers_without_memory(rt.alloc(), state);
-    same(seen, ([2; 6], Some([true; 4])))
+    same(seen, Some([true; 4]))
 }

@@ -38,14 +38,10 @@ fn is_set_emptied(set: &mut TreeSet<[u8; 1], 4>) -> bool {
 // Whether a set was filled, and was emptied while every allocation fails.
 fn starve_filled_set(alloc: Global, set: &mut TreeSet<[u8; 1], 4>) -> Option<[bool; 2]> {
     let is_filled = fill_set(set);
-    match all_memory(alloc) {
-        Ok(held) => {
-            let is_emptied = is_set_emptied(set);
-            drop(held);
-            Some([is_filled, is_emptied])
-        }
-        Err(_) => None,
-    }
+    let held = all_memory(alloc).ok()?;
+    let is_emptied = is_set_emptied(set);
+    drop(held);
+    Some([is_filled, is_emptied])
 }
 
 #[test]

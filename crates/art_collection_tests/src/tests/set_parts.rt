@@ -4,7 +4,6 @@ use art_keyed_sets::set::TreeSet;
 use art_keys::unsigned::U16Key;
 use art_node_support::expected::same;
 use art_node_support::numbers::Numbers;
-use std::alloc::Global;
 use std::collections::BTreeSet;
 use std::test::Fail;
 
@@ -27,14 +26,10 @@ fn count_before(set: &Set, key: u16) -> usize {
     set.range(..U16Key::from(key)).count()
 }
 
-fn is_before(key: u16, other: u16) -> bool {
-    key < other
-}
-
 fn count_in_model_before(model: &Model, key: u16) -> usize {
     let mut before = 0usize;
     for other in model.iter() {
-        before = before.saturating_add(is_before(*other, key) as usize);
+        before = before.saturating_add((*other < key) as usize);
     }
     before
 }
@@ -45,14 +40,10 @@ fn agree_on_questions(set: &Set, model: &Model, key: u16) -> bool {
         && count_before(set, key) == count_in_model_before(model, key)
 }
 
-fn is_between(key: u16, low: u16, high: u16) -> bool {
-    low <= key && key < high
-}
-
 // The first number from one to before another.
 fn first_between(model: &Model, low: u16, high: u16) -> Option<u16> {
     for key in model.iter() {
-        if is_between(*key, low, high) {
+        if low <= *key && *key < high {
             return Some(*key);
         }
     }
@@ -134,28 +125,21 @@ fn agree_on_call(set: &mut Set, model: &mut Model, numbers: &mut Numbers) -> boo
     }
 }
 
-// A call of both, and whether they agree on it and have the same keys after it.
-fn agree_after_call(set: &mut Set, model: &mut Model, numbers: &mut Numbers) -> bool {
-    agree_on_call(set, model, numbers) && digest(set) == digest_of_model(model)
-}
-
 // The number of the first call after which they differ, if they do.
 fn differ_at(set: &mut Set, model: &mut Model, calls: usize) -> Option<usize> {
     let mut numbers = Numbers::new(14);
     for call in 0..calls {
-        if !agree_after_call(set, model, &mut numbers) {
+        let agree = agree_on_call(set, model, &mut numbers);
+        if !agree || digest(set) != digest_of_model(model) {
             return Some(call);
         }
     }
     None
 }
 
-// The same for an empty set and an empty model.
-fn differ_from_empty(alloc: Global, calls: usize) -> Option<usize> {
-    differ_at(&mut TreeSet::new(alloc), &mut BTreeSet::new(alloc), calls)
-}
-
 #[test]
 fn drawn_calls_return_what_those_of_a_btree_set_do(rt: HostRuntime) -> Result<(), Fail> {
-    same(differ_from_empty(rt.alloc(), 3_000), None)
+    let alloc = rt.alloc();
+    let differ = differ_at(&mut TreeSet::new(alloc), &mut BTreeSet::new(alloc), 3_000);
+    same(differ, None)
 }

@@ -14,12 +14,17 @@ fn fill_unsorted(map: &mut Map) {
     }
 }
 
+fn from_back(map: &Map) -> u32 {
+    let mut digits = 0u32;
+    for (_, digit) in map.iter().rev() {
+        digits = digits.wrapping_mul(10).wrapping_add(*digit);
+    }
+    digits
+}
+
 // The values as the digits of a number, from the front, and from the back.
 fn digits(map: &Map) -> [u32; 2] {
-    [
-        map.iter().fold(0, with_digit),
-        map.iter().rfold(0, with_digit),
-    ]
+    [map.iter().fold(0, with_digit), from_back(map)]
 }
 
 // Whether a map is compacted, its digits then, and the values of two keys.

@@ -7,8 +7,8 @@ use std::test::Fail;
 
 type Map = ByteMap<Vec<u8>, u32, 4>;
 
-// Whether an insertion is refused for a related key in another way than with this key, its value and its bytes. None if
-// an allocation failed.
+// Whether a refused insertion returns another key or value than these, or tells other bytes. None if an allocation
+// failed.
 fn is_wrongly_refused(
     refused: &MapInsertError<Vec<u8>, u32>,
     key: &[u8],

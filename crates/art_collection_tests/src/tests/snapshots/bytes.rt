@@ -1,6 +1,6 @@
 //! The bytes of snapshots, which a script worked out, and reading them in pieces of any size.
 use super::lists::{Row, entries_of, reads};
-use snapshot_format::{OwnedEntry, write_snapshot};
+use snapshot_format::write_snapshot;
 use std::alloc::Global;
 use std::test::*;
 use test_helpers::expected::same;
@@ -29,16 +29,12 @@ pub static THREE_BYTES: [u8; 57] = [
     0xc0, 0x20, 0x9d, 0xab, 0xda, 0x3b, 0x27, 0x45, 0xeb,
 ];
 
-// Returns whether these are the bytes of the snapshot of some entries.
-fn writes(alloc: Global, mut entries: &[OwnedEntry], bytes: &[u8]) -> bool {
-    let mut written = Vec::new(alloc);
-    let is_ok = write_snapshot(alloc, &mut written, &mut entries).is_ok();
-    is_ok && written.as_slice() == bytes
-}
-
 // Returns whether these are the bytes of the snapshot of a table.
 fn is_written(alloc: Global, rows: &[Row], bytes: &[u8]) -> bool {
-    writes(alloc, entries_of(alloc, rows).as_slice(), bytes)
+    let entries = entries_of(alloc, rows);
+    let mut written = Vec::new(alloc);
+    let is_ok = write_snapshot(alloc, &mut written, &mut entries.as_slice()).is_ok();
+    is_ok && written.as_slice() == bytes
 }
 
 // Returns whether the snapshot of a table is these bytes, and is read from them, in pieces too.

@@ -6,36 +6,29 @@ use std::io::Read;
 /// A key with its value.
 pub type Row = (&'static [u8], &'static [u8]);
 
-// Returns these bytes, or none if an allocation failed.
-fn bytes_of(alloc: Global, bytes: &[u8]) -> Vec<u8> {
-    match Vec::from_slice(alloc, bytes) {
-        Ok(owned) => owned,
-        Err(_) => Vec::new(alloc),
-    }
+// Returns the entry of a row.
+fn entry_of(alloc: Global, row: &Row) -> Option<OwnedEntry> {
+    let key = Vec::from_slice(alloc, row.0).ok()?;
+    let value = Vec::from_slice(alloc, row.1).ok()?;
+    Some(OwnedEntry { key, value })
 }
 
-/// Returns the entries of a table, without the bytes and the entries for which an allocation failed.
+/// Returns the entries of a table, without those for which an allocation failed.
 pub fn entries_of(alloc: Global, rows: &[Row]) -> Vec<OwnedEntry> {
     let mut entries = Vec::new(alloc);
-    for (key, value) in rows {
-        let _ = entries.push(OwnedEntry {
-            key: bytes_of(alloc, key),
-            value: bytes_of(alloc, value),
-        });
+    for row in rows {
+        if let Some(entry) = entry_of(alloc, row) {
+            let _ = entries.push(entry);
+        }
     }
     entries
-}
-
-// Returns whether these are the entries of a table.
-fn are_entries_of(alloc: Global, entries: &[OwnedEntry], rows: &[Row]) -> bool {
-    entries == entries_of(alloc, rows).as_slice()
 }
 
 /// Returns whether these entries are read, and no others.
 pub fn reads<R: Read + Drop>(alloc: Global, input: R, rows: &[Row]) -> bool {
     let mut entries = Vec::new(alloc);
     let is_ok = read_snapshot(alloc, input, &mut entries).is_ok();
-    is_ok && are_entries_of(alloc, entries.as_slice(), rows)
+    is_ok && entries.as_slice() == entries_of(alloc, rows).as_slice()
 }
 
 /// Returns why the bytes are not read, if they are not.
