@@ -40,14 +40,14 @@ impl<K: AsBytes + Clone + Drop, V: Clone + Drop, const P: usize> ByteMap<K, V, P
         requires { KeepBytes K.bytes K.is_clone }
         ensures { IfOk result (AreClones K.is_clone V.is_clone self.now) }
     {
-        let mut store = NodeStore::new(self.store.alloc());
         let Some(root) = self.root else {
             return Ok(ByteMap {
-                store,
+                store: NodeStore::new(self.store.alloc()),
                 root: None,
                 len: 0,
             });
         };
+        let mut store = NodeStore::with_room_of(&self.store)?;
         let root = copy_tree(&self.store, root, self.len, &mut store)?;
         Ok(ByteMap {
             store,
@@ -73,8 +73,6 @@ fn copy_tree<K: AsBytes + Clone + Drop, V: Clone + Drop, const P: usize>(
         HoldsClones K.bytes P (pairs_at store.now (Some root)) K.is_clone V.is_clone
         into.new (Some copy) len) }
 {
-    into.reserve(len, None)?;
-    into.reserve_inners_like(store)?;
     let copy = clone_unchecked(store, root, into)?;
     Ok(copy.root)
 }

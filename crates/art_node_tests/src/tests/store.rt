@@ -383,12 +383,11 @@ fn place_node16_without_memory(store: &mut Store) -> Result<[bool; 2], AllocErro
     Ok(placed)
 }
 
-// Whether two Node4s are placed without memory after room was requested for as many as another store has.
-fn place_like_another_without_memory(store: &mut Store) -> Result<[bool; 2], AllocError> {
-    let mut other = Store::new(store.alloc());
+// Whether two Node4s are placed without memory in a store with room for as many as another one has.
+fn place_like_another_without_memory(other: &mut Store) -> Result<[bool; 2], AllocError> {
     let _ = other.place_inner(node4(&[1, 2]));
     let _ = other.place_inner(node4(&[3, 4]));
-    store.reserve_inners_like(&other)?;
+    let mut store = Store::with_room_of(other)?;
     let held = all_memory(store.alloc())?;
     let placed = [
         store.place_inner(node4(&[8, 9])).is_ok(),

@@ -8,15 +8,15 @@ use Rattle.art_map.proofs.map.ByteMap.clone_tree.Goals as goal
 pub invariant_of-result : goal.invariant_of-result
 invariant_of-result g c =
     let B = of_key g.K.AsBytes.bytes in
-    holds B g.row.P c.new-store.result (new_holds c.new-store.result c.new-store.ensures.leaves c.new-store.ensures.inners B g.row.P)
+    holds B g.row.P c.new.result (new_holds c.new.result c.new.ensures.leaves c.new.ensures.inners B g.row.P)
 
 pub returns-in_default : goal.returns-in_default
 returns-in_default g c =
     let B = of_key g.K.AsBytes.bytes in
     let Are = AreClones g.K.Clone.is_clone g.V.Clone.is_clone in
     let none = sym (no_pairs B g.row.P c.self.inside.store c.in_default.is c.self.invariant) ∙ c.self.view_is in
-    let new = view_of B g.row.P c.new-store.result (new_holds c.new-store.result c.new-store.ensures.leaves c.new-store.ensures.inners B g.row.P) in
-    subst (λ before. Are before (pairs_at c.new-store.result None)) none (subst (λ after. Are [] after) (sym new) tt)
+    let new = view_of B g.row.P c.new.result (new_holds c.new.result c.new.ensures.leaves c.new.ensures.inners B g.row.P) in
+    subst (λ before. Are before (pairs_at c.new.result None)) none (subst (λ after. Are [] after) (sym new) tt)
 
 pub invariant_of-result-2 : goal.invariant_of-result-2
 invariant_of-result-2 g c = let (copies, are, held) = c.in_ok-root.ensures in holds (of_key g.K.AsBytes.bytes) g.row.P c.copy_tree.new.into held

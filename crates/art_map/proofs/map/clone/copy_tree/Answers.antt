@@ -1,4 +1,4 @@
-use Rattle.std.proofs.Common.{ap, ◌∙◌, Some}
+use Rattle.std.proofs.Common.{◌∙◌, Some}
 use Rattle.std.proofs.lemmas.List.Elements.{length_all_zip}
 use Rattle.art_parts.specs.LeafClones.{IsPairClone}
 use Rattle.art_model.specs.Pairs.{of_key}
@@ -10,9 +10,7 @@ pub returns : goal.returns
 returns g c =
     let has = at_root (of_key g.K.AsBytes.bytes) g.row.P c.requires.holds in
     let (copies, are, canonical) = c.in_ok-copy.ensures.canonical _ has.layout has.by in
-    let same = c.reserve_inners_like.ensures.same in
-    let empty = none_held c.reserve_inners_like.new.self (ap (λ s. s.leaves) same ∙ (c.in_ok-reserve.ensures.leaves ∙ c.requires.no_leaves))
-    (ap (λ s. s.inners) same ∙ (c.in_ok-reserve.ensures.inners ∙ c.requires.no_inners)) in (
+    let empty = none_held c.args.into.now c.requires.no_leaves c.requires.no_inners in (
       copies,
       are,
       record {
