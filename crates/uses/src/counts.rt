@@ -1,7 +1,7 @@
 //! A map whose values are changed in place. The contracts state the pairs that result.
-ghost use Rattle.std.specs.Prelude.{◌≡◌, ◌+◌, ◌∷◌, [], Some, IfSome, IsTrue, IsFalse};
+ghost use Rattle.std.specs.Prelude.{◌≡◌, ◌+◌, ◌∷◌, [], Some, IfSome, IsTrue, IsFalse, is_some};
 ghost use Rattle.art_model.specs.Pairs.{of_key, put};
-ghost use Rattle.art_operations.specs.MapAnswers.{with_value_at};
+ghost use Rattle.art_operations.specs.MapAnswers.{value_at, with_value_at};
 
 use art_operations::map::ByteMap;
 use std::alloc::Global;
@@ -35,6 +35,7 @@ pub fn write_value(map: &mut ByteMap<[u8; 1], u32, 4>, key: &[u8], value: u32) -
     ensures written { IsTrue result →
         map.new ≡ with_value_at (λ key. key) key.now value map.old }
     ensures kept { IsFalse result → map.new ≡ map.old }
+    ensures found { result ≡ is_some (value_at (λ key. key) key.now map.old) }
 {
     let Some(old) = map.get_mut(key) else {
         return false;
